@@ -1,5 +1,5 @@
 -- A read of one sector, as it stands in memory: into the first 512 bytes of frame 40.
-use Rattle.std.proofs.Common.{ℕ, zero, suc, ◌≡◌, ◌≤◌, ◌<◌, ◌+◌, ◌*◌, List, [], ◌∷◌, ◌++◌, All, length, replicate, slice_index, refl, arith}
+use Rattle.std.proofs.Common.{ℕ, zero, suc, ◌≡◌, ◌≤◌, ◌<◌, ◌+◌, ◌*◌, ◌%◌, false, List, [], ◌∷◌, ◌++◌, All, length, replicate, slice_index, refl, subst, sym, arith}
 use Rattle.std.proofs.lemmas.Bool.{true≢false}
 use Rattle.std.proofs.lemmas.List.{get_or-replicate}
 use Rattle.adapter.specs.FirstRead.{header_bytes}
@@ -10,14 +10,19 @@ use Rattle.adapter.specs.Says.{IsWhole, cut}
 use Rattle.adapter.specs.Spelling.{SpellsCommand, SpellsHeader, SpellsPrd}
 use Rattle.agreement.specs.Places.{table_of}
 use Rattle.adapter.specs.declared.command.Prd.{Prd}
+use Rattle.adapter.specs.declared.command.Operation.TheVariants.{ReadQueued}
 use Rattle.agreement.specs.Slots.{Told}
 
 -- READ DMA EXT of sector 100 alone, and its PRD at 28000h
 abbrev pub read_bytes : List ℕ
 read_bytes = 0x27 ∷ 0x80 ∷ 0x25 ∷ 0 ∷ 0x64 ∷ 0 ∷ 0 ∷ 0x40 ∷ 0 ∷ 0 ∷ 0 ∷ 0 ∷ 1 ∷ 0 ∷ []
 
+-- a place of 512 bytes that begins at 20000h and so many times 100h
+abbrev pub place_from : ℕ → List ℕ
+place_from n = 0 ∷ n ∷ 2 ∷ 0 ∷ 0 ∷ 0 ∷ 0 ∷ 0 ∷ 0 ∷ 0 ∷ 0 ∷ 0 ∷ 0xff ∷ 1 ∷ 0 ∷ 0 ∷ []
+
 abbrev pub place_bytes : List ℕ
-place_bytes = 0 ∷ 0x80 ∷ 2 ∷ 0 ∷ 0 ∷ 0 ∷ 0 ∷ 0 ∷ 0 ∷ 0 ∷ 0 ∷ 0 ∷ 0xff ∷ 1 ∷ 0 ∷ 0 ∷ []
+place_bytes = place_from 0x80
 
 abbrev pub zeros : ℕ → ℕ
 zeros at = 0
@@ -73,4 +78,41 @@ told = told_one read_memory 0 (read_of 100 1) 0x28000
     })
     (record { ranged = λ _. (omega arith, omega arith, omega arith); not_ranged = λ h. absurd (true≢false h) })
     (record { size = refl; allowed = record { even_address = refl; even_bytes = refl; some = omega arith; limit = omega arith }; address = refl; upper = refl; count = refl })
+    refl
+
+-- ---- a queued read of one sector
+
+-- READ FPDMA QUEUED of sector k alone
+abbrev pub queued_read : ℕ → Meaning
+queued_read k = record { operation = ReadQueued; first = k; count = 1 }
+
+-- its FIS in this slot, its tag, but for the zeros at the end (a sector below 256)
+abbrev pub queued_bytes : ℕ → ℕ → List ℕ
+queued_bytes slot k = 0x27 ∷ 0x80 ∷ 0x60 ∷ 1 ∷ k ∷ 0 ∷ 0 ∷ 0x40 ∷ 0 ∷ 0 ∷ 0 ∷ 0 ∷ 8 * slot ∷ 0 ∷ []
+
+-- its header, but for those: no W, one PRD, and a table at so many times 100h
+abbrev pub header_to : ℕ → List ℕ
+header_to n = 5 ∷ 0 ∷ 1 ∷ 0 ∷ 0 ∷ 0 ∷ 0 ∷ 0 ∷ 0 ∷ n ∷ 0 ∷ 0 ∷ []
+
+pub told_queued : (memory : ℕ → ℕ) (slot k table place : ℕ) → k < 256 → 256 * table ≡ table_of 0 slot → table_of 0 slot % 128 ≡ 0 → (0x20000 + 256 * place) % 2 ≡ 0
+    → bytes_at memory (0 + 32 * slot) 32 ≡ header_to table ++ replicate 20 0 → bytes_at memory (table_of 0 slot) 20 ≡ queued_bytes slot k ++ replicate 6 0
+    → bytes_at memory (table_of 0 slot + 128) 16 ≡ place_from place → Told memory 0 0 slot (queued_read k) (cut (0x20000 + 256 * place) 1)
+told_queued memory slot k table place low points aligned even header fis prd = told_one memory slot (queued_read k) (0x20000 + 256 * place)
+    (subst (λ (bytes : List ℕ). SpellsHeader bytes false 1 (table_of 0 slot)) (sym header)
+    (record { size = refl; first = refl; points = omega (arith, points); aligned = aligned; zeros = λ i from to. zeros_past (header_to table) 20 i from to }))
+    (subst (λ (bytes : List ℕ). SpellsCommand bytes (command_of ReadQueued slot k 1)) (sym fis)
+    (record {
+      size = refl;
+      kind = refl;
+      c_bit = refl;
+      code = refl;
+      features = refl;
+      lba = omega arith;
+      device = refl;
+      count = omega arith;
+      zeros = λ i from to. zeros_past (queued_bytes slot k) 6 i from to;
+    }))
+    (record { ranged = λ _. (omega arith, omega arith, omega (arith, low)); not_ranged = λ h. absurd (true≢false h) })
+    (subst (λ (bytes : List ℕ). SpellsPrd bytes (record { address = 0x20000 + 256 * place; bytes = 512 })) (sym prd)
+    (record { size = refl; allowed = record { even_address = even; even_bytes = refl; some = omega arith; limit = omega arith }; address = omega arith; upper = refl; count = refl }))
     refl

@@ -28,7 +28,6 @@ use Rattle.block_machine.specs.Ports.{Evidence}
 use Rattle.block_machine.specs.Refusals.{IsAcceptable}
 use Rattle.block_machine.specs.State.{Accepted, Block, Machine, Pending, block_of}
 use Rattle.block_machine.specs.Steps.{Step, Accept, Issue, IsNew, May, newly_accepted, unanswered_of}
-use Rattle.block_machine.proofs.Setting.{acceptable, client, frame, its_row, request, row, two_rows}
 use Rattle.identify.specs.declared.wanted.Wanted.TheVariants.{Any}
 use Rattle.driver_history.specs.Evidence.{IsEvidencedOf}
 use Rattle.driver_history.specs.Histories.{IssuesDue, IssuesOn, Ties, TiesPort}
@@ -38,7 +37,7 @@ use Rattle.history_witnesses.specs.Scene.{having, queueing_cap, running_port}
 use Rattle.history_witnesses.proofs.Holding.{IsCalm, IsUnnamed, each, no_trouble, unnamed_evidenced}
 use Rattle.history_witnesses.proofs.Members.{nowhere}
 use Rattle.history_witnesses.proofs.Pages.{Kind}
-use Rattle.history_witnesses.proofs.Ready.{Agreeing, Stands, fit_ready, holds, instant_with, served_ready, shows_none, two_ready}
+use Rattle.history_witnesses.proofs.Ready.{Agreeing, Stands, acceptable, client, fit_ready, frame, holds, instant_with, its_row, request, row, served_ready, shows_none, two_ready, two_rows}
 use Rattle.history_witnesses.proofs.Submitting.{second}
 
 -- ---- the request

@@ -9,6 +9,9 @@ mod Memory
 mod Ready
 mod Issuing
 mod Serving
+mod Finding
+mod Queueing
+mod Swapping
 mod Accepting
 mod Recovering
 mod Recovered

@@ -20,7 +20,7 @@ use Rattle.block_machine.specs.Left.{IsStart}
 use Rattle.block_machine.specs.Ports.{Ports, AreFit}
 use Rattle.block_machine.specs.State.{Machine, Pending}
 use Rattle.block_machine.specs.Steps.{NoneKept}
-use Rattle.block_machine.proofs.Setting.{empty, empty_starts}
+pub use Rattle.block_machine.proofs.Setting.{acceptable, client, empty, empty_starts, frame, its_row, request, row, two_rows}
 use Rattle.driver_history.specs.Evidence.{ShowsFailure, ShowsLoss}
 use Rattle.driver_history.specs.Histories.{Begins}
 use Rattle.driver_history.specs.Holds.{HasRequests, HoldsOf, HoldsWith, IsReadyAt, Runs, mode_of}

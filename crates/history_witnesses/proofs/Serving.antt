@@ -10,9 +10,8 @@ use Rattle.agreement.specs.Places.{place_in}
 use Rattle.agreement.specs.Slots.{ServesRequest, Stage, Told, op_of}
 use Rattle.block_machine.specs.State.{Block, Machine, Pending}
 use Rattle.block_machine.specs.Steps.{issue, newly_accepted}
-use Rattle.block_machine.proofs.Setting.{frame}
 use Rattle.history_witnesses.proofs.Issuing.{accepted_as}
-use Rattle.history_witnesses.proofs.Ready.{Stands}
+use Rattle.history_witnesses.proofs.Ready.{Stands, frame}
 
 -- a read of sector k into frame n that was issued once
 abbrev pub waiting_as : RequestId → ℕ → ℕ → (ℕ → Block) → Pending
