@@ -1,42 +1,41 @@
 -- The first witness's read is accepted and issued: the machine, and what holds before and after it.
-use Rattle.std.proofs.Common.{ℕ, zero, suc, ◌≡◌, ◌↔◌, ◌∙◌, true, false, List, [], ◌∷◌, inl, inr, refl, sym, ap, subst, arith}
+use Rattle.std.proofs.Common.{◌≡◌, ◌↔◌, false, List, [], ◌∷◌, inl, inr, refl, sym, ap, subst, arith}
 use Rattle.std.proofs.lemmas.Bool.{le-ltb, true≢false}
-use Rattle.std.specs.List.{All, Contains}
+use Rattle.std.specs.List.{Contains}
 use Rattle.std.proofs.lemmas.List.Elements.{All-from_recursion}
 use Rattle.ata_types.specs.declared.Port.{Port}
 use Rattle.ata_types.specs.declared.request.Request.{Request}
-use Rattle.adapter.specs.Access.{Access}
 use Rattle.adapter.specs.Commands.{is_queued}
 use Rattle.adapter.specs.Device.{Device}
 use Rattle.adapter.specs.ReadDone.{read_of}
 use Rattle.adapter.specs.Says.{cut}
 use Rattle.adapter.specs.declared.access.DeviceStep.{DeviceStep}
-use Rattle.agreement.specs.Agrees.{AreApart, port_at}
-use Rattle.agreement.specs.Slots.{Serves, IsServed as IsServedAs, ServesRequest}
+use Rattle.agreement.specs.Agrees.{port_at}
+use Rattle.agreement.specs.Slots.{ServesRequest, Stage}
 use Rattle.agreement.specs.Witness.{first_id}
-use Rattle.block_machine.specs.Due.{IsDue, NoneDue, is_clear}
+use Rattle.block_machine.specs.Due.{IsDue}
 use Rattle.block_machine.specs.Events.{Happens, IsIssuedIn}
 use Rattle.block_machine.specs.Histories.{Happening, Instant}
 use Rattle.block_machine.specs.Left.{after}
-use Rattle.block_machine.specs.Ports.{Ports, AreFit}
+use Rattle.block_machine.specs.Ports.{Ports}
 use Rattle.block_machine.specs.State.{Machine, Pending, unanswered}
 use Rattle.block_machine.specs.Steps.{Step, Accept, Issue, May, newly_accepted}
 use Rattle.block_machine.specs.declared.due.Unanswered.{Unanswered}
 use Rattle.identify.specs.declared.wanted.Wanted.TheVariants.{Any}
 use Rattle.driver_history.specs.Histories.{IssuesDue, IssuesOn, Ties, TiesPort}
-use Rattle.driver_history.specs.Holds.{HoldsWith, IsOfKind}
+use Rattle.driver_history.specs.Holds.{HoldsWith}
 use Rattle.history_witnesses.specs.Begun.{ReadyPortHasBegun}
 use Rattle.history_witnesses.specs.Scene.{plain, running_port}
 use Rattle.history_witnesses.proofs.Command.{read_memory, told, zeros}
-use Rattle.history_witnesses.proofs.Holding.{first_slots, no_slots, requests_first, serves_first, uses_first}
+use Rattle.history_witnesses.proofs.Holding.{first_slots, no_slots}
 use Rattle.history_witnesses.proofs.Issuing.{Submission, IsIssued, accepted_as, reading, submit_happens as happens_so, submit_part as part_of, submit_ties as ties_so}
 use Rattle.history_witnesses.proofs.Issuing as issuing_on
 use Rattle.history_witnesses.proofs.Members.{nowhere, only}
 use Rattle.history_witnesses.proofs.Memory.{past_driver}
 use Rattle.history_witnesses.proofs.Pages.{plainly}
 use Rattle.history_witnesses.proofs.Ready.{Agreeing, Stands, begins, fit_ready, holds, instant_with, no_page, start, starts, two_ready}
-use Rattle.history_witnesses.proofs.Serving.{serves_one, waiting_as}
-use Rattle.history_witnesses.proofs.Submitting.{issued, others_clear, pages, submit_accesses, submits, submitted}
+use Rattle.history_witnesses.proofs.Serving.{HasOne, agrees_one, none_due, serves_one, waiting_as}
+use Rattle.history_witnesses.proofs.Submitting.{issued, others_clear, submit_accesses, submits}
 
 -- ---- the machine
 
@@ -92,39 +91,34 @@ in_book e here = only waiting e here
 
 -- ---- what holds
 
-first_apart : AreApart first_slots.uses
-first_apart q k q' k' id u v = let one = serves_first q k id u in let other = serves_first q' k' id v in (one.0 ∙ sym other.0, one.1 ∙ sym other.1)
+serves_stage : Stage read_memory issued 0 0 waiting (read_of 100 1) (cut 0x28000 1)
+serves_stage = inl (record { started = refl; issued = refl; free = refl; sact = refl; block = tt; untouched = λ i. sym (le-ltb i 0 (omega arith)); unended = refl })
 
 pub serves : ServesRequest issuing read_memory issued 0 0 first_id
-serves = serves_one issuing read_memory issued 0 (read_of 100 1) first_id 100 40 waiting.request.held stands (omega arith) (0, omega arith, refl) refl refl told
-    (inl (record { started = refl; issued = refl; free = refl; sact = refl; block = tt; untouched = λ i. sym (le-ltb i 0 (omega arith)); unended = refl }))
+serves = serves_one issuing read_memory issued 0 (read_of 100 1) first_id 100 40 waiting.request.held stands (omega arith) (0, omega arith, refl) refl refl told serves_stage
 
 pub serves_plain : is_queued serves.command.operation ≡ false
 unfolding serves serves_one
 serves_plain = refl
 
-submitted_slot : (k : ℕ) → IsServedAs issuing read_memory pages issued 0 k (uses_first 0 k)
-submitted_slot zero = serves
-submitted_slot (suc k) = record { issued = others_clear k; free = refl; unarmed = refl }
-
-kind_of : (e : Pending) → e ≡ waiting → IsOfKind plain submitted 0 0 e
-kind_of e is = subst (IsOfKind plain submitted 0 0) (sym is) (record { command = read_of 100 1; places = cut 0x28000 1; told = told; kind = refl })
-
-submitted_agrees : Agreeing plainly first_slots issuing [] read_memory issued
-submitted_agrees = record {
+has_one : HasOne plainly issuing [] read_memory issued (read_of 100 1) 100 40 waiting.request.held
+has_one = record {
   stands = stands;
   disks = (refl, refl, refl, refl);
+  book = refl;
   unkept = refl;
   unpaged = no_page;
-  first_alone = λ e here. ap (λ (x : Pending). x.request.port.0) (in_book e here);
-  slots = submitted_slot;
-  others = λ n k. refl;
-  unparked = λ n. refl;
-  apart = first_apart;
+  op = refl;
+  first = refl;
+  kind = refl;
+  told = told;
+  stage = serves_stage;
+  others = λ slot. record { issued = others_clear slot; free = refl; unarmed = refl };
   frames = λ f b from small. past_driver f b from;
-  have = λ e here. (0, sym (ap (λ (x : Pending). Serves x.request.id) (in_book e here)));
-  requests = requests_first submitted_at plain (omega arith) (λ e here. kind_of e (in_book e here));
 }
+
+submitted_agrees : Agreeing plainly first_slots issuing [] read_memory issued
+submitted_agrees = agrees_one plainly issuing [] read_memory issued (read_of 100 1) 100 40 waiting.request.held has_one
 
 pub holds_submitted : HoldsWith (Any ∷ Any ∷ []) first_slots submitted_at
 holds_submitted = holds plainly first_slots issuing [] read_memory issued submitted_agrees
@@ -139,12 +133,6 @@ ready_has_begun = record {
 
 -- ---- the read is accepted
 
-none_due : (port : Port) → NoneDue plain (unanswered waiting ∷ []) port
-none_due port r at_port due =
-    let same = only (unanswered waiting) r due.here in
-    let waits : false ≡ true = sym (ap (is_clear plain (unanswered waiting ∷ [])) same) ∙ due.clear in
-    absurd (true≢false (sym waits))
-
 -- the read was due, and is issued
 issues_due : (port : Port) → IssuesDue plain submit_steps issuing port
 issues_due port r here at_port =
@@ -156,7 +144,7 @@ is_issued = record {
   agreeing = submitted_agrees;
   takes = record { rows = refl; id_is = refl; left = omega arith; few = omega arith; owned = refl; free = refl; from = omega arith; to = omega arith; on_disk = omega arith };
   may = may_issue;
-  all_issued = λ port is. none_due port;
+  all_issued = λ port is. none_due plain (unanswered waiting ∷ []) (λ r here. ap (λ (x : Unanswered). x.issued) (only (unanswered waiting) r here)) port;
   due = issues_due;
   does = submits;
   only = All-from_recursion (IssuesOn (port_at 0)) submit_accesses (omega arith, (omega arith, (omega arith, (inr refl, tt))));

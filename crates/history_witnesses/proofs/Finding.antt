@@ -1,11 +1,11 @@
 -- A service finds one queued read of a sector done on port 0, and answers it; nothing else is done meanwhile.
-use Rattle.std.proofs.Common.{ℕ, zero, suc, ◌≡◌, ◌≢◌, ◌<◌, ◌*◌, ◌+◌, ◌↔◌, ◌∙◌, ◌++◌, Bool, true, false, List, [], ◌∷◌, map, slice_index, slice_index_or, Some, inl, inr, ⊎_elim, refl, sym, ap, subst, arith}
+use Rattle.std.proofs.Common.{ℕ, zero, suc, ◌≡◌, ◌<◌, ◌*◌, ◌+◌, ◌↔◌, ◌∙◌, ◌++◌, Bool, true, false, List, [], ◌∷◌, map, slice_index, Some, inl, inr, ⊎_elim, refl, sym, ap, subst, arith}
 use Rattle.std.proofs.lemmas.Bool.{true≢false}
 use Rattle.std.specs.List.{All, Contains}
 use Rattle.std.proofs.lemmas.List.Elements.{All-contains, All-from_recursion}
 use Rattle.std.proofs.lemmas.List.Sorted.{IsPermutation-refl}
 use Rattle.ata_types.specs.declared.Port.{Port}
-use Rattle.ata_types.specs.declared.PortState.TheVariants.{Absent, Ready}
+use Rattle.ata_types.specs.declared.PortState.TheVariants.{Ready}
 use Rattle.ata_types.specs.declared.request.Op.TheVariants.{Read, Write}
 use Rattle.ata_types.specs.declared.request.Outcome.{Outcome}
 use Rattle.ata_types.specs.declared.request.Outcome.TheVariants as outcome
@@ -33,7 +33,7 @@ use Rattle.block_machine.specs.Due.{IsDue, NoneDue}
 use Rattle.block_machine.specs.Events.{Happens, Service, Served, ServesReady, ShowsDisk}
 use Rattle.block_machine.specs.Histories.{Instant, Happening}
 use Rattle.block_machine.specs.Left.{after}
-use Rattle.block_machine.specs.Ports.{Evidence, Ports, IsServiced}
+use Rattle.block_machine.specs.Ports.{Evidence, IsServiced}
 use Rattle.block_machine.specs.State.{Block, Machine, Pending, unanswered}
 use Rattle.block_machine.specs.Steps.{Step, Answer, End, Touch, AllTouched, mark_ended, touch}
 use Rattle.block_machine.specs.declared.due.Unanswered.{Unanswered}
@@ -131,6 +131,13 @@ module _ (c : Discovery) where
     device = served_at.device;
   }
 
+  -- there is one answer
+  pub only_answer : (e : Pending) (o : Outcome) → Contains steps (Answer e o) → (e ≡ ended) × (o ≡ outcome.Ok)
+  only_answer e o here = All-contains IsOne steps (Answer e o) (All-from_recursion IsOne steps (λ e o same. (cc, cc), (λ e o same. absurd cc, (λ e o same. absurd cc, tt)))) here e o refl
+    where
+      IsOne : Step → Type 0
+      IsOne step = (e : Pending) (o : Outcome) → step ≡ Answer e o → (e ≡ ended) × (o ≡ outcome.Ok)
+
   pub record IsFound : Type 0 where
     pub agreed : Agreeing c.disk c.slots c.machine c.more c.memory c.port
     pub agreeing : Agreeing c.disk c.slots_then answered (c.more ++ gained) memory_then c.port_then
@@ -154,15 +161,8 @@ module _ (c : Discovery) where
     all_touched zero low = refl
     all_touched (suc i) low = absurd (omega (arith, low))
 
-    -- there is one answer
-    only_ok : (e : Pending) (o : Outcome) → Contains steps (Answer e o) → o ≡ outcome.Ok
-    only_ok e o here = All-contains IsOk steps (Answer e o) (All-from_recursion IsOk steps (λ e o same. cc, (λ e o same. absurd cc, (λ e o same. absurd cc, tt)))) here e o refl
-      where
-        IsOk : Step → Type 0
-        IsOk step = (e : Pending) (o : Outcome) → step ≡ Answer e o → o ≡ outcome.Ok
-
     not_unplugged : (e : Pending) → Contains steps (Answer e outcome.Unplugged) → ⊥
-    not_unplugged e here = let x : outcome.Unplugged ≡ outcome.Ok = only_ok e outcome.Unplugged here in cc
+    not_unplugged e here = let x : outcome.Unplugged ≡ outcome.Ok = (only_answer e outcome.Unplugged here).1 in cc
 
     pub service_happens : Happens before.moment service.event
     service_happens = record {
@@ -265,7 +265,7 @@ module _ (c : Discovery) where
       disk = λ shows. inl (in_of n shows);
       calm = inr (record {
         same = (refl, refl, refl, refl, refl, refl);
-        told = λ e o here at_port. inl (only_ok e o here);
+        told = λ e o here at_port. inl (only_answer e o here).1;
         uninterrupted = λ why. ⊎_elim (nowhere (port_at n)) (nowhere (port_at n)) why;
       });
     }

@@ -1,11 +1,10 @@
 -- A read of one sector is accepted, and issued in the same call; nothing else is done meanwhile.
-use Rattle.std.proofs.Common.{ℕ, zero, suc, ◌≡◌, ◌<◌, ◌≤◌, ◌+◌, ◌^◌, ◌∙◌, ◌++◌, true, false, List, [], ◌∷◌, None, Some, inl, inr, ⊎_elim, refl, sym, ap, subst, arith, append-nil}
+use Rattle.std.proofs.Common.{ℕ, zero, suc, ◌≡◌, ◌<◌, ◌≤◌, ◌^◌, ◌∙◌, ◌++◌, List, [], ◌∷◌, None, Some, inr, ⊎_elim, refl, sym, ap, subst, arith, append-nil}
 use Rattle.std.specs.Prelude.{Ok}
 use Rattle.std.proofs.lemmas.Bool.{true≢false}
 use Rattle.std.specs.List.{All, Contains}
 use Rattle.std.proofs.lemmas.List.Elements.{All-nil}
 use Rattle.ata_types.specs.declared.Port.{Port}
-use Rattle.ata_types.specs.declared.PortState.TheVariants.{Ready}
 use Rattle.ata_types.specs.declared.grant.GrantRow.{GrantRow}
 use Rattle.ata_types.specs.declared.refusal.Refusal.TheVariants as refused
 use Rattle.ata_types.specs.declared.request.Frame.{Frame}
@@ -26,14 +25,14 @@ use Rattle.block_machine.specs.Histories.{Instant, Happening}
 use Rattle.block_machine.specs.Left.{after}
 use Rattle.block_machine.specs.Ports.{Evidence}
 use Rattle.block_machine.specs.Refusals.{IsAcceptable}
-use Rattle.block_machine.specs.State.{Accepted, Block, Machine, Pending, block_of}
+use Rattle.block_machine.specs.State.{Accepted, Block, Machine, block_of}
 use Rattle.block_machine.specs.Steps.{Step, Accept, Issue, IsNew, May, newly_accepted, unanswered_of}
 use Rattle.identify.specs.declared.wanted.Wanted.TheVariants.{Any}
 use Rattle.driver_history.specs.Evidence.{IsEvidencedOf}
 use Rattle.driver_history.specs.Histories.{IssuesDue, IssuesOn, Ties, TiesPort}
 use Rattle.driver_history.specs.Holds.{mode_of}
 use Rattle.driver_history.specs.Trace.{LeavesEngine}
-use Rattle.history_witnesses.specs.Scene.{having, queueing_cap, running_port}
+use Rattle.history_witnesses.specs.Scene.{having, queueing_cap}
 use Rattle.history_witnesses.proofs.Holding.{IsCalm, IsUnnamed, each, no_trouble, unnamed_evidenced}
 use Rattle.history_witnesses.proofs.Members.{nowhere}
 use Rattle.history_witnesses.proofs.Pages.{Kind}

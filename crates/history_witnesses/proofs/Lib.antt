@@ -18,3 +18,5 @@ mod Recovered
 mod Lost
 mod Answering
 mod Dying
+mod Together
+mod Reordered

@@ -6,7 +6,7 @@ use Rattle.std.proofs.lemmas.Bool.{true≢false}
 use Rattle.std.proofs.lemmas.List.{get_or-replicate, get_or_append_left}
 use Rattle.block_machine.specs.Ports.{IsMode}
 use Rattle.driver_history.specs.Holds.{mode_of}
-use Rattle.identify.specs.Page.{HasNoFault, Describes, AllowsTrim, word}
+use Rattle.identify.specs.Page.{HasNoFault, AllowsTrim, word}
 use Rattle.identify.specs.declared.DiskInfo.{DiskInfo}
 use Rattle.identify.specs.declared.Unfit.TheVariants.{BadChecksum, Word83, No48Bit, SectorSize, NoFlush, NoSectors}
 use Rattle.port_boot.specs.States.{IsFit}

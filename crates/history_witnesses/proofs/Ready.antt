@@ -6,8 +6,7 @@ use Rattle.std.proofs.lemmas.List.Elements.{All-nil, All-cons}
 use Rattle.ata_types.specs.declared.Port.{Port}
 use Rattle.ata_types.specs.declared.PortState as shown
 use Rattle.ata_types.specs.declared.PortState.TheVariants.{Absent, Ready, Unfit, Dead}
-use Rattle.adapter.specs.Device.{Bases, Disk, Notes, PortState, Device}
-use Rattle.adapter.specs.Device.Halt.{NotHalted}
+use Rattle.adapter.specs.Device.{Bases, Disk, PortState, Device}
 use Rattle.adapter.specs.FirstRead.{first_disk, sector_of}
 use Rattle.adapter.specs.declared.command.Operation.TheVariants.{Identify}
 use Rattle.adapter.specs.declared.tape.Entry.{Entry}
@@ -23,10 +22,9 @@ use Rattle.block_machine.specs.Steps.{NoneKept}
 pub use Rattle.block_machine.proofs.Setting.{acceptable, client, empty, empty_starts, frame, its_row, request, row, two_rows}
 use Rattle.driver_history.specs.Evidence.{ShowsFailure, ShowsLoss}
 use Rattle.driver_history.specs.Histories.{Begins}
-use Rattle.driver_history.specs.Holds.{HasRequests, HoldsOf, HoldsWith, IsReadyAt, Runs, mode_of}
+use Rattle.driver_history.specs.Holds.{HasRequests, HoldsOf, HoldsWith, IsReadyAt, mode_of}
 use Rattle.host_boot.specs.Taken.{IsServed, wanted_of}
 use Rattle.identify.specs.declared.wanted.Wanted.TheVariants.{Any, Nothing}
-use Rattle.port_boot.specs.States.{told_causes}
 use Rattle.port_control.specs.Ports.{programmed}
 use Rattle.history_witnesses.specs.Scene.{device_with, having, page_entry, queueing_cap, running_port, showing}
 use Rattle.history_witnesses.proofs.Holding.{fit_disk, no_slots, requests_none, runs_on, unfailing, unlost, unserved_at}
@@ -295,21 +293,31 @@ module _ (disk : Kind) (s : InSlots) (m : Machine) (more : List Entry) (memory :
 pub free_apart : AreApart no_slots.uses
 free_apart q k q' k' id u v = absurd (let z : Free ≡ Serves id = u in cc)
 
-pub holds_first : (disk : Kind) → HoldsWith (Any ∷ Any ∷ []) no_slots (instant_with disk no_slots start [] zeros (running_port 0))
-holds_first disk = holds disk no_slots start [] zeros (running_port 0) (record {
-  stands = record { same = refl; quiet = λ place from. refl };
-  disks = (refl, refl, refl, refl);
-  unkept = refl;
-  unpaged = no_page;
-  first_alone = λ e here. absurd (nowhere e here);
-  slots = λ k. record { issued = refl; free = refl; unarmed = refl };
+-- no request is in the book, and none in a slot
+pub agrees_none : (disk : Kind) (m : Machine) (more : List Entry) (memory : ℕ → ℕ) (p : PortState) → Stands p → (m.present ≡ start.present) × (m.disk_ids ≡ start.disk_ids) × (m.sizes ≡ start.sizes) × (m.disks ≡ start.disks)
+    → m.book ≡ [] → m.kept ≡ [] → ((port : ℕ) → All (λ e. IsMove port Identify e → ⊥) more) → ((k : ℕ) → IsFree p k) → SameMemory m memory → Agreeing disk no_slots m more memory p
+agrees_none disk m more memory p stands disks none unkept unpaged free frames = record {
+  stands = stands;
+  disks = disks;
+  unkept = unkept;
+  unpaged = unpaged;
+  first_alone = λ e here. absurd (empty_book e here);
+  slots = free;
   others = λ n k. refl;
   unparked = λ n. refl;
   apart = free_apart;
-  frames = λ f b from small. refl;
-  have = λ e here. absurd (nowhere e here);
-  requests = requests_none no_slots (instant_with disk no_slots start [] zeros (running_port 0)) (port_at 0) (mode_of queueing_cap disk.info) (λ slot. refl) refl;
-})
+  frames = frames;
+  have = λ e here. absurd (empty_book e here);
+  requests = requests_none no_slots (instant_with disk no_slots m more memory p) (port_at 0) (mode_of queueing_cap disk.info) (λ slot. refl) refl;
+}
+  where
+    empty_book : (e : Pending) → Contains m.book e → ⊥
+    empty_book e here = nowhere e (subst (λ (es : List Pending). Contains es e) none here)
+
+holds_first : (disk : Kind) → HoldsWith (Any ∷ Any ∷ []) no_slots (instant_with disk no_slots start [] zeros (running_port 0))
+holds_first disk = holds disk no_slots start [] zeros (running_port 0)
+    (agrees_none disk start [] zeros (running_port 0) (record { same = refl; quiet = λ place from. refl }) (refl, refl, refl, refl) refl refl no_page
+    (λ k. record { issued = refl; free = refl; unarmed = refl }) (λ f b from small. refl))
 
 pub begins : (disk : Kind) → Begins (Any ∷ Any ∷ []) (instant_with disk no_slots start [] zeros (running_port 0))
 begins disk = ((no_slots, holds_first disk), (record { ae = refl; no_reset = refl }, refl))

@@ -1,6 +1,6 @@
 -- The device takes two queued reads, ends the second, and then the first; a service reads the masks after each. This is the way of the device.
-use Rattle.std.proofs.Common.{ℕ, zero, suc, ◌≡◌, ◌≢◌, ◌<◌, ◌≤◌, ◌*◌, ◌+◌, ◌∙◌, ◌++◌, ◌||◌, ◌&&◌, ◌==◌, Bool, true, false, List, [], ◌∷◌, None, Some, inl, inr, refl, sym, ap, subst, arith}
-use Rattle.std.proofs.lemmas.Bool.{cond-false, cond-true, eq-eqb, ne_eqb}
+use Rattle.std.proofs.Common.{ℕ, zero, suc, ◌≡◌, ◌<◌, ◌≤◌, ◌*◌, ◌+◌, ◌∙◌, ◌++◌, ◌==◌, Bool, true, false, List, [], ◌∷◌, None, Some, inr, refl, sym, ap, subst, arith}
+use Rattle.std.proofs.lemmas.Bool.{cond-false, ne_eqb}
 use Rattle.hba_regs.specs.Bits.{bit}
 use Rattle.hba_regs.specs.declared.reg.Reg.TheVariants.{Px}
 use Rattle.hba_regs.specs.declared.reg.PortReg.TheVariants.{Sact, Ci}
@@ -8,10 +8,10 @@ use Rattle.adapter.specs.Access.{Access, DoesAll, PortShows, note}
 use Rattle.adapter.specs.Access.Access.{Reading}
 use Rattle.adapter.specs.Commands.{is_queued}
 use Rattle.adapter.specs.Device.{Disk, PortState, Taken, Device}
-use Rattle.adapter.specs.FirstRead.{first_disk, sector_of}
+use Rattle.adapter.specs.FirstRead.{sector_of}
 use Rattle.adapter.specs.Memory.{changed, patched}
 use Rattle.adapter.specs.Says.{Says, cut}
-use Rattle.adapter.specs.Steps.{admits, Brings, IsAlone, IsFetchable, IsWorking, Steps, begun, done_entry, move_of, with_done, with_fetch, with_move}
+use Rattle.adapter.specs.Steps.{admits, Brings, IsAlone, IsWorking, Steps, begun, done_entry, move_of, with_done, with_fetch, with_move}
 use Rattle.adapter.specs.Steps.Step.{Fetch, Move, Done}
 use Rattle.adapter.specs.declared.command.Operation.TheVariants.{ReadQueued, Trim}
 use Rattle.adapter.specs.declared.tape.Entry.{Entry}
