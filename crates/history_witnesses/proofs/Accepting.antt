@@ -32,7 +32,7 @@ use Rattle.history_witnesses.proofs.Issuing.{Submission, IsIssued, accepted_as, 
 use Rattle.history_witnesses.proofs.Issuing as issuing_on
 use Rattle.history_witnesses.proofs.Members.{nowhere, only}
 use Rattle.history_witnesses.proofs.Memory.{past_driver}
-use Rattle.history_witnesses.proofs.Pages.{plainly}
+use Rattle.history_witnesses.proofs.Pages.{plain_disks}
 use Rattle.history_witnesses.proofs.Ready.{Agreeing, Stands, begins, fit_ready, holds, instant_with, no_page, start, starts, two_ready}
 use Rattle.history_witnesses.proofs.Serving.{HasOne, agrees_one, none_due, serves_one, waiting_as}
 use Rattle.history_witnesses.proofs.Submitting.{issued, others_clear, submit_accesses, submits}
@@ -40,10 +40,10 @@ use Rattle.history_witnesses.proofs.Submitting.{issued, others_clear, submit_acc
 -- ---- the machine
 
 abbrev pub both : Ports
-both = two_ready plainly
+both = two_ready plain_disks
 
 abbrev pub first : Instant Device
-first = instant_with plainly no_slots start [] zeros (running_port 0)
+first = instant_with plain_disks no_slots start [] zeros (running_port 0)
 
 -- a read of one sector
 abbrev pub asked : Request
@@ -51,7 +51,7 @@ asked = reading 100 40
 
 abbrev pub submission : Submission
 submission = record {
-  disk = plainly;
+  disk = plain_disks;
   machine = start;
   slots = no_slots;
   slots_then = first_slots;
@@ -101,7 +101,7 @@ pub serves_plain : is_queued serves.command.operation ≡ false
 unfolding serves serves_one
 serves_plain = refl
 
-has_one : HasOne plainly issuing [] read_memory issued (read_of 100 1) 100 40 waiting.request.held
+has_one : HasOne plain_disks issuing [] read_memory issued (read_of 100 1) 100 40 waiting.request.held
 has_one = record {
   stands = stands;
   disks = (refl, refl, refl, refl);
@@ -117,18 +117,18 @@ has_one = record {
   frames = λ f b from small. past_driver f b from;
 }
 
-submitted_agrees : Agreeing plainly first_slots issuing [] read_memory issued
-submitted_agrees = agrees_one plainly issuing [] read_memory issued (read_of 100 1) 100 40 waiting.request.held has_one
+submitted_agrees : Agreeing plain_disks first_slots issuing [] read_memory issued
+submitted_agrees = agrees_one plain_disks issuing [] read_memory issued (read_of 100 1) 100 40 waiting.request.held has_one
 
 pub holds_submitted : HoldsWith (Any ∷ Any ∷ []) first_slots submitted_at
-holds_submitted = holds plainly first_slots issuing [] read_memory issued submitted_agrees
+holds_submitted = holds plain_disks first_slots issuing [] read_memory issued submitted_agrees
 
 pub ready_has_begun : ReadyPortHasBegun
 ready_has_begun = record {
   first = first;
   ready = (refl, refl);
   asked = ((0, omega arith, refl), (1, omega arith, refl));
-  begun = ((starts, fit_ready plainly), begins plainly);
+  begun = ((starts, fit_ready plain_disks), begins plain_disks);
 }
 
 -- ---- the read is accepted

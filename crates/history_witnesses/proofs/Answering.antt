@@ -40,7 +40,7 @@ use Rattle.history_witnesses.proofs.Command.{read_memory}
 use Rattle.history_witnesses.proofs.Devices.{does_append, IsOf, leaves, no_bit, serving, WritesOf, AreServing}
 use Rattle.history_witnesses.proofs.Submitting.{issued, submitted, command}
 use Rattle.history_witnesses.proofs.Accepting.{asked, both, first, in_book, issuing, submit, submit_happens, submit_parts, submit_ties, submitted_at, waiting}
-use Rattle.history_witnesses.proofs.Pages.{plainly}
+use Rattle.history_witnesses.proofs.Pages.{plain_disks}
 use Rattle.history_witnesses.proofs.Ready.{begins, calm, fit_ready, not_dead, served_ready, starts}
 use Rattle.history_witnesses.proofs.Losing.{finding_allowed, losing_allowed, between, finds, loses, lost}
 use Rattle.history_witnesses.proofs.Memory.{tells}
@@ -51,7 +51,7 @@ use Rattle.history_witnesses.proofs.Members.{nowhere}
 
 fit_one : AreFit one
 fit_one = record {
-  few = (fit_ready plainly).few;
+  few = (fit_ready plain_disks).few;
   absent = λ port is. absent_of port.0 is;
   slots = λ port is. (omega arith, omega arith, λ _. refl);
   causes = λ port cause is. absurd (no_cause port.0 cause is);
@@ -396,7 +396,7 @@ loss_is_a_history = record {
   evidence = refl;
   still = refl;
   absent = refl;
-  history = ((((starts, fit_ready plainly), begins plainly), submit_happens, submit_ties), service_happens, service_ties);
+  history = ((((starts, fit_ready plain_disks), begins plain_disks), submit_happens, submit_ties), service_happens, service_ties);
   turns = refl;
   submit_parts = submit_parts;
   service_parts = λ port. service_part port.0;

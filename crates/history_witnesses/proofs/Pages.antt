@@ -60,8 +60,8 @@ pub record Kind : Type 0 where
   pub mode : IsMode (mode_of queueing_cap info)
 
 -- the disks that take commands one at a time
-abbrev pub plainly : Kind
-plainly = record {
+abbrev pub plain_disks : Kind
+plain_disks = record {
   page = fit_page;
   info = info_with 1 false;
   fits = page_fits 0 0 false (λ f. absurd (true≢false (sym f)), λ a. let x : 0 ≡ 1 = a in absurd (omega (arith, x)));
@@ -69,8 +69,8 @@ plainly = record {
 }
 
 -- and those that queue them
-abbrev pub queueing : Kind
-queueing = record {
+abbrev pub queueing_disks : Kind
+queueing_disks = record {
   page = queueing_page;
   info = info_with 32 true;
   fits = page_fits 31 1 true (λ _. refl, λ _. refl);

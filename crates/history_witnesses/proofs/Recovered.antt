@@ -30,7 +30,6 @@ use Rattle.agreement.specs.Slots.{IsFree, IsMove, ServesRequest, Waits, IsTaken,
 use Rattle.agreement.specs.Witness.{first_id}
 use Rattle.block_machine.specs.Events.{Service, Served, Happens, ServesReady}
 use Rattle.block_machine.specs.Histories.{Happening, Instant}
-use Rattle.block_machine.specs.Ports.{IsServiced}
 use Rattle.block_machine.specs.Left.{after}
 use Rattle.block_machine.specs.State.{Pending, Machine}
 use Rattle.block_machine.specs.Steps.{Step, Answer}
@@ -45,11 +44,12 @@ use Rattle.history_witnesses.specs.Recovery.{fault_evidence, recovery_accesses, 
 use Rattle.history_witnesses.specs.Scene.{having, page_entry}
 use Rattle.history_witnesses.proofs.Command.{read_memory}
 use Rattle.history_witnesses.proofs.Devices.{IsOf, WritesOf, leaves, serving, AreServing}
+use Rattle.history_witnesses.proofs.Finding.{stay_serviced}
 use Rattle.history_witnesses.proofs.Holding.{IsUnnamed, fit_disk, named, named_is, no_slots, requests_none, runs_on, tries_ready, unnamed_evidenced, unserved_at, IsCalm, gained_none, no_trouble, ran_none}
 use Rattle.history_witnesses.proofs.Memory.{past_driver}
 use Rattle.history_witnesses.proofs.Submitting.{issued, second, submitted, pages}
 use Rattle.history_witnesses.proofs.Accepting.{asked, both, first, in_book, issuing, submit, submit_happens, submit_parts, submit_ties, submitted_at, waiting}
-use Rattle.history_witnesses.proofs.Pages.{plainly}
+use Rattle.history_witnesses.proofs.Pages.{plain_disks}
 use Rattle.history_witnesses.proofs.Ready.{agreeing, begins, calm, fit_ready, free_apart, no_page, not_dead, other_page, second_ready, served_of, served_ready, starts}
 use Rattle.history_witnesses.proofs.Recovering.{allowed, does, fault, from_fall, from_stop, recovered, started, tape_failed, told, until_stop}
 use Rattle.history_witnesses.proofs.Members.{nowhere, only}
@@ -89,8 +89,8 @@ unfolding changed
 ready = record {
   on = record { ae = refl; no_reset = refl };
   runs = runs_on 0 recovered refl refl refl refl refl (omega arith) refl refl refl;
-  info = plainly.info;
-  disk = fit_disk plainly 0 recovered [] (page_entry plainly.page 1 ∷ entry.Fault fault ∷ []) refl refl refl refl (other_page plainly.page (entry.Fault fault ∷ []) (unpaged 0));
+  info = plain_disks.info;
+  disk = fit_disk plain_disks 0 recovered [] (page_entry plain_disks.page 1 ∷ entry.Fault fault ∷ []) refl refl refl refl (other_page plain_disks.page (entry.Fault fault ∷ []) (unpaged 0));
   shows = record { serial = refl; sectors = refl; trims = refl; mode = refl };
   slots = requests_none no_slots recovered_at (port_at 0) (both.mode (port_at 0)) (λ slot. refl) refl;
   kept = λ e k. absurd (nowhere e k);
@@ -98,7 +98,7 @@ ready = record {
 
 port_recovered : (n : ℕ) → HoldsOf (wanted_of (Any ∷ Any ∷ []) n) no_slots recovered_at (port_at n) (both.served (port_at n)) (both.state (port_at n))
 port_recovered zero = ready
-port_recovered (suc zero) = second_ready plainly no_slots answered (entry.Fault fault ∷ []) read_memory started (unpaged 1) (λ slot. refl) refl refl
+port_recovered (suc zero) = second_ready plain_disks no_slots answered (entry.Fault fault ∷ []) read_memory started (unpaged 1) (λ slot. refl) refl refl
 port_recovered (suc (suc n)) = unserved_at no_slots recovered_at (suc (suc n)) refl refl (record { free = λ slot. refl; unparked = refl }) (λ e here. absurd (nowhere e here)) (λ e kept. absurd (nowhere e kept))
 
 holds_recovered : HoldsWith (Any ∷ Any ∷ []) no_slots recovered_at
@@ -307,20 +307,6 @@ backed = record {
     plugs (suc zero) = refl
     plugs (suc (suc n)) = refl
 
-becomes : (n : ℕ) → IsServiced both fault_evidence both (port_at n)
-becomes n = (
-  λ is. absurd (not_dead n is),
-  λ _. (
-    record {
-      served = refl;
-      stuck = λ is. absurd (not_dead n is);
-      dies = λ h. absurd (nowhere (port_at n) h);
-      keeps = λ is. (refl, refl);
-    },
-    inl (refl, refl, refl, refl, refl, refl),
-  ),
-)
-
 unplugged_not : (e : Pending) → Contains (answer ∷ []) (Answer e outcome.Unplugged) → ⊥
 unplugged_not e here = let x : outcome.Unplugged ≡ outcome.DeviceError 0x41 0x40 = only_fault e outcome.Unplugged here in cc
 
@@ -338,7 +324,7 @@ happens = record {
       named 0,
     ),
   );
-  fit = fit_ready plainly;
+  fit = fit_ready plain_disks;
   disks = λ e o here. absurd (nowhere e here);
   answered = record {
     tells = record { answers = (waiting, outcome.DeviceError 0x41 0x40) ∷ []; same = IsPermutation-refl _; ordered = λ i j d less low. absurd (omega (arith, less, low)); told = refl };
@@ -347,7 +333,7 @@ happens = record {
     unplugs = record { emptied = λ e other here. absurd (unplugged_not e here); alike = λ e other here. absurd (unplugged_not e here) };
     issues = λ port is r at_port due. absurd (nowhere r due.here);
     emptied = λ port other e here. absurd (nowhere e here);
-    becomes = λ port. becomes port.0;
+    becomes = λ port. stay_serviced plain_disks fault_evidence port.0 (nowhere port);
     disk = λ port. inl (refl, refl, refl, refl, refl, refl);
   };
 }
@@ -403,7 +389,7 @@ recovery_ties = record {
   well = runs_well;
   does = does;
   allowed = allowed;
-  history = ((((starts, fit_ready plainly), begins plainly), submit_happens, submit_ties), happens, ties);
+  history = ((((starts, fit_ready plain_disks), begins plain_disks), submit_happens, submit_ties), happens, ties);
   accesses = refl;
   submit_parts = submit_parts;
   service_parts = λ port. part_of port.0;

@@ -14,7 +14,7 @@ use Rattle.adapter.specs.Memory.{bytes_at, patched}
 use Rattle.adapter.specs.declared.command.Operation.{Operation}
 use Rattle.adapter.specs.declared.command.Operation.TheVariants as operation
 use Rattle.agreement.specs.Agrees.{SameMemory, port_at}
-use Rattle.agreement.specs.Facts.{RunsWell}
+use Rattle.agreement.specs.Facts.{IsDisturbance, RunsWell}
 use Rattle.agreement.specs.Places.{table_of}
 use Rattle.agreement.specs.Served.{second_id}
 use Rattle.agreement.specs.Slots.{IsDropped, IsEnded, IsMove, IsTaken, ServesRequest, Waits, op_of}
@@ -22,6 +22,7 @@ use Rattle.agreement.specs.Witness.{first_id}
 use Rattle.block_machine.specs.State.{Accepted, Pending, unanswered}
 use Rattle.block_machine.specs.Steps.{MayMove}
 use Rattle.block_machine.specs.declared.due.Unanswered.{Unanswered}
+use Rattle.driver_history.specs.Evidence.{StaysHealthy}
 use Rattle.driver_history.specs.Histories.{IsAnsweredOk, IsIssuedOn}
 use Rattle.history_witnesses.specs.Queued.{OrderIsFree}
 use Rattle.history_witnesses.specs.Scene.{queued, running_port}
@@ -34,7 +35,7 @@ use Rattle.history_witnesses.proofs.Issuing as issued_on
 use Rattle.history_witnesses.proofs.Issuing.{IsIssued, Submission, accepted_as, reading}
 use Rattle.history_witnesses.proofs.Members.{nowhere, only}
 use Rattle.history_witnesses.proofs.Memory.{moved_alike}
-use Rattle.history_witnesses.proofs.Pages.{queueing}
+use Rattle.history_witnesses.proofs.Pages.{queueing_disks}
 use Rattle.history_witnesses.proofs.Queueing.{neither, one_memory, two_issued, two_memory, two_zeros}
 use Rattle.history_witnesses.proofs.Ready.{Agreeing, Stands, agrees_none, begins, but_commands, fit_ready, starts}
 use Rattle.history_witnesses.proofs.Serving.{HasOne, agrees_one, none_due}
@@ -44,7 +45,7 @@ use Rattle.history_witnesses.proofs.Swapping.{again_free, again_stands, ends, fi
 -- the service that finds the second done, and the one that finds the first done
 abbrev discovery_two : Discovery
 discovery_two = record {
-  disk = queueing;
+  disk = queueing_disks;
   machine = both_issuing;
   slots = two_slots;
   slots_then = first_slots;
@@ -63,7 +64,7 @@ discovery_two = record {
 
 abbrev discovery_one : Discovery
 discovery_one = record {
-  disk = queueing;
+  disk = queueing_disks;
   machine = found_on.answered discovery_two;
   slots = first_slots;
   slots_then = no_slots;
@@ -165,7 +166,7 @@ unpaged : (slot k n port : ℕ) → All (λ e. IsMove port operation.Identify e 
 unpaged slot k n port = All-from_recursion (λ e. IsMove port operation.Identify e → ⊥) (ends slot k n) (λ (x : _ × _). let same : operation.ReadQueued ≡ operation.Identify = x.1 in cc, (λ x. x, tt))
 
 -- the first is taken still
-has_left : HasOne queueing (found_on.answered discovery_two) (ends 1 101 41) swapped_memory found (queued_read 100) 100 40 held
+has_left : HasOne queueing_disks (found_on.answered discovery_two) (ends 1 101 41) swapped_memory found (queued_read 100) 100 40 held
 unfolding two_memory one_memory patched bytes_at
 has_left = record {
   stands = found_stands;
@@ -192,8 +193,8 @@ has_left = record {
   frames = swapped_frames;
 }
 
-left_agrees : Agreeing queueing first_slots (found_on.answered discovery_two) (ends 1 101 41) swapped_memory found
-left_agrees = agrees_one queueing (found_on.answered discovery_two) (ends 1 101 41) swapped_memory found (queued_read 100) 100 40 held has_left
+left_agrees : Agreeing queueing_disks first_slots (found_on.answered discovery_two) (ends 1 101 41) swapped_memory found
+left_agrees = agrees_one queueing_disks (found_on.answered discovery_two) (ends 1 101 41) swapped_memory found (queued_read 100) 100 40 held has_left
 
 -- exactly the second is answered
 exact_two : (e : Pending) (slot : ℕ) → IsIssuedOn (port_at 0) both_issuing e → ServesRequest both_issuing two_memory two_issued 0 slot e.request.id
@@ -232,8 +233,8 @@ found_two = record {
 
 -- ---- and then the first
 
-none_left : Agreeing queueing no_slots (found_on.answered discovery_one) (ends 1 101 41 ++ ends 0 100 40) (found_on.memory_then discovery_one) found_again
-none_left = agrees_none queueing (found_on.answered discovery_one) (ends 1 101 41 ++ ends 0 100 40) (found_on.memory_then discovery_one) found_again
+none_left : Agreeing queueing_disks no_slots (found_on.answered discovery_one) (ends 1 101 41 ++ ends 0 100 40) (found_on.memory_then discovery_one) found_again
+none_left = agrees_none queueing_disks (found_on.answered discovery_one) (ends 1 101 41 ++ ends 0 100 40) (found_on.memory_then discovery_one) found_again
     again_stands (refl, refl, refl, refl) refl refl
     (λ port. All-append (λ e. IsMove port operation.Identify e → ⊥) (ends 1 101 41) (ends 0 100 40) (unpaged 1 101 41 port) (unpaged 0 100 40 port))
     (λ slot. record { issued = found_waits slot; free = again_free slot; unarmed = none_active slot })
@@ -277,6 +278,13 @@ runs_well p stands = record {
     was : {A : Type 0} (part : PortState → A) → part (but_commands p) ≡ part (but_commands (running_port 0))
     was part = ap part stands.same
 
+-- nothing goes wrong on it in such a service
+stays_healthy : (c : Discovery) → IsFound c → StaysHealthy 0 (found_on.before c).device (found_on.served_at c).device
+stays_healthy c is = record {
+  well = runs_well c.port is.agreed.stands;
+  undisturbed = record { gained = found_on.gained c; tape = refl; calm = All-from_recursion (λ e. IsDisturbance 0 e → ⊥) (found_on.gained c) (λ x. x, (λ x. x, tt)) };
+}
+
 pub order_is_free : OrderIsFree
 unfolding issued_on.submit_ties found_on.service_ties
 order_is_free = record {
@@ -290,21 +298,23 @@ order_is_free = record {
   submits_second = (refl, refl);
   read = (refl, refl);
   issued = (refl, refl);
+  both_active = (refl, refl);
   serve_second = found_on.service discovery_two;
   serves_second = (refl, refl);
-  active = one_active 0;
+  one_active = (one_active 0, one_active 1);
   left = λ e here. let is = only waits_first e here in (ap (λ (x : Pending). x.request.id) is, ap (λ (x : Pending). x.issued) is);
   serve_first = found_on.service discovery_one;
   serves_first = (refl, refl);
   ready = (refl, refl, refl, refl, refl);
-  well = (runs_well found found_stands, runs_well found_again again_stands);
+  healthy = (stays_healthy discovery_two found_two, stays_healthy discovery_one found_one);
+  well = runs_well found_again again_stands;
   finds_second = finds_second.0;
   finds_first = finds_first.0;
   allowed = (finds_second.1, finds_first.1);
   history = (
     (
       (
-        (((starts, fit_ready queueing), begins queueing), issued_on.submit_happens submission_one issued_first, issued_on.submit_ties submission_one issued_first),
+        (((starts, fit_ready queueing_disks), begins queueing_disks), issued_on.submit_happens submission_one issued_first, issued_on.submit_ties submission_one issued_first),
         issued_on.submit_happens submission_two issued_second,
         issued_on.submit_ties submission_two issued_second,
       ),

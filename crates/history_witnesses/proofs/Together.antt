@@ -1,12 +1,11 @@
 -- Two queued reads are accepted, and issued one beside the other.
-use Rattle.std.proofs.Common.{ℕ, zero, suc, ◌≡◌, ◌⊎◌, ◌↔◌, ◌*◌, ◌∙◌, ◌≤◌, true, false, not, List, [], ◌∷◌, inl, inr, ⊎_elim, refl, sym, ap, subst, arith}
+use Rattle.std.proofs.Common.{ℕ, zero, suc, ◌≡◌, ◌⊎◌, ◌↔◌, ◌*◌, ◌∙◌, ◌≤◌, true, false, not, [], ◌∷◌, inl, inr, ⊎_elim, refl, sym, ap, subst, arith}
 use Rattle.std.proofs.lemmas.Bool.{le-ltb, true≢false}
 use Rattle.std.specs.List.{Contains}
 use Rattle.ata_types.specs.declared.Port.{Port}
 use Rattle.ata_types.specs.declared.request.RequestId.{RequestId}
-use Rattle.adapter.specs.Device.{PortState, Device}
+use Rattle.adapter.specs.Device.{Device}
 use Rattle.adapter.specs.Says.{cut}
-use Rattle.adapter.specs.declared.tape.Entry.{Entry}
 use Rattle.agreement.specs.Acts.{InSlots}
 use Rattle.agreement.specs.Agrees.{AreApart, port_at}
 use Rattle.agreement.specs.Served.{second_id}
@@ -28,7 +27,7 @@ use Rattle.history_witnesses.proofs.Holding.{first_slots, no_slots}
 use Rattle.history_witnesses.proofs.Issuing as issued_on
 use Rattle.history_witnesses.proofs.Issuing.{IsIssued, Submission, accepted_as, reading}
 use Rattle.history_witnesses.proofs.Members.{either, nowhere, only}
-use Rattle.history_witnesses.proofs.Pages.{queueing}
+use Rattle.history_witnesses.proofs.Pages.{queueing_disks}
 use Rattle.history_witnesses.proofs.Queueing.{first_told, neither, one_issued, one_memory, one_submits, one_told, one_zeros, queue_accesses, queues, second_told, two_issued, two_memory, two_submits, two_zeros}
 use Rattle.history_witnesses.proofs.Ready.{Agreeing, Stands, instant_with, no_page, start}
 use Rattle.history_witnesses.proofs.Serving.{HasOne, agrees_one, none_due, serves_one, waiting_as}
@@ -37,11 +36,11 @@ use Rattle.history_witnesses.proofs.Swapping.{pages}
 -- ---- the machine
 
 abbrev pub first : Instant Device
-first = instant_with queueing no_slots start [] zeros (running_port 0)
+first = instant_with queueing_disks no_slots start [] zeros (running_port 0)
 
 abbrev pub submission_one : Submission
 submission_one = record {
-  disk = queueing;
+  disk = queueing_disks;
   machine = start;
   slots = no_slots;
   slots_then = first_slots;
@@ -70,7 +69,7 @@ two_slots = record { uses = two_uses; parked = λ port. [] }
 
 abbrev pub submission_two : Submission
 submission_two = record {
-  disk = queueing;
+  disk = queueing_disks;
   machine = first_issuing;
   slots = first_slots;
   slots_then = two_slots;
@@ -104,10 +103,7 @@ waits_second = waiting_as second_id 101 41 held_too
 one_stands : Stands one_issued
 one_stands = record { same = refl; quiet = λ place from. refl }
 
-abbrev has_first : Machine → List Entry → (ℕ → ℕ) → PortState → Type 0
-has_first m more memory p = HasOne queueing m more memory p (queued_read 100) 100 40 held
-
-has_one : has_first first_issuing [] one_memory one_issued
+has_one : HasOne queueing_disks first_issuing [] one_memory one_issued (queued_read 100) 100 40 held
 has_one = record {
   stands = one_stands;
   disks = (refl, refl, refl, refl);
@@ -123,8 +119,8 @@ has_one = record {
   frames = λ f b from small. one_zeros f b from;
 }
 
-one_agrees : Agreeing queueing first_slots first_issuing [] one_memory one_issued
-one_agrees = agrees_one queueing first_issuing [] one_memory one_issued (queued_read 100) 100 40 held has_one
+one_agrees : Agreeing queueing_disks first_slots first_issuing [] one_memory one_issued
+one_agrees = agrees_one queueing_disks first_issuing [] one_memory one_issued (queued_read 100) 100 40 held has_one
 
 may_first : May (after start (Accept (issued_on.accepted submission_one) ∷ [])) (Issue queued (newly_accepted (issued_on.accepted submission_one)))
 may_first = ((0, omega arith, refl), record { here = (0, omega arith, refl); clear = refl; slot = λ _. omega arith }, λ e h. absurd (nowhere e h))
@@ -209,7 +205,7 @@ two_requests = record {
     kinds (suc zero) e here u = record { command = queued_read 101; places = cut 0x29000 1; told = second_told; kind = kind_of e here }
     kinds (suc (suc slot)) e here u = absurd (let x : Free ≡ Serves e.request.id = u in cc)
 
-pub two_agree : Agreeing queueing two_slots both_issuing [] two_memory two_issued
+pub two_agree : Agreeing queueing_disks two_slots both_issuing [] two_memory two_issued
 two_agree = record {
   stands = two_stands;
   disks = (refl, refl, refl, refl);

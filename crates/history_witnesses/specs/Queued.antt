@@ -1,6 +1,6 @@
 -- A history in which two queued reads of one port end in the other order (this project's own; PxCI and PxSACT: AHCI 1.3.1, 3.3.13, 3.3.14 and
 -- 5.5.3).
-use Rattle.std.specs.Prelude.{true, ◌≡◌, List, [], ◌∷◌, Contains, Ok}
+use Rattle.std.specs.Prelude.{true, false, ◌≡◌, List, [], ◌∷◌, Contains, Ok}
 use Rattle.ata_types.specs.declared.Port.{Port}
 use Rattle.ata_types.specs.declared.PortState.TheVariants.{Ready}
 use Rattle.ata_types.specs.declared.request.Op.TheVariants.{Read}
@@ -21,6 +21,7 @@ use Rattle.block_machine.specs.Events.{Submit, Service, Said, Submitted, Served,
 use Rattle.block_machine.specs.Histories.{Instant, Happening, now}
 use Rattle.block_machine.specs.State.{Pending}
 use Rattle.identify.specs.declared.wanted.Wanted.TheVariants.{Any}
+use Rattle.driver_history.specs.Evidence.{StaysHealthy}
 use Rattle.driver_history.specs.Histories.{IsHistory, TiesPort}
 use Rattle.history_witnesses.specs.Allowed.{AreAllowed}
 use Rattle.history_witnesses.specs.Scene.{queued}
@@ -36,10 +37,10 @@ first_found = Reading (Px (port_at 0) Ci) 0 ∷ Reading (Px (port_at 0) Sact) 0 
 abbrev pub tells_done : RequestId → Request → Said
 tells_done id asked = Served (record { id = id; client = asked.client; outcome = outcome.Ok } ∷ [])
 
--- Port 0 queues commands, 32 at a time, and stays ready. Two reads of it are accepted, each issued in the same call. The device ends the
--- second one first: a service finds it done, and answers it alone, while the first is issued still, and its bit of PxSACT is set. Then the
--- device ends the first, and another service answers that. The services' accesses keep to the adapter's rules, and the port runs well after
--- each. Each port's part in the four calls is done, whether it stays healthy or not.
+-- Port 0 queues commands, 32 at a time, and stays ready. Two reads of it are accepted, each issued in the same call, in slots 0 and 1. The
+-- device ends the second one first: a service finds it done, and answers it alone, while the first is issued still, with its bit of PxSACT set.
+-- Then the device ends the first, and another service answers that. The services' accesses keep to the adapter's rules; nothing goes wrong on
+-- the port in them, and it runs well in the end. Each port's part in the four calls is done, whether it stays healthy or not.
 pub record OrderIsFree : Type 0 where
   pub first : Instant Device
   pub queues : first.moment.ports.mode (port_at 0) ≡ queued
@@ -51,9 +52,10 @@ pub record OrderIsFree : Type 0 where
   pub submits_second : (submit_second.event.ask ≡ Submit asked_second) × (submit_second.event.said ≡ Submitted (Ok second_id))
   pub read : (asked_first.op ≡ Read) × (asked_second.op ≡ Read)
   pub issued : IsIssuedIn first_id submit_first.event.steps × IsIssuedIn second_id submit_second.event.steps
+  pub both_active : ((submit_second.device.port 0).sact 0 ≡ true) × ((submit_second.device.port 0).sact 1 ≡ true)
   pub serve_second : Happening Device DeviceStep
   pub serves_second : (serve_second.event.ask ≡ Service) × (serve_second.event.said ≡ tells_done second_id asked_second)
-  pub active : (serve_second.device.port 0).sact 0 ≡ true
+  pub one_active : ((serve_second.device.port 0).sact 0 ≡ true) × ((serve_second.device.port 0).sact 1 ≡ false)
   pub left : (e : Pending) → Contains (now first (serve_second ∷ submit_second ∷ submit_first ∷ [])).moment.machine.book e
       → (e.request.id ≡ first_id) × (e.issued ≡ true)
   pub serve_first : Happening Device DeviceStep
@@ -61,7 +63,8 @@ pub record OrderIsFree : Type 0 where
   pub ready : (first.moment.ports.state (port_at 0) ≡ Ready)
       × (submit_first.event.ports.state (port_at 0) ≡ Ready) × (submit_second.event.ports.state (port_at 0) ≡ Ready)
       × (serve_second.event.ports.state (port_at 0) ≡ Ready) × (serve_first.event.ports.state (port_at 0) ≡ Ready)
-  pub well : RunsWell (serve_second.device.port 0) × RunsWell (serve_first.device.port 0)
+  pub healthy : StaysHealthy 0 submit_second.device serve_second.device × StaysHealthy 0 serve_second.device serve_first.device
+  pub well : RunsWell (serve_first.device.port 0)
   pub finds_second : DoesAll second_found submit_second.device serve_second.device
   pub finds_first : DoesAll first_found serve_second.device serve_first.device
   pub allowed : AreAllowed second_found submit_second.device serve_second.device finds_second
