@@ -1,5 +1,5 @@
 -- The first witness's read is accepted and issued: the machine, and what holds before and after it.
-use Rattle.std.proofs.Common.{◌≡◌, ◌↔◌, false, List, [], ◌∷◌, inl, inr, refl, sym, ap, subst, arith}
+use Rattle.std.proofs.Common.{◌≡◌, false, List, [], ◌∷◌, inl, inr, refl, sym, ap, arith}
 use Rattle.std.proofs.lemmas.Bool.{le-ltb, true≢false}
 use Rattle.std.specs.List.{Contains}
 use Rattle.std.proofs.lemmas.List.Elements.{All-from_recursion}
@@ -13,8 +13,7 @@ use Rattle.adapter.specs.declared.access.DeviceStep.{DeviceStep}
 use Rattle.agreement.specs.Agrees.{port_at}
 use Rattle.agreement.specs.Slots.{ServesRequest, Stage}
 use Rattle.agreement.specs.Witness.{first_id}
-use Rattle.block_machine.specs.Due.{IsDue}
-use Rattle.block_machine.specs.Events.{Happens, IsIssuedIn}
+use Rattle.block_machine.specs.Events.{Happens}
 use Rattle.block_machine.specs.Histories.{Happening, Instant}
 use Rattle.block_machine.specs.Left.{after}
 use Rattle.block_machine.specs.Ports.{Ports}
@@ -22,7 +21,7 @@ use Rattle.block_machine.specs.State.{Machine, Pending, unanswered}
 use Rattle.block_machine.specs.Steps.{Step, Accept, Issue, May, newly_accepted}
 use Rattle.block_machine.specs.declared.due.Unanswered.{Unanswered}
 use Rattle.identify.specs.declared.wanted.Wanted.TheVariants.{Any}
-use Rattle.driver_history.specs.Histories.{IssuesDue, IssuesOn, Ties, TiesPort}
+use Rattle.driver_history.specs.Histories.{IssuesOn, Ties, TiesPort}
 use Rattle.driver_history.specs.Holds.{HoldsWith}
 use Rattle.history_witnesses.specs.Begun.{ReadyPortHasBegun}
 use Rattle.history_witnesses.specs.Scene.{plain, running_port}
@@ -34,7 +33,7 @@ use Rattle.history_witnesses.proofs.Members.{nowhere, only}
 use Rattle.history_witnesses.proofs.Memory.{past_driver}
 use Rattle.history_witnesses.proofs.Pages.{plain_disks}
 use Rattle.history_witnesses.proofs.Ready.{Agreeing, Stands, begins, fit_ready, holds, instant_with, no_page, start, starts, two_ready}
-use Rattle.history_witnesses.proofs.Serving.{HasOne, agrees_one, none_due, serves_one, waiting_as}
+use Rattle.history_witnesses.proofs.Serving.{HasOne, agrees_one, none_due, serves_one, outstanding_as}
 use Rattle.history_witnesses.proofs.Submitting.{issued, others_clear, submit_accesses, submits}
 
 -- ---- the machine
@@ -75,7 +74,7 @@ abbrev pub issuing : Machine
 issuing = issuing_on.issuing submission
 
 abbrev pub waiting : Pending
-waiting = waiting_as first_id 100 40 (issuing_on.accepted submission).held
+waiting = outstanding_as first_id 100 40 (issuing_on.accepted submission).held
 
 abbrev pub submitted_at : Instant Device
 submitted_at = issuing_on.submitted_at submission
@@ -133,11 +132,6 @@ ready_has_begun = record {
 
 -- ---- the read is accepted
 
--- the read was due, and is issued
-issues_due : (port : Port) → IssuesDue plain submit_steps issuing port
-issues_due port r here at_port =
-    subst (λ (x : Unanswered). IsIssuedIn x.id submit_steps ↔ IsDue plain (unanswered waits ∷ []) x) (sym (only (unanswered waits) r here)) (λ _. may_issue.1, λ _. refl)
-
 is_issued : IsIssued submission
 is_issued = record {
   stands = record { same = refl; quiet = λ place from. refl };
@@ -145,7 +139,7 @@ is_issued = record {
   takes = record { rows = refl; id_is = refl; left = omega arith; few = omega arith; owned = refl; free = refl; from = omega arith; to = omega arith; on_disk = omega arith };
   may = may_issue;
   all_issued = λ port is. none_due plain (unanswered waiting ∷ []) (λ r here. ap (λ (x : Unanswered). x.issued) (only (unanswered waiting) r here)) port;
-  due = issues_due;
+  due = issuing_on.due_alone submission refl may_issue.1 refl;
   does = submits;
   only = All-from_recursion (IssuesOn (port_at 0)) submit_accesses (omega arith, (omega arith, (omega arith, (inr refl, tt))));
 }

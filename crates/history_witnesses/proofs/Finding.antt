@@ -51,7 +51,7 @@ use Rattle.history_witnesses.proofs.Members.{nowhere}
 use Rattle.history_witnesses.proofs.Memory.{tells}
 use Rattle.history_witnesses.proofs.Pages.{Kind}
 use Rattle.history_witnesses.proofs.Ready.{Agreeing, fit_ready, holds, instant_with, not_dead, served_ready, shows_none, two_ready, two_states}
-use Rattle.history_witnesses.proofs.Serving.{waiting_as}
+use Rattle.history_witnesses.proofs.Serving.{outstanding_as}
 
 -- ports that stay what they are, where none gets stuck
 pub stay_serviced : (disk : Kind) (evidence : Evidence) (n : ℕ) → (Contains evidence.stuck (port_at n) → ⊥) → IsServiced (two_ready disk) evidence (two_ready disk) (port_at n)
@@ -88,17 +88,17 @@ pub record Discovery : Type 0 where
   pub sact : ℕ
 
 module _ (c : Discovery) where
-  abbrev pub waiting : Pending
-  waiting = waiting_as c.id c.sector c.frame_number c.held
+  abbrev pub outstanding : Pending
+  outstanding = outstanding_as c.id c.sector c.frame_number c.held
 
   abbrev pub touching : Step
-  touching = Touch waiting 0 (slice_index (sector_of c.sector))
+  touching = Touch outstanding 0 (slice_index (sector_of c.sector))
 
   abbrev pub ended : Pending
-  ended = mark_ended (touch 0 waiting)
+  ended = mark_ended (touch 0 outstanding)
 
   abbrev pub steps : List Step
-  steps = Answer ended outcome.Ok ∷ End (touch 0 waiting) ∷ touching ∷ []
+  steps = Answer ended outcome.Ok ∷ End (touch 0 outstanding) ∷ touching ∷ []
 
   abbrev pub answered : Machine
   answered = after c.machine steps
@@ -123,7 +123,7 @@ module _ (c : Discovery) where
   served_at = instant_with c.disk c.slots_then answered (c.more ++ gained) memory_then c.port_then
 
   abbrev pub replies : List Reply
-  replies = record { id = c.id; client = waiting.request.asked.client; outcome = outcome.Ok } ∷ []
+  replies = record { id = c.id; client = outstanding.request.asked.client; outcome = outcome.Ok } ∷ []
 
   abbrev pub service : Happening Device DeviceStep
   service = record {
@@ -141,9 +141,9 @@ module _ (c : Discovery) where
   pub record IsFound : Type 0 where
     pub agreed : Agreeing c.disk c.slots c.machine c.more c.memory c.port
     pub agreeing : Agreeing c.disk c.slots_then answered (c.more ++ gained) memory_then c.port_then
-    pub here : Contains c.machine.book waiting
-    pub touched_here : Contains (after c.machine (touching ∷ [])).book (touch 0 waiting)
-    pub ended_here : Contains (after c.machine (End (touch 0 waiting) ∷ touching ∷ [])).book ended
+    pub here : Contains c.machine.book outstanding
+    pub touched_here : Contains (after c.machine (touching ∷ [])).book (touch 0 outstanding)
+    pub ended_here : Contains (after c.machine (End (touch 0 outstanding) ∷ touching ∷ [])).book ended
     pub lent : c.machine.lent (record { 0 = c.frame_number }) ≡ Some c.id
     pub on_disk : c.sector < 256
     pub unended : (e : Pending) → Contains c.machine.book e → e.ended ≡ false
@@ -157,7 +157,7 @@ module _ (c : Discovery) where
     in_then : c.machine.present (port_at 0) ≡ true
     in_then = ap (λ (f : Port → Bool). f (port_at 0)) is.agreed.disks.0
 
-    all_touched : AllTouched (touch 0 waiting)
+    all_touched : AllTouched (touch 0 outstanding)
     all_touched zero low = refl
     all_touched (suc i) low = absurd (omega (arith, low))
 
@@ -175,7 +175,7 @@ module _ (c : Discovery) where
       );
       belong = (((tt, inl tt), inl tt), inr tt);
       last = (((tt, λ id h i. absurd (true≢false (sym i))), λ id h i. absurd (true≢false (sym i))), λ id h i. absurd (true≢false (sym i)));
-      lawful = (tt, (record { pending = waiting; here = is.here; id_is = refl; issued = refl }, refl, all_touched, refl));
+      lawful = (tt, (record { pending = outstanding; here = is.here; id_is = refl; issued = refl }, refl, all_touched, refl));
       fit = fit_ready c.disk;
       disks = λ e o here there same. (refl, refl);
       answered = record {
@@ -201,10 +201,10 @@ module _ (c : Discovery) where
       tells = (
         [],
         touching ∷ [],
-        Answer ended outcome.Ok ∷ End (touch 0 waiting) ∷ [],
+        Answer ended outcome.Ok ∷ End (touch 0 outstanding) ∷ [],
         tt,
         record {
-          pending = waiting;
+          pending = outstanding;
           moves = inl (is.here, refl);
           port_is = refl;
           op_is = refl;
@@ -218,10 +218,10 @@ module _ (c : Discovery) where
         },
         (
           [],
-          End (touch 0 waiting) ∷ [],
+          End (touch 0 outstanding) ∷ [],
           Answer ended outcome.Ok ∷ [],
           tt,
-          record { pending = touch 0 waiting; moves = inl (is.touched_here, refl); port_is = refl; op_is = refl; step = refl },
+          record { pending = touch 0 outstanding; moves = inl (is.touched_here, refl); port_is = refl; op_is = refl; step = refl },
           (tt, λ d. d),
           refl,
         ),

@@ -1,5 +1,5 @@
 -- A read of one sector is accepted, and issued in the same call; nothing else is done meanwhile.
-use Rattle.std.proofs.Common.{ℕ, zero, suc, ◌≡◌, ◌<◌, ◌≤◌, ◌^◌, ◌∙◌, ◌++◌, List, [], ◌∷◌, None, Some, inr, ⊎_elim, refl, sym, ap, subst, arith, append-nil}
+use Rattle.std.proofs.Common.{ℕ, zero, suc, ◌≡◌, ◌<◌, ◌≤◌, ◌^◌, ◌∙◌, ◌↔◌, ◌++◌, List, [], ◌∷◌, map, None, Some, inr, ⊎_elim, refl, sym, ap, subst, arith, append-nil}
 use Rattle.std.specs.Prelude.{Ok}
 use Rattle.std.proofs.lemmas.Bool.{true≢false}
 use Rattle.std.specs.List.{All, Contains}
@@ -20,21 +20,23 @@ use Rattle.adapter.specs.declared.access.DeviceStep.{DeviceStep}
 use Rattle.agreement.specs.Acts.{InSlots}
 use Rattle.agreement.specs.Agrees.{port_at}
 use Rattle.agreement.specs.Driver.{IsBacked}
-use Rattle.block_machine.specs.Events.{Happens, Submit, Submitted, AllIssued, situation_of}
+use Rattle.block_machine.specs.Due.{IsDue}
+use Rattle.block_machine.specs.Events.{Happens, Submit, Submitted, AllIssued, IsIssuedIn, situation_of}
 use Rattle.block_machine.specs.Histories.{Instant, Happening}
 use Rattle.block_machine.specs.Left.{after}
 use Rattle.block_machine.specs.Ports.{Evidence}
 use Rattle.block_machine.specs.Refusals.{IsAcceptable}
-use Rattle.block_machine.specs.State.{Accepted, Block, Machine, block_of}
+use Rattle.block_machine.specs.State.{Accepted, Block, Machine, block_of, unanswered}
 use Rattle.block_machine.specs.Steps.{Step, Accept, Issue, IsNew, May, newly_accepted, unanswered_of}
+use Rattle.block_machine.specs.declared.due.Unanswered.{Unanswered}
 use Rattle.identify.specs.declared.wanted.Wanted.TheVariants.{Any}
 use Rattle.driver_history.specs.Evidence.{IsEvidencedOf}
-use Rattle.driver_history.specs.Histories.{IssuesDue, IssuesOn, Ties, TiesPort}
+use Rattle.driver_history.specs.Histories.{IssuesDue, IssuesOn, Ties, TiesPort, unissued}
 use Rattle.driver_history.specs.Holds.{mode_of}
 use Rattle.driver_history.specs.Trace.{LeavesEngine}
 use Rattle.history_witnesses.specs.Scene.{having, queueing_cap}
 use Rattle.history_witnesses.proofs.Holding.{IsCalm, IsUnnamed, each, no_trouble, unnamed_evidenced}
-use Rattle.history_witnesses.proofs.Members.{nowhere}
+use Rattle.history_witnesses.proofs.Members.{nowhere, only}
 use Rattle.history_witnesses.proofs.Pages.{Kind}
 use Rattle.history_witnesses.proofs.Ready.{Agreeing, Stands, acceptable, client, fit_ready, frame, holds, instant_with, its_row, request, row, served_ready, shows_none, two_ready, two_rows}
 use Rattle.history_witnesses.proofs.Submitting.{second}
@@ -170,6 +172,20 @@ module _ (c : Submission) where
     pub due : (port : Port) → IssuesDue (mode_of queueing_cap c.disk.info) submit_steps issuing port
     pub does : DoesAll c.accesses before.device submitted_at.device
     pub only : All (IssuesOn (port_at 0)) c.accesses
+
+  -- A request that was due while no other was unanswered, and is issued: so exactly what is due is issued.
+  pub due_alone : unissued submit_steps (map unanswered issuing.book) ≡ unanswered (newly_accepted accepted) ∷ []
+      → IsDue (mode_of queueing_cap c.disk.info) (unanswered (newly_accepted accepted) ∷ []) (unanswered (newly_accepted accepted)) → IsIssuedIn c.id submit_steps
+      → (port : Port) → IssuesDue (mode_of queueing_cap c.disk.info) submit_steps issuing port
+  due_alone alone due issued port r here at_port = subst AllRight (sym alone) right r here
+    where
+      AllRight : List Unanswered → Type 0
+      AllRight book = (r : Unanswered) → Contains book r → IsIssuedIn r.id submit_steps ↔ IsDue (mode_of queueing_cap c.disk.info) book r
+
+      right : AllRight (unanswered (newly_accepted accepted) ∷ [])
+      right r here =
+          subst (λ (x : Unanswered). IsIssuedIn x.id submit_steps ↔ IsDue (mode_of queueing_cap c.disk.info) (unanswered (newly_accepted accepted) ∷ []) x)
+          (sym (only (unanswered (newly_accepted accepted)) r here)) (λ _. due, λ _. issued)
 
   module _ (is : IsIssued) where
     pub submit_happens : Happens before.moment submit.event

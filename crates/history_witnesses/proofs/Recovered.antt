@@ -2,7 +2,7 @@
 use Rattle.std.proofs.lemmas.Bool.{cases_eq, cond-false, ne_eqb, true≢false}
 use Rattle.adapter.specs.declared.tape.Entry.{Entry}
 use Rattle.std.proofs.lemmas.List.{append_cancel_left}
-use Rattle.std.proofs.Common.{length, length-append, true, subst, Some, ◌∙◌, ℕ, zero, suc, ◌≡◌, false, List, [], ◌∷◌, ◌++◌, None, inl, inr, ⊎_elim, refl, sym, ap, arith, ◌≢◌, Bool, not, ◌&&◌, ◌==◌}
+use Rattle.std.proofs.Common.{length, length-append, true, subst, ◌∙◌, ℕ, zero, suc, ◌≡◌, false, List, [], ◌∷◌, ◌++◌, inl, inr, ⊎_elim, refl, sym, ap, arith, ◌≢◌, Bool, not, ◌&&◌, ◌==◌}
 use Rattle.std.specs.List.{Contains, All}
 use Rattle.std.proofs.lemmas.List.Elements.{All-nil, All-cons, All-contains}
 use Rattle.std.proofs.lemmas.List.Sorted.{IsPermutation-refl}
@@ -26,7 +26,7 @@ use Rattle.agreement.specs.Driver.{IsBacked, Knows}
 use Rattle.agreement.specs.Errors.{IsFatalOf}
 use Rattle.agreement.specs.Facts.{IsFaultOf, IsDisturbance, RunsWell}
 use Rattle.agreement.specs.Links.{IsPlugging}
-use Rattle.agreement.specs.Slots.{IsFree, IsMove, ServesRequest, Waits, IsTaken, IsEnded, IsDropped}
+use Rattle.agreement.specs.Slots.{IsFree, IsMove, ServesRequest}
 use Rattle.agreement.specs.Witness.{first_id}
 use Rattle.block_machine.specs.Events.{Service, Served, Happens, ServesReady}
 use Rattle.block_machine.specs.Histories.{Happening, Instant}
@@ -47,6 +47,7 @@ use Rattle.history_witnesses.proofs.Devices.{IsOf, WritesOf, leaves, serving, Ar
 use Rattle.history_witnesses.proofs.Finding.{stay_serviced}
 use Rattle.history_witnesses.proofs.Holding.{IsUnnamed, fit_disk, named, named_is, no_slots, requests_none, runs_on, tries_ready, unnamed_evidenced, unserved_at, IsCalm, gained_none, no_trouble, ran_none}
 use Rattle.history_witnesses.proofs.Memory.{past_driver}
+use Rattle.history_witnesses.proofs.Serving.{serves_none}
 use Rattle.history_witnesses.proofs.Submitting.{issued, second, submitted, pages}
 use Rattle.history_witnesses.proofs.Accepting.{asked, both, first, in_book, issuing, submit, submit_happens, submit_parts, submit_ties, submitted_at, waiting}
 use Rattle.history_witnesses.proofs.Pages.{plain_disks}
@@ -189,14 +190,8 @@ none_ok e a = let same : Answer a.0 outcome.Ok ≡ answer = only answer (Answer 
 
 -- a slot whose bit of PxCI is clear serves no request then
 bits_set : (e : Pending) (k : ℕ) → ServesRequest issuing read_memory issued 0 k e.request.id → bit 1 k ≡ false → ⊥
-bits_set e k s ci = ⊎_elim
-    (λ (w : Waits read_memory issued 0 k s.pending s.command). absurd (true≢false (sym w.issued ∙ ci)))
-    (λ r. ⊎_elim
-    (λ (w : IsTaken read_memory issued 0 k s.pending s.command s.places). let x : None ≡ Some w.command = w.taken in cc)
-    (λ r. ⊎_elim
-    (λ (w : IsEnded issued k s.pending). absurd (true≢false (sym w.ended ∙ (ap (λ (p : Pending). p.ended) (⊎_elim (λ m. in_book s.pending m.0) (λ m. absurd (nowhere s.pending m)) s.moves)))))
-    (λ (w : IsDropped issued k s.pending). absurd (true≢false w.stopped)) r) r)
-    s.stage
+bits_set e k s ci = serves_none issuing read_memory issued k e.request.id s refl ci refl
+    (ap (λ (p : Pending). p.ended) (⊎_elim (λ m. in_book s.pending m.0) (λ m. absurd (nowhere s.pending m)) s.moves))
 
 finds : FindsDone (port_at 0) recovery_accesses submitted_at (answer ∷ [])
 finds = record {

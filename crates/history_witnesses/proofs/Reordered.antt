@@ -17,10 +17,9 @@ use Rattle.agreement.specs.Agrees.{SameMemory, port_at}
 use Rattle.agreement.specs.Facts.{IsDisturbance, RunsWell}
 use Rattle.agreement.specs.Places.{table_of}
 use Rattle.agreement.specs.Served.{second_id}
-use Rattle.agreement.specs.Slots.{IsDropped, IsEnded, IsMove, IsTaken, ServesRequest, Waits, op_of}
+use Rattle.agreement.specs.Slots.{IsMove, ServesRequest, op_of}
 use Rattle.agreement.specs.Witness.{first_id}
 use Rattle.block_machine.specs.State.{Accepted, Pending, unanswered}
-use Rattle.block_machine.specs.Steps.{MayMove}
 use Rattle.block_machine.specs.declared.due.Unanswered.{Unanswered}
 use Rattle.driver_history.specs.Evidence.{StaysHealthy}
 use Rattle.driver_history.specs.Histories.{IsAnsweredOk, IsIssuedOn}
@@ -38,8 +37,8 @@ use Rattle.history_witnesses.proofs.Memory.{moved_alike}
 use Rattle.history_witnesses.proofs.Pages.{queueing_disks}
 use Rattle.history_witnesses.proofs.Queueing.{neither, one_memory, two_issued, two_memory, two_zeros}
 use Rattle.history_witnesses.proofs.Ready.{Agreeing, Stands, agrees_none, begins, but_commands, fit_ready, starts}
-use Rattle.history_witnesses.proofs.Serving.{HasOne, agrees_one, none_due}
-use Rattle.history_witnesses.proofs.Together.{first, submission_one, two_slots, submission_two, both_issuing, held, held_too, waits_first, waits_second, issued_first, in_book, each_has, not_second, two_agree, issued_second}
+use Rattle.history_witnesses.proofs.Serving.{HasOne, agrees_one, none_due, serves_none}
+use Rattle.history_witnesses.proofs.Together.{first, submission_one, two_slots, submission_two, both_issuing, held, held_too, outstanding_first, outstanding_second, issued_first, in_book, each_has, not_second, two_agree, issued_second}
 use Rattle.history_witnesses.proofs.Swapping.{again_free, again_stands, ends, finds_first, finds_second, found, found_again, found_free, found_stands, found_taken, found_waits, none_active, one_active, reads_into, swapped_memory}
 
 -- the service that finds the second done, and the one that finds the first done
@@ -107,17 +106,8 @@ its_sector slot id s reads =
 
 -- no slot but 0 and 1 serves a request
 no_third : (slot : ℕ) (id : RequestId) → ServesRequest both_issuing two_memory two_issued 0 (suc (suc slot)) id → ⊥
-no_third slot id s = ⊎_elim
-    (λ (w : Waits two_memory two_issued 0 (suc (suc slot)) s.pending s.command). true≢false (sym w.issued ∙ neither slot))
-    (λ r. ⊎_elim
-    (λ (w : IsTaken two_memory two_issued 0 (suc (suc slot)) s.pending s.command s.places). let x : None ≡ Some w.command = w.taken in cc)
-    (λ r. ⊎_elim
-    (λ (w : IsEnded two_issued (suc (suc slot)) s.pending). true≢false (sym w.ended ∙ unended s.pending s.moves))
-    (λ (w : IsDropped two_issued (suc (suc slot)) s.pending). true≢false w.stopped) r) r)
-    s.stage
-  where
-    unended : (e : Pending) → MayMove both_issuing e → e.ended ≡ false
-    unended e moves = ⊎_elim (λ here. each_has (λ x. x.ended ≡ false) refl refl e here.0) (λ kept. absurd (nowhere e kept)) moves
+no_third slot id s = serves_none both_issuing two_memory two_issued (suc (suc slot)) id s refl (neither slot) refl
+    (⊎_elim (λ here. each_has (λ x. x.ended ≡ false) refl refl s.pending here.0) (λ kept. absurd (nowhere s.pending kept)) s.moves)
 
 -- and the request that one serves under the id of one of the book is that
 served_is : (e : Pending) (slot : ℕ) → Contains both_issuing.book e → (s : ServesRequest both_issuing two_memory two_issued 0 slot e.request.id) → s.pending ≡ e
@@ -125,36 +115,36 @@ served_is e slot here s = ⊎_elim (λ found. same s.pending e found.0 here s.id
   where
     same : (a b : Pending) → Contains both_issuing.book a → Contains both_issuing.book b → a.request.id ≡ b.request.id → a ≡ b
     same a b here there ids = ⊎_elim
-        (λ (x : a ≡ waits_first). ⊎_elim
-        (λ (y : b ≡ waits_first). x ∙ sym y)
-        (λ (y : b ≡ waits_second). absurd (not_second (ap (λ (p : Pending). p.request.id) (sym x) ∙ ids ∙ ap (λ (p : Pending). p.request.id) y)))
+        (λ (x : a ≡ outstanding_first). ⊎_elim
+        (λ (y : b ≡ outstanding_first). x ∙ sym y)
+        (λ (y : b ≡ outstanding_second). absurd (not_second (ap (λ (p : Pending). p.request.id) (sym x) ∙ ids ∙ ap (λ (p : Pending). p.request.id) y)))
         (in_book b there))
-        (λ (x : a ≡ waits_second). ⊎_elim
-        (λ (y : b ≡ waits_first). absurd (not_second (sym (ap (λ (p : Pending). p.request.id) (sym x) ∙ ids ∙ ap (λ (p : Pending). p.request.id) y))))
-        (λ (y : b ≡ waits_second). x ∙ sym y)
+        (λ (x : a ≡ outstanding_second). ⊎_elim
+        (λ (y : b ≡ outstanding_first). absurd (not_second (sym (ap (λ (p : Pending). p.request.id) (sym x) ∙ ids ∙ ap (λ (p : Pending). p.request.id) y))))
+        (λ (y : b ≡ outstanding_second). x ∙ sym y)
         (in_book b there))
         (in_book a here)
 
+-- the slot that serves a request of the book names its first sector
+sector_is : (e : Pending) (slot : ℕ) → Contains both_issuing.book e → ServesRequest both_issuing two_memory two_issued 0 slot e.request.id → named_sector two_memory slot ≡ e.request.asked.first.0
+sector_is e slot here s =
+    let same = served_is e slot here s in
+    its_sector slot e.request.id s (ap (λ (x : Pending). x.request.asked.op) same ∙ each_has (λ x. x.request.asked.op ≡ Read) refl refl e here)
+    ∙ ap (λ (x : Pending). x.request.asked.first.0) same
+
 -- slot 0 serves the first alone, and slot 1 the second
-in_slot : (e : Pending) (slot : ℕ) → Contains both_issuing.book e → ServesRequest both_issuing two_memory two_issued 0 slot e.request.id → ((e ≡ waits_first) × (slot ≡ 0)) ⊎ ((e ≡ waits_second) × (slot ≡ 1))
+in_slot : (e : Pending) (slot : ℕ) → Contains both_issuing.book e → ServesRequest both_issuing two_memory two_issued 0 slot e.request.id
+    → ((e ≡ outstanding_first) × (slot ≡ 0)) ⊎ ((e ≡ outstanding_second) × (slot ≡ 1))
 unfolding two_memory one_memory patched bytes_at
-in_slot e slot here s = ⊎_elim
-    (λ (is : e ≡ waits_first). inl (is, of_first slot (subst (λ (x : Pending). named_sector two_memory slot ≡ x.request.asked.first.0) (served_is e slot here s ∙ is) (its_sector slot e.request.id s (subst (λ (x : Pending). x.request.asked.op ≡ Read) (sym (served_is e slot here s ∙ is)) refl))) (no_third_at slot e.request.id s)))
-    (λ (is : e ≡ waits_second). inr (is, of_second slot (subst (λ (x : Pending). named_sector two_memory slot ≡ x.request.asked.first.0) (served_is e slot here s ∙ is) (its_sector slot e.request.id s (subst (λ (x : Pending). x.request.asked.op ≡ Read) (sym (served_is e slot here s ∙ is)) refl))) (no_third_at slot e.request.id s)))
+in_slot e zero here s = ⊎_elim
+    (λ (is : e ≡ outstanding_first). inl (is, refl))
+    (λ (is : e ≡ outstanding_second). absurd (let other : 100 ≡ 101 = sector_is e 0 here s ∙ ap (λ (x : Pending). x.request.asked.first.0) is in omega (arith, other)))
     (in_book e here)
-  where
-    no_third_at : (slot : ℕ) (id : RequestId) → ServesRequest both_issuing two_memory two_issued 0 slot id → (k : ℕ) → slot ≡ suc (suc k) → ⊥
-    no_third_at slot id s k is = no_third k id (subst (λ (n : ℕ). ServesRequest both_issuing two_memory two_issued 0 n id) is s)
-
-    of_first : (slot : ℕ) → named_sector two_memory slot ≡ 100 → ((k : ℕ) → slot ≡ suc (suc k) → ⊥) → slot ≡ 0
-    of_first zero is low = refl
-    of_first (suc zero) is low = absurd (let other : 101 ≡ 100 = is in omega (arith, other))
-    of_first (suc (suc k)) is low = absurd (low k refl)
-
-    of_second : (slot : ℕ) → named_sector two_memory slot ≡ 101 → ((k : ℕ) → slot ≡ suc (suc k) → ⊥) → slot ≡ 1
-    of_second zero is low = absurd (let other : 100 ≡ 101 = is in omega (arith, other))
-    of_second (suc zero) is low = refl
-    of_second (suc (suc k)) is low = absurd (low k refl)
+in_slot e (suc zero) here s = ⊎_elim
+    (λ (is : e ≡ outstanding_first). absurd (let other : 101 ≡ 100 = sector_is e 1 here s ∙ ap (λ (x : Pending). x.request.asked.first.0) is in omega (arith, other)))
+    (λ (is : e ≡ outstanding_second). inr (is, refl))
+    (in_book e here)
+in_slot e (suc (suc slot)) here s = absurd (no_third slot e.request.id s)
 
 -- ---- the second ends
 
@@ -200,8 +190,8 @@ left_agrees = agrees_one queueing_disks (found_on.answered discovery_two) (ends 
 exact_two : (e : Pending) (slot : ℕ) → IsIssuedOn (port_at 0) both_issuing e → ServesRequest both_issuing two_memory two_issued 0 slot e.request.id
     → IsAnsweredOk e (found_on.steps discovery_two) ↔ ((bit 0 slot ≡ false) × (bit 1 slot ≡ false))
 exact_two e slot on s = ⊎_elim
-    (λ (x : (e ≡ waits_first) × (slot ≡ 0)). right e slot waits_first 0 x.0 x.1 (λ a. absurd (not_answered a), λ clear. absurd (true≢false clear.1)))
-    (λ (x : (e ≡ waits_second) × (slot ≡ 1)). right e slot waits_second 1 x.0 x.1 (λ a. (refl, refl), λ clear. (found_on.ended discovery_two, refl, (0, omega arith, refl))))
+    (λ (x : (e ≡ outstanding_first) × (slot ≡ 0)). right e slot outstanding_first 0 x.0 x.1 (λ a. absurd (not_answered a), λ clear. absurd (true≢false clear.1)))
+    (λ (x : (e ≡ outstanding_second) × (slot ≡ 1)). right e slot outstanding_second 1 x.0 x.1 (λ a. (refl, refl), λ clear. (found_on.ended discovery_two, refl, (0, omega arith, refl))))
     (in_slot e slot on.here s)
   where
     right : (e : Pending) (slot : ℕ) (f : Pending) (k : ℕ) → e ≡ f → slot ≡ k → IsAnsweredOk f (found_on.steps discovery_two) ↔ ((bit 0 k ≡ false) × (bit 1 k ≡ false))
@@ -210,7 +200,7 @@ exact_two e slot on s = ⊎_elim
         subst (λ (n : ℕ). IsAnsweredOk e (found_on.steps discovery_two) ↔ ((bit 0 n ≡ false) × (bit 1 n ≡ false))) (sym at)
         (subst (λ (x : Pending). IsAnsweredOk x (found_on.steps discovery_two) ↔ ((bit 0 k ≡ false) × (bit 1 k ≡ false))) (sym is) holds)
 
-    not_answered : IsAnsweredOk waits_first (found_on.steps discovery_two) → ⊥
+    not_answered : IsAnsweredOk outstanding_first (found_on.steps discovery_two) → ⊥
     not_answered a =
         let same : a.0 ≡ found_on.ended discovery_two = (found_on.only_answer discovery_two a.0 outcome.Ok a.2).0 in
         not_second (sym (ap (λ (r : Accepted). r.id) a.1) ∙ ap (λ (x : Pending). x.request.id) same)
@@ -225,7 +215,7 @@ found_two = record {
   lent = refl;
   on_disk = omega arith;
   unended = each_has (λ x. x.ended ≡ false) refl refl;
-  none_due = none_due queued (unanswered waits_first ∷ []) (λ r here. ap (λ (x : Unanswered). x.issued) (only (unanswered waits_first) r here));
+  none_due = none_due queued (unanswered outstanding_first ∷ []) (λ r here. ap (λ (x : Unanswered). x.issued) (only (unanswered outstanding_first) r here));
   none_issued = refl;
   does = finds_second.0;
   exact = exact_two;
@@ -249,13 +239,13 @@ found_one = record {
   ended_here = (0, omega arith, refl);
   lent = refl;
   on_disk = omega arith;
-  unended = λ e here. ap (λ (x : Pending). x.ended) (only waits_first e here);
+  unended = λ e here. ap (λ (x : Pending). x.ended) (only outstanding_first e here);
   none_due = λ port r at due. absurd (nowhere r due.here);
   none_issued = refl;
   does = finds_first.0;
   exact = λ e slot on s. (
     λ a. (no_bit slot, no_bit slot),
-    λ clear. (found_on.ended discovery_one, sym (ap (λ (x : Pending). x.request) (only waits_first e on.here)), (0, omega arith, refl)),
+    λ clear. (found_on.ended discovery_one, sym (ap (λ (x : Pending). x.request) (only outstanding_first e on.here)), (0, omega arith, refl)),
   );
 }
 
@@ -302,7 +292,7 @@ order_is_free = record {
   serve_second = found_on.service discovery_two;
   serves_second = (refl, refl);
   one_active = (one_active 0, one_active 1);
-  left = λ e here. let is = only waits_first e here in (ap (λ (x : Pending). x.request.id) is, ap (λ (x : Pending). x.issued) is);
+  left = λ e here. let is = only outstanding_first e here in (ap (λ (x : Pending). x.request.id) is, ap (λ (x : Pending). x.issued) is);
   serve_first = found_on.service discovery_one;
   serves_first = (refl, refl);
   ready = (refl, refl, refl, refl, refl);

@@ -19,6 +19,7 @@ use Rattle.adapter.specs.declared.tape.Entry.TheVariants as entry
 use Rattle.agreement.specs.Agrees.{port_at}
 use Rattle.agreement.specs.Slots.{Told}
 use Rattle.history_witnesses.specs.Allowed.{AreAllowed}
+use Rattle.history_witnesses.specs.Queued.{first_found, second_found}
 use Rattle.history_witnesses.specs.Scene.{device_with, queueing_page}
 use Rattle.history_witnesses.proofs.Command.{queued_read}
 use Rattle.history_witnesses.proofs.Devices.{but_first, changed_here, no_bit, other_bit, past_first, past_second, put_device, reads, step_first}
@@ -113,7 +114,7 @@ module _ (old : Device) (tape : List Entry) (memory : ℕ → ℕ) (p : PortStat
   abbrev with_ci : PortState
   with_ci = record p { notes = note Ci ci p }
 
-  unfoldable pub reads_masks : DoesAll masks old (device_with tape memory (seen ci sact p ∷ second ∷ []))
+  unfoldable reads_masks : DoesAll masks old (device_with tape memory (seen ci sact p ∷ second ∷ []))
   reads_masks = (
     device_with tape memory (with_ci ∷ second ∷ []),
     record {
@@ -129,10 +130,10 @@ module _ (old : Device) (tape : List Entry) (memory : ℕ → ℕ) (p : PortStat
     ),
   )
 
-  -- by the rules
-  pub masks_allowed : AreAllowed masks old (device_with tape memory (seen ci sact p ∷ second ∷ [])) reads_masks
+  -- and that keeps to the rules
+  pub finds : (does : DoesAll masks old (device_with tape memory (seen ci sact p ∷ second ∷ []))) × AreAllowed masks old (device_with tape memory (seen ci sact p ∷ second ∷ [])) does
   unfolding reads_masks reads
-  masks_allowed = ((record { ae = refl; no_reset = refl }, (omega arith, refl)), ((record { ae = refl; no_reset = refl }, (omega arith, refl)), tt))
+  finds = (reads_masks, ((record { ae = refl; no_reset = refl }, (omega arith, refl)), ((record { ae = refl; no_reset = refl }, (omega arith, refl)), tt)))
 
 -- ---- both are taken
 
@@ -237,35 +238,30 @@ ended = device_with (pages ++ (ends 1 101 41 ++ ends 0 100 40)) (patched swapped
 abbrev issued_device : Device
 issued_device = device_with pages two_memory (two_issued ∷ second ∷ [])
 
+abbrev second_ended : Device
+second_ended = device_with (pages ++ ends 1 101 41) swapped_memory (second_done ∷ second ∷ [])
+
+abbrev first_ended : Device
+first_ended = device_with (pages ++ (ends 1 101 41 ++ ends 0 100 40)) (patched swapped_memory (4096 * 40) (sector_of 100)) (first_done ∷ second ∷ [])
+
 stays : (d : Device) → Steps d d
 stays d = record { steps = []; lead = refl }
 
-second_ends : Steps issued_device (device_with (pages ++ ends 1 101 41) swapped_memory (second_done ∷ second ∷ []))
+second_ends : Steps issued_device second_ended
 second_ends =
-    fetches pages two_memory two_issued (record { same = refl; quiet = λ place from. refl }) 0 100 40 refl refl (λ slot t is. absurd (let x : None ≡ Some t = is in cc)) first_told (device_with (pages ++ ends 1 101 41) swapped_memory (second_done ∷ second ∷ []))
-    (fetches pages two_memory first_taken (record { same = refl; quiet = λ place from. refl }) 1 101 41 (past_first two_issued.ci false 0) (past_first two_issued.taken (Some (reads_into 100 40)) 0) beside second_told (device_with (pages ++ ends 1 101 41) swapped_memory (second_done ∷ second ∷ []))
-    (finishes pages two_memory both_taken (record { same = refl; quiet = λ place from. refl }) 1 101 41 (changed_here first_taken.taken 1 (Some (reads_into 101 41))) (omega arith) (omega arith) (device_with (pages ++ ends 1 101 41) swapped_memory (second_done ∷ second ∷ []))
-    (stays (device_with (pages ++ ends 1 101 41) swapped_memory (second_done ∷ second ∷ [])))))
+    fetches pages two_memory two_issued (record { same = refl; quiet = λ place from. refl }) 0 100 40
+    refl refl (λ slot t is. absurd (let x : None ≡ Some t = is in cc)) first_told second_ended
+    (fetches pages two_memory first_taken (record { same = refl; quiet = λ place from. refl }) 1 101 41
+    (past_first two_issued.ci false 0) (past_first two_issued.taken (Some (reads_into 100 40)) 0) beside second_told second_ended
+    (finishes pages two_memory both_taken (record { same = refl; quiet = λ place from. refl }) 1 101 41
+    (changed_here first_taken.taken 1 (Some (reads_into 101 41))) (omega arith) (omega arith) second_ended (stays second_ended)))
 
-first_ends : Steps swapped (device_with (pages ++ (ends 1 101 41 ++ ends 0 100 40)) (patched swapped_memory (4096 * 40) (sector_of 100)) (first_done ∷ second ∷ []))
-first_ends =
-    finishes (pages ++ ends 1 101 41) swapped_memory found found_stands 0 100 40 found_taken (omega arith) (omega arith) (device_with (pages ++ (ends 1 101 41 ++ ends 0 100 40)) (patched swapped_memory (4096 * 40) (sector_of 100)) (first_done ∷ second ∷ []))
-    (stays (device_with (pages ++ (ends 1 101 41 ++ ends 0 100 40)) (patched swapped_memory (4096 * 40) (sector_of 100)) (first_done ∷ second ∷ [])))
+first_ends : Steps swapped first_ended
+first_ends = finishes (pages ++ ends 1 101 41) swapped_memory found found_stands 0 100 40 found_taken (omega arith) (omega arith) first_ended (stays first_ended)
 
-abbrev pub one_turn : List Access
-one_turn = Reading (Px (port_at 0) Ci) 0 ∷ Reading (Px (port_at 0) Sact) 1 ∷ []
+pub finds_second : (does : DoesAll second_found issued_device swapped) × AreAllowed second_found issued_device swapped does
+finds_second = finds issued_device (pages ++ ends 1 101 41) swapped_memory second_done 0 1 second_ends (λ k low. no_bit k ∙ sym (none_waits k)) (λ k low. sym (one_active k))
 
-abbrev pub last_turn : List Access
-last_turn = Reading (Px (port_at 0) Ci) 0 ∷ Reading (Px (port_at 0) Sact) 0 ∷ []
-
-pub finds_second : (does : DoesAll one_turn issued_device swapped) × AreAllowed one_turn issued_device swapped does
-finds_second = (
-  reads_masks issued_device (pages ++ ends 1 101 41) swapped_memory second_done 0 1 second_ends (λ k low. no_bit k ∙ sym (none_waits k)) (λ k low. sym (one_active k)),
-  masks_allowed issued_device (pages ++ ends 1 101 41) swapped_memory second_done 0 1 second_ends (λ k low. no_bit k ∙ sym (none_waits k)) (λ k low. sym (one_active k)),
-)
-
-pub finds_first : (does : DoesAll last_turn swapped ended) × AreAllowed last_turn swapped ended does
-finds_first = (
-  reads_masks swapped (pages ++ (ends 1 101 41 ++ ends 0 100 40)) (patched swapped_memory (4096 * 40) (sector_of 100)) first_done 0 0 first_ends (λ k low. no_bit k ∙ sym (none_waits k)) (λ k low. no_bit k ∙ sym (none_active k)),
-  masks_allowed swapped (pages ++ (ends 1 101 41 ++ ends 0 100 40)) (patched swapped_memory (4096 * 40) (sector_of 100)) first_done 0 0 first_ends (λ k low. no_bit k ∙ sym (none_waits k)) (λ k low. no_bit k ∙ sym (none_active k)),
-)
+pub finds_first : (does : DoesAll first_found swapped ended) × AreAllowed first_found swapped ended does
+finds_first = finds swapped (pages ++ (ends 1 101 41 ++ ends 0 100 40)) (patched swapped_memory (4096 * 40) (sector_of 100)) first_done 0 0 first_ends
+    (λ k low. no_bit k ∙ sym (none_waits k)) (λ k low. no_bit k ∙ sym (none_active k))

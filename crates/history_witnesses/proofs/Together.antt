@@ -30,7 +30,7 @@ use Rattle.history_witnesses.proofs.Members.{either, nowhere, only}
 use Rattle.history_witnesses.proofs.Pages.{queueing_disks}
 use Rattle.history_witnesses.proofs.Queueing.{first_told, neither, one_issued, one_memory, one_submits, one_told, one_zeros, queue_accesses, queues, second_told, two_issued, two_memory, two_submits, two_zeros}
 use Rattle.history_witnesses.proofs.Ready.{Agreeing, Stands, instant_with, no_page, start}
-use Rattle.history_witnesses.proofs.Serving.{HasOne, agrees_one, none_due, serves_one, waiting_as}
+use Rattle.history_witnesses.proofs.Serving.{HasOne, agrees_one, none_due, serves_one, outstanding_as}
 use Rattle.history_witnesses.proofs.Swapping.{pages}
 
 -- ---- the machine
@@ -92,11 +92,11 @@ held = (issued_on.accepted submission_one).held
 abbrev pub held_too : ℕ → Block
 held_too = (issued_on.accepted submission_two).held
 
-abbrev pub waits_first : Pending
-waits_first = waiting_as first_id 100 40 held
+abbrev pub outstanding_first : Pending
+outstanding_first = outstanding_as first_id 100 40 held
 
-abbrev pub waits_second : Pending
-waits_second = waiting_as second_id 101 41 held_too
+abbrev pub outstanding_second : Pending
+outstanding_second = outstanding_as second_id 101 41 held_too
 
 -- ---- the first read is issued
 
@@ -125,11 +125,6 @@ one_agrees = agrees_one queueing_disks first_issuing [] one_memory one_issued (q
 may_first : May (after start (Accept (issued_on.accepted submission_one) ∷ [])) (Issue queued (newly_accepted (issued_on.accepted submission_one)))
 may_first = ((0, omega arith, refl), record { here = (0, omega arith, refl); clear = refl; slot = λ _. omega arith }, λ e h. absurd (nowhere e h))
 
-due_first : (port : Port) → IssuesDue queued (issued_on.submit_steps submission_one) first_issuing port
-due_first port r here at_port =
-    subst (λ (x : Unanswered). IsIssuedIn x.id (issued_on.submit_steps submission_one) ↔ IsDue queued (unanswered (newly_accepted (issued_on.accepted submission_one)) ∷ []) x)
-    (sym (only (unanswered (newly_accepted (issued_on.accepted submission_one))) r here)) (λ _. may_first.1, λ _. refl)
-
 pub issued_first : IsIssued submission_one
 unfolding one_memory
 issued_first = record {
@@ -137,8 +132,8 @@ issued_first = record {
   agreeing = one_agrees;
   takes = record { rows = refl; id_is = refl; left = omega arith; few = omega arith; owned = refl; free = refl; from = omega arith; to = omega arith; on_disk = omega arith };
   may = may_first;
-  all_issued = λ port is. none_due queued (unanswered waits_first ∷ []) (λ r here. ap (λ (x : Unanswered). x.issued) (only (unanswered waits_first) r here)) port;
-  due = due_first;
+  all_issued = λ port is. none_due queued (unanswered outstanding_first ∷ []) (λ r here. ap (λ (x : Unanswered). x.issued) (only (unanswered outstanding_first) r here)) port;
+  due = issued_on.due_alone submission_one refl may_first.1 refl;
   does = queues pages zeros (running_port 0) 0 100 0x10 0x80 1;
   only = one_submits;
 }
@@ -148,14 +143,14 @@ issued_first = record {
 pub two_stands : Stands two_issued
 two_stands = record { same = refl; quiet = λ place from. refl }
 
-pub in_book : (e : Pending) → Contains both_issuing.book e → (e ≡ waits_first) ⊎ (e ≡ waits_second)
-in_book e here = either waits_first waits_second e here
+pub in_book : (e : Pending) → Contains both_issuing.book e → (e ≡ outstanding_first) ⊎ (e ≡ outstanding_second)
+in_book e here = either outstanding_first outstanding_second e here
 
 -- a fact of each of the two is one of each request of the book
-pub each_has : (P : Pending → Type 0) → P waits_first → P waits_second → (e : Pending) → Contains both_issuing.book e → P e
-each_has P a b e here = ⊎_elim (λ (is : e ≡ waits_first). subst P (sym is) a) (λ (is : e ≡ waits_second). subst P (sym is) b) (in_book e here)
+pub each_has : (P : Pending → Type 0) → P outstanding_first → P outstanding_second → (e : Pending) → Contains both_issuing.book e → P e
+each_has P a b e here = ⊎_elim (λ (is : e ≡ outstanding_first). subst P (sym is) a) (λ (is : e ≡ outstanding_second). subst P (sym is) b) (in_book e here)
 
-waits_in : (k n slot : ℕ) (id : RequestId) (block : ℕ → Block) → two_issued.ci slot ≡ true → two_issued.sact slot ≡ true → Stage two_memory two_issued 0 slot (waiting_as id k n block) (queued_read k) (cut (4096 * n) 1)
+waits_in : (k n slot : ℕ) (id : RequestId) (block : ℕ → Block) → two_issued.ci slot ≡ true → two_issued.sact slot ≡ true → Stage two_memory two_issued 0 slot (outstanding_as id k n block) (queued_read k) (cut (4096 * n) 1)
 waits_in k n slot id block issued active = inl (record { started = refl; issued = issued; free = refl; sact = active; block = tt; untouched = λ i. sym (le-ltb i 0 (omega arith)); unended = refl })
 
 two_serve : (slot : ℕ) → IsServedAs both_issuing two_memory pages two_issued 0 slot (two_uses 0 slot)
@@ -221,20 +216,20 @@ two_agree = record {
   requests = two_requests;
 }
 
-abbrev waits_too : Pending
-waits_too = newly_accepted (issued_on.accepted submission_two)
+abbrev waits_second : Pending
+waits_second = newly_accepted (issued_on.accepted submission_two)
 
-may_second : May (after first_issuing (Accept (issued_on.accepted submission_two) ∷ [])) (Issue queued waits_too)
+may_second : May (after first_issuing (Accept (issued_on.accepted submission_two) ∷ [])) (Issue queued waits_second)
 may_second = ((1, omega arith, refl), record { here = (1, omega arith, refl); clear = refl; slot = λ _. omega arith }, λ e h. absurd (nowhere e h))
 
 due_second : (port : Port) → IssuesDue queued (issued_on.submit_steps submission_two) both_issuing port
 due_second port r here at_port = ⊎_elim
-    (λ (is : r ≡ unanswered waits_first). subst Right (sym is) (λ f. absurd (true≢false (sym f)), λ due. absurd (true≢false (sym due.clear))))
-    (λ (is : r ≡ unanswered waits_too). subst Right (sym is) (λ _. may_second.1, λ _. refl))
-    (either (unanswered waits_first) (unanswered waits_too) r here)
+    (λ (is : r ≡ unanswered outstanding_first). subst Right (sym is) (λ f. absurd (true≢false (sym f)), λ due. absurd (true≢false (sym due.clear))))
+    (λ (is : r ≡ unanswered waits_second). subst Right (sym is) (λ _. may_second.1, λ _. refl))
+    (either (unanswered outstanding_first) (unanswered waits_second) r here)
   where
     Right : Unanswered → Type 0
-    Right x = IsIssuedIn x.id (issued_on.submit_steps submission_two) ↔ IsDue queued (unanswered waits_first ∷ unanswered waits_too ∷ []) x
+    Right x = IsIssuedIn x.id (issued_on.submit_steps submission_two) ↔ IsDue queued (unanswered outstanding_first ∷ unanswered waits_second ∷ []) x
 
 pub issued_second : IsIssued submission_two
 unfolding two_memory
@@ -243,11 +238,11 @@ issued_second = record {
   agreeing = two_agree;
   takes = record { rows = refl; id_is = refl; left = omega arith; few = omega arith; owned = refl; free = refl; from = omega arith; to = omega arith; on_disk = omega arith };
   may = may_second;
-  all_issued = λ port is. none_due queued (unanswered waits_first ∷ unanswered waits_second ∷ []) all_issued port;
+  all_issued = λ port is. none_due queued (unanswered outstanding_first ∷ unanswered outstanding_second ∷ []) all_issued port;
   due = due_second;
   does = queues pages one_memory one_issued 1 101 0x14 0x90 2;
   only = two_submits;
 }
   where
-    all_issued : (r : Unanswered) → Contains (unanswered waits_first ∷ unanswered waits_second ∷ []) r → r.issued ≡ true
-    all_issued r here = ⊎_elim (λ is. ap (λ (x : Unanswered). x.issued) is) (λ is. ap (λ (x : Unanswered). x.issued) is) (either (unanswered waits_first) (unanswered waits_second) r here)
+    all_issued : (r : Unanswered) → Contains (unanswered outstanding_first ∷ unanswered outstanding_second ∷ []) r → r.issued ≡ true
+    all_issued r here = ⊎_elim (λ is. ap (λ (x : Unanswered). x.issued) is) (λ is. ap (λ (x : Unanswered). x.issued) is) (either (unanswered outstanding_first) (unanswered outstanding_second) r here)
