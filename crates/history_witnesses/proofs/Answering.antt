@@ -39,7 +39,9 @@ use Rattle.history_witnesses.proofs.Holding.{IsUnnamed, named, named_is, no_slot
 use Rattle.history_witnesses.proofs.Command.{read_memory}
 use Rattle.history_witnesses.proofs.Devices.{does_append, IsOf, leaves, no_bit, serving, WritesOf, AreServing}
 use Rattle.history_witnesses.proofs.Submitting.{issued, submitted, command}
-use Rattle.history_witnesses.proofs.Accepting.{asked, both, calm, first, fit_both, in_book, issuing, not_dead, served_ready, starts, submit, submit_happens, submit_parts, submit_ties, submitted_at, waiting, begins}
+use Rattle.history_witnesses.proofs.Accepting.{asked, both, first, in_book, issuing, submit, submit_happens, submit_parts, submit_ties, submitted_at, waiting}
+use Rattle.history_witnesses.proofs.Pages.{plain_disks}
+use Rattle.history_witnesses.proofs.Ready.{begins, calm, fit_ready, not_dead, served_ready, starts}
 use Rattle.history_witnesses.proofs.Losing.{finding_allowed, losing_allowed, between, finds, loses, lost}
 use Rattle.history_witnesses.proofs.Memory.{tells}
 use Rattle.history_witnesses.proofs.Lost.{all_touched, ended, gained, holds_lost, lost_at, one, service_steps, touched, touching}
@@ -49,7 +51,7 @@ use Rattle.history_witnesses.proofs.Members.{nowhere}
 
 fit_one : AreFit one
 fit_one = record {
-  few = fit_both.few;
+  few = (fit_ready plain_disks).few;
   absent = λ port is. absent_of port.0 is;
   slots = λ port is. (omega arith, omega arith, λ _. refl);
   causes = λ port cause is. absurd (no_cause port.0 cause is);
@@ -245,13 +247,13 @@ unnamed n ne = record {
 
 apart_evidenced : (n : ℕ) → n ≢ 1 → IsEvidencedOf Service (Served (reply ∷ [])) turns submitted_at one lost loss_evidence (port_at n)
 apart_evidenced n ne = unnamed_evidenced Service (Served (reply ∷ [])) turns submitted_at one lost loss_evidence (port_at n) (unnamed n ne)
-    (calm read_memory issued refl refl refl (λ place. refl) lost n)
+    (calm submitted.tape read_memory issued refl refl refl (λ place from. refl) lost n)
     (leaves (IsOf (port_at 1)) (port_at n) (λ is. ne (ap (λ (p : Port). p.0) is)) (λ is. ne (ap (λ (p : Port). p.0) is)) turns of_second)
 
 service_evidenced : (n : ℕ) → IsEvidencedOf Service (Served (reply ∷ [])) turns submitted_at one lost loss_evidence (port_at n)
 service_evidenced zero = apart_evidenced 0 (omega arith)
 service_evidenced (suc zero) =
-    let quiet = calm read_memory issued refl refl refl (λ place. refl) lost 1 refl in
+    let quiet = calm submitted.tape read_memory issued refl refl refl (λ place from. refl) lost 1 refl in
     record {
       lost = λ h. inr (inr (inl gains));
       gone_all = λ is loss. named 1;
@@ -318,7 +320,7 @@ no_flags (suc zero) place = refl
 no_flags (suc (suc n)) place = refl
 
 quiet : (n : ℕ) → both.state (port_at n) ≡ Ready → (ShowsLoss (port_at n) submitted lost → ⊥) × (ShowsFailure (submitted.port n) → ⊥)
-quiet = calm read_memory issued refl refl refl (λ place. refl) lost
+quiet = calm submitted.tape read_memory issued refl refl refl (λ place from. refl) lost
 
 not_shown : (n : ℕ) → both.state (port_at n) ≡ Ready → ShowsFatal (submitted.port n) ⊎ ShowsLoss (port_at n) submitted lost → ⊥
 not_shown n is f = ⊎_elim (λ fatal. (quiet n is).1 (inl fatal)) (quiet n is).0 f
@@ -394,7 +396,7 @@ loss_is_a_history = record {
   evidence = refl;
   still = refl;
   absent = refl;
-  history = ((((starts, fit_both), begins), submit_happens, submit_ties), service_happens, service_ties);
+  history = ((((starts, fit_ready plain_disks), begins plain_disks), submit_happens, submit_ties), service_happens, service_ties);
   turns = refl;
   submit_parts = submit_parts;
   service_parts = λ port. service_part port.0;

@@ -1,20 +1,28 @@
 -- A read of one sector, as it stands in memory: into the first 512 bytes of frame 40.
-use Rattle.std.proofs.Common.{ℕ, zero, suc, ◌≡◌, ◌≤◌, ◌<◌, ◌+◌, List, [], ◌∷◌, ◌++◌, All, length, replicate, slice_index, refl, arith}
+use Rattle.std.proofs.Common.{ℕ, zero, suc, ◌≡◌, ◌≤◌, ◌<◌, ◌+◌, ◌*◌, ◌%◌, false, List, [], ◌∷◌, ◌++◌, All, length, replicate, slice_index, refl, subst, sym, arith}
 use Rattle.std.proofs.lemmas.Bool.{true≢false}
 use Rattle.std.proofs.lemmas.List.{get_or-replicate}
 use Rattle.adapter.specs.FirstRead.{header_bytes}
 use Rattle.adapter.specs.Memory.{bytes_at, patched}
 use Rattle.adapter.specs.ReadDone.{read_of}
-use Rattle.adapter.specs.Says.{Says, IsWhole, cut}
+use Rattle.adapter.specs.Commands.{IsMeaning, Meaning, command_of, pieces_moved, reads_memory}
+use Rattle.adapter.specs.Says.{IsWhole, cut}
+use Rattle.adapter.specs.Spelling.{SpellsCommand, SpellsHeader, SpellsPrd}
+use Rattle.agreement.specs.Places.{table_of}
 use Rattle.adapter.specs.declared.command.Prd.{Prd}
+use Rattle.adapter.specs.declared.command.Operation.TheVariants.{ReadQueued}
 use Rattle.agreement.specs.Slots.{Told}
 
 -- READ DMA EXT of sector 100 alone, and its PRD at 28000h
 abbrev pub read_bytes : List ℕ
 read_bytes = 0x27 ∷ 0x80 ∷ 0x25 ∷ 0 ∷ 0x64 ∷ 0 ∷ 0 ∷ 0x40 ∷ 0 ∷ 0 ∷ 0 ∷ 0 ∷ 1 ∷ 0 ∷ []
 
+-- a place of 512 bytes that begins at 20000h and so many times 100h
+abbrev pub place_from : ℕ → List ℕ
+place_from n = 0 ∷ n ∷ 2 ∷ 0 ∷ 0 ∷ 0 ∷ 0 ∷ 0 ∷ 0 ∷ 0 ∷ 0 ∷ 0 ∷ 0xff ∷ 1 ∷ 0 ∷ 0 ∷ []
+
 abbrev pub place_bytes : List ℕ
-place_bytes = 0 ∷ 0x80 ∷ 2 ∷ 0 ∷ 0 ∷ 0 ∷ 0 ∷ 0 ∷ 0 ∷ 0 ∷ 0 ∷ 0 ∷ 0xff ∷ 1 ∷ 0 ∷ 0 ∷ []
+place_bytes = place_from 0x80
 
 abbrev pub zeros : ℕ → ℕ
 zeros at = 0
@@ -23,52 +31,88 @@ zeros at = 0
 unfoldable pub read_memory : ℕ → ℕ
 read_memory = patched (patched (patched zeros 0 header_bytes) 0x1000 read_bytes) 0x1080 place_bytes
 
-zeros_past : (first : List ℕ) (n i : ℕ) → length first ≤ i → i < length first + n → slice_index (first ++ replicate n 0) i ≡ 0
+pub zeros_past : (first : List ℕ) (n i : ℕ) → length first ≤ i → i < length first + n → slice_index (first ++ replicate n 0) i ≡ 0
 zeros_past [] n i low high = get_or-replicate n i 0 0 (omega (arith, high))
 zeros_past (x ∷ first) n zero low high = absurd (omega (arith, low))
 zeros_past (x ∷ first) n (suc i) low high = zeros_past first n i (omega (arith, low)) (omega (arith, high))
 
-abbrev prd : Prd
-prd = record { address = 0x28000; bytes = 512 }
+whole : (prd : Prd) → IsWhole prd → All IsWhole (prd ∷ [])
+whole prd is zero d small = is
+whole prd is (suc k) d small = absurd (omega (arith, small))
 
-whole : All IsWhole (prd ∷ [])
-whole zero d small = refl
-whole (suc k) d small = absurd (omega (arith, small))
-
-says : Says read_memory 0 0 (read_of 100 1) (cut 0x28000 1)
-unfolding read_memory patched bytes_at
-says = record {
-  table = 0x1000;
-  prds = prd ∷ [];
-  header = record { size = refl; first = refl; points = refl; aligned = refl; zeros = λ i low high. zeros_past header_bytes 20 i low high };
-  fis = record {
-    size = refl;
-    kind = refl;
-    c_bit = refl;
-    code = refl;
-    features = refl;
-    lba = refl;
-    device = refl;
-    count = refl;
-    zeros = λ i low high. zeros_past read_bytes 6 i low high;
+-- The header, the FIS and the PRD of a slot of port 0 say a read of one sector into this place.
+pub told_one : (memory : ℕ → ℕ) (slot : ℕ) (c : Meaning) (address : ℕ) → SpellsHeader (bytes_at memory (0 + 32 * slot) 32) (reads_memory c.operation) 1 (table_of 0 slot)
+    → SpellsCommand (bytes_at memory (table_of 0 slot) 20) (command_of c.operation slot c.first c.count) → IsMeaning c
+    → SpellsPrd (bytes_at memory (table_of 0 slot + 128) 16) (record { address = address; bytes = 512 }) → 1 ≡ pieces_moved c.operation c.count → Told memory 0 0 slot c (cut address 1)
+told_one memory slot c address header fis meaning prd many = record {
+  says = record {
+    table = table_of 0 slot;
+    prds = record { address = address; bytes = 512 } ∷ [];
+    header = header;
+    fis = fis;
+    meaning = meaning;
+    stand = (prd, tt);
+    few = omega arith;
+    whole = whole (record { address = address; bytes = 512 }) refl;
+    in_order = refl;
+    as_many = many;
   };
-  meaning = record { ranged = λ _. (omega arith, omega arith, omega arith); not_ranged = λ h. absurd (true≢false h) };
-  stand = (
-    record {
-      size = refl;
-      allowed = record { even_address = refl; even_bytes = refl; some = omega arith; limit = omega arith };
-      address = refl;
-      upper = refl;
-      count = refl;
-    },
-    tt,
-  );
+  table_is = refl;
   few = omega arith;
-  whole = whole;
-  in_order = refl;
-  as_many = refl;
 }
 
 pub told : Told read_memory 0 0 0 (read_of 100 1) (cut 0x28000 1)
-unfolding says
-told = record { says = says; table_is = refl; few = omega arith }
+unfolding read_memory patched bytes_at
+told = told_one read_memory 0 (read_of 100 1) 0x28000
+    (record { size = refl; first = refl; points = refl; aligned = refl; zeros = λ i low high. zeros_past header_bytes 20 i low high })
+    (record {
+      size = refl;
+      kind = refl;
+      c_bit = refl;
+      code = refl;
+      features = refl;
+      lba = refl;
+      device = refl;
+      count = refl;
+      zeros = λ i low high. zeros_past read_bytes 6 i low high;
+    })
+    (record { ranged = λ _. (omega arith, omega arith, omega arith); not_ranged = λ h. absurd (true≢false h) })
+    (record { size = refl; allowed = record { even_address = refl; even_bytes = refl; some = omega arith; limit = omega arith }; address = refl; upper = refl; count = refl })
+    refl
+
+-- ---- a queued read of one sector
+
+-- READ FPDMA QUEUED of sector k alone
+abbrev pub queued_read : ℕ → Meaning
+queued_read k = record { operation = ReadQueued; first = k; count = 1 }
+
+-- its FIS in this slot, its tag, but for the zeros at the end (a sector below 256)
+abbrev pub queued_bytes : ℕ → ℕ → List ℕ
+queued_bytes slot k = 0x27 ∷ 0x80 ∷ 0x60 ∷ 1 ∷ k ∷ 0 ∷ 0 ∷ 0x40 ∷ 0 ∷ 0 ∷ 0 ∷ 0 ∷ 8 * slot ∷ 0 ∷ []
+
+-- its header, but for those: no W, one PRD, and a table at so many times 100h
+abbrev pub header_to : ℕ → List ℕ
+header_to n = 5 ∷ 0 ∷ 1 ∷ 0 ∷ 0 ∷ 0 ∷ 0 ∷ 0 ∷ 0 ∷ n ∷ 0 ∷ 0 ∷ []
+
+pub told_queued : (memory : ℕ → ℕ) (slot k table place : ℕ) → k < 256 → 256 * table ≡ table_of 0 slot → table_of 0 slot % 128 ≡ 0 → (0x20000 + 256 * place) % 2 ≡ 0
+    → bytes_at memory (0 + 32 * slot) 32 ≡ header_to table ++ replicate 20 0 → bytes_at memory (table_of 0 slot) 20 ≡ queued_bytes slot k ++ replicate 6 0
+    → bytes_at memory (table_of 0 slot + 128) 16 ≡ place_from place → Told memory 0 0 slot (queued_read k) (cut (0x20000 + 256 * place) 1)
+told_queued memory slot k table place low points aligned even header fis prd = told_one memory slot (queued_read k) (0x20000 + 256 * place)
+    (subst (λ (bytes : List ℕ). SpellsHeader bytes false 1 (table_of 0 slot)) (sym header)
+    (record { size = refl; first = refl; points = omega (arith, points); aligned = aligned; zeros = λ i from to. zeros_past (header_to table) 20 i from to }))
+    (subst (λ (bytes : List ℕ). SpellsCommand bytes (command_of ReadQueued slot k 1)) (sym fis)
+    (record {
+      size = refl;
+      kind = refl;
+      c_bit = refl;
+      code = refl;
+      features = refl;
+      lba = omega arith;
+      device = refl;
+      count = omega arith;
+      zeros = λ i from to. zeros_past (queued_bytes slot k) 6 i from to;
+    }))
+    (record { ranged = λ _. (omega arith, omega arith, omega (arith, low)); not_ranged = λ h. absurd (true≢false h) })
+    (subst (λ (bytes : List ℕ). SpellsPrd bytes (record { address = 0x20000 + 256 * place; bytes = 512 })) (sym prd)
+    (record { size = refl; allowed = record { even_address = even; even_bytes = refl; some = omega arith; limit = omega arith }; address = omega arith; upper = refl; count = refl }))
+    refl

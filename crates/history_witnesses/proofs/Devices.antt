@@ -12,10 +12,10 @@ use Rattle.hba_regs.specs.declared.reg.Reg.{Reg}
 use Rattle.hba_regs.specs.declared.reg.Reg.TheVariants.{Ghc, Px}
 use Rattle.hba_regs.specs.declared.reg.PortReg.{PortReg}
 use Rattle.hba_regs.specs.declared.reg.PortReg.TheVariants.{Cmd, Sctl}
-use Rattle.adapter.specs.Access.{Access, DoesAll, PortShows, Reads, Writes, note, port_written}
+use Rattle.adapter.specs.Access.{Access, DoesAll, PortShows, Reads, Stores, Writes, note, port_written}
 use Rattle.adapter.specs.Access.Access.{Reading, Writing, Loading, Storing}
 use Rattle.adapter.specs.Device.{PortState, Device}
-use Rattle.adapter.specs.Memory.{changed}
+use Rattle.adapter.specs.Memory.{changed, patched}
 use Rattle.adapter.specs.Rules.{MayCommand, MayStart}
 use Rattle.adapter.specs.Steps.{Can, Leads, Step, Steps, after}
 use Rattle.adapter.specs.Steps.Step.{Fall}
@@ -36,10 +36,20 @@ put k f g x here others = λ i n. each n i
         (λ (ne : n ≢ k). others n ne ∙ sym (cond-false (n == k) x (f n) (ne_eqb n k ne)))
         (cases_eq n k)
 
+-- a function that was changed at a place has the new value there
+pub changed_here : {A : Type 0} (f : ℕ → A) (k : ℕ) (new : A) → changed f k new k ≡ new
+unfolding changed
+changed_here f k new = cond-true (k == k) new (f k) (eq-eqb k k refl)
+
 -- what a change of its first place leaves of a function
 pub past_first : {A : Type 0} (f : ℕ → A) (new : A) (k : ℕ) → changed f 0 new (suc k) ≡ f (suc k)
 unfolding changed
 past_first f new k = cond-false (suc k == 0) new (f (suc k)) (ne_eqb (suc k) 0 (omega arith))
+
+-- and one of its second place
+pub past_second : {A : Type 0} (f : ℕ → A) (new : A) (k : ℕ) → changed f 1 new (suc (suc k)) ≡ f (suc (suc k))
+unfolding changed
+past_second f new k = cond-false (suc (suc k) == 1) new (f (suc (suc k))) (ne_eqb (suc (suc k)) 1 (omega arith))
 
 -- these ports differ from those at one place at most
 abbrev pub AlikeBut : ℕ → List PortState → List PortState → Type 0
@@ -57,6 +67,10 @@ but_second o p q rest (suc (suc n)) ne = refl
 pub put_device : (tape : List Entry) (memory : ℕ → ℕ) (k : ℕ) (old new : List PortState) (x : PortState) → having new k ≡ x → AlikeBut k old new
     → device_with tape memory new ≡ record (device_with tape memory old) { port = changed (having old) k x }
 put_device tape memory k old new x here others = ap (λ (f : ℕ → PortState). record (device_with tape memory old) { port = f }) (put k (having old) (having new) x here others)
+
+-- bytes are stored, and the device does nothing first
+pub stores : (at : ℕ) (bytes : List ℕ) (tape : List Entry) (memory : ℕ → ℕ) (ports : List PortState) → Stores at bytes (device_with tape memory ports) (device_with tape (patched memory at bytes) ports)
+stores at bytes tape memory ports = record { mid = device_with tape memory ports; steps = record { steps = []; lead = refl }; effect = refl }
 
 module _ (tape : List Entry) (memory : ℕ → ℕ) (k : ℕ) (old new : List PortState) (others : AlikeBut k old new) where
   abbrev p : PortState

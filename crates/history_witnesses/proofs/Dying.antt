@@ -41,14 +41,17 @@ use Rattle.driver_history.specs.Histories.{TriesDisk}
 use Rattle.history_witnesses.proofs.Command.{read_memory}
 use Rattle.history_witnesses.proofs.Devices.{leaves}
 use Rattle.history_witnesses.proofs.Holding.{first_slots, have_first, unnamed_evidenced, unserved_at, uses_first, IsCalm, no_trouble}
+use Rattle.history_witnesses.proofs.Issuing.{none_named, nothing}
 use Rattle.history_witnesses.proofs.Submitting.{issued, pages, second, submitted}
-use Rattle.history_witnesses.proofs.Accepting.{asked, both, calm, first, fit_both, holds_submitted, in_book, issuing, served_of, starts, submit, submit_happens, submit_ties, submitted_at, waiting, serves, begins, served_ready}
+use Rattle.history_witnesses.proofs.Accepting.{asked, both, first, holds_submitted, in_book, issuing, submit, submit_happens, submit_ties, submitted_at, waiting, serves}
+use Rattle.history_witnesses.proofs.Pages.{plain_disks}
+use Rattle.history_witnesses.proofs.Ready.{begins, calm, fit_ready, served_of, served_ready, starts}
 use Rattle.history_witnesses.proofs.Members.{nowhere, only, either}
 
 -- ---- the reset
 
 abbrev dead : Ports
-dead = showing (true ∷ true ∷ []) (Dead ∷ Dead ∷ [])
+dead = showing plain_disks.info (true ∷ true ∷ []) (Dead ∷ Dead ∷ [])
 
 abbrev pending : Device
 pending = record submitted { hr = true; ae = true; ie = false }
@@ -114,7 +117,7 @@ not_ready (suc (suc n)) is = let x : Absent ≡ Ready = is in cc
 
 fit_dead : AreFit dead
 fit_dead = record {
-  few = fit_both.few;
+  few = (fit_ready plain_disks).few;
   absent = λ port is. absent_of port.0 is;
   slots = λ port is. absurd (not_ready port.0 is);
   causes = λ port cause is. absurd (no_cause port.0 cause is);
@@ -163,7 +166,7 @@ named_served (suc (suc n)) h = absurd (⊎_elim
 
 reset_evidenced : (n : ℕ) → IsEvidencedOf Reset (WasReset None) reset_accesses submitted_at dead pending stuck_evidence (port_at n)
 reset_evidenced n =
-    let quiet = calm read_memory issued refl refl refl (λ place. refl) pending n in
+    let quiet = calm submitted.tape read_memory issued refl refl refl (λ place from. refl) pending n in
     record {
       lost = λ h. absurd (nowhere (port_at n) h);
       gone_all = λ is loss. absurd ((quiet is).0 loss);
@@ -183,7 +186,7 @@ reset_part n = record {
   faults = tt;
   tries = tt;
   boots = tt;
-  trouble = no_trouble stuck_evidence submitted_at dead pending (port_at n) [] refl (All-nil (IsCalm n)) (served_ready n) (calm read_memory issued refl refl refl (λ place. refl) pending n);
+  trouble = no_trouble stuck_evidence submitted_at dead pending (port_at n) [] refl (All-nil (IsCalm n)) (served_ready n) (calm submitted.tape read_memory issued refl refl refl (λ place from. refl) pending n);
   well = λ why ready. absurd (not_ready n ready);
   heeds = tt;
 }
@@ -209,9 +212,6 @@ answered = after issuing (answer ∷ [])
 
 abbrev replies : List Reply
 replies = record { id = first_id; client = asked.client; outcome = outcome.PortDead } ∷ []
-
-abbrev nothing : Evidence
-nothing = record { faults = []; lost = []; gone = []; failed = []; fatal = []; stopped = []; stuck = [] }
 
 abbrev service : Happening Device DeviceStep
 service = record {
@@ -311,14 +311,7 @@ service_happens = record {
 
 service_evidenced : (n : ℕ) → IsEvidencedOf Service (Served replies) [] pending_at dead pending nothing (port_at n)
 service_evidenced n = unnamed_evidenced Service (Served replies) [] pending_at dead pending nothing (port_at n)
-    (record {
-      lost = nowhere (port_at n);
-      gone = nowhere (port_at n);
-      failed = nowhere (port_at n);
-      fatal = nowhere (port_at n);
-      stopped = nowhere (port_at n);
-      stuck = nowhere (port_at n);
-    })
+    (none_named (port_at n))
     (λ is. absurd (not_ready n is))
     (All-nil (LeavesEngine (port_at n)))
 
@@ -384,7 +377,7 @@ death_is_a_history = record {
   dead = (refl, refl);
   service = service;
   serves = (refl, refl);
-  history = (((((starts, fit_both), begins), submit_happens, submit_ties), reset_happens, reset_ties), service_happens, service_ties);
+  history = (((((starts, fit_ready plain_disks), begins plain_disks), submit_happens, submit_ties), reset_happens, reset_ties), service_happens, service_ties);
   kept = waiting;
   keeps = ((0, omega arith, refl), refl);
   accesses = (refl, refl);

@@ -34,8 +34,8 @@ use Rattle.driver_history.specs.Evidence.{IsEvidencedOf, ShowsFailure, ShowsLoss
 use Rattle.driver_history.specs.Histories.{HasBadDisk, TriesDisk, LosesNoTrouble}
 use Rattle.driver_history.specs.Holds.{HasNothing, HasRequests, IsClients, IsOfKind, IsUnservedAt, NoneWaits, Runs}
 use Rattle.driver_history.specs.Trace.{LeavesEngine}
-use Rattle.history_witnesses.specs.Scene.{fit_page, page_entry, page_move}
-use Rattle.history_witnesses.proofs.Pages.{info, page_fits}
+use Rattle.history_witnesses.specs.Scene.{page_entry, page_move}
+use Rattle.history_witnesses.proofs.Pages.{Kind}
 use Rattle.history_witnesses.proofs.Members.{only}
 
 -- ---- slots
@@ -88,15 +88,15 @@ runs_on port d st cr fre bases saw known linked calm whole = record {
 }
 
 -- the last page of its disk stands on the tape
-pub fit_disk : (port : ℕ) (d : Device) (before later : List Entry) → d.tape ≡ before ++ page_entry port ∷ later → (d.port port).sctl_det ≡ 0 → (d.port port).ie ≡ told_causes
-    → (d.port port).notes.sctl_written_at ≡ 0 → All (λ e. IsMove port Identify e → ⊥) later → HasFitDisk None port d info
-fit_disk port d before later is det ie since last = record {
+pub fit_disk : (disk : Kind) (port : ℕ) (d : Device) (before later : List Entry) → d.tape ≡ before ++ page_entry disk.page port ∷ later → (d.port port).sctl_det ≡ 0 → (d.port port).ie ≡ told_causes
+    → (d.port port).notes.sctl_written_at ≡ 0 → All (λ e. IsMove port Identify e → ⊥) later → HasFitDisk None port d disk.info
+fit_disk disk port d before later is det ie since last = record {
   det = det;
   tells = ie;
-  page = fit_page;
+  page = disk.page;
   has = record {
     before = before;
-    move = page_move port;
+    move = page_move disk.page port;
     later = later;
     here = is;
     since = omega (arith, since);
@@ -104,7 +104,7 @@ fit_disk port d before later is det ie since last = record {
     last = last;
     bytes = refl;
   };
-  fit = page_fits;
+  fit = disk.fits;
 }
 
 -- nothing is in its slots
@@ -172,9 +172,9 @@ pub record IsUnnamed (evidence : Evidence) (port : Port) : Type 0 where
 pub unlost : (port : Port) (old new : Device) → (old.port port.0).serr_n ≡ false → (old.port port.0).serr_x ≡ false → (old.port port.0).ssts_det ≡ 3 → ShowsLoss port old new → ⊥
 unlost port old new n x there loss = ⊎_elim (λ change. ⊎_elim (λ a. absurd (true≢false (sym a ∙ n))) (λ a. absurd (true≢false (sym a ∙ x))) change) (λ missing. missing.0 there) loss
 
--- and one with no bit of PxIS
-pub unfailing : (p : PortState) → ((place : ℕ) → p.is place ≡ false) → ShowsFailure p → ⊥
-unfailing p calm fails = ⊎_elim (λ fatal. absurd (true≢false (sym fatal.set ∙ (calm fatal.place)))) (λ fault. absurd (true≢false (sym fault ∙ (calm 30)))) fails
+-- and one with no bit of PxIS that tells of trouble
+pub unfailing : (p : PortState) → ((place : ℕ) → 27 ≤ place → p.is place ≡ false) → ShowsFailure p → ⊥
+unfailing p calm fails = ⊎_elim (λ fatal. absurd (true≢false (sym fatal.set ∙ calm fatal.place fatal.from))) (λ fault. absurd (true≢false (sym fault ∙ calm 30 (omega arith)))) fails
 
 -- a port that isn't named, wasn't stopped, and showed no trouble if it was ready
 pub unnamed_evidenced : (ask : Ask DeviceStep) (said : Said) (accesses : List Access) (old : Instant Device) (ports : Ports) (new : Device) (evidence : Evidence) (port : Port) → IsUnnamed evidence port
@@ -233,8 +233,8 @@ ran_none Is port old new none g = none (record {
 abbrev pub IsCalm : ℕ → Entry → Type 0
 IsCalm port e = (IsFaultOf port e → ⊥) × (IsFatalOf port e → ⊥) × (IsPlugging port e → ⊥)
 
-each : {P Q : Entry → Type 0} (es : List Entry) → ((e : Entry) → P e → Q e) → All P es → All Q es
-each es goes all k d low = goes _ (all k d low)
+pub each : {X : Type 0} {P Q : X → Type 0} (xs : List X) → ((x : X) → P x → Q x) → All P xs → All Q xs
+each xs goes all k d low = goes _ (all k d low)
 
 -- where a port showed no trouble, and none came, there is none to be heeded
 pub no_trouble : (evidence : Evidence) (old : Instant Device) (ports : Ports) (new : Device) (port : Port) (gained : List Entry) → new.tape ≡ old.device.tape ++ gained → All (IsCalm port.0) gained

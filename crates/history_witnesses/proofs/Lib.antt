@@ -6,9 +6,17 @@ mod Command
 mod Submitting
 mod Losing
 mod Memory
+mod Ready
+mod Issuing
+mod Serving
+mod Finding
+mod Queueing
+mod Swapping
 mod Accepting
 mod Recovering
 mod Recovered
 mod Lost
 mod Answering
 mod Dying
+mod Together
+mod Reordered

@@ -40,9 +40,9 @@ tape_done = tape_moved ++ done_entry 0 0 Read ∷ []
 unfoldable pub memory_done : ℕ → ℕ
 memory_done = patched read_memory 0x28000 (sector_of 100)
 
-pub is_sector : IsSector (sector_of 100)
+pub is_sector : (k : ℕ) → k < 256 → IsSector (sector_of k)
 unfolding sector_of
-is_sector = (length-replicate {A = ℕ} 512 100, All-replicate (λ b. b < 256) 512 100 (omega arith))
+is_sector k low = (length-replicate {A = ℕ} 512 k, All-replicate (λ b. b < 256) 512 k low)
 
 moves : (new : Device) → Steps (device_with tape_moved memory_done (moved ∷ second ∷ [])) new → Steps (device_with pages read_memory (taken ∷ second ∷ [])) new
 unfolding changed memory_done
@@ -51,7 +51,7 @@ moves new = step_first (Move 0 0 command (sector_of 100)) (device_with pages rea
       works = record { taken = refl; working = record { running = refl; present = refl; fresh = refl; admitted = refl; whole = refl } };
       left = omega arith;
       inside = omega arith;
-      sector = is_sector;
+      sector = is_sector 100 (omega arith);
       brings = (omega arith, refl);
     })
     (put_device tape_moved memory_done 0 (taken ∷ second ∷ []) (moved ∷ second ∷ []) moved refl (but_first taken moved (second ∷ [])))

@@ -27,9 +27,10 @@ use Rattle.identify.specs.declared.wanted.Wanted.TheVariants.{Any}
 use Rattle.driver_history.specs.Holds.{HoldsOf, HoldsWith, IsReadyAt, IsStoppedAt}
 use Rattle.history_witnesses.specs.Scene.{having, page_entry, plain, showing}
 use Rattle.history_witnesses.proofs.Holding.{fit_disk, no_slots, requests_none, runs_on, unserved_at}
-use Rattle.history_witnesses.proofs.Pages.{info}
 use Rattle.history_witnesses.proofs.Submitting.{command}
-use Rattle.history_witnesses.proofs.Accepting.{agreeing, free_apart, issuing, other_page, served_of, waiting}
+use Rattle.history_witnesses.proofs.Accepting.{issuing, waiting}
+use Rattle.history_witnesses.proofs.Pages.{plain_disks}
+use Rattle.history_witnesses.proofs.Ready.{agreeing, free_apart, other_page, served_of}
 use Rattle.history_witnesses.proofs.Losing.{found, found_free, gone, lost, memory_done, tape_lost}
 use Rattle.history_witnesses.proofs.Memory.{moved_in_place}
 use Rattle.history_witnesses.proofs.Members.{nowhere}
@@ -37,7 +38,7 @@ use Rattle.history_witnesses.proofs.Members.{nowhere}
 -- ---- the machine
 
 abbrev pub one : Ports
-one = showing (true ∷ true ∷ []) (Ready ∷ Absent ∷ [])
+one = showing plain_disks.info (true ∷ true ∷ []) (Ready ∷ Absent ∷ [])
 
 abbrev pub touched : Pending
 touched = touch 0 waiting
@@ -96,8 +97,8 @@ unfolding changed
 lost_ready = record {
   on = record { ae = refl; no_reset = refl };
   runs = runs_on 0 lost refl refl refl refl refl (omega arith) refl refl refl;
-  info = info;
-  disk = fit_disk 0 lost [] (page_entry 1 ∷ gained) refl refl refl refl (other_page gained (unpaged 0));
+  info = plain_disks.info;
+  disk = fit_disk plain_disks 0 lost [] (page_entry plain_disks.page 1 ∷ gained) refl refl refl refl (other_page plain_disks.page gained (unpaged 0));
   shows = record { serial = refl; sectors = refl; trims = refl; mode = refl };
   slots = requests_none no_slots lost_at (port_at 0) plain (λ slot. refl) refl;
   kept = λ e k. absurd (nowhere e k);

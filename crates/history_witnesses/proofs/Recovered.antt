@@ -2,7 +2,7 @@
 use Rattle.std.proofs.lemmas.Bool.{cases_eq, cond-false, ne_eqb, true≢false}
 use Rattle.adapter.specs.declared.tape.Entry.{Entry}
 use Rattle.std.proofs.lemmas.List.{append_cancel_left}
-use Rattle.std.proofs.Common.{length, length-append, true, subst, Some, ◌∙◌, ℕ, zero, suc, ◌≡◌, false, List, [], ◌∷◌, ◌++◌, None, inl, inr, ⊎_elim, refl, sym, ap, arith, ◌≢◌, Bool, not, ◌&&◌, ◌==◌}
+use Rattle.std.proofs.Common.{length, length-append, true, subst, ◌∙◌, ℕ, zero, suc, ◌≡◌, false, List, [], ◌∷◌, ◌++◌, inl, inr, ⊎_elim, refl, sym, ap, arith, ◌≢◌, Bool, not, ◌&&◌, ◌==◌}
 use Rattle.std.specs.List.{Contains, All}
 use Rattle.std.proofs.lemmas.List.Elements.{All-nil, All-cons, All-contains}
 use Rattle.std.proofs.lemmas.List.Sorted.{IsPermutation-refl}
@@ -26,11 +26,10 @@ use Rattle.agreement.specs.Driver.{IsBacked, Knows}
 use Rattle.agreement.specs.Errors.{IsFatalOf}
 use Rattle.agreement.specs.Facts.{IsFaultOf, IsDisturbance, RunsWell}
 use Rattle.agreement.specs.Links.{IsPlugging}
-use Rattle.agreement.specs.Slots.{IsFree, IsMove, ServesRequest, Waits, IsTaken, IsEnded, IsDropped}
+use Rattle.agreement.specs.Slots.{IsFree, IsMove, ServesRequest}
 use Rattle.agreement.specs.Witness.{first_id}
 use Rattle.block_machine.specs.Events.{Service, Served, Happens, ServesReady}
 use Rattle.block_machine.specs.Histories.{Happening, Instant}
-use Rattle.block_machine.specs.Ports.{IsServiced}
 use Rattle.block_machine.specs.Left.{after}
 use Rattle.block_machine.specs.State.{Pending, Machine}
 use Rattle.block_machine.specs.Steps.{Step, Answer}
@@ -45,11 +44,14 @@ use Rattle.history_witnesses.specs.Recovery.{fault_evidence, recovery_accesses, 
 use Rattle.history_witnesses.specs.Scene.{having, page_entry}
 use Rattle.history_witnesses.proofs.Command.{read_memory}
 use Rattle.history_witnesses.proofs.Devices.{IsOf, WritesOf, leaves, serving, AreServing}
+use Rattle.history_witnesses.proofs.Finding.{stay_serviced}
 use Rattle.history_witnesses.proofs.Holding.{IsUnnamed, fit_disk, named, named_is, no_slots, requests_none, runs_on, tries_ready, unnamed_evidenced, unserved_at, IsCalm, gained_none, no_trouble, ran_none}
 use Rattle.history_witnesses.proofs.Memory.{past_driver}
-use Rattle.history_witnesses.proofs.Pages.{info}
+use Rattle.history_witnesses.proofs.Serving.{serves_none}
 use Rattle.history_witnesses.proofs.Submitting.{issued, second, submitted, pages}
-use Rattle.history_witnesses.proofs.Accepting.{agreeing, asked, both, calm, first, fit_both, free_apart, in_book, issuing, no_page, not_dead, other_page, second_ready, served_of, served_ready, starts, submit, submit_happens, submit_parts, submit_ties, submitted_at, waiting, begins}
+use Rattle.history_witnesses.proofs.Accepting.{asked, both, first, in_book, issuing, submit, submit_happens, submit_parts, submit_ties, submitted_at, waiting}
+use Rattle.history_witnesses.proofs.Pages.{plain_disks}
+use Rattle.history_witnesses.proofs.Ready.{agreeing, begins, calm, fit_ready, free_apart, no_page, not_dead, other_page, second_ready, served_of, served_ready, starts}
 use Rattle.history_witnesses.proofs.Recovering.{allowed, does, fault, from_fall, from_stop, recovered, started, tape_failed, told, until_stop}
 use Rattle.history_witnesses.proofs.Members.{nowhere, only}
 
@@ -88,8 +90,8 @@ unfolding changed
 ready = record {
   on = record { ae = refl; no_reset = refl };
   runs = runs_on 0 recovered refl refl refl refl refl (omega arith) refl refl refl;
-  info = info;
-  disk = fit_disk 0 recovered [] (page_entry 1 ∷ entry.Fault fault ∷ []) refl refl refl refl (other_page (entry.Fault fault ∷ []) (unpaged 0));
+  info = plain_disks.info;
+  disk = fit_disk plain_disks 0 recovered [] (page_entry plain_disks.page 1 ∷ entry.Fault fault ∷ []) refl refl refl refl (other_page plain_disks.page (entry.Fault fault ∷ []) (unpaged 0));
   shows = record { serial = refl; sectors = refl; trims = refl; mode = refl };
   slots = requests_none no_slots recovered_at (port_at 0) (both.mode (port_at 0)) (λ slot. refl) refl;
   kept = λ e k. absurd (nowhere e k);
@@ -97,7 +99,7 @@ ready = record {
 
 port_recovered : (n : ℕ) → HoldsOf (wanted_of (Any ∷ Any ∷ []) n) no_slots recovered_at (port_at n) (both.served (port_at n)) (both.state (port_at n))
 port_recovered zero = ready
-port_recovered (suc zero) = second_ready no_slots answered (entry.Fault fault ∷ []) started read_memory (unpaged 1) (λ slot. refl) refl refl
+port_recovered (suc zero) = second_ready plain_disks no_slots answered (entry.Fault fault ∷ []) read_memory started (unpaged 1) (λ slot. refl) refl refl
 port_recovered (suc (suc n)) = unserved_at no_slots recovered_at (suc (suc n)) refl refl (record { free = λ slot. refl; unparked = refl }) (λ e here. absurd (nowhere e here)) (λ e kept. absurd (nowhere e kept))
 
 holds_recovered : HoldsWith (Any ∷ Any ∷ []) no_slots recovered_at
@@ -161,7 +163,7 @@ of_served = (tended, (tended, (tended, (tended, ((λ is. cc, tended), (tended, (
     tended = (refl, not_dead 0)
 
 quiet : (n : ℕ) → both.state (port_at n) ≡ Ready → (ShowsLoss (port_at n) submitted recovered → ⊥) × (ShowsFailure (submitted.port n) → ⊥)
-quiet = calm read_memory issued refl refl refl (λ place. refl) recovered
+quiet = calm submitted.tape read_memory issued refl refl refl (λ place from. refl) recovered
 
 evidenced_of : (n : ℕ) → IsEvidencedOf Service (Served replies) recovery_accesses submitted_at both recovered fault_evidence (port_at n)
 evidenced_of zero = record {
@@ -188,14 +190,8 @@ none_ok e a = let same : Answer a.0 outcome.Ok ≡ answer = only answer (Answer 
 
 -- a slot whose bit of PxCI is clear serves no request then
 bits_set : (e : Pending) (k : ℕ) → ServesRequest issuing read_memory issued 0 k e.request.id → bit 1 k ≡ false → ⊥
-bits_set e k s ci = ⊎_elim
-    (λ (w : Waits read_memory issued 0 k s.pending s.command). absurd (true≢false (sym w.issued ∙ ci)))
-    (λ r. ⊎_elim
-    (λ (w : IsTaken read_memory issued 0 k s.pending s.command s.places). let x : None ≡ Some w.command = w.taken in cc)
-    (λ r. ⊎_elim
-    (λ (w : IsEnded issued k s.pending). absurd (true≢false (sym w.ended ∙ (ap (λ (p : Pending). p.ended) (⊎_elim (λ m. in_book s.pending m.0) (λ m. absurd (nowhere s.pending m)) s.moves)))))
-    (λ (w : IsDropped issued k s.pending). absurd (true≢false w.stopped)) r) r)
-    s.stage
+bits_set e k s ci = serves_none issuing read_memory issued k e.request.id s refl ci refl
+    (ap (λ (p : Pending). p.ended) (⊎_elim (λ m. in_book s.pending m.0) (λ m. absurd (nowhere s.pending m)) s.moves))
 
 finds : FindsDone (port_at 0) recovery_accesses submitted_at (answer ∷ [])
 finds = record {
@@ -306,20 +302,6 @@ backed = record {
     plugs (suc zero) = refl
     plugs (suc (suc n)) = refl
 
-becomes : (n : ℕ) → IsServiced both fault_evidence both (port_at n)
-becomes n = (
-  λ is. absurd (not_dead n is),
-  λ _. (
-    record {
-      served = refl;
-      stuck = λ is. absurd (not_dead n is);
-      dies = λ h. absurd (nowhere (port_at n) h);
-      keeps = λ is. (refl, refl);
-    },
-    inl (refl, refl, refl, refl, refl, refl),
-  ),
-)
-
 unplugged_not : (e : Pending) → Contains (answer ∷ []) (Answer e outcome.Unplugged) → ⊥
 unplugged_not e here = let x : outcome.Unplugged ≡ outcome.DeviceError 0x41 0x40 = only_fault e outcome.Unplugged here in cc
 
@@ -337,7 +319,7 @@ happens = record {
       named 0,
     ),
   );
-  fit = fit_both;
+  fit = fit_ready plain_disks;
   disks = λ e o here. absurd (nowhere e here);
   answered = record {
     tells = record { answers = (waiting, outcome.DeviceError 0x41 0x40) ∷ []; same = IsPermutation-refl _; ordered = λ i j d less low. absurd (omega (arith, less, low)); told = refl };
@@ -346,7 +328,7 @@ happens = record {
     unplugs = record { emptied = λ e other here. absurd (unplugged_not e here); alike = λ e other here. absurd (unplugged_not e here) };
     issues = λ port is r at_port due. absurd (nowhere r due.here);
     emptied = λ port other e here. absurd (nowhere e here);
-    becomes = λ port. becomes port.0;
+    becomes = λ port. stay_serviced plain_disks fault_evidence port.0 (nowhere port);
     disk = λ port. inl (refl, refl, refl, refl, refl, refl);
   };
 }
@@ -402,7 +384,7 @@ recovery_ties = record {
   well = runs_well;
   does = does;
   allowed = allowed;
-  history = ((((starts, fit_both), begins), submit_happens, submit_ties), happens, ties);
+  history = ((((starts, fit_ready plain_disks), begins plain_disks), submit_happens, submit_ties), happens, ties);
   accesses = refl;
   submit_parts = submit_parts;
   service_parts = λ port. part_of port.0;

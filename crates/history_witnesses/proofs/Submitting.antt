@@ -2,7 +2,7 @@
 use Rattle.std.proofs.Common.{ℕ, suc, ◌≡◌, false, List, [], ◌∷◌, None, Some, refl, arith}
 use Rattle.hba_regs.specs.declared.reg.Reg.TheVariants.{Px}
 use Rattle.hba_regs.specs.declared.reg.PortReg.TheVariants.{Ci}
-use Rattle.adapter.specs.Access.{Access, DoesAll, Stores, port_written}
+use Rattle.adapter.specs.Access.{Access, DoesAll, port_written}
 use Rattle.adapter.specs.Access.Access.{Writing, Storing}
 use Rattle.adapter.specs.Device.{PortState, Taken, Device}
 use Rattle.adapter.specs.FirstRead.{header_bytes}
@@ -13,14 +13,18 @@ use Rattle.adapter.specs.Steps.{Steps, begun, with_fetch}
 use Rattle.adapter.specs.Steps.Step.{Fetch}
 use Rattle.adapter.specs.declared.tape.Entry.{Entry}
 use Rattle.agreement.specs.Agrees.{port_at}
-use Rattle.history_witnesses.specs.Scene.{device_with, page_entry, running_port}
+use Rattle.history_witnesses.specs.Scene.{device_with, fit_page, page_entry, running_port}
 use Rattle.history_witnesses.proofs.Command.{place_bytes, read_bytes, read_memory, told, zeros}
-use Rattle.history_witnesses.proofs.Devices.{but_first, other_bit, put_device, step_first, writes}
+use Rattle.history_witnesses.proofs.Devices.{but_first, other_bit, put_device, step_first, stores, writes}
 
 -- ---- it is issued
 
+-- both ports have sent this page
+abbrev pub sent : List ℕ → List Entry
+sent page = page_entry page 0 ∷ page_entry page 1 ∷ []
+
 abbrev pub pages : List Entry
-pages = page_entry 0 ∷ page_entry 1 ∷ []
+pages = sent fit_page
 
 abbrev pub second : PortState
 second = running_port 1
@@ -37,20 +41,17 @@ submitted = device_with pages read_memory (issued ∷ second ∷ [])
 abbrev pub submit_accesses : List Access
 submit_accesses = Storing 0 header_bytes ∷ Storing 0x1000 read_bytes ∷ Storing 0x1080 place_bytes ∷ Writing (Px (port_at 0) Ci) 1 ∷ []
 
-stores : (at : ℕ) (bytes : List ℕ) (memory : ℕ → ℕ) → Stores at bytes (device_with pages memory (running_port 0 ∷ second ∷ [])) (device_with pages (patched memory at bytes) (running_port 0 ∷ second ∷ []))
-stores at bytes memory = record { mid = device_with pages memory (running_port 0 ∷ second ∷ []); steps = record { steps = []; lead = refl }; effect = refl }
-
 pub submits : DoesAll submit_accesses booted submitted
 unfolding read_memory
 submits = (
   device_with pages (patched zeros 0 header_bytes) (running_port 0 ∷ second ∷ []),
-  stores 0 header_bytes zeros,
+  stores 0 header_bytes pages zeros (running_port 0 ∷ second ∷ []),
   (
     device_with pages (patched (patched zeros 0 header_bytes) 0x1000 read_bytes) (running_port 0 ∷ second ∷ []),
-    stores 0x1000 read_bytes (patched zeros 0 header_bytes),
+    stores 0x1000 read_bytes pages (patched zeros 0 header_bytes) (running_port 0 ∷ second ∷ []),
     (
       device_with pages read_memory (running_port 0 ∷ second ∷ []),
-      stores 0x1080 place_bytes (patched (patched zeros 0 header_bytes) 0x1000 read_bytes),
+      stores 0x1080 place_bytes pages (patched (patched zeros 0 header_bytes) 0x1000 read_bytes) (running_port 0 ∷ second ∷ []),
       (submitted, writes pages read_memory 0 (running_port 0 ∷ second ∷ []) (issued ∷ second ∷ []) (but_first (running_port 0) issued (second ∷ [])) Ci 1 refl, refl),
     ),
   ),

@@ -6,11 +6,11 @@ use Rattle.agreement.specs.Agrees.{port_at}
 use Rattle.block_machine.specs.Histories.{Instant}
 use Rattle.identify.specs.declared.wanted.Wanted.TheVariants.{Any}
 use Rattle.driver_history.specs.Histories.{IsHistory}
-use Rattle.history_witnesses.specs.Scene.{page_entry}
+use Rattle.history_witnesses.specs.Scene.{fit_page, page_entry}
 
 -- Any disk is wanted in ports 0 and 1. Both are ready, and the pages of their disks stand on the tape.
 pub record ReadyPortHasBegun : Type 0 where
   pub first : Instant Device
   pub ready : (first.moment.ports.state (port_at 0) ≡ Ready) × (first.moment.ports.state (port_at 1) ≡ Ready)
-  pub asked : Contains first.device.tape (page_entry 0) × Contains first.device.tape (page_entry 1)
+  pub asked : Contains first.device.tape (page_entry fit_page 0) × Contains first.device.tape (page_entry fit_page 1)
   pub begun : IsHistory (Any ∷ Any ∷ []) first []

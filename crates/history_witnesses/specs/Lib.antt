@@ -4,3 +4,4 @@ pub mod Begun
 pub mod Recovery
 pub mod Loss
 pub mod Dead
+pub mod Queued

@@ -13,32 +13,42 @@ use Rattle.adapter.specs.declared.tape.Move as tape_move
 use Rattle.agreement.specs.Places.{scratch_of}
 use Rattle.block_machine.specs.Ports.{Ports}
 use Rattle.block_machine.specs.declared.due.Mode.{Mode}
+use Rattle.driver_history.specs.Holds.{mode_of}
+use Rattle.identify.specs.declared.DiskInfo.{DiskInfo}
 use Rattle.port_boot.specs.States.{told_causes}
 use Rattle.port_control.specs.Ports.{programmed}
 
 -- ---- disks
 
--- The page of a disk with 256 sectors and no queue: word 83 is 6400h, word 100 is 0100h, and all else is zero.
+-- The page of a disk with 256 sectors: word 83 is 6400h, and word 100 is 0100h. Word 75 tells a queue depth less one, and the high byte of
+-- word 76 whether commands are queued. All else is zero.
 abbrev pub page_rest : List ℕ
 page_rest = 0x64 ∷ (replicate 33 0 ++ (1 ∷ replicate 310 0))
 
-abbrev pub fit_page : List ℕ
-fit_page = replicate 167 0 ++ page_rest
+abbrev pub page_with : ℕ → ℕ → List ℕ
+page_with depth queues = replicate 150 0 ++ (depth ∷ 0 ∷ 0 ∷ queues ∷ (replicate 13 0 ++ page_rest))
 
--- the port's disk sent it
-abbrev pub page_move : ℕ → tape_move.Move
-page_move port = record {
+-- that of a disk with no queue, and that of one which queues 32 commands
+abbrev pub fit_page : List ℕ
+fit_page = page_with 0 0
+
+abbrev pub queueing_page : List ℕ
+queueing_page = page_with 31 1
+
+-- the port's disk sent the page
+abbrev pub page_move : List ℕ → ℕ → tape_move.Move
+page_move page port = record {
   port = record { 0 = port };
   slot = record { 0 = 0 };
   operation = Identify;
   sector = 0;
   address = scratch_of port;
   direction = ToMemory;
-  bytes = noted_bytes fit_page;
+  bytes = noted_bytes page;
 }
 
-abbrev pub page_entry : ℕ → Entry
-page_entry port = entry.Move (page_move port)
+abbrev pub page_entry : List ℕ → ℕ → Entry
+page_entry page port = entry.Move (page_move page port)
 
 -- ---- ports
 
@@ -55,23 +65,30 @@ running_port port = record reading_port {
 abbrev pub having : List PortState → ℕ → PortState
 having ports port = slice_index_or ports port quiet_port
 
--- the adapter of the first read, which tells of its causes, with this tape, this memory, and these ports
+-- its adapter has 32 slots, and supports native command queuing (CAP: AHCI 1.3.1, 3.1.1)
+abbrev pub queueing_cap : ℕ
+queueing_cap = 0x40001f03
+
+-- the adapter of the first read, but for that, which tells of its causes, with this tape, this memory, and these ports
 abbrev pub device_with : List Entry → (ℕ → ℕ) → List PortState → Device
-device_with tape memory ports = record first_read { ie = true; tape = tape; memory = memory; port = having ports }
+device_with tape memory ports = record first_read { cap = queueing_cap; ie = true; tape = tape; memory = memory; port = having ports }
 
 -- ---- what clients see
 
--- commands are plain, one at a time
+-- commands are plain, one at a time; or queued, 32 at a time
 abbrev pub plain : Mode
 plain = record { queued = false; usable = 1 }
 
--- These ports are served, and in these states; their disks are alike.
-abbrev pub showing : List Bool → List shown.PortState → Ports
-showing served states = record {
+abbrev pub queued : Mode
+queued = record { queued = true; usable = 32 }
+
+-- These ports are served, and in these states; their disks are alike, and this is what their page says.
+abbrev pub showing : DiskInfo → List Bool → List shown.PortState → Ports
+showing info served states = record {
   served = λ port. slice_index_or served port.0 false;
   state = λ port. slice_index_or states port.0 Absent;
-  serial = λ port. replicate 20 0;
-  sectors = λ port. 256;
-  trims = λ port. false;
-  mode = λ port. plain;
+  serial = λ port. info.serial;
+  sectors = λ port. info.sectors;
+  trims = λ port. info.trim;
+  mode = λ port. mode_of queueing_cap info;
 }

@@ -2,6 +2,7 @@
 ghost use Rattle.history_witnesses.specs.Begun.{ReadyPortHasBegun};
 ghost use Rattle.history_witnesses.specs.Dead.{DeathIsAHistory};
 ghost use Rattle.history_witnesses.specs.Loss.{LossIsAHistory};
+ghost use Rattle.history_witnesses.specs.Queued.{OrderIsFree};
 ghost use Rattle.history_witnesses.specs.Recovery.{RecoveryTies};
 
 /// There is an instant at which a history may begin with ports that are ready.
@@ -24,4 +25,10 @@ pub fn a_loss_is_a_history()
 /// There is a history with a reset that doesn't end, and a service that tells its ports dead: all that is asked of its calls is met.
 pub fn a_death_is_a_history()
     ensures { DeathIsAHistory }
+{}
+
+/// There is a history with two queued reads of one port, of which the second ends first, and is answered first: all that is asked of its
+/// calls is met.
+pub fn queued_requests_end_in_any_order()
+    ensures { OrderIsFree }
 {}
