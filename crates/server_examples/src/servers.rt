@@ -17,11 +17,12 @@ use std::alloc::Global;
 use std::process::Abort;
 use std::test::Fail;
 
-/// Client 1 owns frames 40 to 79, and may do all with sectors 100 to 355.
-const CONFIGURATION: &str = "frames = 256
-slots = 1
-ncq = false
-depth = 1
+/// A configuration with this adapter and this disk: client 1 owns frames 40 to 79, and may do all with sectors 100 to 355.
+macro_rules! configuration {
+    ($model:literal) => {
+        concat!(
+            $model,
+            "frames = 256
 trim = \"full\"
 [[port]]
 number = 0
@@ -37,14 +38,23 @@ port = 0
 first = 100
 count = 256
 rights = \"rwtf\"
-";
+"
+        )
+    };
+}
+
+/// Commands are plain.
+const PLAIN: &str = configuration!("slots = 1\nncq = false\ndepth = 1\n");
+
+/// Commands are queued.
+const QUEUED: &str = configuration!("slots = 32\nncq = true\ndepth = 32\n");
 
 /// The values of the text.
-fn config(alloc: Global) -> Result<Config, Fail>
+fn config(alloc: Global, text: &str) -> Result<Config, Fail>
     ensures { IfOk result IsSound }
 {
     Ok(
-        Config::parse(alloc, CONFIGURATION.as_bytes())
+        Config::parse(alloc, text.as_bytes())
             .ok()
             .ok_or("the text is wrong")?,
     )
@@ -75,7 +85,7 @@ fn request(op: Op, first: u64, count: u32, frame: u16, frames: u16) -> Request {
     }
 }
 
-/// The bytes of slot 0's header, of its FIS, and of its first and its 32nd entry.
+/// The bytes of a slot's header, of its FIS, and of its first and its 32nd entry.
 type Slot = ([u8; 16], [u8; 20], [u8; 16], [u8; 16]);
 
 /// Bytes from a place of memory on.
@@ -87,30 +97,33 @@ fn piece<const N: usize>(memory: &[u8], place: usize) -> [u8; N] {
     piece
 }
 
-/// Compares what stands in memory once a server is made, and has issued the request if there is one; and the accesses of a service then.
+/// Compares what stands in memory for a slot once a server is made, and has issued the requests; and the accesses of a service then.
 fn check(
     rt: &(impl Abort + AllocGlobal),
-    request: Option<Request>,
+    text: &str,
+    requests: &[Request],
+    slot: u8,
     wanted: Slot,
     accesses: &[Access],
 ) -> Result<(), Fail> {
-    let config = config(rt.alloc())?;
+    let config = config(rt.alloc(), text)?;
     let watched = Watched::new(rt.alloc(), model_of(rt.alloc(), &config, 356)?)?;
     let Ok(server) = Server::new(rt.alloc(), &config, watched) else {
         return Err(Fail::from("no server"));
     };
     let mut server = server;
-    let accepted = match request {
-        Some(request) => server.submit(&request).is_ok(),
-        None => true,
-    };
+    let mut accepted = true;
+    for request in requests {
+        accepted &= server.submit(request).is_ok();
+    }
     let before = server.adapter().accesses.len();
     let replies = server.service().len();
     let watched = server.close();
     assert_eq!(rt; (accepted, replies), (true, 0));
     let low = watched.low.as_slice();
-    let (header, fis) = (piece(low, 0), piece(low, 0x1000));
-    let (first, last) = (piece(low, 0x1080), piece(low, 0x1270));
+    let table = 0x1000 + 0x400 * usize::from(slot);
+    let (header, fis) = (piece(low, 0x20 * usize::from(slot)), piece(low, table));
+    let (first, last) = (piece(low, table + 0x80), piece(low, table + 0x270));
     assert_eq!(rt; (header, fis, first, last), wanted);
     assert_eq!(rt; watched.accesses.get(before..), Some(accesses));
     Ok(())
@@ -129,7 +142,7 @@ const IDENTIFY: Slot = (
     NO_ENTRY,
 );
 
-/// A read of eight sectors from 100 on into frame 40.
+/// A read of eight sectors from 100 on into frame 40, READ DMA EXT.
 const SHORT_READ: Slot = (
     [5, 0, 1, 0, 0, 0, 0, 0, 0, 0x10, 0, 0, 0, 0, 0, 0],
     [
@@ -139,7 +152,7 @@ const SHORT_READ: Slot = (
     NO_ENTRY,
 );
 
-/// A read of 256 sectors from 100 on into frames 45 to 76.
+/// A read of 256 sectors from 100 on into frames 45 to 76, READ DMA EXT.
 const LONG_READ: Slot = (
     [5, 0, 0x20, 0, 0, 0, 0, 0, 0, 0x10, 0, 0, 0, 0, 0, 0],
     [
@@ -149,13 +162,43 @@ const LONG_READ: Slot = (
     [0, 0xc0, 4, 0, 0, 0, 0, 0, 0, 0, 0, 0, 0xff, 0x0f, 0, 0],
 );
 
-/// A write of three sectors from 100 on from frame 41.
+/// A write of three sectors from 100 on from frame 41, WRITE DMA EXT.
 const WRITE: Slot = (
     [0x45, 0, 1, 0, 0, 0, 0, 0, 0, 0x10, 0, 0, 0, 0, 0, 0],
     [
         0x27, 0x80, 0x35, 0, 0x64, 0, 0, 0x40, 0, 0, 0, 0, 3, 0, 0, 0, 0, 0, 0, 0,
     ],
     [0, 0x90, 2, 0, 0, 0, 0, 0, 0, 0, 0, 0, 0xff, 0x05, 0, 0],
+    NO_ENTRY,
+);
+
+/// The short read by READ FPDMA QUEUED, in slot 0: the sectors stand in the features field, and the tag in bits 7:3 of the count field (ACS-3).
+const QUEUED_SHORT_READ: Slot = (
+    SHORT_READ.0,
+    [
+        0x27, 0x80, 0x60, 8, 0x64, 0, 0, 0x40, 0, 0, 0, 0, 0, 0, 0, 0, 0, 0, 0, 0,
+    ],
+    SHORT_READ.2,
+    NO_ENTRY,
+);
+
+/// The long read by READ FPDMA QUEUED, in slot 5, whose table stands at 2400h.
+const QUEUED_LONG_READ: Slot = (
+    [5, 0, 0x20, 0, 0, 0, 0, 0, 0, 0x24, 0, 0, 0, 0, 0, 0],
+    [
+        0x27, 0x80, 0x60, 0, 0x64, 0, 0, 0x40, 0, 0, 0, 1, 0x28, 0, 0, 0, 0, 0, 0, 0,
+    ],
+    LONG_READ.2,
+    LONG_READ.3,
+);
+
+/// The write by WRITE FPDMA QUEUED, in slot 0.
+const QUEUED_WRITE: Slot = (
+    WRITE.0,
+    [
+        0x27, 0x80, 0x61, 3, 0x64, 0, 0, 0x40, 0, 0, 0, 0, 0, 0, 0, 0, 0, 0, 0, 0,
+    ],
+    WRITE.2,
     NO_ENTRY,
 );
 
@@ -172,13 +215,30 @@ const SERVICE: [Access; 6] = [
 
 #[test]
 fn commands_stand_in_memory(rt: HostRuntime) -> Result<(), Fail> {
-    check(&rt, None, IDENTIFY, &SERVICE[..4])?;
-    let eight = request(Op::Read, 100, 8, 40, 1);
-    check(&rt, Some(eight), SHORT_READ, &SERVICE)?;
-    let most = request(Op::Read, 100, 256, 45, 32);
-    check(&rt, Some(most), LONG_READ, &SERVICE)?;
-    let three = request(Op::Write, 100, 3, 41, 1);
-    check(&rt, Some(three), WRITE, &SERVICE)
+    check(&rt, PLAIN, &[], 0, IDENTIFY, &SERVICE[..4])?;
+    let eight = [request(Op::Read, 100, 8, 40, 1)];
+    check(&rt, PLAIN, &eight, 0, SHORT_READ, &SERVICE)?;
+    let most = [request(Op::Read, 100, 256, 45, 32)];
+    check(&rt, PLAIN, &most, 0, LONG_READ, &SERVICE)?;
+    let three = [request(Op::Write, 100, 3, 41, 1)];
+    check(&rt, PLAIN, &three, 0, WRITE, &SERVICE)
+}
+
+#[test]
+fn queued_commands_stand_in_memory(rt: HostRuntime) -> Result<(), Fail> {
+    let eight = [request(Op::Read, 100, 8, 40, 1)];
+    check(&rt, QUEUED, &eight, 0, QUEUED_SHORT_READ, &SERVICE)?;
+    let three = [request(Op::Write, 100, 3, 41, 1)];
+    check(&rt, QUEUED, &three, 0, QUEUED_WRITE, &SERVICE)?;
+    let six = [
+        request(Op::Read, 100, 1, 40, 1),
+        request(Op::Read, 100, 1, 41, 1),
+        request(Op::Read, 100, 1, 42, 1),
+        request(Op::Read, 100, 1, 43, 1),
+        request(Op::Read, 100, 1, 44, 1),
+        request(Op::Read, 100, 256, 45, 32),
+    ];
+    check(&rt, QUEUED, &six, 5, QUEUED_LONG_READ, &SERVICE)
 }
 
 // FISes of a disk (Serial ATA). The status is 7Fh without BSY and DRQ, which PxTFD shows here from the first FIS on, but for DRQ of a PIO
@@ -205,7 +265,7 @@ fn received(registers: [u8; 20]) -> [u8; 256] {
 
 #[test]
 fn fises_stand_in_memory(rt: HostRuntime) -> Result<(), Fail> {
-    let config = config(rt.alloc())?;
+    let config = config(rt.alloc(), PLAIN)?;
     let model = model_of(rt.alloc(), &config, 356)?;
     let Ok(server) = Server::new(rt.alloc(), &config, model) else {
         return Err(Fail::from("no server"));
@@ -224,7 +284,7 @@ fn fises_stand_in_memory(rt: HostRuntime) -> Result<(), Fail> {
 
 #[test]
 fn unspelled_calls_are_answered(rt: HostRuntime) -> Result<(), Fail> {
-    let config = config(rt.alloc())?;
+    let config = config(rt.alloc(), PLAIN)?;
     let model = model_of(rt.alloc(), &config, 356)?;
     let Ok(server) = Server::new(rt.alloc(), &config, model) else {
         return Err(Fail::from("no server"));

@@ -58,8 +58,9 @@ pub enum Access {
     Store,
 }
 
-/// The end of what a port's slot 0 needs: its header at 0, its FIS at 1000h and its 32 entries from 1080h on.
-pub const LOW: usize = 0x1280;
+/// The end of what a port's slots 0 to 5 need: their headers from 0 on, and their tables of 400h bytes each from 1000h on, of which the last's 32
+/// entries end here.
+pub const LOW: usize = 0x2680;
 
 /// An adapter that notes its calls, and what is stored in the first bytes of memory.
 #[derive(Drop)]
