@@ -18,7 +18,7 @@ use std::process::Abort;
 use std::test::Fail;
 
 /// A configuration with this adapter and this disk: client 1 owns frames 40 to 79, and may do all with sectors 100 to 355.
-macro_rules! configuration {
+macro_rules! text_with {
     ($model:literal) => {
         concat!(
             $model,
@@ -44,10 +44,10 @@ rights = \"rwtf\"
 }
 
 /// Commands are plain.
-const PLAIN: &str = configuration!("slots = 1\nncq = false\ndepth = 1\n");
+const PLAIN: &str = text_with!("slots = 1\nncq = false\ndepth = 1\n");
 
 /// Commands are queued.
-const QUEUED: &str = configuration!("slots = 32\nncq = true\ndepth = 32\n");
+const QUEUED: &str = text_with!("slots = 32\nncq = true\ndepth = 32\n");
 
 /// The values of the text.
 fn config(alloc: Global, text: &str) -> Result<Config, Fail>

@@ -24,17 +24,19 @@ pub struct Use {
 pub struct Slots {
     usable: u8,
     places: [Option<Use>; SLOTS],
+    /// The places that are used, by bit.
+    taken: u32,
 }
 
 impl Model for Slots {
     ghost use Rattle.std.specs.Prelude.{◌≡◌, ◌≤◌, length};
-    ghost use Rattle.slots.specs.Uses.{Uses};
+    ghost use Rattle.slots.specs.Uses.{IsMask, Uses};
 
     ghost Value = { Uses };
 
     ghost view = { λ s. record { usable = s.usable; places = s.places } };
 
-    ghost invariant = { λ s. (s.usable ≤ 32) × (length s.places ≡ 32) };
+    ghost invariant = { λ s. (s.usable ≤ 32) × (length s.places ≡ 32) × IsMask s.places s.taken };
 }
 
 impl Slots {
@@ -47,6 +49,7 @@ impl Slots {
         Slots {
             usable,
             places: no_uses(),
+            taken: 0,
         }
     }
 
@@ -61,6 +64,7 @@ impl Slots {
             return None;
         };
         self.places[place as usize] = Some(Use { id, queued });
+        self.taken |= 1u32 << place;
         Some(Slot(place))
     }
 
@@ -70,7 +74,10 @@ impl Slots {
         ensures was { result ≡ use_at self.old slot.0 }
         ensures freed { self.new ≡ with_use self.old slot.0 None }
     {
-        self.places[slot.0 as usize].take()
+        let used = self.places[slot.0 as usize];
+        self.places[slot.0 as usize] = None;
+        self.taken &= !(1u32 << slot.0);
+        used
     }
 
     /// What a slot is used for; `None` where it is free.
@@ -87,7 +94,7 @@ impl Slots {
     pub fn taken(&self) -> u32
         ensures { (slot : ℕ) → slot < 32 → (bit_at result slot ≡ 1) ↔ IsTaken self.now slot }
     {
-        mask_of(&self.places)
+        self.taken
     }
 
     /// Of the slots that are taken and have their bits set here, the one whose request has the least id. `None` where there is none.
@@ -112,19 +119,6 @@ fn no_uses() -> [Option<Use>; SLOTS]
     ensures { (slot : ℕ) → slice_index_or result slot None ≡ None }
 {
     [None; SLOTS]
-}
-
-fn mask_of(places: &[Option<Use>]) -> u32
-    requires { length places.now ≡ 32 }
-    ensures { (slot : ℕ) → slot < 32 → (bit_at result slot ≡ 1) ↔ IsSome (slice_index_or places.now slot None) }
-{
-    let mut mask = 0u32;
-    for place in 0..32u8 {
-        if places[place as usize].is_some() {
-            mask |= 1u32 << place;
-        }
-    }
-    mask
 }
 
 /// The lowest free place below `usable`.
