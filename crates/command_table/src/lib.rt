@@ -4,7 +4,7 @@
 ghost use Rattle.std.specs.Prelude.{◌≡◌, ℕ, List, ◌+◌, ◌*◌, ◌/◌, ◌%◌, ◌^◌, ◌<◌, ◌≤◌, length, take, drop, slice_index_or, All};
 ghost use Rattle.byteorder.specs.Endian.{little_from};
 ghost use Rattle.adapter.specs.Says.{pieces, IsWhole};
-ghost use Rattle.adapter.specs.Spelling.{SpellsCommand, SpellsHeader, SpellsPrd, IsAllowed};
+ghost use Rattle.adapter.specs.Spelling.{AreZero, SpellsCommand, SpellsHeader, SpellsPrd, IsAllowed};
 ghost use Rattle.adapter.specs.Commands.{Meaning, command_of, reads_memory};
 ghost use Rattle.adapter.specs.Memory.{bytes_at};
 ghost use Rattle.adapter.specs.Rules.{IsOn};
@@ -101,19 +101,19 @@ pub fn prds(frames: &[Frame], bytes: u32) -> ArrayVec<Prd, 32>
     entries
 }
 
-/// A command table: the FIS at its head, the PRDs from byte 128 on, and zeros between and behind them.
-pub fn table_bytes(command: &Command, prds: &[Prd]) -> [u8; 640]
+/// Turns zeros into a command table: the FIS at its head, the PRDs from byte 128 on, and zeros between and behind them. It is made where the caller
+/// has it, since 640 bytes would be copied else.
+fn fill_table(bytes: &mut [u8; 640], command: &Command, prds: &[Prd])
+    requires zeros { AreZero bytes.old 0 640 }
     requires lba { command.now.lba < 2 ^ 48 }
     requires room { length prds.now ≤ 32 }
     requires allowed { All IsAllowed prds.now }
-    ensures { IsTable result command.now prds.now }
+    ensures { IsTable bytes.new command.now prds.now }
 {
-    let mut bytes = [0; 640];
-    store_at(&mut bytes, 0, &encode_h2d(command));
+    store_at(bytes, 0, &encode_h2d(command));
     for (i, prd) in prds.iter().enumerate() {
-        store_at(&mut bytes, 128 + 16 * i, &prd_bytes(prd));
+        store_at(bytes, 128 + 16 * i, &prd_bytes(prd));
     }
-    bytes
 }
 
 /// Whether the device reads memory to do a command, of those that the driver knows.
@@ -152,7 +152,8 @@ pub fn write_table<A: Adapter>(
 {
     let list = PORT_BYTES * u32::from(port.0);
     let table = list + TABLES + TABLE_BYTES * u32::from(slot.0);
-    let bytes = table_bytes(command, prds);
+    let mut bytes = [0; 640];
+    fill_table(&mut bytes, command, prds);
     adapter.store(table, &bytes[..128 + 16 * prds.len()]);
     let head = header(is_write(command), prds.len() as u16, table);
     adapter.store(list + HEADER_BYTES * u32::from(slot.0), &head);

@@ -1,12 +1,13 @@
 -- Bits of `a | b` and `a & !b`, as functions of the place.
-use Rattle.std.proofs.Common.{ℕ, zero, suc, ◌≡◌, ◌<◌, ◌≤◌, ◌-◌, ◌^◌, ◌⊎◌, Bool, refl, sym, ◌∙◌, arith, min, inl, inr, ◌||◌, ◌&&◌, w32, ◌≢◌}
+use Rattle.std.proofs.Common.{ℕ, zero, suc, ◌≡◌, ◌<◌, ◌≤◌, ◌-◌, ◌^◌, ◌⊎◌, Bool, false, ap, ◌==◌, refl, sym, ◌∙◌, arith, min, inl, inr, ◌||◌, ◌&&◌, w32, ◌≢◌}
 use Rattle.std.specs.Prelude.{not, bit_and, bit_or}
-use Rattle.std.specs.Int.{bit_at, bit_not}
-use Rattle.std.proofs.lemmas.Nat.Bits.{bit_at_or, bit_at_and, bit_at-lt, bit_at_not, bit_at_above}
+use Rattle.std.specs.Int.{bit_at, bit_not, trailing_zeros}
+use Rattle.std.proofs.lemmas.Nat.Bits.{bit_at_or, bit_at_and, bit_at-lt, bit_at_not, bit_at_above, bit_at-trailing_zeros}
 use Rattle.std.proofs.lemmas.Bool.Decides.{eqb_tells}
 use Rattle.std.proofs.lemmas.Bool.{cases_lt}
 use Rattle.hba_regs.specs.Bits.{bit}
 use Rattle.adapter.specs.Memory.{changed}
+use Rattle.adapter.proofs.Absurd.{true-false}
 use Rattle.adapter.proofs.Changed.{fun_ext, changed_same, changed_other}
 use Rattle.device_model.specs.Bits.{bits_of}
 
@@ -49,6 +50,16 @@ kept_high a b k small high =
 pub bits_of-and_not : (a b : ℕ) → a < 2 ^ 32 → b < 2 ^ 32 → bits_of (bit_and a (bit_not w32 b)) ≡ (λ k. bits_of a k && not (bits_of b k))
 bits_of-and_not a b small other =
     fun_ext (λ k. elim (cases_lt k 32) [ inl low ↦ kept_low a b k other low | inr high ↦ kept_high a b k small high ])
+
+-- a value of 32 bits of which none is set is zero
+pub none_set : (value : ℕ) → value < 2 ^ 32 → ((k : ℕ) → bit value k ≡ false) → value ≡ 0
+none_set value fits none =
+    elim (cases_lt 0 value) [
+      | inl some ↦
+          let lowest = bit_at-trailing_zeros w32 value some fits in
+          absurd (true-false (ap (λ (b : ℕ). b == 1) lowest.1) (none (trailing_zeros w32 value)))
+      | inr least ↦ omega arith
+    ]
 
 -- a value of 32 bits with one bit as said, and the others as they were
 pub one_bit : (value new place : ℕ) (set : Bool) → value < 2 ^ 32 → new < 2 ^ 32 → bit new place ≡ set →

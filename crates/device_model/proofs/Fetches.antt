@@ -1,9 +1,6 @@
 -- PRDs, one more at the end; and the bytes of a slot, one way and the other.
-use Rattle.std.proofs.Common.{ℕ, Bool, zero, suc, replicate, length-take, ◌≡◌, ◌<◌, ◌≤◌, ◌+◌, ◌-◌, ◌*◌, ◌/◌, List, [], ◌∷◌, ◌++◌, length, take, drop, All, slice_index, slice_index_or, refl, sym, ◌∙◌, ap, arith, subst, append_assoc, length-append}
-use Rattle.std.specs.Prelude.{slice_set}
-use Rattle.std.proofs.Math.Seq.{take-suc-set}
+use Rattle.std.proofs.Common.{ℕ, Bool, zero, suc, ◌≡◌, ◌<◌, ◌≤◌, ◌+◌, ◌-◌, ◌*◌, ◌/◌, List, [], ◌∷◌, ◌++◌, length, take, drop, All, slice_index, slice_index_or, refl, sym, ◌∙◌, ap, arith, subst, append_assoc, length-append}
 use Rattle.std.proofs.lemmas.List.{drop_all, get_or_append_left, get_or-append_right}
-use Rattle.std.proofs.lemmas.List.Elements.{All-append}
 use Rattle.adapter.specs.Memory.{bytes_at}
 use Rattle.adapter.specs.Commands.{IsMeaning, Meaning, command_of, reads_memory, pieces_moved}
 use Rattle.adapter.specs.Spelling.{SpellsPrd, SpellsHeader, SpellsCommand}
@@ -11,7 +8,7 @@ use Rattle.adapter.specs.Says.{HasPrds, IsWhole, Says, pieces, cut}
 use Rattle.adapter.specs.declared.command.Operation.{Operation}
 use Rattle.adapter.specs.declared.command.Prd.{Prd}
 use Rattle.adapter.proofs.SaysLemmas.{cut_length, cut_index}
-use Rattle.device_model.specs.Fetched.{ArePrds, IsPadded, no_prd}
+use Rattle.device_model.specs.Fetched.{ArePrds, no_prd}
 use Rattle.device_model.specs.View.{operation_of}
 use Rattle.device_model.specs.declared.port.Transfer.{Transfer}
 
@@ -55,16 +52,6 @@ has_once memory at (x ∷ xs) (y ∷ ys) n s r =
 pub pieces_append : (xs ys : List Prd) → pieces (xs ++ ys) ≡ pieces xs ++ pieces ys
 pieces_append [] ys = refl
 pieces_append (x ∷ xs) ys = rw (pieces_append xs ys) (sym (append_assoc (cut x.address (x.bytes / 512)) (pieces xs) (pieces ys)))
-
--- empty ones have none
-pub pieces_padded : (xs : List Prd) (n : ℕ) → IsPadded xs n → pieces xs ≡ pieces (take n xs)
-pieces_padded [] zero pad = refl
-pieces_padded [] (suc n) pad = refl
-pieces_padded (x ∷ xs) zero pad =
-    let here : x ≡ no_prd = pad 0 (omega arith) in
-    rw here (pieces_padded xs zero (λ k le. pad (suc k) (omega arith)))
-pieces_padded (x ∷ xs) (suc n) pad =
-    ap (λ (l : List ℕ). cut x.address (x.bytes / 512) ++ l) (pieces_padded xs n (λ k le. pad (suc k) (omega arith)))
 
 -- the pieces of one more
 pieces_suc : (xs : List Prd) (i : ℕ) → i < length xs →
@@ -136,31 +123,9 @@ before_all xs i number left past b =
     let all : length (pieces xs) ≡ length (b.front ++ []) = ap length b.split ∙ ap (λ (l : List ℕ). length (b.front ++ l)) none in
     omega (arith, all, b.sum, length-append {A = ℕ} b.front [])
 
-pub padded_none : (n : ℕ) → IsPadded (replicate n no_prd) 0
-padded_none zero = λ k le. refl
-padded_none (suc n) = λ k le. none_at n k
-  where
-    none_at : (n k : ℕ) → slice_index_or (replicate (suc n) no_prd) k no_prd ≡ no_prd
-    none_at n zero = refl
-    none_at zero (suc k) = refl
-    none_at (suc n) (suc k) = none_at n k
-
--- one more was read
-pub prds_more : (memory : ℕ → ℕ) (at i : ℕ) (xs : List Prd) (e : Prd) → i < length xs → HasPrds memory at (take i xs) → Here memory (at + 16 * i) e →
-    HasPrds memory at (take (i + 1) (slice_set xs i e))
-prds_more memory at i xs e small s here =
-    let n : length (take i xs) ≡ i = omega (arith, length-take i xs) in
-    let next : i + 1 ≡ suc i = omega arith in
-    rw (next, take-suc-set xs i e small) (has_more memory at (take i xs) e s (rw n here))
-
-only_one : (e : Prd) → IsWhole e → All IsWhole (e ∷ [])
+pub only_one : (e : Prd) → IsWhole e → All IsWhole (e ∷ [])
 only_one e here zero d lt = here
 only_one e here (suc k) d lt = absurd (omega arith)
-
-pub whole_more : (i : ℕ) (xs : List Prd) (e : Prd) → i < length xs → All IsWhole (take i xs) → IsWhole e → All IsWhole (take (i + 1) (slice_set xs i e))
-whole_more i xs e small all here =
-    let next : i + 1 ≡ suc i = omega arith in
-    rw (next, take-suc-set xs i e small) (All-append IsWhole (take i xs) (e ∷ []) all (only_one e here))
 
 -- header, FIS and PRDs together
 pub says_command : (k : Transfer) (memory : ℕ → ℕ) (list slot table entries first count : ℕ) (xs : List Prd) →

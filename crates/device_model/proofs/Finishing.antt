@@ -1,8 +1,8 @@
 -- A read or write that may be done is taken, goes on piece by piece, and ends.
-use Rattle.std.proofs.Common.{ℕ, Bool, true, false, suc, ◌≡◌, ◌≢◌, ◌<◌, ◌≤◌, ◌+◌, ◌^◌, ◌⊎◌, ◌&&◌, List, [], ◌∷◌, ◌++◌, length, slice_index, slice_index_or, Option, None, Some, refl, sym, ◌∙◌, ap, subst, inl, inr, arith}
+use Rattle.std.proofs.Common.{ℕ, Bool, true, false, zero, suc, ◌≡◌, ◌≢◌, ◌<◌, ◌≤◌, ◌+◌, ◌^◌, ◌⊎◌, ◌&&◌, List, [], ◌∷◌, ◌++◌, length, slice_index, slice_index_or, Option, None, Some, refl, sym, ◌∙◌, ap, subst, inl, inr, arith}
 use Rattle.std.specs.Prelude.{is_some, if◌then◌else◌}
 use Rattle.std.proofs.lemmas.Bool.Decides.{eqb_tells}
-use Rattle.adapter.specs.Asked.{DoesFetch, DoesMove, DoesDone, Ends}
+use Rattle.adapter.specs.Asked.{DoesFetch, DoesMove, DoesDone, DoesOne, DoesSome, Ends, GoesOn}
 use Rattle.adapter.specs.Commands.{Meaning, is_queued, is_ranged}
 use Rattle.adapter.specs.Device.{Disk, Taken, Halt, PortState, Device}
 use Rattle.adapter.specs.Memory.{changed}
@@ -126,16 +126,59 @@ module _ (port slot sectors : ℕ) where
   done_gone : (old new : Device) → Ends (SendsEnd slot) port slot old new → (new.port port).taken slot ≡ None
   done_gone old new e = ap (λ (p : PortState). p.taken slot) (done_port old new e) ∙ changed_same (old.port port).taken slot None
 
-  pub done_ended : (old new : Device) → Ends (SendsEnd slot) port slot old new → HasEnded new port slot
-  done_ended old new e =
+  -- A queued command that is taken has its bit of PxCI clear, if it was taken since this state, or had it clear then.
+  abbrev pub IsIssuedNoMore : Device → Device → Type 0
+  IsIssuedNoMore since d =
+      (t : Taken) → (d.port port).taken slot ≡ Some t → is_queued t.meaning.operation ≡ true →
+      ((since.port port).taken slot ≡ None) ⊎ ((since.port port).ci slot ≡ false) → (d.port port).ci slot ≡ false
+
+  no_more_yet : (since : Device) → IsIssuedNoMore since since
+  no_more_yet since t taken queued (inl none) = some-none taken none
+  no_more_yet since t taken queued (inr clear) = clear
+
+  no_more_on : (since mid new : Device) → IsIssuedNoMore since mid → DoesOne (SendsEnd slot) port slot mid new → IsIssuedNoMore since new
+  no_more_on since mid new was (inl f) t taken queued before =
+      let p : PortState = mid.port port in
+      let state : PortState = with_fetch p slot f.meaning f.places in
+      let there : new.port port ≡ state = ap (λ (d : Device). d.port port) f.effect ∙ changed_same mid.port port state in
+      let same : begun f.meaning f.places ≡ t =
+      some_one (sym (changed_same p.taken slot (Some (begun f.meaning f.places))) ∙ (sym (ap (λ (x : PortState). x.taken slot) there) ∙ taken)) in
+      let kind : is_queued f.meaning.operation ≡ true = ap (λ (x : Taken). is_queued x.meaning.operation) same ∙ queued in
+      ap (λ (x : PortState). x.ci slot) there
+      ∙ (ap (λ (b : Bool). (if b then changed p.ci slot false else p.ci) slot) kind ∙ changed_same p.ci slot false)
+  no_more_on since mid new was (inr (inl m)) t taken queued before =
+      let p : PortState = mid.port port in
+      let u : Taken = record m.t { moved = m.t.moved + 1; block = block_after m.t.meaning.operation m.bytes m.t.block } in
+      let state : PortState = with_move p slot m.t m.bytes in
+      let there : new.port port ≡ state = ap (λ (d : Device). d.port port) m.effect ∙ changed_same mid.port port state in
+      let same : u ≡ t = some_one (sym (changed_same p.taken slot (Some u)) ∙ (sym (ap (λ (x : PortState). x.taken slot) there) ∙ taken)) in
+      let kind : is_queued m.t.meaning.operation ≡ true = ap (λ (x : Taken). is_queued x.meaning.operation) same ∙ queued in
+      ap (λ (x : PortState). x.ci slot) there ∙ was m.t m.can.works.taken kind before
+  no_more_on since mid new was (inr (inr e)) t taken queued before = some-none taken (done_gone mid new e)
+
+  no_more_after : (n : ℕ) (since new : Device) → DoesSome (SendsEnd slot) n port slot since new → IsIssuedNoMore since new
+  no_more_after zero since new same = subst (IsIssuedNoMore since) (sym same) (no_more_yet since)
+  no_more_after (suc n) since new s = no_more_on since s.0 new (no_more_after n since s.0 s.1) s.2
+
+  pub no_more_going : (did : Bool) (since new : Device) → (did ≡ true → GoesOn (SendsEnd slot) port slot since new) → (did ≡ false → new ≡ since) →
+      IsIssuedNoMore since new
+  no_more_going true since new goes same = let g = goes refl in no_more_after (suc g.0) since new g.1
+  no_more_going false since new goes same = subst (IsIssuedNoMore since) (sym (same refl)) (no_more_yet since)
+
+  pub done_ended : (since old new : Device) → IsIssuedNoMore since old → Ends (SendsEnd slot) port slot old new → HasEnded since new port slot
+  done_ended since old new was e =
       let f : DoesDone port slot old e.mid = e.done in
       let o : Operation = f.t.meaning.operation in
+      let p : PortState = old.port port in
       record {
         operation = o;
         before = old.tape;
         last = ap (λ (d : Device). d.tape) (end_rest port slot f.flag o e.mid new e.posts) ∙ ap (λ (d : Device). d.tape) f.effect;
         taken = done_gone old new e;
         clear = ap (λ (p : PortState). if is_queued o then p.sact slot else p.ci slot) (done_port old new e) ∙ cleared (is_queued o) (old.port port) slot;
+        issued_no_more = λ queued before.
+            ap (λ (x : PortState). x.ci slot) (done_port old new e)
+            ∙ (ap (λ (b : Bool). (if b then p.ci else changed p.ci slot false) slot) queued ∙ was f.t f.can.works.taken queued before);
       }
 
   -- a plain one is issued no more
@@ -200,21 +243,21 @@ pub record MoveFits (h : Hardware) (port slot size : ℕ) : Type 0 where
 
 pub move_fits : (h : Hardware) (o : Outside) (d : Device) (port slot : ℕ) (t : Taken) → port ≡ 0 → device_of h o ≡ d → HasMove d port slot t →
     MoveFits h port slot (o.media 0).disk.size
-move_fits h o d port slot t zero same move =
+move_fits h o d port slot t at_zero same move =
     let P : Device → Type 0 = λ x. HasMove x port slot t in
     let on_port : HasMove (device_of h o) port slot t = subst P (sym same) move in
     let w = holds h o port slot t t.meaning.operation on_port.works in
     let Q : Taken → Type 0 = λ x. HasMove (device_of h o) port slot x in
     let here : HasMove (device_of h o) port slot (taken_of w.0) = subst Q w.2 on_port in
     let R : ℕ → Type 0 = λ q. is_ranged (operation_of w.0.transfer) ≡ true → next_sector (taken_of w.0) < (o.media q).disk.size in
-    record { r = w.0; holds = w.1; left = here.left; inside = here.inside; on_disk = subst R zero here.on_disk }
+    record { r = w.0; holds = w.1; left = here.left; inside = here.inside; on_disk = subst R at_zero here.on_disk }
 
 -- no port but port 0 has a disk
 pub no_move : (h : Hardware) (disk : Disk) (other : Option (ℕ → List ℕ)) (plugged : List Disk) (port slot : ℕ) (t : Taken) → port ≢ 0 →
     HasMove (device_of h (outside_of disk other plugged)) port slot t → ⊥
 no_move h disk other plugged port slot t ne move =
     elim move.has_disk [
-      | inl zero ↦ ne zero
+      | inl at_zero ↦ ne at_zero
       | inr ranged ↦
           let none : ((outside_of disk other plugged).media port).disk.size ≡ 0 =
           elim (eqb_tells port 0) [ inl here ↦ absurd (ne here.1) | inr there ↦ rw there.0 refl ] in
@@ -234,7 +277,7 @@ sector_small r size few small = by (is_ranged (operation_of r.transfer)) refl
 -- what the hardware finds to move next is possible on port 0, where it is on the disk
 pub next_has_move : (h : Hardware) (o : Outside) (d : Device) (port slot : ℕ) (next : NextMove) (r : TakenCommand) → port ≡ 0 → device_of h o ≡ d →
     IsNext h port slot next r → (is_ranged (operation_of next.transfer) ≡ true → next.sector < (o.media 0).disk.size) → HasMove d port slot (taken_of r)
-next_has_move h o d port slot next r zero same is on =
+next_has_move h o d port slot next r at_zero same is on =
     let P : Device → Type 0 = λ x. HasMove x port slot (taken_of r) in
     let Q : ℕ → Type 0 = λ q. is_ranged (operation_of next.transfer) ≡ true → next.sector < (o.media q).disk.size in
     let sector : next.sector ≡ next_sector (taken_of r) = is.sector_is in
@@ -245,15 +288,15 @@ next_has_move h o d port slot next r zero same is on =
       left = is.left;
       inside = omega (arith, place, there);
       on_disk = λ ranged.
-          let at = subst Q (sym zero) on (ap (λ (k : Transfer). is_ranged (operation_of k)) is.transfer_is ∙ ranged) in omega (arith, sector, at);
-      has_disk = inl zero;
+          let at = subst Q (sym at_zero) on (ap (λ (k : Transfer). is_ranged (operation_of k)) is.transfer_is ∙ ranged) in omega (arith, sector, at);
+      has_disk = inl at_zero;
     })
 
 -- and where it is possible, it is on the disk
 pub next_on_disk : (h : Hardware) (o : Outside) (d : Device) (port slot : ℕ) (next : NextMove) (r : TakenCommand) (t : Taken) → port ≡ 0 → device_of h o ≡ d →
     IsNext h port slot next r → HasMove d port slot t → is_ranged (operation_of next.transfer) ≡ true → next.sector < (o.media 0).disk.size
-next_on_disk h o d port slot next r t zero same is move ranged =
-    let found = move_fits h o d port slot t zero same move in
+next_on_disk h o d port slot next r t at_zero same is move ranged =
+    let found = move_fits h o d port slot t at_zero same move in
     let one : found.r ≡ r = some_one (sym found.holds.held ∙ is.holds.held) in
     let sector : next.sector ≡ next_sector (taken_of found.r) = is.sector_is ∙ ap (λ (x : TakenCommand). next_sector (taken_of x)) (sym one) in
     let kind : next.transfer ≡ found.r.transfer = is.transfer_is ∙ ap (λ (x : TakenCommand). x.transfer) (sym one) in
@@ -287,7 +330,7 @@ works_takes h o port slot t works =
 -- where a move is left, one is possible
 pub going_has_move : (d : Device) (port slot left : ℕ) → port ≡ 0 → (going : IsGoing d port slot (d.port port).disk.size (suc left)) →
     HasMove d port slot going.t
-going_has_move d port slot left zero going =
+going_has_move d port slot left at_zero going =
     let t : Taken = going.t in
     record {
       works = going.works;
@@ -296,7 +339,7 @@ going_has_move d port slot left zero going =
       on_disk = λ ranged.
           let sector : next_sector t ≡ t.meaning.first + t.moved = ap (λ b. if b then t.meaning.first + t.moved else 0) ranged in
           omega (arith, sector, going.covered.on_disk ranged, going.covered.left_is);
-      has_disk = inl zero;
+      has_disk = inl at_zero;
     }
 
 -- ---- what is behind port 0 after a move

@@ -18,7 +18,7 @@ use Rattle.adapter.proofs.Absurd.{some-none, some_one}
 use Rattle.adapter.proofs.SaysLemmas.{says_meaning, says_places, cut_length, cut_index}
 use Rattle.device_model.specs.Finishing.{HasIdentify, Identifies, IsInside, AreInside, IsCovered, MayFinish, MayIdentify}
 use Rattle.device_model.specs.Fetched.{bytes_of}
-use Rattle.device_model.specs.Slots.{MayTake, MayTakeSome, HoldsAt}
+use Rattle.device_model.specs.Slots.{MayTake, HasUntaken, HoldsAt}
 use Rattle.device_model.specs.View.{Media, operation_of, port_of, taken_of, blank}
 use Rattle.device_model.specs.Whole.{Outside, device_of}
 use Rattle.device_model.specs.declared.port.PortModel.{PortModel}
@@ -113,7 +113,7 @@ MayTakeNone p slot = (m : Media) (operation : Operation) → MayTake (port_of p 
 abbrev pub IsBeside : PortModel → TakenCommand → Type 0
 IsBeside p r = (m : Media) → IsAlone (port_of p m) (operation_of r.transfer)
 
-pub may_be_taken : (p : PortModel) (slot : ℕ) (r : TakenCommand) → MayTakeSome p slot → IsBeside p r → (m : Media) →
+pub may_be_taken : (p : PortModel) (slot : ℕ) (r : TakenCommand) → HasUntaken p slot → IsBeside p r → (m : Media) →
     MayTake (port_of p m) slot (operation_of r.transfer)
 may_be_taken p slot r may beside m =
     let w = may m (operation_of r.transfer) in record { fetchable = w.0; working = w.1; alone = beside m }
@@ -122,7 +122,7 @@ module _ (h : Hardware) (o : Outside) (p port slot sectors left : ℕ) (e : p �
   abbrev state : PortModel
   state = slice_index_or h.ports p blank
 
-  pub ready_fetch : MayTakeSome state slot →
+  pub ready_fetch : HasUntaken state slot →
       Can (Fetch port slot ready.t.meaning ready.t.places) (device_of h o) × (ready.t ≡ begun ready.t.meaning ready.t.places)
   ready_fetch may = by ready.begins
     where
@@ -132,7 +132,7 @@ module _ (h : Hardware) (o : Outside) (p port slot sectors left : ℕ) (e : p �
       by (inl works) = some-none (ap (λ (q : ℕ). ((device_of h o).port q).taken slot) e ∙ works.taken) (may (o.media p) ready.t.meaning.operation).0.free
       by (inr begins) = begins
 
-  pub ready_said : MayTakeSome state slot → Says (bytes_of h.memory.items) state.addresses.clb slot ready.t.meaning ready.t.places
+  pub ready_said : HasUntaken state slot → Says (bytes_of h.memory.items) state.addresses.clb slot ready.t.meaning ready.t.places
   ready_said may = fetch_says h o p port slot ready.t.meaning ready.t.places e (ready_fetch may).0
 
   pub ready_held : MayTakeNone state slot → (r : TakenCommand) × HoldsAt state slot r × (ready.t ≡ taken_of r)
@@ -157,7 +157,7 @@ module _ (h : Hardware) (p port slot sectors size : ℕ) (r : TakenCommand) (e :
 
   -- a command that may be taken is ready
   pub ready_to_take : (result : Option ℕ) → IfSome result (λ left. IsCovered (taken_of r) size sectors left) → r.moved ≡ 0 →
-      MayTakeSome (slice_index_or h.ports p blank) slot → IsBeside (slice_index_or h.ports p blank) r →
+      HasUntaken (slice_index_or h.ports p blank) slot → IsBeside (slice_index_or h.ports p blank) r →
       Says (bytes_of h.memory.items) (slice_index_or h.ports p blank).addresses.clb slot (taken_of r).meaning (taken_of r).places →
       IfSome result (λ left. (o : Outside) → MayFinish (device_of h o) port slot sectors left)
   ready_to_take None covered unmoved may beside says = tt
@@ -193,7 +193,7 @@ module _ (h : Hardware) (p port slot sectors size : ℕ) (r : TakenCommand) (e :
       subst P (sym memory_size) (subst Q same ready.covered)
 
   -- where a command may be taken, one that is ready is the one that its slot's bytes say
-  ready_is_one : MayTakeSome (slice_index_or h.ports p blank) slot → r.moved ≡ 0 →
+  ready_is_one : HasUntaken (slice_index_or h.ports p blank) slot → r.moved ≡ 0 →
       Says (bytes_of h.memory.items) (slice_index_or h.ports p blank).addresses.clb slot (taken_of r).meaning (taken_of r).places →
       (o : Outside) (left : ℕ) (ready : MayFinish (device_of h o) port slot sectors left) → ready.t ≡ taken_of r
   ready_is_one may unmoved says o left ready =
@@ -206,14 +206,14 @@ module _ (h : Hardware) (p port slot sectors size : ℕ) (r : TakenCommand) (e :
       (ready_fetch h o p port slot sectors left e ready may).1
       ∙ ((λ i. begun (meaning i) (places i)) ∙ ap (λ n. record (begun (taken_of r).meaning (taken_of r).places) { moved = n }) (sym unmoved))
 
-  pub ready_is_said : MayTakeSome (slice_index_or h.ports p blank) slot → r.moved ≡ 0 →
+  pub ready_is_said : HasUntaken (slice_index_or h.ports p blank) slot → r.moved ≡ 0 →
       Says (bytes_of h.memory.items) (slice_index_or h.ports p blank).addresses.clb slot (taken_of r).meaning (taken_of r).places →
       (o : Outside) (left : ℕ) → MayFinish (device_of h o) port slot sectors left → IsCovered (taken_of r) size sectors left
   ready_is_said may unmoved says o left ready =
       covers_back left o ready (ready_is_one may unmoved says o left ready)
 
   -- one that may not be taken beside those that are isn't ready
-  pub ready_beside : MayTakeSome (slice_index_or h.ports p blank) slot → r.moved ≡ 0 →
+  pub ready_beside : HasUntaken (slice_index_or h.ports p blank) slot → r.moved ≡ 0 →
       Says (bytes_of h.memory.items) (slice_index_or h.ports p blank).addresses.clb slot (taken_of r).meaning (taken_of r).places →
       (o : Outside) (left : ℕ) → MayFinish (device_of h o) port slot sectors left → IsAlone (port_of (slice_index_or h.ports p blank) (o.media p)) (operation_of r.transfer)
   ready_beside may unmoved says o left ready =
@@ -242,7 +242,7 @@ module _ (h : Hardware) (slot size : ℕ) (sized : size ≡ vec_len h.memory) wh
 
   -- one that may be taken
   pub identify_said : (r : TakenCommand) → r.moved ≡ 0 → Says (bytes_of h.memory.items) port0.addresses.clb slot (taken_of r).meaning (taken_of r).places →
-      r.transfer ≡ transfer.Identify → MayTakeSome port0 slot → IsBeside port0 r → Ends r → (o : Outside) → HasIdentify (device_of h o) slot
+      r.transfer ≡ transfer.Identify → HasUntaken port0 slot → IsBeside port0 r → Ends r → (o : Outside) → HasIdentify (device_of h o) slot
   identify_said r unmoved says kind may beside ends o =
       let m = may (o.media 0) (operation_of r.transfer) in
       record {
@@ -262,13 +262,13 @@ module _ (h : Hardware) (slot size : ℕ) (sized : size ≡ vec_len h.memory) wh
 
   -- no other one may be
   pub identify_unsaid : ((m : Meaning) (places : List ℕ) → m.operation ≡ Identify → Says (bytes_of h.memory.items) port0.addresses.clb slot m places → ⊥) →
-      MayTakeSome port0 slot → (o : Outside) → HasIdentify (device_of h o) slot → ⊥
+      HasUntaken port0 slot → (o : Outside) → HasIdentify (device_of h o) slot → ⊥
   identify_unsaid none may o has =
       none has.ready.t.meaning has.ready.t.places has.identifies (ready_said h o 0 0 slot 0 has.left refl has.ready may)
 
   -- and where one may be taken, it is the one that is ready
   pub identify_endless : (r : TakenCommand) → r.moved ≡ 0 → Says (bytes_of h.memory.items) port0.addresses.clb slot (taken_of r).meaning (taken_of r).places →
-      MayTakeSome port0 slot → ((left : ℕ) → IsCovered (taken_of r) size 0 left → AreInside (2 ^ 32) (pieces r.prds) → ⊥) → (o : Outside) →
+      HasUntaken port0 slot → ((left : ℕ) → IsCovered (taken_of r) size 0 left → AreInside (2 ^ 32) (pieces r.prds) → ⊥) → (o : Outside) →
       HasIdentify (device_of h o) slot → ⊥
   identify_endless r unmoved says may never o has =
       let same = ready_is_one h 0 0 slot 0 size r refl sized may unmoved says o has.left has.ready in
@@ -308,7 +308,7 @@ module _ (h : Hardware) (slot : ℕ) where
 
   -- one that its slot's bytes say may be taken
   pub may_identify : (r : TakenCommand) → Says (bytes_of h.memory.items) first.addresses.clb slot (taken_of r).meaning (taken_of r).places →
-      r.transfer ≡ transfer.Identify → MayTakeSome first slot → IsBeside first r → (o : Outside) → MayIdentify (device_of h o) slot
+      r.transfer ≡ transfer.Identify → HasUntaken first slot → IsBeside first r → (o : Outside) → MayIdentify (device_of h o) slot
   may_identify r says kind may beside o =
       let m = may (o.media 0) (operation_of r.transfer) in
       record {
@@ -319,7 +319,7 @@ module _ (h : Hardware) (slot : ℕ) where
       }
 
   -- and so may one that can be done to its end, where one may be
-  pub ready_may : MayTakeSome first slot → (o : Outside) → HasIdentify (device_of h o) slot → MayIdentify (device_of h o) slot
+  pub ready_may : HasUntaken first slot → (o : Outside) → HasIdentify (device_of h o) slot → MayIdentify (device_of h o) slot
   ready_may may o has = record {
     meaning = has.ready.t.meaning;
     places = has.ready.t.places;

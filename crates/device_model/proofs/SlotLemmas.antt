@@ -1,6 +1,6 @@
 -- The slots of a port, as its commands change.
-use Rattle.std.proofs.Common.{ℕ, zero, suc, ◌≡◌, ◌<◌, List, Option, None, Some, length, replicate, refl, sym, ◌∙◌, ap, inl, inr, get_or-set_same, get_or-set_other}
-use Rattle.std.specs.Prelude.{option_map, slice_index_or, slice_set}
+use Rattle.std.proofs.Common.{ℕ, Bool, false, zero, suc, ◌≡◌, ◌<◌, List, Option, None, Some, length, replicate, refl, sym, ◌∙◌, ap, inl, inr, get_or-set_same, get_or-set_other}
+use Rattle.std.specs.Prelude.{is_some, option_map, slice_index_or, slice_set}
 use Rattle.std.proofs.lemmas.Bool.Decides.{eqb_tells}
 use Rattle.std.proofs.lemmas.List.{get_or_default}
 use Rattle.adapter.specs.Device.{Taken}
@@ -34,6 +34,41 @@ slots_changed taken slot new =
           ap (option_map taken_of) (changed_other taken slot new k there.1)
           ∙ sym (changed_other (slots_of taken) slot (option_map taken_of new) k there.1)
     ])
+
+-- whether one is taken in a slot
+pub filled_changed : (taken : ℕ → Option TakenCommand) (slot : ℕ) (new : Option TakenCommand) →
+    (λ k. is_some (changed taken slot new k)) ≡ changed (λ k. is_some (taken k)) slot (is_some new)
+filled_changed taken slot new =
+    let was : ℕ → Bool = λ k. is_some (taken k) in
+    fun_ext (λ k.
+    elim (eqb_tells k slot) [
+      | inl here ↦ rw here.1 (ap is_some (changed_same taken slot new) ∙ sym (changed_same was slot (is_some new)))
+      | inr there ↦ ap is_some (changed_other taken slot new k there.1) ∙ sym (changed_other was slot (is_some new) k there.1)
+    ])
+
+-- none is, where it isn't said that one is
+pub none_filled : (o : Option TakenCommand) → is_some o ≡ false → o ≡ None
+none_filled None e = refl
+none_filled (Some r) e = absurd (cc e)
+
+-- bits that tell in which slots a command is tell it on, once another one, or none, is put into a slot, and its bit is set, or cleared
+pub filled_set : (items : List (Option TakenCommand)) (slot : ℕ) (new : Option TakenCommand) (bits bits_new : ℕ → Bool) → slot < length items →
+    bits ≡ (λ k. is_some (held_in items k)) → bits_new ≡ changed bits slot (is_some new) →
+    bits_new ≡ (λ k. is_some (held_in (slice_set items slot new) k))
+filled_set items slot new bits bits_new small tell set =
+    let filled : (ℕ → Option TakenCommand) → ℕ → Bool = λ f k. is_some (f k) in
+    set ∙ (λ i. changed (tell i) slot (is_some new)) ∙ sym (filled_changed (held_in items) slot new) ∙ sym (ap filled (set_slot items slot new small))
+
+-- and where one is, or none, as before, no bit is another
+pub filled_still : (items : List (Option TakenCommand)) (slot : ℕ) (new : Option TakenCommand) (bits : ℕ → Bool) → slot < length items →
+    bits ≡ (λ k. is_some (held_in items k)) → is_some new ≡ is_some (held_in items slot) → bits ≡ (λ k. is_some (held_in (slice_set items slot new) k))
+filled_still items slot new bits small tell same =
+    filled_set items slot new bits bits small tell
+    (fun_ext (λ k.
+    elim (eqb_tells k slot) [
+      | inl here ↦ rw here.1 (ap (λ (f : ℕ → Bool). f slot) tell ∙ sym same ∙ sym (changed_same bits slot (is_some new)))
+      | inr there ↦ sym (changed_other bits slot (is_some new) k there.1)
+    ]))
 
 -- what is taken in a slot of which nothing was moved yet has just begun
 pub slots_begun : (taken : ℕ → Option TakenCommand) (slot : ℕ) (r : TakenCommand) → r.moved ≡ 0 →

@@ -118,19 +118,21 @@ StoreCuts step was now d = ⊥
 abbrev pub NoneFails : {S : Type 0} → (S → Option Failures) → Model S → Model S → Type 0
 NoneFails failures old new = (which : Which) → failures (store_of new which) ≡ failures (store_of old which)
 
--- The slot's command has ended just now, as the tape tells last: it is taken no more, and its bit is clear, of PxSACT if it was queued, and else of
--- PxCI.
-pub record HasEnded (d : Device) (port slot : ℕ) : Type 0 where
+-- The slot's command has ended since this state, just now, as the tape tells last: it is taken no more, and its bit is clear, of PxSACT if it was
+-- queued, and else of PxCI. A queued one has its bit of PxCI clear, too, if it was taken since then, or had it clear then: to set it again for a command
+-- that is taken breaks the rules of the hardware.
+pub record HasEnded (since d : Device) (port slot : ℕ) : Type 0 where
   pub operation : Operation
   pub before : List Entry
   pub last : d.tape ≡ before ++ done_entry port slot operation ∷ []
   pub taken : (d.port port).taken slot ≡ None
   pub clear : (if is_queued operation then (d.port port).sact slot else (d.port port).ci slot) ≡ false
+  pub issued_no_more : is_queued operation ≡ true → ((since.port port).taken slot ≡ None) ⊎ ((since.port port).ci slot ≡ false) → (d.port port).ci slot ≡ false
 
 -- a Finish ends its command
-abbrev pub EndsIt : DeviceStep → Device → Type 0
-EndsIt (asked.Finish p s) d = HasEnded d p.0 s.0
-EndsIt step d = Unit {0}
+abbrev pub EndsIt : DeviceStep → Device → Device → Type 0
+EndsIt (asked.Finish p s) old new = HasEnded old new p.0 s.0
+EndsIt step old new = Unit {0}
 
 -- A step that is done: the device did what it was asked, and sent the FIS of a command that ended. No call on a store has failed, and a Finish ended its
 -- command, in a memory of at most 4 GiB; or a call failed, and the Finish came to the sector on which it did. The ports are held that are held after it;
@@ -140,7 +142,7 @@ EndsIt step d = Unit {0}
 pub record Did {S : Type 0} (size : S → ℕ) (told : S → Option (ℕ → List ℕ)) (failures : S → Option Failures) (s : DeviceStep) (old new : Model S) : Type 0 where
   pub asked : AskedOf (Sends s) s (device_at size told old) (device_at size told new)
   pub ends : StoreCuts s (failures old.disk) (failures new.disk) (device_at size told new)
-      ⊎ (NoneFails failures old new × ((device_at size told old).size ≤ 2 ^ 32 → EndsIt s (device_at size told new)))
+      ⊎ (NoneFails failures old new × ((device_at size told old).size ≤ 2 ^ 32 → EndsIt s (device_at size told old) (device_at size told new)))
   pub held : new.held ≡ held_after s old.held
   pub says : new.says ≡ says_after s old.says
   pub which : new.which ≡ which_after s old.which

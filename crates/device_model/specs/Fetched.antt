@@ -1,5 +1,5 @@
 -- What a fetch reads.
-use Rattle.std.specs.Prelude.{ℕ, ◌≡◌, ◌≤◌, List, length, All, slice_index, slice_index_or}
+use Rattle.std.specs.Prelude.{ℕ, ◌≡◌, List, length, All, slice_index}
 use Rattle.adapter.specs.Says.{HasPrds, IsWhole, pieces}
 use Rattle.adapter.specs.declared.command.Prd.{Prd}
 
@@ -9,10 +9,6 @@ bytes_of bytes = λ at. slice_index bytes at
 
 abbrev pub no_prd : Prd
 no_prd = record { address = 0; bytes = 0 }
-
--- from this place on, all are empty
-abbrev pub IsPadded : List Prd → ℕ → Type 0
-IsPadded prds from = (k : ℕ) → from ≤ k → slice_index_or prds k no_prd ≡ no_prd
 
 -- so many PRDs of whole pieces stand at an address, and these have their pieces
 pub record ArePrds (memory : ℕ → ℕ) (at number : ℕ) (prds : List Prd) : Type 0 where

@@ -16,9 +16,9 @@ pub record MayTake (p : PortState) (slot : ℕ) (operation : Operation) : Type 0
   pub working : IsWorking p operation
   pub alone : IsAlone p operation
 
--- a command may be taken in this slot, if its bytes say one that may be taken beside those that are
-abbrev pub MayTakeSome : PortModel → ℕ → Type 0
-MayTakeSome p slot = (m : Media) (operation : Operation) → IsFetchable (port_of p m) slot × IsWorking (port_of p m) operation
+-- the slot has a command that is issued and not taken, on a port that works: it may be taken, if its bytes say one that may be beside those that are
+abbrev pub HasUntaken : PortModel → ℕ → Type 0
+HasUntaken p slot = (m : Media) (operation : Operation) → IsFetchable (port_of p m) slot × IsWorking (port_of p m) operation
 
 -- the port works on this command, which it has taken in this slot
 pub record HoldsAt (p : PortModel) (slot : ℕ) (t : TakenCommand) : Type 0 where

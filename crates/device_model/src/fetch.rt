@@ -1,18 +1,30 @@
 // What the bytes of a slot mean, read as the device reads them. Bytes past the end of the memory are zeros.
-ghost use Rattle.std.specs.Prelude.{Bool, ◌≡◌, ◌<◌, ◌≤◌, ◌+◌, ◌*◌, ◌^◌, ◌%◌, ℕ, List, true, false, None, Some, All, IfSome, IsTrue, ◌↔◌, length, slice_index};
+ghost use Rattle.std.specs.Prelude.{Bool, ◌≡◌, ◌<◌, ◌≤◌, ◌+◌, ◌*◌, ◌^◌, ◌%◌, ℕ, List, [], true, false, None, Some, All, IfSome, IsTrue, ◌↔◌, length, slice_index};
 ghost use Rattle.adapter.specs.Commands.{IsMeaning, Meaning, command_of, with_fields};
 ghost use Rattle.adapter.specs.Memory.{bytes_at};
 ghost use Rattle.adapter.specs.Says.{HasPrds, IsWhole, Says, pieces};
 ghost use Rattle.adapter.specs.declared.command.Command.{Command};
 ghost use Rattle.adapter.specs.Spelling.{AreZero, SpellsCommand, SpellsHeader, SpellsPrd};
 ghost use Rattle.byteorder.specs.Endian.{little_from};
-ghost use Rattle.device_model.specs.Fetched.{ArePrds, IsPadded, bytes_of};
+ghost use Rattle.device_model.specs.Fetched.{ArePrds, bytes_of};
 ghost use Rattle.device_model.specs.View.{Takes, operation_of, taken_of};
 
 use crate::port::{TakenCommand, Transfer};
+use crate::prds::{MOST_PRDS, PrdTable};
 use adapter::Prd;
 use ata_types::{HEADER_BYTES, TABLE_ALIGNMENT};
 use byteorder::{ByteOrder, LittleEndian};
+
+/// The codes of the commands that the model takes (ACS-3, 7).
+const READ_DMA_EXT: u8 = 0x25;
+
+const WRITE_DMA_EXT: u8 = 0x35;
+
+const READ_FPDMA_QUEUED: u8 = 0x60;
+
+const WRITE_FPDMA_QUEUED: u8 = 0x61;
+
+const IDENTIFY_DEVICE: u8 = 0xec;
 
 /// What a command header says: how many PRDs there are, and where the command table is.
 #[derive(Clone, Copy, Debug)]
@@ -27,11 +39,6 @@ struct Sectors {
     first: u64,
     count: u32,
 }
-
-const NO_PRD: Prd = Prd {
-    address: 0,
-    bytes: 0,
-};
 
 /// Copies bytes of memory, of which some are past its end.
 fn copy_end(memory: &[u8], at: usize, out: &mut [u8])
@@ -166,7 +173,7 @@ fn is_identify(bytes: &[u8]) -> bool
     requires { length bytes.now ≡ 20 }
     ensures { IsTrue result ↔ SpellsCommand bytes.now (with_fields 0xec 0 0 0 0x00) }
 {
-    bytes[0] == 0x27 && bytes[1] == 0x80 && bytes[2] == 0xec && are_zero(bytes, 3, 20)
+    bytes[0] == 0x27 && bytes[1] == 0x80 && bytes[2] == IDENTIFY_DEVICE && are_zero(bytes, 3, 20)
 }
 
 /// The sectors that the bytes name, if they are the FIS of such a command in this slot; none where it names none.
@@ -179,10 +186,10 @@ fn decode_sectors(bytes: &[u8], slot: u8, transfer: Transfer) -> Option<Sectors>
         SpellsCommand bytes.now (command_of (operation_of transfer) slot s.first s.count) → result ≡ Some s }
 {
     match transfer {
-        Transfer::Read => decode_range(bytes, 0x25),
-        Transfer::Write => decode_range(bytes, 0x35),
-        Transfer::ReadQueued => decode_queued(bytes, 0x60, slot),
-        Transfer::WriteQueued => decode_queued(bytes, 0x61, slot),
+        Transfer::Read => decode_range(bytes, READ_DMA_EXT),
+        Transfer::Write => decode_range(bytes, WRITE_DMA_EXT),
+        Transfer::ReadQueued => decode_queued(bytes, READ_FPDMA_QUEUED, slot),
+        Transfer::WriteQueued => decode_queued(bytes, WRITE_FPDMA_QUEUED, slot),
         Transfer::Identify => {
             if is_identify(bytes) {
                 Some(Sectors { first: 0, count: 0 })
@@ -213,29 +220,27 @@ fn decode_prd(bytes: &[u8]) -> Option<Prd>
     })
 }
 
-/// The header at an address, if there is one of a command that reads memory, or doesn't.
-fn header_at(memory: &[u8], at: usize, writes: bool) -> Option<Header>
+/// The bytes of a command header, from its address on.
+fn header_bytes(memory: &[u8], at: usize) -> [u8; 32]
     requires { at < 2 ^ 33 }
-    ensures found { IfSome result (λ h. SpellsHeader (bytes_at (bytes_of memory.now) at HEADER_BYTES) writes h.entries h.table) }
-    ensures only { (h : Header) → SpellsHeader (bytes_at (bytes_of memory.now) at HEADER_BYTES) writes h.entries h.table → result ≡ Some h }
+    ensures { result ≡ bytes_at (bytes_of memory.now) at HEADER_BYTES }
 {
     let mut bytes = [0; 32];
     copy_bytes(memory, at, &mut bytes);
-    decode_header(&bytes, writes)
+    bytes
 }
 
-/// The sectors that the FIS at an address names, if it is one of such a command in this slot.
-fn sectors_at(memory: &[u8], at: usize, slot: u8, transfer: Transfer) -> Option<Sectors>
-    requires low { at < 2 ^ 33 }
-    requires slot { slot < 32 }
-    ensures found { IfSome result (λ s. SpellsCommand (bytes_at (bytes_of memory.now) at 20) (command_of (operation_of transfer) slot s.first s.count)) }
-    ensures meant { IfSome result (λ s. IsMeaning (record { operation = operation_of transfer; first = s.first; count = s.count })) }
-    ensures only { (s : Sectors) → IsMeaning (record { operation = operation_of transfer; first = s.first; count = s.count }) →
-        SpellsCommand (bytes_at (bytes_of memory.now) at 20) (command_of (operation_of transfer) slot s.first s.count) → result ≡ Some s }
+/// The bytes of the FIS of the command table to which a header's bytes point.
+fn fis_bytes(memory: &[u8], header: &[u8; 32]) -> [u8; 20]
+    ensures { result ≡ bytes_at (bytes_of memory.now) (little_from 8 4 header.now) 20 }
 {
     let mut bytes = [0; 20];
-    copy_bytes(memory, at, &mut bytes);
-    decode_sectors(&bytes, slot, transfer)
+    copy_bytes(
+        memory,
+        LittleEndian::read_u32(&header[8..]) as usize,
+        &mut bytes,
+    );
+    bytes
 }
 
 /// The PRD at an address, if there is one of a whole number of pieces.
@@ -249,11 +254,11 @@ fn prd_at(memory: &[u8], at: usize) -> Option<Prd>
     decode_prd(&bytes)
 }
 
-/// Reads so many PRDs of whole pieces from an address on, in front of the list; `false` says that they don't stand there.
-fn read_prds(memory: &[u8], at: usize, number: usize, prds: &mut [Prd; 128]) -> bool
+/// Reads so many PRDs of whole pieces from an address on; `false` says that they don't stand there.
+fn read_prds(memory: &[u8], at: usize, number: usize, prds: &mut PrdTable) -> bool
     requires low { at < 2 ^ 32 + 128 }
     requires few { number ≤ 128 }
-    requires empty { IsPadded prds.old 0 }
+    requires empty { prds.old ≡ [] }
     ensures found { result ≡ true → ArePrds (bytes_of memory.now) at number prds.new }
     ensures only { result ≡ false → (es : List Prd) → length es ≡ number → HasPrds (bytes_of memory.now) at es → All IsWhole es → ⊥ }
 {
@@ -261,13 +266,14 @@ fn read_prds(memory: &[u8], at: usize, number: usize, prds: &mut [Prd; 128]) -> 
         let Some(prd) = prd_at(memory, at + 16 * i) else {
             return false;
         };
-        prds[i] = prd;
+        prds.push(prd);
     }
     true
 }
 
 /// How many pieces PRDs have.
-pub fn count_pieces(prds: &[Prd; 128]) -> u32
+pub fn count_pieces(prds: &[Prd]) -> u32
+    requires { length prds.now ≤ 128 }
     ensures { result ≡ length (pieces prds.now) }
 {
     let mut count = 0;
@@ -278,7 +284,8 @@ pub fn count_pieces(prds: &[Prd; 128]) -> u32
 }
 
 /// The address of a piece, if PRDs have so many.
-pub fn piece_at(prds: &[Prd; 128], number: u32) -> Option<u64>
+pub fn piece_at(prds: &[Prd], number: u32) -> Option<u64>
+    requires { length prds.now ≤ 128 }
     ensures found { IfSome result (λ address. (number < length (pieces prds.now)) × (address ≡ slice_index (pieces prds.now) number)) }
     ensures room { IfSome result (λ _. number + 1 < 2 ^ 32) }
     ensures none { result ≡ None → length (pieces prds.now) ≤ number }
@@ -294,6 +301,46 @@ pub fn piece_at(prds: &[Prd; 128], number: u32) -> Option<u64>
     None
 }
 
+/// Reads the command that a slot says by these bytes of its header and its FIS, and by its PRDs; `false` says that it is none of such a transfer. It is
+/// read into its room, so that it isn't copied.
+fn decode_command(
+    memory: &[u8],
+    header: &[u8; 32],
+    fis: &[u8; 20],
+    slot: u8,
+    transfer: Transfer,
+    command: &mut TakenCommand,
+) -> bool
+    requires slot { slot < 32 }
+    requires fis { fis.now ≡ bytes_at (bytes_of memory.now) (little_from 8 4 header.now) 20 }
+    requires empty { command.old.prds ≡ [] }
+    ensures found { result ≡ true → (command.new.moved ≡ 0) × ((list : ℕ) → header.now ≡ bytes_at (bytes_of memory.now) (list + HEADER_BYTES * slot) HEADER_BYTES →
+        Says (bytes_of memory.now) list slot (taken_of command.new).meaning (taken_of command.new).places) }
+    ensures kind { result ≡ true → command.new.transfer ≡ transfer }
+    ensures only { result ≡ false → (list : ℕ) → header.now ≡ bytes_at (bytes_of memory.now) (list + HEADER_BYTES * slot) HEADER_BYTES →
+        (m : Meaning) (places : List ℕ) → m.operation ≡ operation_of transfer → Says (bytes_of memory.now) list slot m places → ⊥ }
+{
+    let Some(header) = decode_header(header, transfer.reads_memory()) else {
+        return false;
+    };
+    let Some(sectors) = decode_sectors(fis, slot, transfer) else {
+        return false;
+    };
+    let entries = usize::from(header.entries);
+    let table = header.table as usize;
+    if entries > MOST_PRDS || !read_prds(memory, table + 128, entries, &mut command.prds) {
+        return false;
+    }
+    if count_pieces(command.prds.as_slice()) != transfer.pieces(sectors.count) {
+        return false;
+    }
+    command.transfer = transfer;
+    command.first = sectors.first;
+    command.count = sectors.count;
+    command.moved = 0;
+    true
+}
+
 /// The command that the bytes of a slot say, if it is such a one.
 pub fn read_as(memory: &[u8], list: u32, slot: u8, transfer: Transfer) -> Option<TakenCommand>
     requires { slot < 32 }
@@ -301,48 +348,22 @@ pub fn read_as(memory: &[u8], list: u32, slot: u8, transfer: Transfer) -> Option
     ensures kind { IfSome result (λ t. t.transfer ≡ transfer) }
     ensures only { result ≡ None → (m : Meaning) (places : List ℕ) → m.operation ≡ operation_of transfer → Says (bytes_of memory.now) list slot m places → ⊥ }
 {
-    let writes = transfer.reads_memory();
-    let Some(header) = header_at(
-        memory,
-        list as usize + HEADER_BYTES as usize * usize::from(slot),
-        writes,
-    ) else {
-        return None;
-    };
-    let table = header.table as usize;
-    let entries = usize::from(header.entries);
-    let Some(sectors) = sectors_at(memory, table, slot, transfer) else {
-        return None;
-    };
-    let mut prds = [NO_PRD; 128];
-    if entries > 128 || !read_prds(memory, table + 128, entries, &mut prds) {
-        return None;
+    let header = header_bytes(memory, header_place(list, slot));
+    let fis = fis_bytes(memory, &header);
+    let mut command = TakenCommand::room();
+    if decode_command(memory, &header, &fis, slot, transfer, &mut command) {
+        Some(command)
+    } else {
+        None
     }
-    let pieces = transfer.pieces(sectors.count);
-    if count_pieces(&prds) != pieces {
-        return None;
-    }
-    Some(TakenCommand {
-        transfer,
-        first: sectors.first,
-        count: sectors.count,
-        prds,
-        moved: 0,
-    })
 }
 
-/// The code of the command whose FIS stands in the table of the header at an address.
-fn code_at(memory: &[u8], at: usize) -> u8
-    requires { at < 2 ^ 33 }
-    ensures { (writes : Bool) (entries table : ℕ) (command : Command) → SpellsHeader (bytes_at (bytes_of memory.now) at HEADER_BYTES) writes entries table →
-        SpellsCommand (bytes_at (bytes_of memory.now) table 20) command → result ≡ command.code }
+/// The address of a slot's header in a command list.
+fn header_place(list: u32, slot: u8) -> usize
+    requires { slot < 32 }
+    ensures { result ≡ list + HEADER_BYTES * slot }
 {
-    let mut header = [0; 32];
-    copy_bytes(memory, at, &mut header);
-    let table = LittleEndian::read_u32(&header[8..]);
-    let mut fis = [0; 20];
-    copy_bytes(memory, table as usize, &mut fis);
-    fis[2]
+    list as usize + HEADER_BYTES as usize * usize::from(slot)
 }
 
 /// The transfer whose command has this code (ACS-3, 7).
@@ -350,22 +371,41 @@ fn transfer_coded(code: u8) -> Option<Transfer>
     ensures { (transfer : Transfer) (slot first count : ℕ) → (command_of (operation_of transfer) slot first count).code ≡ code → result ≡ Some transfer }
 {
     match code {
-        0x25 => Some(Transfer::Read),
-        0x35 => Some(Transfer::Write),
-        0x60 => Some(Transfer::ReadQueued),
-        0x61 => Some(Transfer::WriteQueued),
-        0xec => Some(Transfer::Identify),
+        READ_DMA_EXT => Some(Transfer::Read),
+        WRITE_DMA_EXT => Some(Transfer::Write),
+        READ_FPDMA_QUEUED => Some(Transfer::ReadQueued),
+        WRITE_FPDMA_QUEUED => Some(Transfer::WriteQueued),
+        IDENTIFY_DEVICE => Some(Transfer::Identify),
         _ => None,
     }
 }
 
-/// The command that the bytes of a slot say, if it is one that the model takes. Its code tells which, so that it is read once.
+/// Reads the command that the bytes of a slot say, into its room; `false` says that it is none that the model takes. Its code tells which, so that it is
+/// read once.
+pub fn read_into(memory: &[u8], list: u32, slot: u8, command: &mut TakenCommand) -> bool
+    requires slot { slot < 32 }
+    requires empty { command.old.prds ≡ [] }
+    ensures found { result ≡ true → (command.new.moved ≡ 0) × Says (bytes_of memory.now) list slot (taken_of command.new).meaning (taken_of command.new).places }
+    ensures only { result ≡ false → (m : Meaning) (places : List ℕ) → Takes m.operation → Says (bytes_of memory.now) list slot m places → ⊥ }
+{
+    let header = header_bytes(memory, header_place(list, slot));
+    let fis = fis_bytes(memory, &header);
+    match transfer_coded(fis[2]) {
+        Some(transfer) => decode_command(memory, &header, &fis, slot, transfer, command),
+        None => false,
+    }
+}
+
+/// The command that the bytes of a slot say, if it is one that the model takes.
 pub fn read_command(memory: &[u8], list: u32, slot: u8) -> Option<TakenCommand>
     requires { slot < 32 }
     ensures found { IfSome result (λ t. (t.moved ≡ 0) × Says (bytes_of memory.now) list slot (taken_of t).meaning (taken_of t).places) }
     ensures only { result ≡ None → (m : Meaning) (places : List ℕ) → Takes m.operation → Says (bytes_of memory.now) list slot m places → ⊥ }
 {
-    let at = list as usize + HEADER_BYTES as usize * usize::from(slot);
-    let transfer = transfer_coded(code_at(memory, at))?;
-    read_as(memory, list, slot, transfer)
+    let mut command = TakenCommand::room();
+    if read_into(memory, list, slot, &mut command) {
+        Some(command)
+    } else {
+        None
+    }
 }

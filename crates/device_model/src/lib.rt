@@ -12,6 +12,7 @@ mod hardware;
 pub mod laws;
 mod model;
 mod port;
+mod prds;
 mod registers;
 mod sending;
 mod settling;

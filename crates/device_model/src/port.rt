@@ -1,12 +1,13 @@
 // One port of the model.
-ghost use Rattle.std.specs.Prelude.{◌≡◌, unwrap_or, IfOk};
+ghost use Rattle.std.specs.Prelude.{◌≡◌, [], unwrap_or, IfOk};
 ghost use Rattle.adapter.specs.Commands.{direction_of, is_queued, pieces_moved, reads_memory};
 ghost use Rattle.adapter.specs.Idle.{IsIdlePort};
 ghost use Rattle.device_model.specs.Modelled.{IsReset};
 ghost use Rattle.device_model.specs.View.{Media, cause_of, operation_of, port_of};
 
+use crate::prds::PrdTable;
 use crate::taken::TakenCommands;
-use adapter::{Direction, Operation, Prd};
+use adapter::{Direction, Operation};
 use std::alloc::{AllocError, Global};
 
 /// Where the driver has put the command list and the received FIS area, and which of these registers it has written.
@@ -52,6 +53,14 @@ pub enum Transfer {
     /// IDENTIFY DEVICE.
     Identify,
 }
+
+/// The bits of PxIS that the end of a command sets (AHCI 1.3.1, 3.3.5): DHRS for a Register FIS, PSS for a PIO Setup FIS, SDBS for a Set Device Bits
+/// FIS.
+const DHRS: u32 = 0;
+
+const PSS: u32 = 1;
+
+const SDBS: u32 = 3;
 
 impl Transfer {
     /// The command that it is.
@@ -102,9 +111,9 @@ impl Transfer {
         ensures { result ≡ cause_of self }
     {
         match self {
-            Transfer::Identify => 1,
-            Transfer::ReadQueued | Transfer::WriteQueued => 3,
-            Transfer::Read | Transfer::Write => 0,
+            Transfer::Identify => PSS,
+            Transfer::ReadQueued | Transfer::WriteQueued => SDBS,
+            Transfer::Read | Transfer::Write => DHRS,
         }
     }
 
@@ -120,15 +129,30 @@ impl Transfer {
 }
 
 /// A command that the device has taken.
-#[derive(Clone, Copy, Debug)]
+#[derive(Debug, Drop)]
 pub struct TakenCommand {
     pub transfer: Transfer,
     pub first: u64,
     pub count: u32,
-    /// The regions that its sectors go to or come from; those past the last have no bytes.
-    pub prds: [Prd; 128],
+    /// The regions that its sectors go to or come from.
+    pub prds: PrdTable,
     /// In pieces of 512 bytes.
     pub moved: u32,
+}
+
+impl TakenCommand {
+    /// Room for a command that is read.
+    pub fn room() -> TakenCommand
+        ensures { result.prds ≡ [] }
+    {
+        TakenCommand {
+            transfer: Transfer::Read,
+            first: 0,
+            count: 0,
+            prds: PrdTable::new(),
+            moved: 0,
+        }
+    }
 }
 
 /// The registers of a port, and what stands behind them.

@@ -2,7 +2,7 @@
 ghost use Rattle.std.specs.Prelude.{◌≡◌, ◌<◌, ◌^◌, ◌+◌, ℕ, None, Some, true, false, slice_index_or, IfSome, List};
 ghost use Rattle.adapter.specs.Steps.{IsAlone, with_fetch, with_move, with_done};
 ghost use Rattle.adapter.specs.declared.command.Operation.{Operation};
-ghost use Rattle.device_model.specs.Slots.{MayTake, MayTakeSome, HoldsAt};
+ghost use Rattle.device_model.specs.Slots.{MayTake, HasUntaken, HoldsAt};
 ghost use Rattle.device_model.specs.View.{Media, cause_of, held_in, media_after, operation_of, port_of, taken_of, blank};
 ghost use Rattle.device_model.specs.declared.port.TakenCommand.{TakenCommand};
 
@@ -17,8 +17,9 @@ impl PortModel {
         requires unmoved { command.moved ≡ 0 }
         ensures { (m : Media) → port_of self.new m ≡ with_fetch (port_of self.old m) slot (taken_of command).meaning (taken_of command).places }
     {
+        let queued = command.transfer.is_queued();
         self.taken.put(slot, command);
-        if command.transfer.is_queued() {
+        if queued {
             self.ci = with_bit_as(self.ci, u32::from(slot), false);
         } else {
             self.tfd = Some(self.task_file() | 0x80);
@@ -63,11 +64,12 @@ impl PortModel {
     }
 }
 
-/// Whether a command is issued in a slot and may be taken, if its bytes say one that may be taken beside those that are.
-pub fn may_take(ports: &[PortModel; 4], port: usize, slot: u8) -> bool
+/// Whether a slot has a command that is issued and not taken, on a port that works: it may be taken, if its bytes say one that may be beside those
+/// that are.
+pub fn has_untaken(ports: &[PortModel; 4], port: usize, slot: u8) -> bool
     requires port { port < 4 }
     requires slot { slot < 32 }
-    ensures may { result ≡ true → MayTakeSome (slice_index_or ports.now port blank) slot }
+    ensures may { result ≡ true → HasUntaken (slice_index_or ports.now port blank) slot }
     ensures only { result ≡ false → (m : Media) (operation : Operation) → MayTake (port_of (slice_index_or ports.now port blank) m) slot operation → ⊥ }
 {
     ports[port].st

@@ -11,15 +11,15 @@ ghost use Rattle.adapter.specs.Asked.{DoesFetch, Ends};
 ghost use Rattle.device_model.specs.Fetched.{bytes_of};
 ghost use Rattle.device_model.specs.Finishing.{HasRoom, Identifies, IsInside, AreInside, IsBegun, IsCovered, IsPassed, IsUnbegun};
 ghost use Rattle.device_model.specs.Sent.{SendsEnd};
-ghost use Rattle.device_model.specs.Slots.{HoldsAt, IsNext, MayTakeSome};
+ghost use Rattle.device_model.specs.Slots.{HoldsAt, IsNext, HasUntaken};
 ghost use Rattle.device_model.specs.View.{Takes, operation_of, taken_of, blank};
 ghost use Rattle.device_model.specs.Whole.{Outside, device_of, outside_after, outside_plugged};
 ghost use Rattle.device_model.specs.declared.port.TakenCommand.{TakenCommand};
 
-use crate::fetch::{count_pieces, piece_at, read_as, read_command};
+use crate::fetch::{count_pieces, piece_at, read_as, read_command, read_into};
 use crate::hardware::{Hardware, put};
 use crate::port::{TakenCommand, Transfer};
-use crate::slots::{may_take, working_on};
+use crate::slots::{has_untaken, working_on};
 use adapter::{Done, Entry, Move, Prd};
 use ata_types::{Port, Slot};
 use std::snapshot::Snapshot;
@@ -87,7 +87,7 @@ fn is_inside(prd: &Prd, size: usize) -> bool
 }
 
 /// Whether each piece of some regions is in a memory of this size.
-fn are_inside(prds: &[Prd; 128], size: usize) -> bool
+fn are_inside(prds: &[Prd], size: usize) -> bool
     ensures inside { result ≡ true → AreInside size (pieces prds.now) }
     ensures only { result ≡ false → AreInside size (pieces prds.now) → ⊥ }
 {
@@ -118,8 +118,9 @@ fn left_of(command: &TakenCommand, size: usize, sectors: u64) -> Option<u32>
     ensures covered { IfSome result (λ left. IsCovered (taken_of command.now) size sectors left) }
     ensures only { (left : ℕ) → IsCovered (taken_of command.now) size sectors left → result ≡ Some left }
 {
-    let pieces = count_pieces(&command.prds);
-    if !is_on_disk(command, pieces, sectors) || !are_inside(&command.prds, size) {
+    let prds = command.prds.as_slice();
+    let pieces = count_pieces(prds);
+    if !is_on_disk(command, pieces, sectors) || !are_inside(prds, size) {
         return None;
     }
     pieces.checked_sub(command.moved)
@@ -132,7 +133,7 @@ fn can_end(command: &TakenCommand, size: usize) -> bool
     ensures only { result ≡ false → (left : ℕ) → IsCovered (taken_of command.now) size 0 left → AreInside (2 ^ 32) (pieces command.now.prds) → ⊥ }
 {
     match left_of(command, size, 0) {
-        Some(_left) => are_inside(&command.prds, 1 << 32),
+        Some(_left) => are_inside(command.prds.as_slice(), 1 << 32),
         None => false,
     }
 }
@@ -170,7 +171,7 @@ impl Hardware {
         ensures tape { self.new.tape ≡ self.old.tape }
         ensures starved { self.new.starved ≡ self.old.starved }
     {
-        may_take(&self.ports, usize::from(port), slot) && self.fetch_said(port, slot)
+        has_untaken(&self.ports, usize::from(port), slot) && self.fetch_said(port, slot)
     }
 
     /// Takes the command that the bytes of a slot say, which may be taken; `false` says that they say none that the model takes. It is entered
@@ -179,7 +180,7 @@ impl Hardware {
     fn fetch_said(&mut self, port: u8, slot: u8) -> bool
         requires port { port < 4 }
         requires slot { slot < 32 }
-        requires may { MayTakeSome (slice_index_or self.old.ports port blank) slot }
+        requires may { HasUntaken (slice_index_or self.old.ports port blank) slot }
         ensures did { result ≡ true → (o : Outside) → DoesFetch port slot (device_of self.old o) (device_of self.new o) }
         ensures refused { result ≡ false → (o : Outside) → device_of self.new o ≡ device_of self.old o }
         ensures only { result ≡ false → (o : Outside) (m : Meaning) (places : List ℕ) → Takes m.operation → Can (FetchStep port slot m places) (device_of self.old o) → ⊥ }
@@ -203,7 +204,7 @@ impl Hardware {
     #[inline(never)]
     fn says_identify(&self, slot: u8) -> Option<bool>
         requires slot { slot < 32 }
-        requires may { MayTakeSome (slice_index_or self.now.ports 0 blank) slot }
+        requires may { HasUntaken (slice_index_or self.now.ports 0 blank) slot }
         ensures { (o : Outside) → Identifies (device_of self.now o) slot result }
     {
         let list = self.ports[0].addresses.clb;
@@ -221,7 +222,7 @@ impl Hardware {
         requires { slot < 32 }
         ensures { (o : Outside) → Identifies (device_of self.now o) slot result }
     {
-        if may_take(&self.ports, 0, slot) {
+        if has_untaken(&self.ports, 0, slot) {
             return self.says_identify(slot);
         }
         let command = working_on(&self.ports, 0, slot)?;
@@ -264,7 +265,7 @@ impl Hardware {
             next_sector (taken_of t) < 2 ^ 64 → ⊥ }
     {
         let command = working_on(&self.ports, usize::from(port), slot)?;
-        let address = piece_at(&command.prds, command.moved)?;
+        let address = piece_at(command.prds.as_slice(), command.moved)?;
         let sector = sector_of(command)?;
         let address = u32::try_from(address).ok()?;
         if address as usize + 512 > self.memory.len() {
@@ -315,7 +316,7 @@ impl Hardware {
         let Some(command) = working_on(&self.ports, usize::from(port), slot) else {
             return false;
         };
-        if command.moved != count_pieces(&command.prds) {
+        if command.moved != count_pieces(command.prds.as_slice()) {
             return false;
         }
         let transfer = command.transfer;
@@ -339,13 +340,16 @@ impl Hardware {
     fn begin_said(&mut self, port: u8, slot: u8, sectors: u64) -> Option<Begun>
         requires port { port < 4 }
         requires slot { slot < 32 }
-        requires may { MayTakeSome (slice_index_or self.old.ports port blank) slot }
+        requires may { HasUntaken (slice_index_or self.old.ports port blank) slot }
         ensures begun { IfSome result (λ b. IsBegun port slot sectors b.left b.was_taken self.old self.new) }
         ensures left { result ≡ None → IsUnbegun port slot sectors self.old self.new }
     {
         let place = usize::from(port);
         let list = self.ports[place].addresses.clb;
-        let command = read_command(&self.memory, list, slot)?;
+        let mut command = TakenCommand::room();
+        if !read_into(&self.memory, list, slot, &mut command) {
+            return None;
+        }
         if !self.ports[place].is_alone(command.transfer) {
             return None;
         }
@@ -370,7 +374,7 @@ impl Hardware {
         ensures left { result ≡ None → IsUnbegun port slot sectors self.old self.new }
     {
         let place = usize::from(port);
-        if may_take(&self.ports, place, slot) {
+        if has_untaken(&self.ports, place, slot) {
             return self.begin_said(port, slot, sectors);
         }
         let command = working_on(&self.ports, place, slot)?;

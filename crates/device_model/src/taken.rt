@@ -1,10 +1,11 @@
 // The commands that a port has taken.
-ghost use Rattle.std.specs.Prelude.{◌≡◌, ◌<◌, ◌+◌, ◌^◌, ◌↔◌, ℕ, IsTrue, IfOk, IfSome, None, Some, true, length};
+ghost use Rattle.std.specs.Prelude.{◌≡◌, ◌<◌, ◌+◌, ◌^◌, ◌↔◌, ℕ, IsTrue, IfOk, IfSome, None, Some, is_some, true, length};
 ghost use Rattle.adapter.specs.Commands.{is_queued};
 ghost use Rattle.adapter.specs.Memory.{changed};
 ghost use Rattle.device_model.specs.View.{held_in, operation_of};
 ghost use Rattle.device_model.specs.declared.port.TakenCommand.{TakenCommand};
 
+use crate::bits::with_bit_as;
 use crate::port::TakenCommand;
 use std::alloc::{AllocError, Global};
 use std::marker::Model;
@@ -16,17 +17,20 @@ const SLOTS: usize = 32;
 #[derive(Debug, Drop)]
 pub struct TakenCommands {
     slots: Vec<Option<TakenCommand>>,
+    /// In which slots a command is, by their bits: so that it is told at once whether one is.
+    filled: u32,
 }
 
 impl Model for TakenCommands {
-    ghost use Rattle.std.specs.Prelude.{◌≡◌, List, Option, length};
+    ghost use Rattle.std.specs.Prelude.{◌≡◌, List, Option, None, is_some, length, slice_index_or};
+    ghost use Rattle.device_model.specs.Bits.{bits_of};
     ghost use Rattle.device_model.specs.declared.port.TakenCommand.{TakenCommand};
 
     ghost Value = { List (Option TakenCommand) };
 
     ghost view = { λ s. s.slots.items };
 
-    ghost invariant = { λ s. length s.slots.items ≡ 32 };
+    ghost invariant = { λ s. (length s.slots.items ≡ 32) × (bits_of s.filled ≡ (λ slot. is_some (slice_index_or s.slots.items slot None))) };
 }
 
 impl TakenCommands {
@@ -38,7 +42,7 @@ impl TakenCommands {
         for _slot in 0..SLOTS {
             slots.push(None)?;
         }
-        Ok(TakenCommands { slots })
+        Ok(TakenCommands { slots, filled: 0 })
     }
 
     /// The command that is taken in a slot.
@@ -56,6 +60,7 @@ impl TakenCommands {
         ensures { held_in self.new ≡ changed (held_in self.old) slot (Some command) }
     {
         self.slots[usize::from(slot)] = Some(command);
+        self.filled = with_bit_as(self.filled, u32::from(slot), true);
     }
 
     /// One more piece of a slot's command was moved.
@@ -74,6 +79,7 @@ impl TakenCommands {
         ensures { held_in self.new ≡ changed (held_in self.old) slot None }
     {
         self.slots[usize::from(slot)] = None;
+        self.filled = with_bit_as(self.filled, u32::from(slot), false);
     }
 
     /// No command is taken any more.
@@ -84,13 +90,14 @@ impl TakenCommands {
         for slot in 0..SLOTS {
             self.slots[slot] = None;
         }
+        self.filled = 0;
     }
 
     /// Whether none is taken.
     pub fn is_empty(&self) -> bool
         ensures { IsTrue result ↔ ((slot : ℕ) → held_in self.now slot ≡ None) }
     {
-        are_empty(&self.slots)
+        self.filled == 0
     }
 
     /// Whether each that is taken is queued.
@@ -104,23 +111,12 @@ impl TakenCommands {
 /// One more piece of a command was moved.
 fn count_move(taken: &mut Option<TakenCommand>)
     requires { IfSome taken.old (λ t. t.moved + 1 < 2 ^ 32) }
-    ensures { (t : TakenCommand) → taken.old ≡ Some t → taken.new ≡ Some (record t { moved = t.moved + 1 }) }
+    ensures counted { (t : TakenCommand) → taken.old ≡ Some t → taken.new ≡ Some (record t { moved = t.moved + 1 }) }
+    ensures stays { is_some taken.new ≡ is_some taken.old }
 {
     if let Some(command) = taken {
         command.moved += 1;
     }
-}
-
-/// Whether no command is in these slots.
-fn are_empty(slots: &[Option<TakenCommand>]) -> bool
-    ensures { IsTrue result ↔ ((slot : ℕ) → held_in slots.now slot ≡ None) }
-{
-    for slot in slots {
-        if slot.is_some() {
-            return false;
-        }
-    }
-    true
 }
 
 /// Whether each command in these slots is queued.

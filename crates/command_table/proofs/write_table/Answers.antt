@@ -9,6 +9,7 @@ use Rattle.adapter.specs.Rules.{IsFree, Stays}
 use Rattle.adapter.specs.Spelling.{SpellsHeader}
 use Rattle.agreement.specs.Places.{list_of, table_of}
 use Rattle.command_table.specs.Written.{IsTableStore, IsUnused}
+use Rattle.command_table.proofs.Zeros.{zero_of}
 use Rattle.command_table.proofs.Storing.{store_free, store_followed, store_on, store_size, store_there, store_agrees, stored_says}
 use Rattle.agreement.proofs.Driven.{followed_then}
 use Rattle.command_table.proofs.write_table.Goals as goal
@@ -33,15 +34,15 @@ header_bounds port slot header size none = inl (refl, size, none)
 pub store-requires : goal.store-requires
 store-requires g c =
     let r = c.requires in
-    let F : ℕ → ℕ → Type 0 = λ p s. Stays (IsFree (40960 * p + 4096 + 1024 * s) (length (take (128 + 16 * length c.args.prds.now) c.table_bytes-bytes.result))) (g.A.Adapter.device c.args.adapter.now) in
+    let F : ℕ → ℕ → Type 0 = λ p s. Stays (IsFree (40960 * p + 4096 + 1024 * s) (length (take (128 + 16 * length c.args.prds.now) c.fill_table.new.bytes))) (g.A.Adapter.device c.args.adapter.now) in
     at_places F c.from-list.result c.from.result c.args.port.0 c.args.slot.0 (sym c.from-list.ensures) (sym c.from.ensures)
-    (store_free r.agreed.0 _ c.args.port.0 c.args.slot.0 _ _ r.agreed.2 r.room r.port r.slot r.agreed.1 (table_bounds c.args.port.0 c.args.slot.0 (length c.args.prds.now) c.table_bytes-bytes.result r.few))
+    (store_free r.agreed.0 _ c.args.port.0 c.args.slot.0 _ _ r.agreed.2 r.room r.port r.slot r.agreed.1 (table_bounds c.args.port.0 c.args.slot.0 (length c.args.prds.now) c.fill_table.new.bytes r.few))
 
 pub store-requires-2 : goal.store-requires-2
 store-requires-2 g c =
     let r = c.requires in
     let first = table_stored _ _ _ _ _ _ _ c.from-list.ensures c.from.ensures c.store.ensures in
-    let here = table_bounds c.args.port.0 c.args.slot.0 (length c.args.prds.now) c.table_bytes-bytes.result r.few in
+    let here = table_bounds c.args.port.0 c.args.slot.0 (length c.args.prds.now) c.fill_table.new.bytes r.few in
     let size = store_size c.args.port.0 c.args.slot.0 r.port r.slot _ _ _ _ here first in
     let room : 163840 ≤ (g.A.Adapter.device c.store.new.self).size = let had = r.room in omega (arith, size, had) in
     let F : ℕ → ℕ → Type 0 = λ p s. Stays (IsFree (40960 * p + 32 * s) (length c.header-head.result)) (g.A.Adapter.device c.store.new.self) in
@@ -54,7 +55,7 @@ returns-clause-on g c =
     let r = c.requires in
     let first = table_stored _ _ _ _ _ _ _ c.from-list.ensures c.from.ensures c.store.ensures in
     let second = header_stored _ _ _ _ _ _ _ c.from-list.ensures c.from-2.ensures c.store-2.ensures in
-    let here = table_bounds c.args.port.0 c.args.slot.0 (length c.args.prds.now) c.table_bytes-bytes.result r.few in
+    let here = table_bounds c.args.port.0 c.args.slot.0 (length c.args.prds.now) c.fill_table.new.bytes r.few in
     let there = header_bounds c.args.port.0 c.args.slot.0 c.header-head.result c.header-head.ensures.says.size c.header-head.ensures.none_moved in
     store_on c.args.port.0 c.args.slot.0 r.port r.slot _ _ _ _ there second (store_on c.args.port.0 c.args.slot.0 r.port r.slot _ _ _ _ here first r.on)
 
@@ -63,7 +64,7 @@ returns-clause-followed g c =
     let r = c.requires in
     let first = table_stored _ _ _ _ _ _ _ c.from-list.ensures c.from.ensures c.store.ensures in
     let second = header_stored _ _ _ _ _ _ _ c.from-list.ensures c.from-2.ensures c.store-2.ensures in
-    let here = table_bounds c.args.port.0 c.args.slot.0 (length c.args.prds.now) c.table_bytes-bytes.result r.few in
+    let here = table_bounds c.args.port.0 c.args.slot.0 (length c.args.prds.now) c.fill_table.new.bytes r.few in
     let there = header_bounds c.args.port.0 c.args.slot.0 c.header-head.result c.header-head.ensures.says.size c.header-head.ensures.none_moved in
     followed_then (IsTableStore c.args.port.0 c.args.slot.0) (IsUnused c.args.port.0 c.args.slot.0) _ _ _
     (store_followed c.args.port.0 c.args.slot.0 r.port r.slot _ _ _ _ here first)
@@ -75,13 +76,13 @@ returns-clause-says g c =
     let few = r.few in
     let first = table_stored _ _ _ _ _ _ _ c.from-list.ensures c.from.ensures c.store.ensures in
     let second = header_stored _ _ _ _ _ _ _ c.from-list.ensures c.from-2.ensures c.store-2.ensures in
-    let size = c.table_bytes-bytes.ensures.size in
-    let cut = length-take (128 + 16 * length c.args.prds.now) c.table_bytes-bytes.result in
+    let size = c.fill_table.ensures.size in
+    let cut = length-take (128 + 16 * length c.args.prds.now) c.fill_table.new.bytes in
     let H : ℕ → ℕ → Type 0 = λ p s. SpellsHeader c.header-head.result c.is_write.result (length c.args.prds.now) (40960 * p + 4096 + 1024 * s) in
     let heads : SpellsHeader c.header-head.result c.is_write.result (length c.args.prds.now) (table_of c.args.port.0 c.args.slot.0) =
     at_places H c.args.port.0 c.args.slot.0 _ _ c.from-list.ensures c.from.ensures c.header-head.ensures.says in
-    stored_says c.args.port.0 c.args.slot.0 r.port r.slot r.agreed.0 r.agreed.1 _ _ _ r.on r.agreed.2 c.args.prds.now c.table_bytes-bytes.result c.header-head.result few size
-    (omega (arith, cut, size, few)) first second c.is_write.result c.args.command.now c.is_write.ensures c.table_bytes-bytes.ensures.fis c.table_bytes-bytes.ensures.entries heads c.header-head.ensures.none_moved
+    stored_says c.args.port.0 c.args.slot.0 r.port r.slot r.agreed.0 r.agreed.1 _ _ _ r.on r.agreed.2 c.args.prds.now c.fill_table.new.bytes c.header-head.result few size
+    (omega (arith, cut, size, few)) first second c.is_write.result c.args.command.now c.is_write.ensures c.fill_table.ensures.fis c.fill_table.ensures.entries heads c.header-head.ensures.none_moved
 
 pub returns-clause-none_moved : goal.returns-clause-none_moved
 returns-clause-none_moved g c =
@@ -93,3 +94,6 @@ returns-clause-none_moved g c =
     let P : ℕ → Type 0 = λ n. bytes_at (g.A.Adapter.device c.store-2.new.self).memory at n ≡ c.header-head.result in
     let same = subst P heads.says.size (store_there c.args.port.0 c.args.slot.0 r.port r.slot _ _ _ _ there second) in
     ap (little_from 4 4) same ∙ heads.none_moved
+
+pub fill_table-requires-clause-zeros : goal.fill_table-requires-clause-zeros
+fill_table-requires-clause-zeros g c = λ k _ _. zero_of 640 k

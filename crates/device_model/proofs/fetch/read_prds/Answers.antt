@@ -1,7 +1,8 @@
-use Rattle.std.proofs.Common.{◌≡◌, ◌<◌, ◌≢◌, ◌∙◌, length, take, arith, slice_index_or, length-take, get_or-set_other}
-use Rattle.std.proofs.lemmas.List.{length-set}
+use Rattle.std.proofs.Common.{◌<◌, [], ◌∷◌, length, length-append, arith, refl, slice_index_or}
+use Rattle.std.proofs.lemmas.List.Elements.{All-append}
+use Rattle.adapter.specs.Says.{IsWhole}
 use Rattle.device_model.specs.Fetched.{bytes_of, no_prd}
-use Rattle.device_model.proofs.Fetches.{has_at, prds_more, whole_more, pieces_padded}
+use Rattle.device_model.proofs.Fetches.{has_at, has_more, only_one}
 use Rattle.device_model.proofs.fetch.read_prds.Goals as goal
 
 pub returns-in_default-clause-only : goal.returns-in_default-clause-only
@@ -13,24 +14,19 @@ returns-in_default-clause-only c = λ _ es n has whole.
 
 pub loop-i-preserved : goal.loop-i-preserved
 loop-i-preserved c =
-    let small : c.loop-i.i < length c.loop-i.prds = omega arith in
-    record {
-      stand = prds_more (bytes_of c.args.memory.now) c.args.at c.loop-i.i c.loop-i.prds c.in-Some.prd small c.loop-i.invariant.stand c.in-Some.ensures.found.0;
-      whole = whole_more c.loop-i.i c.loop-i.prds c.in-Some.prd small c.loop-i.invariant.whole c.in-Some.ensures.found.1;
-      padded = λ k le.
-          let other : k ≢ c.loop-i.i = λ e. omega arith in
-          get_or-set_other c.loop-i.prds c.loop-i.i k c.in-Some.prd no_prd other ∙ c.loop-i.invariant.padded k (omega arith);
-      size = simp length-set c.loop-i.invariant.size;
-    }
+    let here = rw (← c.loop-i.invariant.size) at c.in-Some.ensures.found.0 in
+    rw c.push.ensures (record {
+      stand = has_more (bytes_of c.args.memory.now) c.args.at c.loop-i.prds c.in-Some.prd c.loop-i.invariant.stand here;
+      whole = All-append IsWhole c.loop-i.prds (c.in-Some.prd ∷ []) c.loop-i.invariant.whole (only_one c.in-Some.prd c.in-Some.ensures.found.1);
+      size = omega (arith, length-append c.loop-i.prds (c.in-Some.prd ∷ []), c.loop-i.invariant.size);
+    })
 
 pub returns-clause-found : goal.returns-clause-found
 returns-clause-found c = λ _.
-    let end : c.loop-i.i ≡ c.args.number = omega arith in
-    let n : length (take c.args.number c.loop-i.prds) ≡ c.args.number = omega (arith, length-take c.args.number c.loop-i.prds) in
     record {
-      standing = take c.args.number c.loop-i.prds;
-      number_is = n;
-      stand = rw end at c.loop-i.invariant.stand;
-      whole = rw end at c.loop-i.invariant.whole;
-      same = pieces_padded c.loop-i.prds c.args.number (rw end at c.loop-i.invariant.padded);
+      standing = c.loop-i.prds;
+      number_is = omega (arith, c.loop-i.invariant.size, c.loop-i-test.false, c.loop-i.auto);
+      stand = c.loop-i.invariant.stand;
+      whole = c.loop-i.invariant.whole;
+      same = refl;
     }

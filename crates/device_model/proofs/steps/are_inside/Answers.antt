@@ -1,4 +1,4 @@
-use Rattle.std.proofs.Common.{rules, ℕ, ◌<◌, length, slice_index_or, below_more, subst, arith}
+use Rattle.std.proofs.Common.{rules, ℕ, ◌<◌, ◌≤◌, length, slice_index_or, below_more, subst, arith}
 use Rattle.std.proofs.lemmas.List.{get_or_default}
 use Rattle.adapter.specs.declared.command.Prd.{Prd}
 use Rattle.device_model.specs.Fetched.{no_prd}
@@ -24,4 +24,5 @@ returns-then-not-is_inside-clause-only c = λ _ all.
 
 pub returns-clause-inside : goal.returns-clause-inside
 returns-clause-inside c = λ _.
-    all_inside c.args.size c.args.prds.now (λ k d small. c.loop-prd.invariant k (omega (arith, small, c.loop-prd-test.false, c.told-prds)) d)
+    let all : length c.args.prds.now ≤ c.loop-prd.prd-index = search rules in
+    all_inside c.args.size c.args.prds.now (λ k d small. c.loop-prd.invariant k (omega (arith, small, all)) d)

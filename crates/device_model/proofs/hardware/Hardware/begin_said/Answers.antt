@@ -5,7 +5,7 @@ use Rattle.adapter.specs.Device.{Device}
 use Rattle.adapter.specs.declared.tape.Entry.{Entry}
 use Rattle.adapter.proofs.Absurd.{some-none, some_one, true-false}
 use Rattle.device_model.specs.Finishing.{MayFinish}
-use Rattle.device_model.specs.Slots.{MayTakeSome}
+use Rattle.device_model.specs.Slots.{HasUntaken}
 use Rattle.device_model.specs.View.{blank}
 use Rattle.device_model.specs.Whole.{Outside, device_of}
 use Rattle.device_model.specs.declared.hardware.Hardware.{Hardware}
@@ -15,15 +15,15 @@ use Rattle.device_model.proofs.Stepping.{port_takes}
 use Rattle.device_model.proofs.SlotLemmas.{at_port}
 use Rattle.device_model.proofs.hardware.Hardware.begin_said.Goals as goal
 
-pub returns-in_err-command-clause-left : goal.returns-in_err-command-clause-left
-returns-in_err-command-clause-left c = λ _.
+pub returns-then-not-read_into-clause-left : goal.returns-then-not-read_into-clause-left
+returns-then-not-read_into-clause-left c = λ _.
     inl (
       λ o left ready.
-          let P : ℕ → Type 0 = λ q. MayTakeSome (slice_index_or c.args.self.now.ports q blank) c.args.slot in
+          let P : ℕ → Type 0 = λ q. HasUntaken (slice_index_or c.args.self.now.ports q blank) c.args.slot in
           let may = subst P (sym c.from-place.ensures) c.requires.may in
           let says = ready_said c.args.self.now o c.from-place.result c.args.port c.args.slot c.args.sectors left c.from-place.ensures ready may in
           let small : c.from-place.result < length c.args.self.now.ports = search rules in
-          (rw (at_port c.args.self.now.ports c.from-place.result c.index-self-place.result small) at (c.read_command.ensures.only c.in_err-command.was ready.t.meaning ready.t.places ready.takes))
+          (rw (at_port c.args.self.now.ports c.from-place.result c.index-self-place.result small) at (c.read_into.ensures.only c.if-not-read_into.true ready.t.meaning ready.t.places ready.takes))
           (rw (← c.deref.ensures.value) at says),
       refl,
     )
@@ -32,11 +32,11 @@ pub returns-in_err-left-clause-left : goal.returns-in_err-left-clause-left
 returns-in_err-left-clause-left c = λ _.
     inl (
       λ o left ready.
-          let P : ℕ → Type 0 = λ q. MayTakeSome (slice_index_or c.args.self.now.ports q blank) c.args.slot in
+          let P : ℕ → Type 0 = λ q. HasUntaken (slice_index_or c.args.self.now.ports q blank) c.args.slot in
           let may = subst P (sym c.from-place.ensures) c.requires.may in
           let small : c.from-place.result < length c.args.self.now.ports = search rules in
-          let covered = ready_is_said c.args.self.now c.from-place.result c.args.port c.args.slot c.args.sectors c.len.result c.in_ok-command.command
-          c.from-place.ensures c.len.ensures may c.in_ok-command.ensures.found.0 (rw (at_port c.args.self.now.ports c.from-place.result c.index-self-place.result small) at (rw c.deref.ensures.value at c.in_ok-command.ensures.found.1)) o left ready in
+          let covered = ready_is_said c.args.self.now c.from-place.result c.args.port c.args.slot c.args.sectors c.len.result c.read_into.new.command
+          c.from-place.ensures c.len.ensures may (c.read_into.ensures.found c.if-not-read_into.false).0 (rw (at_port c.args.self.now.ports c.from-place.result c.index-self-place.result small) at (rw c.deref.ensures.value at (c.read_into.ensures.found c.if-not-read_into.false).1)) o left ready in
           some-none (c.left_of.ensures.only left covered) c.in_err-left.was,
       refl,
     )
@@ -45,21 +45,21 @@ pub returns-then-is_err-clause-left : goal.returns-then-is_err-clause-left
 returns-then-is_err-clause-left c = λ _.
     let h = c.args.self.now in
     let left = c.in_ok-left.left in
-    let P : ℕ → Type 0 = λ q. MayTakeSome (slice_index_or h.ports q blank) c.args.slot in
+    let P : ℕ → Type 0 = λ q. HasUntaken (slice_index_or h.ports q blank) c.args.slot in
     let may = subst P (sym c.from-place.ensures) c.requires.may in
     let small : c.from-place.result < length c.args.self.now.ports = search rules in
-    let says = rw (at_port c.args.self.now.ports c.from-place.result c.index-self-place.result small) at (rw c.deref.ensures.value at c.in_ok-command.ensures.found.1) in
+    let says = rw (at_port c.args.self.now.ports c.from-place.result c.index-self-place.result small) at (rw c.deref.ensures.value at (c.read_into.ensures.found c.if-not-read_into.false).1) in
     let over : vec_capacity h.tape < vec_len h.tape + (left + 1) = search rules in
     let still : vec_capacity c.reserve.new.self < vec_len c.reserve.new.self + (left + 1) = search rules in
     let lacked : vec_len h.tape + (left + 1) ≤ vec_capacity h.tape → ⊥ = λ room. absurd (omega (arith, over, room)) in
     inr (record {
       left = left;
-      ready = ready_to_take h c.from-place.result c.args.port c.args.slot c.args.sectors c.len.result c.in_ok-command.command c.from-place.ensures c.len.ensures
-          (Some left) c.in_ok-left.ensures.covered c.in_ok-command.ensures.found.0 may (rw (at_port c.args.self.now.ports c.from-place.result c.index-self-place-2.result small) at (c.is_alone.ensures.alone c.if-not-is_alone.false)) says;
+      ready = ready_to_take h c.from-place.result c.args.port c.args.slot c.args.sectors c.len.result c.read_into.new.command c.from-place.ensures c.len.ensures
+          (Some left) c.in_ok-left.ensures.covered (c.read_into.ensures.found c.if-not-read_into.false).0 may (rw (at_port c.args.self.now.ports c.from-place.result c.index-self-place-2.result small) at (c.is_alone.ensures.alone c.if-not-is_alone.false)) says;
       only = λ o n ready.
           some_one (sym (c.left_of.ensures.only n
-          (ready_is_said h c.from-place.result c.args.port c.args.slot c.args.sectors c.len.result c.in_ok-command.command c.from-place.ensures c.len.ensures
-          may c.in_ok-command.ensures.found.0 says o n ready)) ∙ c.in_ok-left.was);
+          (ready_is_said h c.from-place.result c.args.port c.args.slot c.args.sectors c.len.result c.read_into.new.command c.from-place.ensures c.len.ensures
+          may (c.read_into.ensures.found c.if-not-read_into.false).0 says o n ready)) ∙ c.in_ok-left.was);
       lacked = lacked;
       lacks = λ room. absurd (omega (arith, still, room));
       same = λ o. ap (λ (items : List Entry). record (device_of h o) { tape = items }) c.reserve.ensures.items;
@@ -71,21 +71,21 @@ returns-clause-begun c =
     let h = c.args.self.now in
     let left = c.in_ok-left.left in
     let held : Hardware = record h { tape = c.reserve.new.self } in
-    let P : ℕ → Type 0 = λ q. MayTakeSome (slice_index_or h.ports q blank) c.args.slot in
+    let P : ℕ → Type 0 = λ q. HasUntaken (slice_index_or h.ports q blank) c.args.slot in
     let may = subst P (sym c.from-place.ensures) c.requires.may in
     let small : c.from-place.result < length h.ports = search rules in
-    let says = rw (at_port h.ports c.from-place.result c.index-self-place.result small) at (rw c.deref.ensures.value at c.in_ok-command.ensures.found.1) in
+    let says = rw (at_port h.ports c.from-place.result c.index-self-place.result small) at (rw c.deref.ensures.value at (c.read_into.ensures.found c.if-not-read_into.false).1) in
     let room : vec_len c.reserve.new.self + (left + 1) ≤ vec_capacity c.reserve.new.self = search rules in
     let kept : (o : Outside) → device_of held o ≡ device_of h o = λ o. ap (λ (items : List Entry). record (device_of h o) { tape = items }) c.reserve.ensures.items in
     let ready : (o : Outside) → MayFinish (device_of h o) c.args.port c.args.slot c.args.sectors left =
-    ready_to_take h c.from-place.result c.args.port c.args.slot c.args.sectors c.len.result c.in_ok-command.command c.from-place.ensures c.len.ensures
-    (Some left) c.in_ok-left.ensures.covered c.in_ok-command.ensures.found.0 may (rw (at_port c.args.self.now.ports c.from-place.result c.index-self-place-2.result small) at (c.is_alone.ensures.alone c.if-not-is_alone.false)) says in
+    ready_to_take h c.from-place.result c.args.port c.args.slot c.args.sectors c.len.result c.read_into.new.command c.from-place.ensures c.len.ensures
+    (Some left) c.in_ok-left.ensures.covered (c.read_into.ensures.found c.if-not-read_into.false).0 may (rw (at_port c.args.self.now.ports c.from-place.result c.index-self-place-2.result small) at (c.is_alone.ensures.alone c.if-not-is_alone.false)) says in
     let new : Hardware = record held { ports = slice_set h.ports c.from-place.result c.take.new.self } in
-    let taken = may_be_taken (slice_index_or h.ports c.from-place.result blank) c.args.slot c.in_ok-command.command may (rw (at_port c.args.self.now.ports c.from-place.result c.index-self-place-2.result small) at (c.is_alone.ensures.alone c.if-not-is_alone.false)) in
+    let taken = may_be_taken (slice_index_or h.ports c.from-place.result blank) c.args.slot c.read_into.new.command may (rw (at_port c.args.self.now.ports c.from-place.result c.index-self-place-2.result small) at (c.is_alone.ensures.alone c.if-not-is_alone.false)) in
     let did : (o : Outside) → DoesFetch c.args.port c.args.slot (device_of h o) (device_of new o) = λ o.
     let Q : Device → Type 0 = λ d. DoesFetch c.args.port c.args.slot d (device_of new o) in
     subst Q (kept o)
-    (port_takes held o c.from-place.result c.args.port c.args.slot c.take.new.self c.in_ok-command.command c.from-place.ensures small
+    (port_takes held o c.from-place.result c.args.port c.args.slot c.take.new.self c.read_into.new.command c.from-place.ensures small
     (taken (o.media c.from-place.result)) says (rw (at_port c.args.self.now.ports c.from-place.result c.index-self-place-3.result small) at (c.take.ensures (o.media c.from-place.result)))) in
     record {
       ready = ready;
@@ -102,11 +102,11 @@ pub returns-then-not-is_alone-clause-left : goal.returns-then-not-is_alone-claus
 returns-then-not-is_alone-clause-left c = λ _.
     inl (
       λ o left ready.
-          let P : ℕ → Type 0 = λ q. MayTakeSome (slice_index_or c.args.self.now.ports q blank) c.args.slot in
+          let P : ℕ → Type 0 = λ q. HasUntaken (slice_index_or c.args.self.now.ports q blank) c.args.slot in
           let may = subst P (sym c.from-place.ensures) c.requires.may in
           let small : c.from-place.result < length c.args.self.now.ports = search rules in
           (rw (at_port c.args.self.now.ports c.from-place.result c.index-self-place-2.result small) at (c.is_alone.ensures.only c.if-not-is_alone.true (o.media c.from-place.result)))
-          (ready_beside c.args.self.now c.from-place.result c.args.port c.args.slot c.args.sectors _ c.in_ok-command.command c.from-place.ensures refl may
-          c.in_ok-command.ensures.found.0 (rw (at_port c.args.self.now.ports c.from-place.result c.index-self-place.result small) at (rw c.deref.ensures.value at c.in_ok-command.ensures.found.1)) o left ready),
+          (ready_beside c.args.self.now c.from-place.result c.args.port c.args.slot c.args.sectors _ c.read_into.new.command c.from-place.ensures refl may
+          (c.read_into.ensures.found c.if-not-read_into.false).0 (rw (at_port c.args.self.now.ports c.from-place.result c.index-self-place.result small) at (rw c.deref.ensures.value at (c.read_into.ensures.found c.if-not-read_into.false).1)) o left ready),
       refl,
     )

@@ -1,15 +1,15 @@
 use Rattle.std.proofs.Common.{ℕ, subst, slice_index_or}
-use Rattle.device_model.specs.Slots.{MayTakeSome}
+use Rattle.device_model.specs.Slots.{HasUntaken}
 use Rattle.device_model.specs.View.{blank}
 use Rattle.device_model.proofs.Stepping.{fetch_takes}
 use Rattle.device_model.proofs.hardware.Hardware.fetch.Goals as goal
 
 pub fetch_said-requires-clause-may : goal.fetch_said-requires-clause-may
 fetch_said-requires-clause-may c =
-    let P : ℕ → Type 0 = λ q. MayTakeSome (slice_index_or c.args.self.now.ports q blank) c.args.slot in
-    subst P c.from.ensures (c.may_take.ensures.may c.if-may_take.true)
+    let P : ℕ → Type 0 = λ q. HasUntaken (slice_index_or c.args.self.now.ports q blank) c.args.slot in
+    subst P c.from.ensures (c.has_untaken.ensures.may c.if-has_untaken.true)
 
-pub returns-else-may_take-clause-only : goal.returns-else-may_take-clause-only
-returns-else-may_take-clause-only c = λ _ o m places takes may.
-    c.may_take.ensures.only c.if-may_take.false (o.media c.from.result) m.operation
+pub returns-else-has_untaken-clause-only : goal.returns-else-has_untaken-clause-only
+returns-else-has_untaken-clause-only c = λ _ o m places takes may.
+    c.has_untaken.ensures.only c.if-has_untaken.false (o.media c.from.result) m.operation
     (fetch_takes c.args.self.now o c.from.result c.args.port c.args.slot m places c.from.ensures may)

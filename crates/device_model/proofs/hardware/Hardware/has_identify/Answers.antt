@@ -8,7 +8,7 @@ use Rattle.device_model.proofs.Ready.{Ends, identify_barred, identify_held, iden
 use Rattle.device_model.proofs.hardware.Hardware.has_identify.Goals as goal
 
 pub says_identify-requires-clause-may : goal.says_identify-requires-clause-may
-says_identify-requires-clause-may c = c.may_take.ensures.may c.if-may_take.true
+says_identify-requires-clause-may c = c.has_untaken.ensures.may c.if-has_untaken.true
 
 pub returns-then-can_end : goal.returns-then-can_end
 returns-then-can_end c =
@@ -17,7 +17,7 @@ returns-then-can_end c =
 
 pub returns-else-can_end : goal.returns-else-can_end
 returns-else-can_end c = λ o.
-    let never = c.may_take.ensures.only c.if-may_take.false in (
+    let never = c.has_untaken.ensures.only c.if-has_untaken.false in (
       identify_barred c.args.self.now c.args.slot never o,
       identify_unheld c.args.self.now c.args.slot c.len.result c.len.ensures
           (λ r held kind ends.
@@ -29,7 +29,7 @@ returns-else-can_end c = λ o.
 
 pub returns-in_err-command : goal.returns-in_err-command
 returns-in_err-command c = λ o.
-    let never = c.may_take.ensures.only c.if-may_take.false in
+    let never = c.has_untaken.ensures.only c.if-has_untaken.false in
     let P : Option Bool → Type 0 = λ r. Identifies (device_of c.args.self.now o) c.args.slot r in
     subst P (sym c.from_residual.ensures) (
       identify_barred c.args.self.now c.args.slot never o,
@@ -38,7 +38,7 @@ returns-in_err-command c = λ o.
 
 pub returns-in_default : goal.returns-in_default
 returns-in_default c = λ o.
-    let never = c.may_take.ensures.only c.if-may_take.false in (
+    let never = c.has_untaken.ensures.only c.if-has_untaken.false in (
       identify_barred c.args.self.now c.args.slot never o,
       identify_unheld c.args.self.now c.args.slot _ refl
           (λ r held kind ends.

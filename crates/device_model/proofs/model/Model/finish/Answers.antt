@@ -14,7 +14,7 @@ use Rattle.device_model.proofs.TwoDisks.{in_kept}
 use Rattle.device_model.proofs.Doing.{answered_true, cut_short, did_it, left_it, left_same, meanwhile_on}
 use Rattle.adapter.specs.OneCommand.{IsFreeSlot}
 use Rattle.device_model.proofs.Identifying.{finish_moves, has_ready, page_taken}
-use Rattle.device_model.proofs.Finishing.{fetched_size, moved_goes, going_has_move, going_may_end, done_ended, done_frees}
+use Rattle.device_model.proofs.Finishing.{fetched_size, moved_goes, going_has_move, going_may_end, done_ended, done_frees, no_more_going}
 use Rattle.device_model.proofs.Telling.{gains_none, gains_done}
 use Rattle.device_model.proofs.Told.{on_hardware}
 use Rattle.device_model.proofs.model.Model.finish.Given.{Over}
@@ -135,7 +135,12 @@ returns-then-done-clause-answers g c =
           (c.in-Some.ensures.begun.ready start),
       record {
         asked = goes_next (SendsEnd c.args.slot.0) c.args.port.0 c.args.slot.0 _ _ _ c.loop-piece.did is.did is.refused (inr (inr done));
-        ends = inr (is.fine, λ _. done_ended c.args.port.0 c.args.slot.0 c.sectors-sectors.result _ _ done);
+        ends = inr (
+          is.fine,
+          λ _.
+              let issued = no_more_going c.args.port.0 c.args.slot.0 c.sectors-sectors.result c.loop-piece.did _ _ is.did is.refused in
+              done_ended c.args.port.0 c.args.slot.0 c.sectors-sectors.result _ _ _ issued done,
+        );
         held = all.held;
         says = all.says;
         which = all.which;

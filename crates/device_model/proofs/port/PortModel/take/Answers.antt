@@ -12,12 +12,12 @@ use Rattle.device_model.proofs.SlotLemmas.{slots_begun}
 use Rattle.device_model.proofs.port.PortModel.take.Goals as goal
 
 -- a queued one
-pub returns-then-is_queued : goal.returns-then-is_queued
-returns-then-is_queued c = λ m.
+pub returns-then-queued : goal.returns-then-queued
+returns-then-queued c = λ m.
     let p : PortModel = c.args.self.now in
     let r : TakenCommand = c.args.command in
     let state : PortState = with_fetch (port_of p m) c.args.slot (taken_of r).meaning (taken_of r).places in
-    let queued : true ≡ is_queued (operation_of r.transfer) = sym c.if-is_queued.true ∙ c.is_queued.ensures in
+    let queued : true ≡ is_queued (operation_of r.transfer) = sym c.if-queued.true ∙ c.is_queued-queued.ensures in
     let taken = ap slots_of c.put.ensures ∙ slots_begun (held_in p.taken) c.args.slot r c.requires.unmoved in
     let ci : bits_of c.with_bit_as-self.result ≡ changed (bits_of p.ci) c.args.slot false =
     c.with_bit_as-self.ensures ∙ ap (λ (place : ℕ). changed (bits_of p.ci) place false) c.from.ensures in
@@ -25,12 +25,12 @@ returns-then-is_queued c = λ m.
     ∙ ap (λ (b : Bool). record state { ci = if b then changed (bits_of p.ci) c.args.slot false else bits_of p.ci; tfd = if b then (port_of p m).tfd else bit_or (port_of p m).tfd 0x80 }) queued
 
 -- a plain one
-pub returns-else-is_queued : goal.returns-else-is_queued
-returns-else-is_queued c = λ m.
+pub returns-else-queued : goal.returns-else-queued
+returns-else-queued c = λ m.
     let p : PortModel = c.args.self.now in
     let r : TakenCommand = c.args.command in
     let state : PortState = with_fetch (port_of p m) c.args.slot (taken_of r).meaning (taken_of r).places in
-    let plain : false ≡ is_queued (operation_of r.transfer) = sym c.if-is_queued.false ∙ c.is_queued.ensures in
+    let plain : false ≡ is_queued (operation_of r.transfer) = sym c.if-queued.false ∙ c.is_queued-queued.ensures in
     let taken = ap slots_of c.put.ensures ∙ slots_begun (held_in p.taken) c.args.slot r c.requires.unmoved in
     let tfd : bit_or c.task_file.result 0x80 ≡ bit_or (port_of p m).tfd 0x80 = ap (λ (n : ℕ). bit_or n 0x80) c.task_file.ensures in
     (λ i. record (port_of p m) { taken = taken i; tfd = tfd i })

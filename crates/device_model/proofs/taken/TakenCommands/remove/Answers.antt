@@ -1,7 +1,8 @@
-use Rattle.std.proofs.Common.{rules, ◌<◌, ◌∙◌, None, length}
+use Rattle.std.proofs.Common.{rules, ◌≡◌, ◌<◌, ◌∙◌, None, length, sym}
+use Rattle.std.proofs.lemmas.List.{length-set}
 use Rattle.adapter.specs.Memory.{changed}
 use Rattle.device_model.specs.View.{held_in}
-use Rattle.device_model.proofs.SlotLemmas.{set_slot}
+use Rattle.device_model.proofs.SlotLemmas.{filled_set, set_slot}
 use Rattle.device_model.proofs.taken.TakenCommands.remove.Goals as goal
 
 pub returns : goal.returns
@@ -9,3 +10,11 @@ returns c =
     let items = c.self.inside.slots.items in
     let small : c.from.result < length items = search rules in
     set_slot items c.from.result None small ∙ (λ i. changed (held_in (c.self.view_is i)) (c.from.ensures i) None)
+
+pub invariant_of-self : goal.invariant_of-self
+invariant_of-self c =
+    let items = c.self.inside.slots.items in
+    let small : c.from.result < length items = search rules in
+    let place : c.from-2.result ≡ c.from.result = c.from-2.ensures ∙ sym c.from.ensures in
+    let bits = rw place at c.with_bit_as-self-inside.ensures in
+    (simp length-set c.self.invariant.0, filled_set items c.from.result None _ _ small c.self.invariant.1 bits)

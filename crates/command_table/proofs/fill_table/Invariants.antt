@@ -3,7 +3,7 @@ use Rattle.command_table.specs.Bytes.{part}
 use Rattle.adapter.specs.Spelling.{AreZero, SpellsCommand}
 use Rattle.adapter.specs.declared.command.Prd.{Prd}
 use Rattle.adapter.specs.Spelling.{SpellsPrd}
-use Rattle.command_table.proofs.table_bytes.Given as goal
+use Rattle.command_table.proofs.fill_table.Given as goal
 
 abbrev pub invariant-loop-i : goal.invariant-loop-i
 invariant-loop-i l = record {

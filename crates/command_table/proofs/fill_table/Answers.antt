@@ -2,18 +2,17 @@ use Rattle.std.proofs.Common.{◌≡◌, ℕ, ◌+◌, ◌*◌, ◌<◌, ◌≤�
 use Rattle.std.proofs.lemmas.List.{get_or_default}
 use Rattle.command_table.specs.Bytes.{part}
 use Rattle.command_table.proofs.Parts.{part_before, part_whole}
-use Rattle.command_table.proofs.Zeros.{zero_of}
 use Rattle.adapter.specs.Spelling.{SpellsCommand}
 use Rattle.adapter.specs.declared.command.Prd.{Prd}
 use Rattle.adapter.specs.Spelling.{SpellsPrd}
-use Rattle.command_table.proofs.table_bytes.Goals as goal
+use Rattle.command_table.proofs.fill_table.Goals as goal
 
 pub loop-i-init : goal.loop-i-init
 loop-i-init c =
     let n : length c.encode_h2d.result ≡ 20 = c.encode_h2d.ensures.size in
     let stored : part c.store_at.new.buffer 0 20 ≡ c.encode_h2d.result =
     ap (part c.store_at.new.buffer 0) (sym n) ∙ part_whole _ _ _ _ c.store_at.ensures (omega arith) in
-    let zero_at : (k : ℕ) → 20 ≤ k → k < 640 → slice_index c.store_at.new.buffer k ≡ 0 = λ k low high. c.store_at.ensures.after k (omega (arith, n)) ∙ zero_of 640 k in
+    let zero_at : (k : ℕ) → 20 ≤ k → k < 640 → slice_index c.store_at.new.buffer k ≡ 0 = λ k low high. c.store_at.ensures.after k (omega (arith, n)) ∙ c.requires.zeros k (omega arith) high in
     record {
       size = omega (arith, c.store_at.ensures.size);
       fis = subst (λ (b : List ℕ). SpellsCommand b c.args.command.now) (sym stored) c.encode_h2d.ensures;

@@ -1,0 +1,61 @@
+// The PRDs of a command, as many as it has.
+ghost use Rattle.std.specs.Prelude.{◌≡◌, ◌<◌, ◌≤◌, ◌++◌, ◌∷◌, [], length, take};
+
+use adapter::Prd;
+use std::marker::Model;
+
+/// How many PRDs a command has at the most that the model takes.
+pub const MOST_PRDS: usize = 128;
+
+const NO_PRD: Prd = Prd {
+    address: 0,
+    bytes: 0,
+};
+
+/// The PRDs of a command, in their order (AHCI 1.3.1, 4.2.3.3): there is room for 128, and those that there are stand first. So what goes over
+/// them has no more to do than there are.
+#[derive(Debug, Drop)]
+pub struct PrdTable {
+    room: [Prd; MOST_PRDS],
+    number: usize,
+}
+
+impl Model for PrdTable {
+    ghost use Rattle.std.specs.Prelude.{◌≤◌, List, take};
+    ghost use Rattle.adapter.specs.declared.command.Prd.{Prd};
+
+    ghost Value = { List Prd };
+
+    ghost view = { λ t. take t.number t.room };
+
+    ghost invariant = { λ t. t.number ≤ 128 };
+}
+
+impl PrdTable {
+    /// None yet.
+    pub fn new() -> PrdTable
+        ensures { result ≡ [] }
+    {
+        PrdTable {
+            room: [NO_PRD; MOST_PRDS],
+            number: 0,
+        }
+    }
+
+    /// One more.
+    pub fn push(&mut self, prd: Prd)
+        requires { length self.old < 128 }
+        ensures { self.new ≡ self.old ++ prd ∷ [] }
+    {
+        self.room[self.number] = prd;
+        self.number += 1;
+    }
+
+    /// Those that there are.
+    pub fn as_slice(&self) -> &[Prd]
+        ensures same { result.now ≡ self.now }
+        ensures few { length result.now ≤ 128 }
+    {
+        &self.room[..self.number]
+    }
+}
