@@ -40,7 +40,8 @@ use Rattle.driver_history.specs.Trace.{ReadsMasks, ResetsLink, IsServing, IsDriv
 -- ---- how a call came from the one device to the other
 
 -- What issuing a request on the port is made of: stores in the driver's frames, of its header, table and block, and writes of PxSACT and PxCI.
--- (That these are the right bytes and bits is said by what holds after the call.)
+-- (That these are the right bytes and bits is said by what holds after the call. In which slot a request goes, and that PxSACT is written first, no
+-- history tells: the server's own contract does, and the adapter's rules ask for that order.)
 abbrev pub IssuesOn : Port → Access → Type 0
 IssuesOn port (Writing r v) = (r ≡ Px port Sact) ⊎ (r ≡ Px port Ci)
 IssuesOn port (Storing at bytes) = at + length bytes ≤ DRIVER_BYTES

@@ -19,7 +19,7 @@ const ENTRY_SECTORS: u32 = 65_535;
 /// The entry at this place of a block: the range is cut from its front into entries that are full, and a last one.
 fn entry_of(range: &Range, place: usize) -> [u8; ENTRY_BYTES]
     requires place { place < 64 }
-    requires sectors { range.now.first.0 + range.now.count ≤ 2 ^ 48 }
+    requires sectors { 0 < range.now.count → range.now.first.0 + range.now.count ≤ 2 ^ 48 }
     ensures first { entry_first result 0 ≡ first_of range.now.first.0 range.now.count place }
     ensures length { entry_length result 0 ≡ length_of range.now.count place }
 {
@@ -34,10 +34,10 @@ fn entry_of(range: &Range, place: usize) -> [u8; ENTRY_BYTES]
 }
 
 /// The block of a trim of 4,194,240 sectors at most (64 entries of 65,535), each below 2^48. It names exactly them, in order; entries
-/// that aren't needed are zero.
+/// that aren't needed are zero. Where there is no sector, it is zeros, wherever the range begins.
 pub fn trim_block(range: &Range) -> [u8; 512]
     requires count { range.now.count ≤ 4194240 }
-    requires sectors { range.now.first.0 + range.now.count ≤ 2 ^ 48 }
+    requires sectors { 0 < range.now.count → range.now.first.0 + range.now.count ≤ 2 ^ 48 }
     ensures means { trim_sectors result ≡ consecutive range.now.first.0 range.now.count }
     ensures cut { IsCut result range.now.first.0 range.now.count }
 {

@@ -24,7 +24,7 @@ use Rattle.agreement.specs.Driver.{Known, Knows, ByDevice, Goes}
 use Rattle.agreement.specs.Facts.{EndedIn, IsClear}
 use Rattle.agreement.specs.Links.{LeavesControls}
 use Rattle.agreement.specs.Slots.{Serves, Uses}
-use Rattle.ncq.specs.Masks.{AreClear, FindsDone, FindsEnds, IsFinding, SeesClear}
+use Rattle.ncq.specs.Masks.{AreClear, ReadsDone, FindsEnds, IsFinding, SeesClear}
 use Rattle.ncq.proofs.Issued.{changed_here}
 
 -- what laws of the crates below say
@@ -131,7 +131,7 @@ module _ (laws : Laws) (port : Port) (mask done issued active : ℕ) (old mid ne
       two : Act
       two = record { access = Some (Reading (Px port Sact) active); steps = y.0; later = at s new }
 
-  finds : FindsDone port mask done old new
+  finds : ReadsDone port mask done old new
   finds = record {
     issued = issued;
     active = active;
@@ -146,5 +146,5 @@ module _ (laws : Laws) (port : Port) (mask done issued active : ℕ) (old mid ne
     comes = comes;
   }
 
-  pub finds_done : FindsDone port mask done old new × SeesClear port mask done old
+  pub finds_done : ReadsDone port mask done old new × SeesClear port mask done old
   finds_done = (finds, sees)

@@ -23,7 +23,7 @@ use Rattle.agreement.specs.Driven.{AnyUse, IsAgreed, IsFollowed, IsOf, SendsNone
 use Rattle.agreement.specs.Driver.{EndsWith, Goes, IsBacked, Known, Knows}
 use Rattle.agreement.specs.Slots.{Own, Use, op_of}
 use Rattle.command_table.specs.Written.{IsTableStore}
-use Rattle.ncq.specs.Masks.{FindsDone, IsFinding}
+use Rattle.ncq.specs.Masks.{ReadsDone, IsFinding}
 use Rattle.ncq.specs.Transfers.{IsIssuing, IsOnItsWay, IssuesLast, IssuesTransfer, IsTransferOf, MayServe, with_serving}
 use Rattle.ncq.specs.declared.Transfer.{Transfer}
 use Rattle.ncq.proofs.Issued.{all_as}
@@ -114,7 +114,7 @@ module _ (laws : Laws) (port : Port) (slot : ℕ) (r : Transfer) (frames : List 
 
 -- ---- finding
 
-pub finding_followed : (port : Port) (mask done : ℕ) (old new : Device) → FindsDone port mask done old new → IsFollowed (IsFinding port) AnyUse old new
+pub finding_followed : (port : Port) (mask done : ℕ) (old new : Device) → ReadsDone port mask done old new → IsFollowed (IsFinding port) AnyUse old new
 finding_followed port mask done old new f = record {
   driven = f.driven;
   comes = λ s m reached knows any.

@@ -37,7 +37,7 @@ AreClear mask issued active done = (slot : ℕ) → slot < 32 → bit done slot 
 
 -- PxCI is read, and then PxSACT, and nothing else is done. A slot of the mask is done where its bits were clear in both. And each machine
 -- that agrees follows.
-pub record FindsDone (port : Port) (mask done : ℕ) (old new : Device) : Type 0 where
+pub record ReadsDone (port : Port) (mask done : ℕ) (old new : Device) : Type 0 where
   pub issued : ℕ
   pub active : ℕ
   pub driven : IsDrivenBy (IsFinding port) old new

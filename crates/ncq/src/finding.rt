@@ -6,7 +6,7 @@ ghost use Rattle.hba_regs.specs.declared.reg.PortReg.TheVariants.{Ci, Sact};
 ghost use Rattle.adapter.specs.Access.{Reads};
 ghost use Rattle.adapter.specs.Device.{Device};
 ghost use Rattle.adapter.specs.Rules.{IsOn};
-ghost use Rattle.ncq.specs.Masks.{AreClear, FindsDone, SeesClear};
+ghost use Rattle.ncq.specs.Masks.{AreClear, ReadsDone, SeesClear};
 
 use adapter::laws::steps_keep;
 use agreement::acts::acts_are_done;
@@ -16,7 +16,7 @@ use agreement::laws::{going_composes, histories_go_on, reading_is_followed, step
 /// PxCI and then PxSACT are read: they tell what is done.
 pub fn reading_finds_done()
     ensures { (port : Port) (mask done issued active : ℕ) (old mid new : Device) → IsOn old → Reads (Px port Ci) issued old mid
-        → Reads (Px port Sact) active mid new → AreClear mask issued active done → FindsDone port mask done old new × SeesClear port mask done old }
+        → Reads (Px port Sact) active mid new → AreClear mask issued active done → ReadsDone port mask done old new × SeesClear port mask done old }
 {
     acts_are_done();
     adapter_stays();

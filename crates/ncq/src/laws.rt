@@ -13,7 +13,7 @@ ghost use Rattle.agreement.specs.Acts.{InSlots, Performs, at};
 ghost use Rattle.agreement.specs.Driven.{AnyUse, IsAgreed, IsFollowed, IsOf, SendsNone};
 ghost use Rattle.agreement.specs.Driver.{EndsWith, Knows};
 ghost use Rattle.agreement.specs.Slots.{Own, op_of};
-ghost use Rattle.ncq.specs.Masks.{FindsDone, IsFinding};
+ghost use Rattle.ncq.specs.Masks.{ReadsDone, IsFinding};
 ghost use Rattle.ncq.specs.Transfers.{IsIssuing, IssuesLast, IssuesTransfer, IsTransferOf, MayServe, with_serving};
 ghost use Rattle.ncq.specs.Witness.{FirstMayBeIssued};
 ghost use Rattle.ncq.specs.declared.Transfer.{Transfer};
@@ -58,7 +58,7 @@ pub fn issuing_performs()
 
 /// What is found done is a stretch that is followed, with each slot used as it was.
 pub fn finding_is_followed()
-    ensures { (port : Port) (mask done : ℕ) (old new : Device) → FindsDone port mask done old new
+    ensures { (port : Port) (mask done : ℕ) (old new : Device) → ReadsDone port mask done old new
         → IsFollowed (IsFinding port) AnyUse old new }
 {}
 

@@ -12,7 +12,7 @@ ghost use Rattle.command_table.specs.Written.{IsUnused};
 ghost use Rattle.hba_regs.specs.declared.reg.PortReg.TheVariants.{Ci, Sact};
 ghost use Rattle.hba_regs.specs.declared.reg.Reg.TheVariants.{Px};
 ghost use Rattle.ncq.specs.Issuing.{IsArmedFor};
-ghost use Rattle.ncq.specs.Masks.{AreClear, FindsDone, SeesClear};
+ghost use Rattle.ncq.specs.Masks.{AreClear, ReadsDone, SeesClear};
 ghost use Rattle.ncq.specs.Transfers.{Arms, IsFit, IsTransfer, IssuesTransfer, MayTransfer, meaning_of, operation_of};
 
 mod finding;
@@ -182,7 +182,7 @@ pub fn done<A: Adapter>(adapter: &mut A, port: Port, mask: u32) -> u32
     requires on { IsOn (A.device adapter.old) }
     requires there { HasPort (A.device adapter.old) port.0 }
     ensures on { IsOn (A.device adapter.new) }
-    ensures finds { FindsDone port mask result (A.device adapter.old) (A.device adapter.new) }
+    ensures finds { ReadsDone port mask result (A.device adapter.old) (A.device adapter.new) }
     ensures seen { SeesClear port mask result (A.device adapter.old) }
 {
     adapter_stays();

@@ -27,7 +27,7 @@ use Rattle.std.specs.List.{All}
 use Rattle.port_look.specs.Looks.{IsLooking}
 use Rattle.port_look.specs.Laws.{Laws}
 use Rattle.port_look.specs.Services.{IsService}
-use Rattle.ncq.specs.Masks.{FindsDone, IsFinding}
+use Rattle.ncq.specs.Masks.{ReadsDone, IsFinding}
 use Rattle.hba_regs.specs.Bits.{bit}
 use Rattle.server_history.specs.Below.{LawsBelow}
 use Rattle.server_history.proofs.Plain.{finding_serves}
@@ -99,7 +99,7 @@ module _ (s : Server) (new : Device) (port : Port) (k : IsKept s) (ready : state
   looking_kept laws followed =
       kept_over laws (IsLooking port) (looking_service port) looking_stores (λ q. (looking_spares q Ci (λ e. absurd cc), looking_spares q Sact (λ e. absurd cc))) (λ q low other. apart laws.looks port (IsLooking port) (looking_of port) q other s.device new k.on followed.driven) followed
 
-  module _ (laws : LawsBelow) (mask done : ℕ) (finds : FindsDone port mask done s.device new) where
+  module _ (laws : LawsBelow) (mask done : ℕ) (finds : ReadsDone port mask done s.device new) where
     pub finding_kept : IsKept (record s { device = new })
     finding_kept =
         let followed = laws.finding_followed port mask done s.device new finds in

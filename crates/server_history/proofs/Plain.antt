@@ -6,7 +6,7 @@ use Rattle.hba_regs.specs.declared.reg.Reg.TheVariants.{Px}
 use Rattle.adapter.specs.Access.{Access, DoesAll, Reads}
 use Rattle.adapter.specs.Access.Access.{Reading, Writing, Loading, Storing}
 use Rattle.adapter.specs.Device.{Device}
-use Rattle.ncq.specs.Masks.{FindsDone, IsFinding}
+use Rattle.ncq.specs.Masks.{ReadsDone, IsFinding}
 use Rattle.ncq.specs.Transfers.{IsIssuing}
 use Rattle.server_history.specs.Served.{IssuesIn}
 use Rattle.port_look.specs.Services.{IsService}
@@ -30,7 +30,7 @@ finding_serves port (Writing r v) here = absurd here
 finding_serves port (Loading at bytes) here = absurd here
 finding_serves port (Storing at bytes) here = absurd here
 
-module _ (port : Port) (mask done : ℕ) (old new : Device) (f : FindsDone port mask done old new) where
+module _ (port : Port) (mask done : ℕ) (old new : Device) (f : ReadsDone port mask done old new) where
   -- PxCI was read, and then PxSACT
   pub both_read : (mid : Device) × Reads (Px port Ci) f.issued old mid × Reads (Px port Sact) f.active mid new
   both_read =

@@ -35,7 +35,7 @@ use Rattle.host_boot.specs.Taken.{found_of}
 use Rattle.host_boot.specs.declared.Found.TheVariants.{Ready}
 use Rattle.driver_history.specs.Histories.{IssuesDue}
 use Rattle.identify.specs.declared.DiskInfo.{DiskInfo}
-use Rattle.ncq.specs.Masks.{FindsDone, IsFinding, SeesClear}
+use Rattle.ncq.specs.Masks.{ReadsDone, IsFinding, SeesClear}
 use Rattle.port_look.specs.Looks.{IsLooking, LooksAt}
 use Rattle.port_look.specs.Laws.{Laws}
 use Rattle.port_look.specs.Services.{IsService}
@@ -64,7 +64,7 @@ use Rattle.server_history.proofs.Slots.{AreOver, ready_found, served_by, serves_
 looks_serve : (port : Port) (old new : Device) → IsFollowed (IsLooking port) AnyUse old new → IsFollowed IsService AnyUse old new
 looks_serve port old new followed = followed_as (IsLooking port) IsService AnyUse AnyUse old new (looking_service port) (λ uses any. any) followed
 
-finds_serve : LawsBelow → (port : Port) (mask done : ℕ) (old new : Device) → FindsDone port mask done old new → IsFollowed IsService AnyUse old new
+finds_serve : LawsBelow → (port : Port) (mask done : ℕ) (old new : Device) → ReadsDone port mask done old new → IsFollowed IsService AnyUse old new
 finds_serve laws port mask done old new finds = followed_as (IsFinding port) IsService AnyUse AnyUse old new (finding_serves port) (λ uses any. any) (laws.finding_followed port mask done old new finds)
 
 -- answers issue nothing
@@ -248,7 +248,7 @@ module _ (s : Server) (seen : Device) (port : Port) (t : IsSettled s) (ready : s
       asked slot used small is = its slot small ∙ ap is_used is
 
       -- none of what it has issued was found done
-      pub unfinished : (new : Device) (done : ℕ) → FindsDone port mask done seen new → SeesClear port mask done seen → HasNone done → ServesPort port [] s (record s { device = new })
+      pub unfinished : (new : Device) (done : ℕ) → ReadsDone port mask done seen new → SeesClear port mask done seen → HasNone done → ServesPort port [] s (record s { device = new })
       unfinished new done reads sees none =
           nobody_answered s new port t
           (record {
@@ -276,7 +276,7 @@ module _ (s : Server) (seen : Device) (port : Port) (t : IsSettled s) (ready : s
           false≢true (sym (none slot small) ∙ sees slot small (asked slot used small is) c.0 c.1))
 
       -- what was found done was answered
-      module _ (new : Server) (found : Device) (done : ℕ) (replies : List Reply) (reads : FindsDone port mask done seen found) (sees : SeesClear port mask done seen) (was_done : HasNone done → ⊥)
+      module _ (new : Server) (found : Device) (done : ℕ) (replies : List Reply) (reads : ReadsDone port mask done seen found) (sees : SeesClear port mask done seen) (was_done : HasNone done → ⊥)
           (a : AnswersDone port done replies (record s { device = found }) new) where
         abbrev from : Server
         from = record s { device = found }

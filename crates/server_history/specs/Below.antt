@@ -35,7 +35,7 @@ use Rattle.block_machine.specs.declared.due.Mode.{Mode}
 use Rattle.block_machine.specs.declared.due.Unanswered.{Unanswered}
 use Rattle.dma_frames.specs.Table.{Table, LendsOnly, lent_to}
 use Rattle.block_machine.specs.Histories.{IsReached}
-use Rattle.ncq.specs.Masks.{FindsDone, IsFinding}
+use Rattle.ncq.specs.Masks.{ReadsDone, IsFinding}
 use Rattle.ncq.specs.Transfers.{IsIssuing, IsTransferOf, IssuesTransfer, MayServe, with_serving}
 use Rattle.ncq.specs.declared.Transfer.{Transfer}
 use Rattle.port_look.specs.Laws.{Laws}
@@ -99,4 +99,4 @@ pub record LawsBelow : Type 0 where
   pub issuing_of : (port : Port) (slot : ℕ) (access : Access) → IsIssuing port slot access → IsOf port access
   -- it is found done
   pub finding_of : (port : Port) (access : Access) → IsFinding port access → IsOf port access
-  pub finding_followed : (port : Port) (mask done : ℕ) (old new : Device) → FindsDone port mask done old new → IsFollowed (IsFinding port) AnyUse old new
+  pub finding_followed : (port : Port) (mask done : ℕ) (old new : Device) → ReadsDone port mask done old new → IsFollowed (IsFinding port) AnyUse old new

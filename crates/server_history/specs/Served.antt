@@ -26,7 +26,7 @@ use Rattle.host_boot.specs.declared.Found.{Found}
 use Rattle.host_boot.specs.declared.Found.TheVariants.{Ready}
 use Rattle.adapter.specs.Access.{Access}
 use Rattle.hba_regs.specs.Bits.{bit}
-use Rattle.ncq.specs.Masks.{FindsDone}
+use Rattle.ncq.specs.Masks.{ReadsDone}
 use Rattle.ncq.specs.Transfers.{IsIssuing, IssuesTransfer, meaning_of}
 use Rattle.agreement.specs.Readying.{IsStored}
 use Rattle.command_table.specs.Places.{places_of}
@@ -68,7 +68,7 @@ IsAnsweredIn id replies = (reply : Reply) × Contains replies reply × (reply.id
 pub record Checks (port : Port) (slots : PortSlots) (mask : ℕ) (replies : List Reply) (old new : Device) : Type 0 where
   pub done : ℕ
   pub read : Device
-  pub reads : FindsDone port mask done old read
+  pub reads : ReadsDone port mask done old read
   pub exact : (slot : ℕ) (used : SlotUse) → slot < 32 → use_at slots slot ≡ Some used → bit done slot ≡ true ↔ IsAnsweredIn used.id replies
   pub running : HasNone done → (replies ≡ []) × (new ≡ read)
   pub over : IsDrivenBy (IssuesIn port) read new

@@ -30,7 +30,7 @@ ghost use Rattle.dma_frames.specs.Table.{Table, LendsOnly, owner_of, lent_to};
 ghost use Rattle.host_boot.specs.Taken.{found_of, TakesOver};
 ghost use Rattle.host_boot.specs.declared.Host.{Host};
 ghost use Rattle.hba_regs.specs.Bits.{bit};
-ghost use Rattle.ncq.specs.Masks.{FindsDone, SeesClear};
+ghost use Rattle.ncq.specs.Masks.{ReadsDone, SeesClear};
 ghost use Rattle.request_queue.specs.Entries.{Held, asks, asks_of};
 ghost use Rattle.server_history.specs.Below.{LawsBelow};
 ghost use Rattle.server_history.specs.Histories.{Adds, HasBegun, load_said, store_said};
@@ -194,10 +194,10 @@ pub fn looks_keep()
         → IsFollowed (IsLooking port) AnyUse s.device new
         → IsKept (record s { device = new }) }
     ensures finding { (s : Server) (new : Device) (port : Port) (mask done : ℕ) → IsKept s → state_of (found_of s.ports port.0) ≡ ReadyState
-        → FindsDone port mask done s.device new → IsKept (record s { device = new }) }
+        → ReadsDone port mask done s.device new → IsKept (record s { device = new }) }
     ensures found { (s : Server) (new : Device) (port : Port) (mask done slot : ℕ) → IsKept s
         → state_of (found_of s.ports port.0) ≡ ReadyState → IsMaskOf (slots_at s.slots port.0) mask → slot < 32
-        → FindsDone port mask done s.device new → bit done slot ≡ true → IsOver (new.port port.0) slot }
+        → ReadsDone port mask done s.device new → bit done slot ≡ true → IsOver (new.port port.0) slot }
 {
     the_laws_below_hold();
 }
@@ -213,12 +213,12 @@ pub fn a_port_is_served()
         → ServesPort port [] s (record s { device = seen }) }
     ensures unfinished { (s : Server) (seen new : Device) (port : Port) (mask : ℕ) → IsSettled s → state_of (found_of s.ports port.0) ≡ ReadyState
         → LooksAt port Calm s.device seen → IsFollowed (IsLooking port) AnyUse s.device seen → IsMaskOf (slots_at s.slots port.0) mask
-        → (HasNone mask → ⊥) → (done : ℕ) → FindsDone port mask done seen new → SeesClear port mask done seen → HasNone done
+        → (HasNone mask → ⊥) → (done : ℕ) → ReadsDone port mask done seen new → SeesClear port mask done seen → HasNone done
         → ServesPort port [] s (record s { device = new }) }
     ensures finished { (s new : Server) (seen found : Device) (port : Port) (mask done : ℕ) (replies : List Reply) → IsSettled s
         → state_of (found_of s.ports port.0) ≡ ReadyState
         → LooksAt port Calm s.device seen → IsFollowed (IsLooking port) AnyUse s.device seen → IsMaskOf (slots_at s.slots port.0) mask
-        → (HasNone mask → ⊥) → FindsDone port mask done seen found → SeesClear port mask done seen → (HasNone done → ⊥)
+        → (HasNone mask → ⊥) → ReadsDone port mask done seen found → SeesClear port mask done seen → (HasNone done → ⊥)
         → AnswersDone port done replies (record s { device = found }) new → ServesPort port replies s new }
 {
     the_laws_below_hold();

@@ -5,6 +5,7 @@ use flush_trim::trim_block;
 /// Name, first sector, how many sectors, and the block's entries up to its zeros.
 const BLOCKS: &[(&str, u64, u32, &[[u8; 8]])] = &[
     ("no sector", 1000, 0, &[]),
+    ("no sector, past all that there may be", u64::MAX, 0, &[]),
     ("one sector", 1000, 1, &[[0xe8, 3, 0, 0, 0, 0, 1, 0]]),
     (
         "as many as an entry names",
@@ -40,7 +41,7 @@ const BLOCKS: &[(&str, u64, u32, &[[u8; 8]])] = &[
 
 /// The block, where a trim may be of these sectors.
 fn block_of(first: u64, count: u32) -> Option<[u8; 512]> {
-    if count > 4_194_240 || u128::from(first) + u128::from(count) > 1 << 48 {
+    if count > 4_194_240 || (count > 0 && u128::from(first) + u128::from(count) > 1 << 48) {
         return None;
     }
     Some(trim_block(&Range {
