@@ -46,7 +46,7 @@ rights = \"r\"
 const SECTORS: u32 = 256;
 
 /// As many requests as a client may have unanswered.
-const MOST: u16 = 16;
+const MOST: u8 = 16;
 
 /// The first client's first frame: the first that isn't the driver's. Another client's begin as many further on.
 const FIRST: u16 = DRIVER_FRAMES;
@@ -55,7 +55,7 @@ const FIRST: u16 = DRIVER_FRAMES;
 const FRAMES: u16 = 40;
 
 /// How many reads are asked before a service, by which rows.
-const TOGETHER: [(u16, &str); 6] = [
+const TOGETHER: [(u8, &str); 6] = [
     (1, "1 read of 8 sectors, and the service that answers it"),
     (2, "2 reads of 8 sectors, and the service that answers both"),
     (4, "4 reads of 8 sectors, and the service that answers all"),
@@ -85,9 +85,9 @@ fn transfer(server: &mut Served, client: u8, op: Op, frame: u16) -> Option<()> {
 
 /// Has the disk do what is issued in the lowest slots, so many, the last first, and asks the server for replies: `None` if there aren't this
 /// many.
-fn answer(server: &mut Served, slots: u16, replies: usize) -> Option<()> {
+fn answer(server: &mut Served, slots: u8, replies: usize) -> Option<()> {
     for slot in (0..slots).rev() {
-        let _done = server.device(&DeviceStep::Finish(Port(0), Slot(slot as u8)));
+        let _done = server.device(&DeviceStep::Finish(Port(0), Slot(slot)));
     }
     (server.service().len() == replies).then_some(())
 }
@@ -150,7 +150,8 @@ fn together<W: io::Write>(server: &mut Served, table: &mut Table<'_, W>) -> Opti
     for (count, calls) in TOGETHER {
         for place in 0..count {
             let client = place / MOST;
-            transfer(server, 1 + client as u8, Op::Read, FIRST + FRAMES * client + place % MOST)?;
+            let frame = FIRST + FRAMES * u16::from(client) + u16::from(place % MOST);
+            transfer(server, 1 + client, Op::Read, frame)?;
         }
         answer(server, count, usize::from(count))?;
         table.row(calls, server)?;
