@@ -60,8 +60,14 @@ const TOGETHER: [(u8, &str); 6] = [
     (2, "2 reads of 8 sectors, and the service that answers both"),
     (4, "4 reads of 8 sectors, and the service that answers all"),
     (8, "8 reads of 8 sectors, and the service that answers all"),
-    (16, "16 reads of 8 sectors, and the service that answers all"),
-    (32, "32 reads of 8 sectors, and the service that answers all"),
+    (
+        16,
+        "16 reads of 8 sectors, and the service that answers all",
+    ),
+    (
+        32,
+        "32 reads of 8 sectors, and the service that answers all",
+    ),
 ];
 
 /// A server whose accesses are counted.

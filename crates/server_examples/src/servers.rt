@@ -142,43 +142,57 @@ const IDENTIFY: Slot = (
     NO_ENTRY,
 );
 
-/// A read of eight sectors from 100 on into frame 40, READ DMA EXT.
+/// The header of a read in slot 0 with one entry, and of a write.
+const READ_HEADER: [u8; 16] = [5, 0, 1, 0, 0, 0, 0, 0, 0, 0x10, 0, 0, 0, 0, 0, 0];
+
+const WRITE_HEADER: [u8; 16] = [0x45, 0, 1, 0, 0, 0, 0, 0, 0, 0x10, 0, 0, 0, 0, 0, 0];
+
+/// All of frames 40, 45 and 76, and three sectors of frame 41.
+const FRAME_40: [u8; 16] = [0, 0x80, 2, 0, 0, 0, 0, 0, 0, 0, 0, 0, 0xff, 0x0f, 0, 0];
+
+const FRAME_45: [u8; 16] = [0, 0xd0, 2, 0, 0, 0, 0, 0, 0, 0, 0, 0, 0xff, 0x0f, 0, 0];
+
+const FRAME_76: [u8; 16] = [0, 0xc0, 4, 0, 0, 0, 0, 0, 0, 0, 0, 0, 0xff, 0x0f, 0, 0];
+
+const FRAME_41: [u8; 16] = [0, 0x90, 2, 0, 0, 0, 0, 0, 0, 0, 0, 0, 0xff, 0x05, 0, 0];
+
+/// A read of eight sectors from 100 on into frame 40, by READ DMA EXT.
 const SHORT_READ: Slot = (
-    [5, 0, 1, 0, 0, 0, 0, 0, 0, 0x10, 0, 0, 0, 0, 0, 0],
+    READ_HEADER,
     [
         0x27, 0x80, 0x25, 0, 0x64, 0, 0, 0x40, 0, 0, 0, 0, 8, 0, 0, 0, 0, 0, 0, 0,
     ],
-    [0, 0x80, 2, 0, 0, 0, 0, 0, 0, 0, 0, 0, 0xff, 0x0f, 0, 0],
+    FRAME_40,
     NO_ENTRY,
 );
 
-/// A read of 256 sectors from 100 on into frames 45 to 76, READ DMA EXT.
+/// A read of 256 sectors from 100 on into frames 45 to 76, by READ DMA EXT.
 const LONG_READ: Slot = (
     [5, 0, 0x20, 0, 0, 0, 0, 0, 0, 0x10, 0, 0, 0, 0, 0, 0],
     [
         0x27, 0x80, 0x25, 0, 0x64, 0, 0, 0x40, 0, 0, 0, 0, 0, 1, 0, 0, 0, 0, 0, 0,
     ],
-    [0, 0xd0, 2, 0, 0, 0, 0, 0, 0, 0, 0, 0, 0xff, 0x0f, 0, 0],
-    [0, 0xc0, 4, 0, 0, 0, 0, 0, 0, 0, 0, 0, 0xff, 0x0f, 0, 0],
+    FRAME_45,
+    FRAME_76,
 );
 
-/// A write of three sectors from 100 on from frame 41, WRITE DMA EXT.
+/// A write of three sectors from 100 on from frame 41, by WRITE DMA EXT.
 const WRITE: Slot = (
-    [0x45, 0, 1, 0, 0, 0, 0, 0, 0, 0x10, 0, 0, 0, 0, 0, 0],
+    WRITE_HEADER,
     [
         0x27, 0x80, 0x35, 0, 0x64, 0, 0, 0x40, 0, 0, 0, 0, 3, 0, 0, 0, 0, 0, 0, 0,
     ],
-    [0, 0x90, 2, 0, 0, 0, 0, 0, 0, 0, 0, 0, 0xff, 0x05, 0, 0],
+    FRAME_41,
     NO_ENTRY,
 );
 
 /// The short read by READ FPDMA QUEUED, in slot 0: the sectors stand in the features field, and the tag in bits 7:3 of the count field (ACS-3).
 const QUEUED_SHORT_READ: Slot = (
-    SHORT_READ.0,
+    READ_HEADER,
     [
         0x27, 0x80, 0x60, 8, 0x64, 0, 0, 0x40, 0, 0, 0, 0, 0, 0, 0, 0, 0, 0, 0, 0,
     ],
-    SHORT_READ.2,
+    FRAME_40,
     NO_ENTRY,
 );
 
@@ -188,17 +202,17 @@ const QUEUED_LONG_READ: Slot = (
     [
         0x27, 0x80, 0x60, 0, 0x64, 0, 0, 0x40, 0, 0, 0, 1, 0x28, 0, 0, 0, 0, 0, 0, 0,
     ],
-    LONG_READ.2,
-    LONG_READ.3,
+    FRAME_45,
+    FRAME_76,
 );
 
 /// The write by WRITE FPDMA QUEUED, in slot 0.
 const QUEUED_WRITE: Slot = (
-    WRITE.0,
+    WRITE_HEADER,
     [
         0x27, 0x80, 0x61, 3, 0x64, 0, 0, 0x40, 0, 0, 0, 0, 0, 0, 0, 0, 0, 0, 0, 0,
     ],
-    WRITE.2,
+    FRAME_41,
     NO_ENTRY,
 );
 
