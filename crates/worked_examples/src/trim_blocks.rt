@@ -68,6 +68,10 @@ fn whole_blocks_are_full(rt: HostRuntime) {
         assert!(rt; false);
         return;
     };
-    assert!(rt; block.chunks_exact(8).all(|entry| entry[6..] == [0xff, 0xff]));
+    assert!(rt;
+        block
+            .chunks_exact(8)
+            .all(|entry| entry[6..] == [0xff, 0xff])
+    );
     assert!(rt; block[504..510] == [0xc1, 0xff, 0x3e, 0, 0, 0]);
 }
