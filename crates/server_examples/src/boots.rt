@@ -49,7 +49,7 @@ fn found(alloc: Global, sectors: u32, lies: [Lie; 4]) -> Result<(u8, bool, Found
 }
 
 /// The page has no signature of a checksum, so that its bytes may sum to anything.
-const UNSIGNED: Lie = (510, 0x01);
+pub const UNSIGNED: Lie = (510, 0x01);
 
 // Byte 510 of IDENTIFY DEVICE holds the signature of the checksum, bytes 166 and 167 word 83, bytes 212 and 213 word 106, bytes 200 to 207 the
 // number of sectors, and bytes 20 to 39 the serial number (ACS-3, 7.12.7).

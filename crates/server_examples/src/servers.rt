@@ -3,7 +3,8 @@ ghost use Rattle.std.specs.Prelude.{IfOk};
 ghost use Rattle.block_server.specs.Made.{IsReadyFor};
 ghost use Rattle.configuration.specs.Rules.{IsSound};
 
-use crate::watched::{Access, Watched};
+use crate::boots::UNSIGNED;
+use crate::watched::{Access, Lie, NO_LIE, Watched, lie};
 use adapter::{Adapter, DeviceStep};
 use arrayvec::ArrayVec;
 use ata_types::{ClientId, Frame, MemFault, Op, Port, PortState, Refusal, Request, Rule, Sector};
@@ -48,6 +49,9 @@ const PLAIN: &str = text_with!("slots = 1\nncq = false\ndepth = 1\n");
 
 /// Commands are queued.
 const QUEUED: &str = text_with!("slots = 32\nncq = true\ndepth = 32\n");
+
+/// Neither adapter nor disk queues commands.
+const UNQUEUED: &str = text_with!("slots = 32\nncq = false\ndepth = 32\n");
 
 /// The values of the text.
 fn config(alloc: Global, text: &str) -> Result<Config, Fail>
@@ -253,6 +257,53 @@ fn queued_commands_stand_in_memory(rt: HostRuntime) -> Result<(), Fail> {
         request(Op::Read, 100, 256, 45, 32),
     ];
     check(&rt, QUEUED, &six, 5, QUEUED_LONG_READ, &SERVICE)
+}
+
+/// How often PxSACT and PxCI of port 0 are written for two reads, which are asked for one after the other, where the disk lies so of its page.
+fn issues(alloc: Global, text: &str, lies: [Lie; 2]) -> Result<(usize, usize), Fail> {
+    let config = config(alloc, text)?;
+    let mut model = model_of(alloc, &config, 356)?;
+    let [one, another] = lies;
+    lie(&mut model, one);
+    lie(&mut model, another);
+    let Ok(server) = Server::new(alloc, &config, Watched::new(alloc, model)?) else {
+        return Err(Fail::from("no server"));
+    };
+    let mut server = server;
+    let before = server.adapter().accesses.len();
+    let first = server.submit(&request(Op::Read, 100, 8, 40, 1)).is_ok();
+    let second = server.submit(&request(Op::Read, 108, 8, 41, 1)).is_ok();
+    let watched = server.close();
+    if !first || !second {
+        return Err(Fail::from("a read is refused"));
+    }
+    let written = |wanted: PortReg| {
+        watched
+            .accesses
+            .iter()
+            .skip(before)
+            .filter(|access| matches!(access, Access::Write(Reg::Px(Port(0), reg), _) if *reg == wanted))
+            .count()
+    };
+    Ok((written(PortReg::Sact), written(PortReg::Ci)))
+}
+
+/// The page's bit of native command queuing is turned: bit 8 of word 76 (ACS-3, 7.12.7).
+const TURNED: Lie = (153, 0x01);
+
+// A read waits for the one before it where adapter or disk doesn't queue commands.
+#[test]
+fn commands_are_queued_where_both_can(rt: HostRuntime) -> Result<(), Fail> {
+    for (text, lies, what) in [
+        (QUEUED, [NO_LIE, NO_LIE], (2, 2)),
+        (QUEUED, [UNSIGNED, TURNED], (0, 1)),
+        (UNQUEUED, [UNSIGNED, TURNED], (0, 1)),
+        (UNQUEUED, [NO_LIE, NO_LIE], (0, 1)),
+    ] {
+        let issues = issues(rt.alloc(), text, lies)?;
+        assert_eq!(rt; issues, what, "{lies:?}");
+    }
+    Ok(())
 }
 
 // FISes of a disk (Serial ATA). The status is 7Fh without BSY and DRQ, which PxTFD shows here from the first FIS on, but for DRQ of a PIO
