@@ -26,34 +26,37 @@ trim = "full"
 [[port]]
 number = 0
 """
-CLIENTS = 8
-# Unanswered requests of one client at most, and frames of each.
+# Unanswered requests of one client at most, and frames of each of eight clients; one client alone has all that they have.
 PLACES = 16
 
 
-def configuration(grants):
-    """Eight clients with a grant of all sectors each, after so many less one of client 1 that no line uses: its last is the one that lines use."""
+def configuration(clients=1, grants=1):
+    """So many clients with a grant of all sectors each, after so many less one of client 1 that no line uses: its last is the one that lines use."""
     text = ADAPTER
-    for client in range(1, CLIENTS + 1):
-        text += f"[[client]]\nid = {client}\nfirst_frame = {40 + PLACES * (client - 1)}\nframes = {PLACES}\n"
-    named = [(1, number) for number in range(grants - CLIENTS + 1)] + [(client, 0) for client in range(2, CLIENTS + 1)]
-    for client, number in sorted(named, key=lambda name: name == (1, grants - CLIENTS)):
+    frames = 8 * PLACES // clients
+    for client in range(1, clients + 1):
+        text += f"[[client]]\nid = {client}\nfirst_frame = {40 + frames * (client - 1)}\nframes = {frames}\n"
+    named = [(1, number) for number in range(grants - clients + 1)] + [(client, 0) for client in range(2, clients + 1)]
+    for client, number in sorted(named, key=lambda name: name == (1, grants - clients)):
         text += f'[[grant]]\nclient = {client}\nnumber = {number}\nport = 0\nfirst = 0\ncount = 256\nrights = "rw"\n'
     return text
 
 
 def waiting():
-    """127 writes of the same sectors, of which the first is issued in slot 0, and isn't done."""
-    names = [(client, 40 + PLACES * (client - 1) + place) for client in range(CLIENTS, 0, -1) for place in range(PLACES)]
+    """127 writes of the same sectors by eight clients, of which the first is issued in slot 0, and isn't done."""
+    names = [(client, 40 + PLACES * (client - 1) + place) for client in range(8, 0, -1) for place in range(PLACES)]
     return [f"write {client} 0 200 8 {frame}" for client, frame in names[:-1]]
 
 
-def script(requests, at_a_time, before=(), grant=0, slot=0):
-    """These lines, and then reads of eight sectors, so many of them unanswered at a time; the first goes in this slot."""
+def script(requests, at_a_time, before=(), grant=0, slot=0, sectors=8):
+    """These lines, and then reads of so many sectors, so many of them unanswered at a time; the first goes in this slot."""
     lines = list(before)
-    first = 40 + PLACES - at_a_time
+    wide = sectors // 8
     for _ in range(requests // at_a_time):
-        lines += [f"read 1 {grant} 0 8 {first + place}" for place in range(at_a_time)]
+        for place in range(at_a_time):
+            first = 40 + PLACES - at_a_time + place if wide == 1 else 40
+            frames = ",".join(str(frame) for frame in range(first, first + wide))
+            lines.append(f"read 1 {grant} 0 {sectors} {frames}")
         lines += [f"dev finish 0 {slot + place}" for place in range(at_a_time)] + ["service"]
     return "".join(f"{line}\n" for line in lines)
 
@@ -119,7 +122,7 @@ def main():
     bench, blockd = build("bench"), build("blockd")
     with tempfile.TemporaryDirectory() as folder:
         room = pathlib.Path(folder)
-        (room / "config").write_text(configuration(CLIENTS))
+        (room / "config").write_text(configuration())
         (room / "one").write_text("service\n")
         with open(room / "image", "wb") as image:
             image.truncate(512 * SECTORS)
@@ -136,22 +139,23 @@ def main():
             for disk, words in over.items():
                 spent = seconds(words(name), room) - seconds(words("one"), room)
                 print(f"| {disk} | {at_a_time} | {spent:.3f} | {1e6 * spent / requests:.2f} |")
-        (room / "many").write_text(configuration(64))
-        last = 64 - CLIENTS
+        (room / "grants").write_text(configuration(grants=64))
+        (room / "clients").write_text(configuration(clients=8, grants=8))
         lines = max(of_each(lambda requests: "state 0\n" * 3 * requests, bench, room).values())
         print(f"\nReading and printing three lines: {lines:,.0f} instructions\n")
-        print("| Asked at a time | Unanswered | Grants | Instructions a request | the model's | the server's, and what the line of a read is longer |")
-        print("|---|---|---|---|---|---|")
-        for at_a_time, before, grants, text in (
-            (1, 1, CLIENTS, lambda requests: script(requests, 1)),
-            (1, 1, 64, lambda requests: script(requests, 1, grant=last)),
-            (1, 128, CLIENTS, lambda requests: script(requests, 1, waiting(), slot=1)),
-            (16, 16, CLIENTS, lambda requests: script(requests, 16)),
+        print("| Sectors | Asked at a time | Unanswered | Grants | Instructions a request | the model's | the server's, and what the line of a read is longer |")
+        print("|---|---|---|---|---|---|---|")
+        for sectors, at_a_time, unanswered, grants, config, text in (
+            (8, 1, 1, 1, "config", lambda requests: script(requests, 1)),
+            (256, 1, 1, 1, "config", lambda requests: script(requests, 1, sectors=256)),
+            (8, 1, 1, 64, "grants", lambda requests: script(requests, 1, grant=63)),
+            (8, 1, 128, 8, "clients", lambda requests: script(requests, 1, waiting(), slot=1)),
+            (8, 16, 16, 1, "config", lambda requests: script(requests, 16)),
         ):
-            found = of_each(text, bench, room, "config" if grants == CLIENTS else "many")
+            found = of_each(text, bench, room, config)
             spent = lines if at_a_time == 1 else lines * (2 + 1 / at_a_time) / 3
             whole, model, server = parts(found, spent)
-            print(f"| {at_a_time} | {before} | {grants} | {whole:,.0f} | {model:,.0f} | {server:,.0f} |")
+            print(f"| {sectors} | {at_a_time} | {unanswered} | {grants} | {whole:,.0f} | {model:,.0f} | {server:,.0f} |")
 
 
 if __name__ == "__main__":
