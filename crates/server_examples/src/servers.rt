@@ -282,7 +282,9 @@ fn issues(alloc: Global, text: &str, lies: [Lie; 2]) -> Result<(usize, usize), F
             .accesses
             .iter()
             .skip(before)
-            .filter(|access| matches!(access, Access::Write(Reg::Px(Port(0), reg), _) if *reg == wanted))
+            .filter(
+                |access| matches!(access, Access::Write(Reg::Px(Port(0), reg), _) if *reg == wanted),
+            )
             .count()
     };
     Ok((written(PortReg::Sact), written(PortReg::Ci)))
