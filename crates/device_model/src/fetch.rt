@@ -1,8 +1,9 @@
 // What the bytes of a slot mean, read as the device reads them. Bytes past the end of the memory are zeros.
-ghost use Rattle.std.specs.Prelude.{◌≡◌, ◌<◌, ◌≤◌, ◌+◌, ◌*◌, ◌^◌, ◌%◌, ℕ, List, true, false, None, Some, All, IfSome, IsTrue, ◌↔◌, length, slice_index};
+ghost use Rattle.std.specs.Prelude.{Bool, ◌≡◌, ◌<◌, ◌≤◌, ◌+◌, ◌*◌, ◌^◌, ◌%◌, ℕ, List, true, false, None, Some, All, IfSome, IsTrue, ◌↔◌, length, slice_index};
 ghost use Rattle.adapter.specs.Commands.{IsMeaning, Meaning, command_of, with_fields};
 ghost use Rattle.adapter.specs.Memory.{bytes_at};
 ghost use Rattle.adapter.specs.Says.{HasPrds, IsWhole, Says, pieces};
+ghost use Rattle.adapter.specs.declared.command.Command.{Command};
 ghost use Rattle.adapter.specs.Spelling.{AreZero, SpellsCommand, SpellsHeader, SpellsPrd};
 ghost use Rattle.byteorder.specs.Endian.{little_from};
 ghost use Rattle.device_model.specs.Fetched.{ArePrds, IsPadded, bytes_of};
@@ -330,23 +331,41 @@ pub fn read_as(memory: &[u8], list: u32, slot: u8, transfer: Transfer) -> Option
     })
 }
 
-/// The command that the bytes of a slot say, if it is one that the model takes.
+/// The code of the command whose FIS stands in the table of the header at an address.
+fn code_at(memory: &[u8], at: usize) -> u8
+    requires { at < 2 ^ 33 }
+    ensures { (writes : Bool) (entries table : ℕ) (command : Command) → SpellsHeader (bytes_at (bytes_of memory.now) at HEADER_BYTES) writes entries table →
+        SpellsCommand (bytes_at (bytes_of memory.now) table 20) command → result ≡ command.code }
+{
+    let mut header = [0; 32];
+    copy_bytes(memory, at, &mut header);
+    let table = LittleEndian::read_u32(&header[8..]);
+    let mut fis = [0; 20];
+    copy_bytes(memory, table as usize, &mut fis);
+    fis[2]
+}
+
+/// The transfer whose command has this code (ACS-3, 7).
+fn transfer_coded(code: u8) -> Option<Transfer>
+    ensures { (transfer : Transfer) (slot first count : ℕ) → (command_of (operation_of transfer) slot first count).code ≡ code → result ≡ Some transfer }
+{
+    match code {
+        0x25 => Some(Transfer::Read),
+        0x35 => Some(Transfer::Write),
+        0x60 => Some(Transfer::ReadQueued),
+        0x61 => Some(Transfer::WriteQueued),
+        0xec => Some(Transfer::Identify),
+        _ => None,
+    }
+}
+
+/// The command that the bytes of a slot say, if it is one that the model takes. Its code tells which, so that it is read once.
 pub fn read_command(memory: &[u8], list: u32, slot: u8) -> Option<TakenCommand>
     requires { slot < 32 }
     ensures found { IfSome result (λ t. (t.moved ≡ 0) × Says (bytes_of memory.now) list slot (taken_of t).meaning (taken_of t).places) }
     ensures only { result ≡ None → (m : Meaning) (places : List ℕ) → Takes m.operation → Says (bytes_of memory.now) list slot m places → ⊥ }
 {
-    if let Some(command) = read_as(memory, list, slot, Transfer::Read) {
-        return Some(command);
-    }
-    if let Some(command) = read_as(memory, list, slot, Transfer::Write) {
-        return Some(command);
-    }
-    if let Some(command) = read_as(memory, list, slot, Transfer::ReadQueued) {
-        return Some(command);
-    }
-    if let Some(command) = read_as(memory, list, slot, Transfer::WriteQueued) {
-        return Some(command);
-    }
-    read_as(memory, list, slot, Transfer::Identify)
+    let at = list as usize + HEADER_BYTES as usize * usize::from(slot);
+    let transfer = transfer_coded(code_at(memory, at))?;
+    read_as(memory, list, slot, transfer)
 }
