@@ -1,7 +1,7 @@
 #!/usr/bin/env bash
-# Proves and runs everything, from nothing: `rt ci`, the edits that the prover must refuse, the cases of the built program, and
-# the edits that the compiler must refuse; and looks for the names in the documents. The last line is 'N passed, M failed', of
-# all. What each part took is told on standard error.
+# Proves and runs everything: `rt ci`, which keeps what this machine proved before of the same files; the edits that the prover must refuse;
+# the cases of the built program; and the edits that the compiler must refuse; and looks for the names in the documents. The last line is
+# 'N passed, M failed', of all. What each part took is told on standard error.
 set -euo pipefail
 cd "$(dirname "$0")/.."
 if [[ -z ${IS_MEASURED:-} ]]; then
