@@ -2,12 +2,12 @@
 use Rattle.std.proofs.Common.{ℕ, Bool, true, false, zero, suc, ◌≡◌, refl, sym, subst, inl, inr}
 use Rattle.adapter.specs.Device.{Device}
 use Rattle.adapter.specs.Steps.{Steps}
-use Rattle.adapter.specs.Steps.Step.{Fetch, Move, Done, Unplug, Plug, Scribble}
+use Rattle.adapter.specs.Steps.Step.{Fetch, Move, Clear, Done, Unplug, Plug, Scribble}
 use Rattle.adapter.specs.declared.command.Operation.{Operation}
 use Rattle.adapter.specs.declared.access.DeviceStep.{DeviceStep}
 use Rattle.adapter.specs.declared.access.DeviceStep.TheVariants as asked
 use Rattle.adapter.proofs.Runs.{Steps-refl, Steps-one, Steps-trans}
-use Rattle.adapter.specs.Asked.{DoesOne, DoesSome, GoesOn, MayPost, Asked}
+use Rattle.adapter.specs.Asked.{DoesClear, DoesOne, DoesSome, GoesOn, MayPost, Asked}
 
 module _ (Posts : (port flag : ℕ) → Operation → Device → Device → Type 0) where
   pub goes_one : (port slot : ℕ) (old new : Device) → DoesOne Posts port slot old new → GoesOn Posts port slot old new
@@ -28,10 +28,14 @@ post_steps port flag operation old new (inr post) =
     Steps-one (Scribble port 0 post.0 post.1) old new
     (record { fre = post.2.receives; place = inl (post.2.from, post.2.to); are_bytes = post.2.are_bytes }) post.2.effect
 
+clear_steps : (port slot most : ℕ) (old new : Device) → DoesClear port slot most old new → Steps old new
+clear_steps port slot most old new c = Steps-one (Clear port slot c.t c.first c.count) old new c.can c.effect
+
 one_steps : (port slot : ℕ) (old new : Device) → DoesOne MayPost port slot old new → Steps old new
 one_steps port slot old new (inl f) = Steps-one (Fetch port slot f.meaning f.places) old new f.can f.effect
 one_steps port slot old new (inr (inl m)) = Steps-one (Move port slot m.t m.bytes) old new m.can m.effect
-one_steps port slot old new (inr (inr e)) =
+one_steps port slot old new (inr (inr (inr c))) = clear_steps port slot c.0 old new c.1
+one_steps port slot old new (inr (inr (inl e))) =
     Steps-trans (Steps-one (Done port slot e.done.flag e.done.t) old e.mid e.done.can e.done.effect)
     (post_steps port e.done.flag e.done.t.meaning.operation e.mid new e.posts)
 
@@ -42,7 +46,8 @@ some_steps (suc n) port slot old new s = Steps-trans (some_steps n port slot old
 pub asked_steps : (s : DeviceStep) (old new : Device) → Asked s old new → Steps old new
 asked_steps (asked.Fetch p slot) old new did = one_steps p.0 slot.0 old new (inl did)
 asked_steps (asked.Move p slot) old new did = one_steps p.0 slot.0 old new (inr (inl did))
-asked_steps (asked.Done p slot) old new did = one_steps p.0 slot.0 old new (inr (inr did))
+asked_steps (asked.Clear p slot most) old new did = clear_steps p.0 slot.0 most old new did
+asked_steps (asked.Done p slot) old new did = one_steps p.0 slot.0 old new (inr (inr (inl did)))
 asked_steps (asked.Finish p slot) old new did = some_steps (suc did.0) p.0 slot.0 old new did.1
 asked_steps (asked.Lie p page offset bits) old new did = let P : Device → Type 0 = λ d. Steps old d in subst P (sym did) (Steps-refl old)
 asked_steps (asked.Truth p) old new did = let P : Device → Type 0 = λ d. Steps old d in subst P (sym did) (Steps-refl old)

@@ -156,7 +156,7 @@ module _ (old : Device) (port slot first count : ℕ) (places : List ℕ) (told 
         end,
         record {
           steps = Steps-trans m.steps (Steps-one (Done port slot 0 (command count)) d end can refl);
-          goes = (suc count, (d, m.goes, inr (inr ended)));
+          goes = (suc count, (d, m.goes, inr (inr (inl ended))));
           shown = ap (λ (p : PortState). p.is) here ∙ ap (λ (f : ℕ → Bool). changed f 0 true) m.is;
           free = subst P (sym here)
               (record { ci = changed_same (d.port port).ci slot false; taken = changed_same (d.port port).taken slot None });

@@ -5,7 +5,7 @@ use Rattle.adapter.specs.Commands.{Meaning}
 use Rattle.adapter.specs.Device.{Disk, Taken, Device}
 use Rattle.adapter.specs.Memory.{patched}
 use Rattle.adapter.specs.Steps.{Can, after}
-use Rattle.adapter.specs.Steps.Step.{Fetch, Move, Done, Unplug, Plug}
+use Rattle.adapter.specs.Steps.Step.{Fetch, Move, Clear, Done, Unplug, Plug}
 use Rattle.adapter.specs.declared.command.Operation.{Operation}
 use Rattle.adapter.specs.declared.access.DeviceStep.{DeviceStep}
 use Rattle.adapter.specs.declared.access.DeviceStep.TheVariants as asked
@@ -23,6 +23,15 @@ pub record DoesMove (port slot : ℕ) (old new : Device) : Type 0 where
   pub bytes : List ℕ
   pub can : Can (Move port slot t bytes) old
   pub effect : new ≡ after (Move port slot t bytes) old
+
+-- so many sectors at the most of the slot's trim were cleared, the next ones of its block
+pub record DoesClear (port slot most : ℕ) (old new : Device) : Type 0 where
+  pub t : Taken
+  pub first : ℕ
+  pub count : ℕ
+  pub few : count ≤ most
+  pub can : Can (Clear port slot t first count) old
+  pub effect : new ≡ after (Clear port slot t first count) old
 
 -- the slot's command ended
 pub record DoesDone (port slot : ℕ) (old new : Device) : Type 0 where
@@ -55,7 +64,8 @@ pub record Ends (Posts : (port flag : ℕ) → Operation → Device → Device �
 
 -- a step of this slot's command
 abbrev pub DoesOne : ((port flag : ℕ) → Operation → Device → Device → Type 0) → ℕ → ℕ → Device → Device → Type 0
-DoesOne Posts port slot old new = DoesFetch port slot old new ⊎ DoesMove port slot old new ⊎ Ends Posts port slot old new
+DoesOne Posts port slot old new =
+    DoesFetch port slot old new ⊎ DoesMove port slot old new ⊎ Ends Posts port slot old new ⊎ ((most : ℕ) × DoesClear port slot most old new)
 
 -- so many steps of the slot's command, one after another, and nothing else
 abbrev pub DoesSome : ((port flag : ℕ) → Operation → Device → Device → Type 0) → ℕ → ℕ → ℕ → Device → Device → Type 0
@@ -83,6 +93,7 @@ pub record DoesPlug (port number : ℕ) (old new : Device) : Type 0 where
 abbrev pub AskedOf : ((port flag : ℕ) → Operation → Device → Device → Type 0) → DeviceStep → Device → Device → Type 0
 AskedOf Posts (asked.Fetch p s) old new = DoesFetch p.0 s.0 old new
 AskedOf Posts (asked.Move p s) old new = DoesMove p.0 s.0 old new
+AskedOf Posts (asked.Clear p s most) old new = DoesClear p.0 s.0 most old new
 AskedOf Posts (asked.Done p s) old new = Ends Posts p.0 s.0 old new
 AskedOf Posts (asked.Finish p s) old new = GoesOn Posts p.0 s.0 old new
 AskedOf Posts (asked.Lie p page offset bits) old new = new ≡ old

@@ -60,9 +60,12 @@ pub enum DeviceStep {
     Fetch(Port, Slot),
     /// Move the next 512 bytes of the slot's command.
     Move(Port, Slot),
-    /// End the slot's command, all of which was moved.
+    /// Clear so many of the next sectors of the slot's trim, whose block was moved. An adapter may clear fewer of them: those before the
+    /// first that it can't.
+    Clear(Port, Slot, u32),
+    /// End the slot's command, of which nothing is left to move or to clear.
     Done(Port, Slot),
-    /// What is left of the slot's command: take it, move, end it. An adapter may stop short of the end, after one of these
+    /// What is left of the slot's command: take it, move, clear, end it. An adapter may stop short of the end, after one of these
     /// at least.
     Finish(Port, Slot),
     /// Tell lies: from now on the disk of the port sends the byte of this page at this offset, below 512, with these bits turned. This
