@@ -22,7 +22,7 @@ use Rattle.block_machine.specs.Refusals.{Situation, Applies, IsAcceptable, IsFir
 use Rattle.block_machine.specs.Rules.{IsCount, frames_for, IsNamed, HasNoFault, Breaks, BreaksNone, IsFirstBroken, IsBefore, rank}
 use Rattle.block_machine.proofs.RuleLemmas.{number, place}
 use Rattle.dma_frames.specs.Table.{Table, owner_of, lent_to}
-use Rattle.ncq.specs.Transfers.{IsTransfer}
+use Rattle.ncq.specs.Tasks.{IsTransfer}
 use Rattle.server_history.specs.Server.{IsTransferRow, OwnsClientFrames}
 
 -- ---- the first refusal

@@ -31,10 +31,10 @@ use Rattle.host_boot.specs.declared.Found.{Found}
 use Rattle.host_boot.specs.declared.Found.TheVariants.{Unserved, Ready as FoundReady, Unready}
 use Rattle.request_queue.specs.Entries.{Held, IsAccepted, IsInOrder, asks, asks_of, at, issue}
 use Rattle.request_queue.specs.declared.Entry.{Entry}
-use Rattle.server_history.specs.Served.{IssuesOne, transfer_of, use_for}
+use Rattle.server_history.specs.Served.{IssuesOne, task_of, use_for}
 use Rattle.server_history.specs.Server.{Server, IsKept, IsTransferRow, is_served, mode_in, no_slots, slots_at, state_of, with_slot}
 use Rattle.slots.specs.Uses.{Uses as PortSlots, IsLowestFree, IsTaken, with_use}
-use Rattle.ncq.specs.Transfers.{IsFit, IsTransfer, IssuesTransfer, MayTransfer, meaning_of}
+use Rattle.ncq.specs.Tasks.{IsFit, IsTransfer, IssuesTask, RunsItsList, meaning_of}
 
 -- ---- what a request of the book is, where grants are to read and to write
 
@@ -114,8 +114,8 @@ module _ (s : Server) (device : Device) (book : List Held) (slots : PortSlots) (
   pub lent_room : 163840 ≤ device.size
   lent_room = subst (λ (d : Device). 163840 ≤ d.size) l.device_is l.kept.room
 
-  pub lent_may : MayTransfer port.0 device
-  lent_may = subst (MayTransfer port.0) l.device_is (record { started = runs.st; list = ap (λ b. b.clb) runs.bases })
+  pub lent_may : RunsItsList port.0 device
+  lent_may = subst (RunsItsList port.0) l.device_is (record { started = runs.st; list = ap (λ b. b.clb) runs.bases })
 
   in_list : port.0 < length s.slots
   in_list = let f = l.kept.four in let p = there.0 in omega (arith, f, p)
@@ -165,7 +165,7 @@ module _ (s : Server) (device : Device) (book : List Held) (slots : PortSlots) (
       frames_are fs f = sym f.3 ∙ ap (λ (x : Held). x.frames) (found_is f.0 f.1 f.2)
 
     -- as its port's mode has it, wherever its entry is told
-    pub transfer_is : (plain : Bool) (r : Entry) → plain ≡ is_plain mode r.op → r ≡ e.entry → record { op = r.op; range = r.range; queued = not plain } ≡ transfer_of mode e
+    pub transfer_is : (plain : Bool) (r : Entry) → plain ≡ is_plain mode r.op → r ≡ e.entry → record { op = r.op; range = r.range; queued = not plain } ≡ task_of mode e
     transfer_is plain r plain_is r_is =
         ap (λ (b : Bool). record { op = r.op; range = r.range; queued = not b }) plain_is
         ∙ ap (λ (x : Entry). record { op = x.op; range = x.range; queued = not (is_plain mode x.op) }) r_is
@@ -190,8 +190,8 @@ module _ (s : Server) (device : Device) (book : List Held) (slots : PortSlots) (
     is_free full all = full s e l.kept here its_due (subst (λ (u : PortSlots). (slot : ℕ) → slot < u.usable → IsTaken u slot) its_slots all)
 
     -- it was issued
-    pub sent : (slot : ℕ) → slot < 32 → IsLowestFree slots slot → (new : Device) → IssuesTransfer port slot (transfer_of mode e) e.frames device new
-        → IsStored new port.0 slot (meaning_of (transfer_of mode e)) (places_of e.frames e.entry.range.count) → (later : List Held) → later ≡ map (at id issue) book
+    pub sent : (slot : ℕ) → slot < 32 → IsLowestFree slots slot → (new : Device) → IssuesTask port slot (task_of mode e) e.frames device new
+        → IsStored new port.0 slot (meaning_of (task_of mode e)) (places_of e.frames e.entry.range.count) → (later : List Held) → later ≡ map (at id issue) book
         → (used : PortSlots) → used ≡ with_use slots slot (Some (record { id = id; queued = not (is_plain mode e.entry.op) })) → IssuesOne port id s (with_part s new later used port)
     sent slot small lowest new issues stored later later_is used used_is = record {
       request = e;
@@ -202,9 +202,9 @@ module _ (s : Server) (device : Device) (book : List Held) (slots : PortSlots) (
       slot = slot;
       small = small;
       lowest = subst (λ (u : PortSlots). IsLowestFree u slot) (sym l.slots_are) lowest;
-      issues = subst (λ (m : Mode). IssuesTransfer port slot (transfer_of m e) e.frames s.device new) (sym l.mode_is)
-          (subst (λ (d : Device). IssuesTransfer port slot (transfer_of mode e) e.frames d new) (sym l.device_is) issues);
-      stored = subst (λ (m : Mode). IsStored new port.0 slot (meaning_of (transfer_of m e)) (places_of e.frames e.entry.range.count)) (sym l.mode_is) stored;
+      issues = subst (λ (m : Mode). IssuesTask port slot (task_of m e) e.frames s.device new) (sym l.mode_is)
+          (subst (λ (d : Device). IssuesTask port slot (task_of mode e) e.frames d new) (sym l.device_is) issues);
+      stored = subst (λ (m : Mode). IsStored new port.0 slot (meaning_of (task_of m e)) (places_of e.frames e.entry.range.count)) (sym l.mode_is) stored;
       server = λ i. record s { device = new; slots = set_to i; book = (later_is ∙ ap (map (at id issue)) (sym l.book_is)) i };
     }
       where

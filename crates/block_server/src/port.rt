@@ -11,7 +11,7 @@ use adapter::Adapter;
 use ata_types::{Port, RequestId};
 use block_machine::laws::due_in_turn;
 use block_machine::{Mode, is_plain};
-use ncq::{Transfer, issue};
+use ncq::{Task, issue};
 use request_queue::Book;
 use request_queue::laws::{
     an_id_is_one_request, operations_change_what_is_due, the_book_stays_in_order,
@@ -37,7 +37,7 @@ fn issue_one<A: Adapter>(
     a_due_request_may_issue();
     an_id_is_one_request();
     let entry = book.request(id);
-    let transfer = Transfer {
+    let transfer = Task {
         op: entry.op,
         range: entry.range,
         queued: !is_plain(mode, entry.op),

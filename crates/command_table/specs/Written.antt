@@ -9,7 +9,7 @@ use Rattle.adapter.specs.Says.{pieces, IsWhole}
 use Rattle.adapter.specs.Spelling.{AreZero, SpellsCommand, SpellsPrd}
 use Rattle.adapter.specs.declared.command.Command.{Command}
 use Rattle.adapter.specs.declared.command.Prd.{Prd}
-use Rattle.agreement.specs.Places.{list_of, table_of}
+use Rattle.agreement.specs.Places.{list_of, scratch_of, table_of}
 use Rattle.agreement.specs.Slots.{Free, Uses}
 use Rattle.command_table.specs.Bytes.{part}
 
@@ -43,6 +43,15 @@ IsInTable port slot at bytes = (table_of port slot ≤ at) × (at + length bytes
 abbrev pub IsTableStore : ℕ → ℕ → Access → Type 0
 IsTableStore port slot (Storing at bytes) = IsHeader port slot at bytes ⊎ IsInTable port slot at bytes
 IsTableStore port slot access = ⊥
+
+-- A block of 512 bytes is stored at the head of the port's scratch frame, for the command of slot 0: no other slot has one.
+abbrev pub IsBlockStore : ℕ → ℕ → Access → Type 0
+IsBlockStore port slot (Storing at bytes) = (slot ≡ 0) × (at ≡ scratch_of port) × (length bytes ≡ 512)
+IsBlockStore port slot access = ⊥
+
+-- it stores such a header or table, or such a block
+abbrev pub IsStoreWithBlock : ℕ → ℕ → Access → Type 0
+IsStoreWithBlock port slot access = IsTableStore port slot access ⊎ IsBlockStore port slot access
 
 -- the slot isn't used
 abbrev pub IsUnused : ℕ → ℕ → Uses → Type 0

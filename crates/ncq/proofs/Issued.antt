@@ -5,7 +5,9 @@ use Rattle.std.proofs.lemmas.List.Elements.{All-append, All-cons, All-nil, All-h
 use Rattle.std.specs.List.{All}
 use Rattle.ata_types.specs.declared.Port.{Port}
 use Rattle.ata_types.specs.declared.request.Frame.{Frame}
+use Rattle.ata_types.specs.declared.range.Range.{Range}
 use Rattle.ata_types.specs.declared.request.Op.{Op}
+use Rattle.ata_types.specs.declared.request.Op.TheVariants.{Read, Write, Trim, Flush}
 use Rattle.ata_types.specs.declared.request.RequestId.{RequestId}
 use Rattle.hba_regs.specs.Bits.{bit}
 use Rattle.hba_regs.specs.declared.reg.Reg.{Reg}
@@ -35,12 +37,11 @@ use Rattle.agreement.specs.Places.{list_of}
 use Rattle.agreement.specs.Readying.{IsStored, IsReadied}
 use Rattle.agreement.specs.Slots.{Use, Free, Armed, Serves, Uses, put, Means, HasBlock, Told, IsArmed, IsServed}
 use Rattle.agreement.specs.Started.{ClearsNoStart}
-use Rattle.command_table.specs.Places.{places_of}
-use Rattle.command_table.specs.Written.{IsTableStore, IsUnused}
+use Rattle.command_table.specs.Written.{IsStoreWithBlock, IsUnused}
 use Rattle.ncq.specs.Issuing.{IsArmedFor, IsIssued}
-use Rattle.ncq.specs.Transfers.{Arms, IsInOrder, IsIssuing, IsOnItsWay, IsTransferOf, MayServe, IssuesLast, MayTransfer, meaning_of, with_serving, writes_of}
-use Rattle.ncq.specs.declared.Transfer.{Transfer}
-use Rattle.ncq.proofs.Telling.{kind_of, no_block, transfer_means}
+use Rattle.ncq.specs.Tasks.{Arms, HasBlockOf, IsStoreFor, IsInOrder, IsIssuing, IsOnItsWay, IsTaskOf, MayServe, IssuesLast, RunsItsList, addresses_of, meaning_of, operation_of, with_serving, writes_of}
+use Rattle.ncq.specs.declared.Task.{Task}
+use Rattle.ncq.proofs.Telling.{task_block, task_means}
 
 -- ---- lists
 
@@ -67,38 +68,58 @@ LeavesOthers = (port : Port) (q : ℕ) (old new : Device) → q ≢ port.0 → I
 abbrev LeavesAdapter : Type 0
 LeavesAdapter = (old new : Device) → IsDrivenBy AnyAccess old new → SameAdapter old new
 
-module _ (port : Port) (slot : ℕ) (old mid : Device) (stores : IsFollowed (IsTableStore port.0 slot) (IsUnused port.0 slot) old mid) where
-  of_next : (access : Access) → IsTableStore port.0 slot access → IsOf (record { 0 = port.0 + 1 }) access
-  of_next (Storing at bytes) here = tt
-  of_next (Reading q v) here = absurd here
-  of_next (Writing q v) here = absurd here
-  of_next (Loading at bytes) here = absurd here
+-- no store is of a register
+with_block_is_of : (at : Port) (port slot : ℕ) (access : Access) → IsStoreWithBlock port slot access → IsOf at access
+with_block_is_of at port slot (Storing place bytes) here = tt
+with_block_is_of at port slot (Loading place bytes) here = tt
+with_block_is_of at port slot (Reading q v) here = absurd (elim here [ inl x ↦ x | inr x ↦ x ])
+with_block_is_of at port slot (Writing q v) here = absurd (elim here [ inl x ↦ x | inr x ↦ x ])
 
+-- what is stored for a task is header and table, or a block
+pub store_for : (op : Op) (port slot : ℕ) (access : Access) → IsStoreFor op port slot access → IsStoreWithBlock port slot access
+store_for Trim port slot access here = here
+store_for Read port slot access here = inl here
+store_for Write port slot access here = inl here
+store_for Flush port slot access here = inl here
+
+pub store_is_of : (op : Op) (at : Port) (port slot : ℕ) (access : Access) → IsStoreFor op port slot access → IsOf at access
+store_is_of op at port slot access here = with_block_is_of at port slot access (store_for op port slot access here)
+
+with_block_spares : (port slot : ℕ) (r : Reg) (access : Access) → IsStoreWithBlock port slot access → SparesRegister r access
+with_block_spares port slot r (Storing place bytes) here = tt
+with_block_spares port slot r (Loading place bytes) here = tt
+with_block_spares port slot r (Reading q v) here = tt
+with_block_spares port slot r (Writing q v) here = absurd (elim here [ inl x ↦ x | inr x ↦ x ])
+
+store_spares : (op : Op) (port slot : ℕ) (r : Reg) → NoneWrites (IsStoreFor op port slot) r
+store_spares op port slot r access here = with_block_spares port slot r access (store_for op port slot access here)
+
+module _ (port : Port) (slot : ℕ) (op : Op) (old mid : Device) (stores : IsFollowed (IsStoreFor op port.0 slot) (IsUnused port.0 slot) old mid) where
   -- no store is of a register, so the port is left as by accesses of another one
   stores_left : LeavesOthers → IsOn old → LeavesPort (old.port port.0) (mid.port port.0)
   stores_left left on = left (record { 0 = port.0 + 1 }) port.0 old mid (λ (e : port.0 ≡ port.0 + 1). omega (arith, e)) on (record {
     accesses = stores.driven.accesses;
     all = stores.driven.all;
-    only = all_as (IsTableStore port.0 slot) (IsOf (record { 0 = port.0 + 1 })) of_next stores.driven.accesses stores.driven.only;
+    only = all_as (IsStoreFor op port.0 slot) (IsOf (record { 0 = port.0 + 1 })) (store_is_of op (record { 0 = port.0 + 1 }) port.0 slot) stores.driven.accesses stores.driven.only;
   })
 
   pub stores_same : LeavesAdapter → SameAdapter old mid
   stores_same adapter = adapter old mid (record {
     accesses = stores.driven.accesses;
     all = stores.driven.all;
-    only = all_as (IsTableStore port.0 slot) AnyAccess (λ access is. tt) stores.driven.accesses stores.driven.only;
+    only = all_as (IsStoreFor op port.0 slot) AnyAccess (λ access is. tt) stores.driven.accesses stores.driven.only;
   })
 
   pub stores_there : LeavesAdapter → HasPort old port.0 → HasPort mid port.0
   stores_there adapter there = (there.0, ap (λ (pi : ℕ). bit pi port.0) (stores_same adapter).pi ∙ there.1)
 
-  pub stores_may : LeavesOthers → IsOn old → MayTransfer port.0 old → MayTransfer port.0 mid
+  pub stores_may : LeavesOthers → IsOn old → RunsItsList port.0 old → RunsItsList port.0 mid
   stores_may left on may = record {
     started = (stores_left left on).controls.st ∙ may.started;
     list = ap (λ (x : Bases). x.clb) (stores_left left on).keeps.bases ∙ may.list;
   }
 
-  pub stores_stored : LeavesOthers → IsOn old → HasPort old port.0 → slot < 32 → MayTransfer port.0 old → (c : Meaning) (places : List ℕ) → Told mid.memory (list_of port.0) port.0 slot c places → IsStored mid port.0 slot c places
+  pub stores_stored : LeavesOthers → IsOn old → HasPort old port.0 → slot < 32 → RunsItsList port.0 old → (c : Meaning) (places : List ℕ) → Told mid.memory (list_of port.0) port.0 slot c places → IsStored mid port.0 slot c places
   stores_stored left on there small may c places told = record {
     started = (stores_may left on may).started;
     placed = record { port_below = there.0; slot_below = small; list = (stores_may left on may).list };
@@ -146,7 +167,6 @@ pub record Laws : Type 0 where
       → Means port slot e.request c places → is_queued c.operation ≡ not (is_plain mode e.request.asked.op)
       → HasBlock e.request.asked.op d.memory port e.request → bit v slot ≡ true → ((k : ℕ) → k ≢ slot → bit v k ≡ false) → IsPrepared uses m d port slot mode e v
   pub follows : (uses : Uses) (m : Machine) (old new : Device) → IsReached m → Agrees uses m old → Steps old new → Follows uses m old new
-  pub spares : (port slot : ℕ) (r : Reg) → NoneWrites (IsTableStore port slot) r
   pub put_here : (uses : Uses) (port slot : ℕ) (u : Use) → put uses port slot u port slot ≡ u
   pub put_others : (uses : Uses) (port slot : ℕ) (u : Use) (other_port other_slot : ℕ) → (other_port ≡ port → other_slot ≡ slot → ⊥)
       → put uses port slot u other_port other_slot ≡ uses other_port other_slot
@@ -214,6 +234,15 @@ module _ (laws : Laws) where
     armed_readied c places false is arms s m reached knows free stored =
         laws.plain s.uses armed port.0 slot c places is free (subst (λ (d : Device). IsStored d port.0 slot c places) (sym arms) stored)
 
+    -- a trim isn't queued, so its block is as it was
+    block_then : (op : Op) (range : Range) (at : ℕ) (queued : Bool) → is_queued (operation_of queued op) ≡ queued → Arms queued port own mid armed → HasBlockOf op range at mid.memory →
+        HasBlockOf op range at armed.memory
+    block_then Trim range at true kind arms block = absurd cc
+    block_then Trim range at false kind arms block = subst (λ (d : Device). HasBlockOf Trim range at d.memory) (sym arms) block
+    block_then Read range at queued kind arms block = tt
+    block_then Write range at queued kind arms block = tt
+    block_then Flush range at queued kind arms block = tt
+
   -- ---- a slot that was armed serves
 
   module _ (uses : Uses) (p k : ℕ) (id : RequestId) where
@@ -240,19 +269,22 @@ module _ (laws : Laws) where
 
   -- ---- the whole
 
-  module _ (port : Port) (slot : ℕ) (r : Transfer) (frames : List Frame) (own : ℕ) (old armed : Device) (b : IsArmedFor port slot r frames own old armed) where
-    stored : IsStored b.mid port.0 slot (meaning_of r) (places_of frames r.range.count)
-    stored = stores_stored port slot old b.mid b.stores laws.left b.on b.there b.small b.may (meaning_of r) (places_of frames r.range.count) b.told
+  module _ (port : Port) (slot : ℕ) (r : Task) (frames : List Frame) (own : ℕ) (old armed : Device) (b : IsArmedFor port slot r frames own old armed) where
+    stored : IsStored b.mid port.0 slot (meaning_of r) (addresses_of port.0 r.op r.range.count frames)
+    stored = stores_stored port slot r.op old b.mid b.stores laws.left b.on b.there b.small b.may (meaning_of r) (addresses_of port.0 r.op r.range.count frames) b.told
 
     on_armed : IsOn armed
     on_armed = armed_on port slot own b.alone b.mid armed b.mid_on stored.started r.queued b.arms
+
+    block_armed : HasBlockOf r.op r.range port.0 armed.memory
+    block_armed = block_then port slot own b.alone b.mid armed b.mid_on stored.started r.op r.range port.0 r.queued b.kind b.arms b.block
 
     -- from a machine that agrees, acts lead to the armed slot, which is ready for PxCI
     record Stage (s : InSlots) (m : Machine) : Type 0 where
       reaches : Reaches port slot r.queued (b.stores.driven.accesses ++ arming_of port r.queued own) s m old armed
       goes : Goes (at s old) m (steps_of reaches.acts) (at (with_armed r.queued port slot s) armed)
       reached : IsReached (after m (steps_of reaches.acts))
-      readied : IsReadied (with_armed r.queued port slot s).uses armed port.0 slot (meaning_of r) (places_of frames r.range.count)
+      readied : IsReadied (with_armed r.queued port slot s).uses armed port.0 slot (meaning_of r) (addresses_of port.0 r.op r.range.count frames)
 
     stage : (s : InSlots) (m : Machine) → IsReached m → Knows m (at s old) → s.uses port.0 slot ≡ Free → Stage s m
     stage s m reached knows free = record { reaches = reaches; goes = goes; reached = laws.reached (at s old) later m (steps_of reaches.acts) reached goes; readied = readied }
@@ -260,7 +292,7 @@ module _ (laws : Laws) where
         later : Known
         later = at (with_armed r.queued port slot s) armed
 
-        x : Comes b.stores.driven.accesses (at s old) m (at s b.mid) (AreDevices (IsTableStore port.0 slot) s.uses)
+        x : Comes b.stores.driven.accesses (at s old) m (at s b.mid) (AreDevices (IsStoreFor r.op port.0 slot) s.uses)
         x = b.stores.comes s m reached knows free
 
         g : Goes (at s old) m (steps_of x.acts) (at s b.mid)
@@ -273,7 +305,7 @@ module _ (laws : Laws) where
         y = armed_from port slot own b.alone b.mid armed b.mid_on stored.started r.queued b.arms s (after m (steps_of x.acts)) mid_reached g.knows free
 
         kept : (q : Port) → All (λ act. act.later.uses q.0 ≡ s.uses q.0) x.acts
-        kept q = x.tells.kept q (laws.spares port.0 slot (Px q Ci)) (laws.spares port.0 slot (Px q Sact))
+        kept q = x.tells.kept q (store_spares r.op port.0 slot (Px q Ci)) (store_spares r.op port.0 slot (Px q Sact))
 
         reaches : Reaches port slot r.queued (b.stores.driven.accesses ++ arming_of port r.queued own) s m old armed
         reaches = record {
@@ -294,9 +326,9 @@ module _ (laws : Laws) where
         goes : Goes (at s old) m (steps_of reaches.acts) later
         goes = laws.goes reaches.acts (at s old) later m knows reaches.done
 
-        readied : IsReadied (with_armed r.queued port slot s).uses armed port.0 slot (meaning_of r) (places_of frames r.range.count)
+        readied : IsReadied (with_armed r.queued port slot s).uses armed port.0 slot (meaning_of r) (addresses_of port.0 r.op r.range.count frames)
         readied =
-            armed_readied port slot own b.alone b.mid armed b.mid_on stored.started (meaning_of r) (places_of frames r.range.count) r.queued (kind_of r.queued r.op b.transfers) b.arms
+            armed_readied port slot own b.alone b.mid armed b.mid_on stored.started (meaning_of r) (addresses_of port.0 r.op r.range.count frames) r.queued b.kind b.arms
             s (after m (steps_of x.acts)) mid_reached g.knows free stored
 
     -- the machine that the caller knows of
@@ -310,8 +342,8 @@ module _ (laws : Laws) where
     permitted =
         let x = known_stage in
         let same = armed_same port slot own b.alone b.mid armed b.mid_on stored.started r.queued b.arms in
-        let whole = stores_same port slot old b.mid b.stores laws.adapter in
-        laws.permitted (with_armed r.queued port slot s0).uses (after b.agreed.2.machine (steps_of x.reaches.acts)) armed port slot (meaning_of r) (places_of frames r.range.count) own
+        let whole = stores_same port slot r.op old b.mid b.stores laws.adapter in
+        laws.permitted (with_armed r.queued port slot s0).uses (after b.agreed.2.machine (steps_of x.reaches.acts)) armed port slot (meaning_of r) (addresses_of port.0 r.op r.range.count frames) own
         x.reached x.goes.knows.agrees on_armed (b.there.0, ap (λ (pi : ℕ). bit pi port.0) (same.0 ∙ whole.pi) ∙ b.there.1)
         (subst (λ (cap : ℕ). slot ≤ cap / 256 % 32) (sym (same.1 ∙ whole.cap)) b.usable) x.readied b.alone.here b.alone.alone
 
@@ -326,11 +358,11 @@ module _ (laws : Laws) where
       arming_only true = All-cons (IsIssuing port slot) (Writing (Px port Sact) own) [] (inl refl, b.alone) (All-nil (IsIssuing port slot))
       arming_only false = All-nil (IsIssuing port slot)
 
-      in_table : (access : Access) → IsTableStore port.0 slot access → IsIssuing port slot access
-      in_table (Storing at bytes) here = here
-      in_table (Reading q v) here = absurd here
-      in_table (Writing q v) here = absurd here
-      in_table (Loading at bytes) here = absurd here
+      is_issuing : (access : Access) → IsStoreWithBlock port.0 slot access → IsIssuing port slot access
+      is_issuing (Storing at bytes) here = here
+      is_issuing (Reading q v) here = absurd (elim here [ inl x ↦ x | inr x ↦ x ])
+      is_issuing (Writing q v) here = absurd (elim here [ inl x ↦ x | inr x ↦ x ])
+      is_issuing (Loading at bytes) here = absurd (elim here [ inl x ↦ x | inr x ↦ x ])
 
       abbrev accesses : List Access
       accesses = (b.stores.driven.accesses ++ arming_of port r.queued own) ++ Writing (Px port Ci) own ∷ []
@@ -340,7 +372,7 @@ module _ (laws : Laws) where
           let P : Access → Type 0 = IsIssuing port slot in
           All-append P (b.stores.driven.accesses ++ arming_of port r.queued own) (Writing (Px port Ci) own ∷ [])
           (All-append P b.stores.driven.accesses (arming_of port r.queued own)
-          (all_as (IsTableStore port.0 slot) P in_table b.stores.driven.accesses b.stores.driven.only) (arming_only r.queued))
+          (all_as (IsStoreFor r.op port.0 slot) P (λ access here. is_issuing access (store_for r.op port.0 slot access here)) b.stores.driven.accesses b.stores.driven.only) (arming_only r.queued))
           (All-cons P (Writing (Px port Ci) own) [] (inr refl, b.alone) (All-nil P))
 
       driven_all : DoesAll accesses old new
@@ -352,7 +384,7 @@ module _ (laws : Laws) where
       writes_are true = refl
       writes_are false = refl
 
-      in_order : IsInOrder port slot r.queued accesses
+      in_order : IsInOrder port slot r accesses
       in_order = record {
         stores = b.stores.driven.accesses;
         only = b.stores.driven.only;
@@ -364,9 +396,9 @@ module _ (laws : Laws) where
 
       -- ---- from a machine on which the request is due
 
-      module _ (mode : Mode) (e : Pending) (is : IsTransferOf port slot r frames mode e) where
+      module _ (mode : Mode) (e : Pending) (is : IsTaskOf port slot r frames mode e) where
         kind : is_queued (meaning_of r).operation ≡ not (is_plain mode e.request.asked.op)
-        kind = kind_of r.queued r.op b.transfers ∙ (is.kind ∙ sym (ap (λ (o : Op). not (is_plain mode o)) is.operation))
+        kind = b.kind ∙ (is.kind ∙ sym (ap (λ (o : Op). not (is_plain mode o)) is.operation))
 
         head : is_plain mode e.request.asked.op ≡ true → slot ≡ 0
         head plain = is.head (is.kind ∙ ap not (sym (ap (is_plain mode) is.operation) ∙ plain))
@@ -405,8 +437,9 @@ module _ (laws : Laws) where
 
             prepared : IsPrepared (with_armed r.queued port slot s).uses m2 armed port.0 slot mode e own
             prepared =
-                laws.prepared (with_armed r.queued port slot s).uses m2 armed port.0 slot (meaning_of r) (places_of frames r.range.count) mode e own x.readied
-                (laws.due m (steps_of x.reaches.acts) reached x.reaches.device x.goes.may mode e fits.1) (ap (λ (p : Port). p.0) is.port_is) is.usable head (transfer_means port slot r frames mode e b.transfers is) kind (no_block port slot r frames mode e b.transfers is armed.memory)
+                laws.prepared (with_armed r.queued port slot s).uses m2 armed port.0 slot (meaning_of r) (addresses_of port.0 r.op r.range.count frames) mode e own x.readied
+                (laws.due m (steps_of x.reaches.acts) reached x.reaches.device x.goes.may mode e fits.1) (ap (λ (p : Port). p.0) is.port_is) is.usable head (task_means port slot r frames mode e is) kind
+                (task_block port slot r frames mode e is armed.memory block_armed)
                 b.alone.here b.alone.alone
 
             ends : EndsWith before m2 (Issue mode e) later
@@ -431,10 +464,10 @@ module _ (laws : Laws) where
           ∙ (ap (λ (p : PortState). p.ci slot) (changed_here call.mid.port port.0 _)
           ∙ (ap (λ (x : Bool). (call.mid.port port.0).ci slot || x) b.alone.here ∙ or_true ((call.mid.port port.0).ci slot)))
 
-      stored_then : IsStored new port.0 slot (meaning_of r) (places_of frames r.range.count)
+      stored_then : IsStored new port.0 slot (meaning_of r) (addresses_of port.0 r.op r.range.count frames)
       stored_then =
           let x = known_stage in
-          laws.stays (with_armed r.queued port slot s0).uses (after b.agreed.2.machine (steps_of x.reaches.acts)) port slot (meaning_of r) (places_of frames r.range.count)
+          laws.stays (with_armed r.queued port slot s0).uses (after b.agreed.2.machine (steps_of x.reaches.acts)) port slot (meaning_of r) (addresses_of port.0 r.op r.range.count frames)
           (Writing (Px port Ci) own) armed new x.reached x.goes.knows.agrees on_armed.no_reset (λ v e. absurd cc) (λ e. absurd cc) (λ at bytes e. absurd cc) call x.readied.stored
 
       -- the armed slot's bit of PxSACT goes as ST does
@@ -444,7 +477,7 @@ module _ (laws : Laws) where
           let uses : Uses = (with_armed r.queued port slot s0).uses in
           let m2 : Machine = after b.agreed.2.machine (steps_of x.reaches.acts) in
           let f : Follows uses m2 armed call.mid = laws.follows uses m2 armed call.mid x.reached x.goes.knows.agrees call.steps in
-          let used : uses port.0 slot ≡ Armed = x.readied.used ∙ cond-true (is_queued (meaning_of r).operation) Armed Free (kind_of r.queued r.op b.transfers ∙ queued) in
+          let used : uses port.0 slot ≡ Armed = x.readied.used ∙ cond-true (is_queued (meaning_of r).operation) Armed Free (b.kind ∙ queued) in
           let h : IsArmed (call.mid.port port.0) slot = subst (λ (u : Use). IsServed (after m2 f.steps) call.mid.memory call.mid.tape (call.mid.port port.0) port.0 slot u) used (f.agrees.slot port.0 slot) in
           ap (λ (d : Device). (d.port port.0).sact slot) call.effect
           ∙ (ap (λ (p : PortState). p.sact slot) (changed_here call.mid.port port.0 _)

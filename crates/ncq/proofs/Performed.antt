@@ -22,10 +22,9 @@ use Rattle.agreement.specs.Acts.{Act, AreDone, Comes, InSlots, Performs, at, ste
 use Rattle.agreement.specs.Driven.{AnyUse, IsAgreed, IsFollowed, IsOf, SendsNone}
 use Rattle.agreement.specs.Driver.{EndsWith, Goes, IsBacked, Known, Knows}
 use Rattle.agreement.specs.Slots.{Own, Use, op_of}
-use Rattle.command_table.specs.Written.{IsTableStore}
 use Rattle.ncq.specs.Masks.{ReadsDone, IsFinding}
-use Rattle.ncq.specs.Transfers.{IsIssuing, IsOnItsWay, IssuesLast, IssuesTransfer, IsTransferOf, MayServe, with_serving}
-use Rattle.ncq.specs.declared.Transfer.{Transfer}
+use Rattle.ncq.specs.Tasks.{IsIssuing, IsOnItsWay, IssuesLast, IssuesTask, IsTaskOf, MayServe, with_serving}
+use Rattle.ncq.specs.declared.Task.{Task}
 use Rattle.ncq.proofs.Issued.{all_as}
 
 -- ---- of one port
@@ -36,12 +35,11 @@ reading_own port r place v e = subst (λ (w : Reg). IsOf port (Reading w v)) (sy
 writing_own : (port : Port) (r : PortReg) (place : Reg) (v : ℕ) → place ≡ Px port r → IsOf port (Writing place v)
 writing_own port r place v e = subst (λ (w : Reg). IsOf port (Writing w v)) (sym e) refl
 
-pub issuing_of : ((port : Port) (slot : ℕ) (access : Access) → IsTableStore port.0 slot access → IsOf port access) → (port : Port) (slot : ℕ) (access : Access) →
-    IsIssuing port slot access → IsOf port access
-issuing_of stores port slot (Writing r v) here = ⊎_elim (λ e. writing_own port _ r v e) (λ e. writing_own port _ r v e) here.0
-issuing_of stores port slot (Storing place bytes) here = stores port slot (Storing place bytes) here
-issuing_of stores port slot (Reading r v) here = absurd here
-issuing_of stores port slot (Loading place bytes) here = absurd here
+pub issuing_of : (port : Port) (slot : ℕ) (access : Access) → IsIssuing port slot access → IsOf port access
+issuing_of port slot (Writing r v) here = ⊎_elim (λ e. writing_own port _ r v e) (λ e. writing_own port _ r v e) here.0
+issuing_of port slot (Storing place bytes) here = tt
+issuing_of port slot (Reading r v) here = absurd here
+issuing_of port slot (Loading place bytes) here = absurd here
 
 pub finding_of : (port : Port) (access : Access) → IsFinding port access → IsOf port access
 finding_of port (Reading r v) here = ⊎_elim (λ e. reading_own port _ r v e) (λ e. reading_own port _ r v e) here
@@ -58,8 +56,8 @@ pub record Laws : Type 0 where
   pub silent : (acts : List Act) (k later : Known) (m : Machine) (port : ℕ) (o : Operation) → op_of o ≡ None → IsReached m → Knows m k → (k.uses port 0 ≡ Own o → ⊥)
       → All (λ act. act.later.uses port 0 ≡ Own o → ⊥) acts → AreDone acts k m later → SendsNone port o k.device later.device
 
-pub performs : (port : Port) (slot : ℕ) (r : Transfer) (frames : List Frame) (mode : Mode) (e : Pending) (old new : Device) → (i : IssuesTransfer port slot r frames old new)
-    → IsTransferOf port slot r frames mode e
+pub performs : (port : Port) (slot : ℕ) (r : Task) (frames : List Frame) (mode : Mode) (e : Pending) (old new : Device) → (i : IssuesTask port slot r frames old new)
+    → IsTaskOf port slot r frames mode e
     → Performs i.driven.accesses (MayServe port slot mode e) (with_serving port slot e.request.id) (λ s m. IssuesLast port slot mode e s.uses) old new
 performs port slot r frames mode e old new i is = record { does = i.driven.all; comes = i.comes mode e is }
 
@@ -69,8 +67,8 @@ not_own id o u (inl e) own = absurd cc
 not_own id o u (inr (inl e)) own = absurd cc
 not_own id o u (inr (inr e)) own = absurd cc
 
-module _ (laws : Laws) (port : Port) (slot : ℕ) (r : Transfer) (frames : List Frame) (mode : Mode) (e : Pending) (old new : Device) (s : InSlots) (m : Machine)
-    (i : IssuesTransfer port slot r frames old new) (is : IsTransferOf port slot r frames mode e) (reached : IsReached m) (knows : Knows m (at s old)) (fits : MayServe port slot mode e s m) where
+module _ (laws : Laws) (port : Port) (slot : ℕ) (r : Task) (frames : List Frame) (mode : Mode) (e : Pending) (old new : Device) (s : InSlots) (m : Machine)
+    (i : IssuesTask port slot r frames old new) (is : IsTaskOf port slot r frames mode e) (reached : IsReached m) (knows : Knows m (at s old)) (fits : MayServe port slot mode e s m) where
   later : Known
   later = at (with_serving port slot e.request.id s) new
 

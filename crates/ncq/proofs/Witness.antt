@@ -20,9 +20,9 @@ use Rattle.block_machine.specs.declared.due.Mode.{Mode}
 use Rattle.agreement.specs.Driver.{IsPrepared, idle}
 use Rattle.agreement.specs.Slots.{ArePlaces, op_of}
 use Rattle.agreement.specs.Witness.{PreparedIsKnown, prepared_read}
-use Rattle.ncq.specs.Transfers.{IsFit}
+use Rattle.ncq.specs.Tasks.{IsFit}
 use Rattle.ncq.specs.Witness.{FirstMayBeIssued}
-use Rattle.ncq.specs.declared.Transfer.{Transfer}
+use Rattle.ncq.specs.declared.Task.{Task}
 
 -- a request that was accepted has as many frames as it needs
 frames_fit : (start : Machine) (history : List Step) (r : Accepted) → WasAccepted start history r → length r.asked.frames.items ≡ frames_for r.asked.op r.asked.count
@@ -72,7 +72,7 @@ module _ (known : PreparedIsKnown) (one : (memory : ℕ → ℕ) (list slot : �
       is_true true e = refl
       is_true false e = absurd (let z : false ≡ true = e in cc)
 
-  abbrev transfer : Transfer
+  abbrev transfer : Task
   transfer = record { op = request.asked.op; range = record { first = request.asked.first; count = request.asked.count }; queued = false }
 
   fits : IsFit transfer request.asked.frames.items

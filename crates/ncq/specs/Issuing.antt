@@ -2,37 +2,39 @@
 use Rattle.std.specs.Prelude.{ℕ, true, ◌≡◌, ◌<◌, ◌≤◌, ◌/◌, ◌%◌, List}
 use Rattle.ata_types.specs.declared.Port.{Port}
 use Rattle.ata_types.specs.declared.request.Frame.{Frame}
+use Rattle.adapter.specs.Commands.{is_queued}
 use Rattle.adapter.specs.Device.{Device}
 use Rattle.adapter.specs.Rules.{IsOn, HasPort}
 use Rattle.agreement.specs.Driven.{AgreesWith, IsBitOf, IsFollowed}
 use Rattle.agreement.specs.Places.{list_of}
 use Rattle.agreement.specs.Readying.{IsStored}
 use Rattle.agreement.specs.Slots.{Told}
-use Rattle.command_table.specs.Places.{places_of}
-use Rattle.command_table.specs.Written.{IsTableStore, IsUnused}
-use Rattle.ncq.specs.Transfers.{Arms, IsTransfer, IssuesTransfer, MayTransfer, meaning_of}
-use Rattle.ncq.specs.declared.Transfer.{Transfer}
+use Rattle.command_table.specs.Written.{IsUnused}
+use Rattle.ncq.specs.Tasks.{Arms, HasBlockOf, IsStoreFor, IssuesTask, RunsItsList, addresses_of, meaning_of}
+use Rattle.ncq.specs.declared.Task.{Task}
 
--- A transfer might be issued in the slot; header and table, which say it, were stored; and the slot's bit of PxSACT was set for a queued command.
-pub record IsArmedFor (port : Port) (slot : ℕ) (r : Transfer) (frames : List Frame) (own : ℕ) (old armed : Device) : Type 0 where
+-- A task's command might be issued in the slot, queued if the task is; what it needs was stored: header and table, which say it, and a trim's block,
+-- which names its sectors; and the slot's bit of PxSACT was set for a queued command.
+pub record IsArmedFor (port : Port) (slot : ℕ) (r : Task) (frames : List Frame) (own : ℕ) (old armed : Device) : Type 0 where
   pub on : IsOn old
   pub there : HasPort old port.0
   pub small : slot < 32
   pub usable : slot ≤ old.cap / 256 % 32
   pub agreed : AgreesWith (IsUnused port.0 slot) old
-  pub may : MayTransfer port.0 old
-  pub transfers : IsTransfer r.op
+  pub may : RunsItsList port.0 old
+  pub kind : is_queued (meaning_of r).operation ≡ r.queued
   pub mid : Device
   pub mid_on : IsOn mid
-  pub stores : IsFollowed (IsTableStore port.0 slot) (IsUnused port.0 slot) old mid
-  pub told : Told mid.memory (list_of port.0) port.0 slot (meaning_of r) (places_of frames r.range.count)
+  pub stores : IsFollowed (IsStoreFor r.op port.0 slot) (IsUnused port.0 slot) old mid
+  pub told : Told mid.memory (list_of port.0) port.0 slot (meaning_of r) (addresses_of port.0 r.op r.range.count frames)
+  pub block : HasBlockOf r.op r.range port.0 mid.memory
   pub alone : IsBitOf slot own
   pub arms : Arms r.queued port own mid armed
 
 -- What the write of PxCI makes of it.
-pub record IsIssued (port : Port) (slot : ℕ) (r : Transfer) (frames : List Frame) (old new : Device) : Type 0 where
+pub record IsIssued (port : Port) (slot : ℕ) (r : Task) (frames : List Frame) (old new : Device) : Type 0 where
   pub on : IsOn new
-  pub issues : IssuesTransfer port slot r frames old new
-  pub stored : IsStored new port.0 slot (meaning_of r) (places_of frames r.range.count)
+  pub issues : IssuesTask port slot r frames old new
+  pub stored : IsStored new port.0 slot (meaning_of r) (addresses_of port.0 r.op r.range.count frames)
   pub set : (new.port port.0).ci slot ≡ true
   pub active : r.queued ≡ true → (new.port port.0).sact slot ≡ true

@@ -1,4 +1,4 @@
 pub mod Issuing
 pub mod Masks
-pub mod Transfers
+pub mod Tasks
 pub mod Witness

@@ -10,8 +10,8 @@ use Rattle.agreement.specs.Agrees.{port_at}
 use Rattle.agreement.specs.Driven.{IsAgreed}
 use Rattle.agreement.specs.Slots.{Free}
 use Rattle.agreement.specs.Witness.{prepared_read}
-use Rattle.ncq.specs.Transfers.{IsFit, IsTransferOf, MayTransfer}
-use Rattle.ncq.specs.declared.Transfer.{Transfer}
+use Rattle.ncq.specs.Tasks.{IsFit, IsTaskOf, RunsItsList}
+use Rattle.ncq.specs.declared.Task.{Task}
 
 -- What is asked of the adapter before a transfer is issued holds of port 0 of the first read's, before its bit of PxCI was written: with
 -- a machine that agrees where no slot is used, and on which a request of that port is due that is a plain transfer, which slot 0 may take.
@@ -19,13 +19,13 @@ pub record FirstMayBeIssued : Type 0 where
   pub on : IsOn prepared_read
   pub there : HasPort prepared_read 0
   pub room : DRIVER_BYTES ≤ prepared_read.size
-  pub may : MayTransfer 0 prepared_read
+  pub may : RunsItsList 0 prepared_read
   pub agreed : IsAgreed (λ port slot. Free) prepared_read
   pub mode : Mode
   pub request : Pending
   pub due : May agreed.machine (Issue mode request)
-  pub transfer : Transfer
+  pub transfer : Task
   pub frames : List Frame
   pub fits : IsFit transfer frames
   pub plain : transfer.queued ≡ false
-  pub is : IsTransferOf (port_at 0) 0 transfer frames mode request
+  pub is : IsTaskOf (port_at 0) 0 transfer frames mode request

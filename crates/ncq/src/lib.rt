@@ -7,13 +7,12 @@ ghost use Rattle.adapter.specs.Commands.{command_of};
 ghost use Rattle.adapter.specs.Rules.{IsOn, HasPort};
 ghost use Rattle.agreement.specs.Driven.{AgreesWith, IsBitOf};
 ghost use Rattle.agreement.specs.Readying.{IsStored};
-ghost use Rattle.command_table.specs.Places.{places_of};
 ghost use Rattle.command_table.specs.Written.{IsUnused};
 ghost use Rattle.hba_regs.specs.declared.reg.PortReg.TheVariants.{Ci, Sact};
 ghost use Rattle.hba_regs.specs.declared.reg.Reg.TheVariants.{Px};
 ghost use Rattle.ncq.specs.Issuing.{IsArmedFor};
 ghost use Rattle.ncq.specs.Masks.{AreClear, ReadsDone, SeesClear};
-ghost use Rattle.ncq.specs.Transfers.{Arms, IsFit, IsTransfer, IssuesTransfer, MayTransfer, meaning_of, operation_of};
+ghost use Rattle.ncq.specs.Tasks.{Arms, IsFit, IsTransfer, IssuesTask, RunsItsList, addresses_of, meaning_of, operation_of};
 
 mod finding;
 mod issuing;
@@ -26,7 +25,8 @@ use ata_types::{DRIVER_BYTES, Frame, Op, Port, Range, Slot};
 use command_table::{prds, write_table};
 use finding::reading_finds_done;
 use hba_regs::{PortReg, Reg, with_bit};
-use issuing::{stores_leave_the_port, writing_issues};
+use issuing::stores_leave_the_port;
+use laws::writing_issues;
 
 /// READ DMA EXT (ACS-3).
 const READ_DMA_EXT: u8 = 0x25;
@@ -48,19 +48,18 @@ const LBA: u8 = 0x40;
 
 const SECTOR_BYTES: u32 = 512;
 
-/// A transfer between sectors of a disk and frames of memory.
+/// What the command of a slot is to do.
 #[derive(Clone, Copy, Debug, PartialEq, Eq)]
-pub struct Transfer {
-    /// A read or a write.
+pub struct Task {
     pub op: Op,
-    /// 1 to 256 sectors below 2^48.
+    /// Of a transfer, 1 to 256 sectors below 2^48.
     pub range: Range,
-    /// Whether its command is queued.
+    /// Whether its command is queued: that of a transfer may be.
     pub queued: bool,
 }
 
 /// The command of a transfer in a slot (ACS-3): of a queued one, the features field has the sectors, and the count field the tag.
-fn command(transfer: &Transfer, slot: Slot) -> Command
+fn command(transfer: &Task, slot: Slot) -> Command
     requires transfers { IsTransfer transfer.now.op }
     requires few { transfer.now.range.count ≤ 256 }
     requires slot { slot.0 < 32 }
@@ -114,7 +113,7 @@ fn prepare<A: Adapter>(
     adapter: &mut A,
     port: Port,
     slot: Slot,
-    transfer: &Transfer,
+    transfer: &Task,
     frames: &[Frame],
 ) -> u32
     requires on { IsOn (A.device adapter.old) }
@@ -123,7 +122,7 @@ fn prepare<A: Adapter>(
     requires slot { slot.0 < 32 }
     requires usable { slot.0 ≤ (A.device adapter.old).cap / 256 % 32 }
     requires agreed { AgreesWith (IsUnused port.0 slot.0) (A.device adapter.old) }
-    requires may { MayTransfer port.0 (A.device adapter.old) }
+    requires may { RunsItsList port.0 (A.device adapter.old) }
     requires fits { IsFit transfer.now frames.now }
     ensures { IsArmedFor port slot.0 transfer.now frames.now result (A.device adapter.old) (A.device adapter.new) }
 {
@@ -143,24 +142,18 @@ fn prepare<A: Adapter>(
 
 /// Issues a transfer, eight sectors to a frame, in an unused slot of a port that runs: a queued one as READ or WRITE FPDMA QUEUED, for which
 /// the slot's bit of PxSACT is set first, and a plain one as READ or WRITE DMA EXT.
-pub fn issue<A: Adapter>(
-    adapter: &mut A,
-    port: Port,
-    slot: Slot,
-    transfer: &Transfer,
-    frames: &[Frame],
-)
+pub fn issue<A: Adapter>(adapter: &mut A, port: Port, slot: Slot, transfer: &Task, frames: &[Frame])
     requires on { IsOn (A.device adapter.old) }
     requires there { HasPort (A.device adapter.old) port.0 }
     requires room { DRIVER_BYTES ≤ (A.device adapter.old).size }
     requires slot { slot.0 < 32 }
     requires usable { slot.0 ≤ (A.device adapter.old).cap / 256 % 32 }
     requires agreed { AgreesWith (IsUnused port.0 slot.0) (A.device adapter.old) }
-    requires may { MayTransfer port.0 (A.device adapter.old) }
+    requires may { RunsItsList port.0 (A.device adapter.old) }
     requires fits { IsFit transfer.now frames.now }
     ensures on { IsOn (A.device adapter.new) }
-    ensures issues { IssuesTransfer port slot.0 transfer.now frames.now (A.device adapter.old) (A.device adapter.new) }
-    ensures stored { IsStored (A.device adapter.new) port.0 slot.0 (meaning_of transfer.now) (places_of frames.now transfer.now.range.count) }
+    ensures issues { IssuesTask port slot.0 transfer.now frames.now (A.device adapter.old) (A.device adapter.new) }
+    ensures stored { IsStored (A.device adapter.new) port.0 slot.0 (meaning_of transfer.now) (addresses_of port.0 transfer.now.op transfer.now.range.count frames.now) }
     ensures set { ((A.device adapter.new).port port.0).ci slot.0 ≡ true }
     ensures active { transfer.now.queued ≡ true → ((A.device adapter.new).port port.0).sact slot.0 ≡ true }
 {

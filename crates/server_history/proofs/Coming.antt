@@ -22,7 +22,7 @@ use Rattle.agreement.specs.Driven.{IsDrivenBy}
 use Rattle.agreement.specs.Facts.{RunsWell, Undisturbed}
 use Rattle.command_table.specs.Written.{IsTableStore}
 use Rattle.driver_history.specs.Histories.{IssuesOn}
-use Rattle.ncq.specs.Transfers.{IsIssuing}
+use Rattle.ncq.specs.Tasks.{IsIssuing}
 use Rattle.driver_history.specs.Trace.{IsDriversOwn, IsOfPorts, IsServing, LeavesCommand, LeavesEngine, ReadsMasks}
 use Rattle.server_history.specs.Served.{Checks, HasNone, HasTurn, IsMaskOf, IssuesIn, is_used}
 use Rattle.slots.specs.Uses.{Uses as PortSlots, use_at}

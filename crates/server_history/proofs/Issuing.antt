@@ -29,11 +29,11 @@ use Rattle.request_queue.specs.Machine.{IsBook, IsEntry}
 use Rattle.agreement.specs.Driven.{AgreesWith}
 use Rattle.ata_types.specs.declared.request.Frame.{Frame}
 use Rattle.command_table.specs.Written.{IsUnused}
-use Rattle.ncq.specs.declared.Transfer.{Transfer}
+use Rattle.ncq.specs.declared.Task.{Task}
 use Rattle.request_queue.specs.Entries.{asks}
 use Rattle.slots.specs.Uses.{IsLowestFree}
 use Rattle.slots.specs.declared.Use.{Use as SlotUse}
-use Rattle.server_history.specs.Served.{IssuesOne, transfer_of, use_for}
+use Rattle.server_history.specs.Served.{IssuesOne, task_of, use_for}
 use Rattle.server_history.specs.Server.{HasCommand, Server, IsKept, IsMachineOf, IsPortOf, IsUsedAs, mode_at, mode_in, none_parked, slots_at, state_of, usable_of, used_for, with_slot}
 use Rattle.server_history.specs.Below.{LawsBelow}
 use Rattle.server_history.proofs.Asks.{asked_alike, same_book}
@@ -48,11 +48,11 @@ use Rattle.agreement.specs.Acts.{at as at_slots}
 use Rattle.agreement.specs.Agrees.{port_at}
 use Rattle.ata_types.specs.declared.request.Op.{Op}
 use Rattle.ata_types.specs.declared.request.Op.TheVariants.{Read, Write}
-use Rattle.ncq.specs.Transfers.{operation_of}
+use Rattle.ncq.specs.Tasks.{operation_of}
 use Rattle.server_history.proofs.Slots.{free_unused, its_mode, lowest_may, not_own, of_ready, ready_found, transfers, usable_ready, used_there}
 use Rattle.server_history.proofs.Zips.{at_left}
 use Rattle.port_look.specs.Services.{IsService}
-use Rattle.ncq.specs.Transfers.{IsIssuing, IsTransferOf, IssuesTransfer, MayServe}
+use Rattle.ncq.specs.Tasks.{IsIssuing, IsTaskOf, IssuesTask, MayServe}
 use Rattle.server_history.proofs.Plain.{issuing_serves}
 use Rattle.port_look.proofs.Apart.{apart}
 use Rattle.port_look.proofs.Serving.{services_on, services_same}
@@ -84,8 +84,8 @@ pub issued_serves : (port : Port) (slot : ℕ) (old new : Device) → IsDrivenBy
 issued_serves port slot old new driven = driven_as (IsIssuing port slot) IsService old new (issuing_serves port slot) driven
 
 -- on a ready port, that leaves what stands behind each
-behind_issued : LawsBelow → (s : Server) (new : Device) (port : Port) (slot : ℕ) (mode : Mode) (r : Transfer) (frames : List Frame) (p : Pending) (k : IsKept s) → state_of (found_of s.ports port.0) ≡ ReadyState
-    → IssuesTransfer port slot r frames s.device new → IsTransferOf port slot r frames mode p
+behind_issued : LawsBelow → (s : Server) (new : Device) (port : Port) (slot : ℕ) (mode : Mode) (r : Task) (frames : List Frame) (p : Pending) (k : IsKept s) → state_of (found_of s.ports port.0) ≡ ReadyState
+    → IssuesTask port slot r frames s.device new → IsTaskOf port slot r frames mode p
     → MayServe port slot mode p (record { uses = k.stands.uses; parked = none_parked }) k.machine → (q : ℕ) → q < 4 → IsPortOf s.wanted s.ports q new
 behind_issued laws s new port slot mode r frames p k ready issues its may =
     behind_served laws.looks s new port k ready (issued_serves port slot s.device new issues.driven)
@@ -104,8 +104,8 @@ module _ (laws : LawsBelow) (s new : Server) (port : Port) (id : RequestId) (k :
   abbrev slot : ℕ
   slot = one.slot
 
-  abbrev r : Transfer
-  r = transfer_of mode e
+  abbrev r : Task
+  r = task_of mode e
 
   abbrev its_use : Option SlotUse
   its_use = Some (use_for mode e)
@@ -154,7 +154,7 @@ module _ (laws : LawsBelow) (s new : Server) (port : Port) (id : RequestId) (k :
     may : May m (Issue mode p)
     may = (x.1, due, λ y here. absurd (contains_none y (subst (λ (es : List Pending). Contains es y) is.kept here)))
 
-    its_transfer : IsTransferOf port slot r e.frames mode p
+    its_transfer : IsTaskOf port slot r e.frames mode p
     its_transfer = record {
       port_is = x.2.port ∙ one.port_is;
       operation = x.2.op;

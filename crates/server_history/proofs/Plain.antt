@@ -7,7 +7,7 @@ use Rattle.adapter.specs.Access.{Access, DoesAll, Reads}
 use Rattle.adapter.specs.Access.Access.{Reading, Writing, Loading, Storing}
 use Rattle.adapter.specs.Device.{Device}
 use Rattle.ncq.specs.Masks.{ReadsDone, IsFinding}
-use Rattle.ncq.specs.Transfers.{IsIssuing}
+use Rattle.ncq.specs.Tasks.{IsIssuing}
 use Rattle.server_history.specs.Served.{IssuesIn}
 use Rattle.port_look.specs.Services.{IsService}
 

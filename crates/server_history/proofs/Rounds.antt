@@ -25,7 +25,7 @@ use Rattle.block_machine.proofs.EventLemmas.{after-append}
 use Rattle.block_machine.proofs.HistoryLemmas.{may-append, reached_more}
 use Rattle.block_machine.proofs.Members.{contains_cases, contains_here, contains_none, contains_there, into_map, map_in}
 use Rattle.driver_history.specs.Histories.{IssuesDue, unissued}
-use Rattle.ncq.specs.Transfers.{IsIssuing}
+use Rattle.ncq.specs.Tasks.{IsIssuing}
 use Rattle.request_queue.specs.Entries.{Held, IsInOrder, IsWaiting, asks, asks_of, at, due_ids, has_id, issue}
 use Rattle.server_history.specs.Below.{LawsBelow}
 use Rattle.server_history.specs.Served.{IssuesAll, IssuesIn, IssuesEach, IssuesOne, IssuesOnly}

@@ -10,7 +10,7 @@ use Rattle.agreement.specs.Links.{SparesRegister}
 use Rattle.agreement.specs.Places.{IsTable}
 use Rattle.agreement.specs.Readying.{LeavesStored}
 use Rattle.command_table.specs.Written.{IsTableStore}
-use Rattle.ncq.specs.Transfers.{IsIssuing}
+use Rattle.ncq.specs.Tasks.{IsIssuing}
 use Rattle.port_look.specs.Services.{IsService}
 use Rattle.port_look.proofs.Serving.{spares_ghc, spares_port}
 use Rattle.server_history.proofs.Plain.{issuing_serves}

@@ -36,8 +36,8 @@ use Rattle.block_machine.specs.declared.due.Unanswered.{Unanswered}
 use Rattle.dma_frames.specs.Table.{Table, LendsOnly, lent_to}
 use Rattle.block_machine.specs.Histories.{IsReached}
 use Rattle.ncq.specs.Masks.{ReadsDone, IsFinding}
-use Rattle.ncq.specs.Transfers.{IsIssuing, IsTransferOf, IssuesTransfer, MayServe, with_serving}
-use Rattle.ncq.specs.declared.Transfer.{Transfer}
+use Rattle.ncq.specs.Tasks.{IsIssuing, IsTaskOf, IssuesTask, MayServe, with_serving}
+use Rattle.ncq.specs.declared.Task.{Task}
 use Rattle.port_look.specs.Laws.{Laws}
 use Rattle.request_queue.specs.Entries.{Held, IsAccepted, IsEarlier, IsFresh, IsInOrder, IsWaiting, asks_of, at, issue, unanswered_of, without}
 use Rattle.request_queue.specs.Machine.{IsBook, IsEntry}
@@ -90,11 +90,11 @@ pub record LawsBelow : Type 0 where
   -- accesses that serve ports
   pub looks : Laws
   -- a transfer is issued
-  pub issuing_ends : (port : Port) (slot : ℕ) (r : Transfer) (frames : List Frame) (mode : Mode) (e : Pending) (old new : Device) (s : InSlots) (m : Machine)
-      → IssuesTransfer port slot r frames old new → IsTransferOf port slot r frames mode e → IsReached m → Knows m (at_slots s old) → MayServe port slot mode e s m
+  pub issuing_ends : (port : Port) (slot : ℕ) (r : Task) (frames : List Frame) (mode : Mode) (e : Pending) (old new : Device) (s : InSlots) (m : Machine)
+      → IssuesTask port slot r frames old new → IsTaskOf port slot r frames mode e → IsReached m → Knows m (at_slots s old) → MayServe port slot mode e s m
       → EndsWith (at_slots s old) m (Issue mode e) (at_slots (with_serving port slot e.request.id s) new)
-  pub issuing_silent : (port : Port) (slot : ℕ) (r : Transfer) (frames : List Frame) (mode : Mode) (e : Pending) (old new : Device) (s : InSlots) (m : Machine)
-      → IssuesTransfer port slot r frames old new → IsTransferOf port slot r frames mode e → IsReached m → Knows m (at_slots s old) → MayServe port slot mode e s m
+  pub issuing_silent : (port : Port) (slot : ℕ) (r : Task) (frames : List Frame) (mode : Mode) (e : Pending) (old new : Device) (s : InSlots) (m : Machine)
+      → IssuesTask port slot r frames old new → IsTaskOf port slot r frames mode e → IsReached m → Knows m (at_slots s old) → MayServe port slot mode e s m
       → (q : ℕ) (o : Operation) → op_of o ≡ None → (s.uses q 0 ≡ Own o → ⊥) → SendsNone q o old new
   pub issuing_of : (port : Port) (slot : ℕ) (access : Access) → IsIssuing port slot access → IsOf port access
   -- it is found done

@@ -27,10 +27,10 @@ use Rattle.host_boot.specs.declared.Found.TheVariants.{Ready}
 use Rattle.adapter.specs.Access.{Access}
 use Rattle.hba_regs.specs.Bits.{bit}
 use Rattle.ncq.specs.Masks.{ReadsDone}
-use Rattle.ncq.specs.Transfers.{IsIssuing, IssuesTransfer, meaning_of}
+use Rattle.ncq.specs.Tasks.{IsIssuing, IssuesTask, meaning_of}
 use Rattle.agreement.specs.Readying.{IsStored}
 use Rattle.command_table.specs.Places.{places_of}
-use Rattle.ncq.specs.declared.Transfer.{Transfer}
+use Rattle.ncq.specs.declared.Task.{Task}
 use Rattle.request_queue.specs.Entries.{Held, IsEarlier, asks, asks_of, at, due_ids, issue, without}
 use Rattle.request_queue.specs.Machine.{IsEntry}
 use Rattle.server_history.specs.Server.{Server, IsSettled, IsMachineOf, mode_in, slots_at, used_for, with_slot}
@@ -92,12 +92,12 @@ pub record HasTurn (port : Port) (slots : PortSlots) (replies : List Reply) (old
 -- ---- requests are issued
 
 -- a request, as a port with this mode issues it
-abbrev pub transfer_of : Mode → Held → Transfer
-transfer_of mode e = record { op = e.entry.op; range = e.entry.range; queued = not (is_plain mode e.entry.op) }
+abbrev pub task_of : Mode → Held → Task
+task_of mode e = record { op = e.entry.op; range = e.entry.range; queued = not (is_plain mode e.entry.op) }
 
 -- what a slot is used for that has its command
 abbrev pub use_for : Mode → Held → SlotUse
-use_for mode e = record { id = e.entry.id; queued = (transfer_of mode e).queued }
+use_for mode e = record { id = e.entry.id; queued = (task_of mode e).queued }
 
 -- A due request of the port was issued in the lowest slot that was free.
 pub record IssuesOne (port : Port) (id : RequestId) (old new : Server) : Type 0 where
@@ -109,8 +109,8 @@ pub record IssuesOne (port : Port) (id : RequestId) (old new : Server) : Type 0 
   pub slot : ℕ
   pub small : slot < 32
   pub lowest : IsLowestFree (slots_at old.slots port.0) slot
-  pub issues : IssuesTransfer port slot (transfer_of (mode_in old port) request) request.frames old.device new.device
-  pub stored : IsStored new.device port.0 slot (meaning_of (transfer_of (mode_in old port) request)) (places_of request.frames request.entry.range.count)
+  pub issues : IssuesTask port slot (task_of (mode_in old port) request) request.frames old.device new.device
+  pub stored : IsStored new.device port.0 slot (meaning_of (task_of (mode_in old port) request)) (places_of request.frames request.entry.range.count)
   pub server : new ≡ record old {
     device = new.device;
     slots = with_slot old.slots port.0 slot (Some (use_for (mode_in old port) request));

@@ -4,8 +4,8 @@ use Rattle.adapter.specs.declared.command.Prd.{Prd}
 use Rattle.command_table.specs.Places.{places_of}
 use Rattle.command_table.specs.Written.{IsTableFor}
 use Rattle.std.specs.Prelude.{List}
-use Rattle.ncq.specs.Transfers.{meaning_of}
-use Rattle.ncq.proofs.Telling.{table_says}
+use Rattle.ncq.specs.Tasks.{addresses_of, meaning_of}
+use Rattle.ncq.proofs.Telling.{kind_of, no_block, stored_for, table_says}
 use Rattle.ncq.proofs.prepare.Goals as goal
 
 pub arm-requires-clause-there : goal.arm-requires-clause-there
@@ -20,7 +20,11 @@ returns g c =
     let few = q.fits.few in
     let places : pieces c.prds-prds.result.items ≡ places_of c.args.frames.now c.args.transfer.now.range.count =
     c.prds-prds.ensures.places (omega arith) ∙ ap (places_of c.args.frames.now) (omega arith) in
-    let table = table_says c.args.transfer.now c.args.frames.now c.args.slot.0 q.fits.transfers q.fits.some few q.fits.first c.command.result c.prds-prds.result.items c.command.ensures
+    let transfer = c.args.transfer.now in
+    let port = c.args.port.0 in
+    let slot = c.args.slot.0 in
+    let addresses = addresses_of port transfer.op transfer.range.count c.args.frames.now in
+    let table = table_says transfer c.args.frames.now port slot q.fits.transfers q.fits.some few q.fits.first c.command.result c.prds-prds.result.items c.command.ensures
     (c.prds-prds.ensures.whole (omega arith)) places in
     record {
       on = q.on;
@@ -29,13 +33,14 @@ returns g c =
       usable = q.usable;
       agreed = q.agreed;
       may = q.may;
-      transfers = q.fits.transfers;
+      kind = kind_of transfer.queued transfer.op q.fits.transfers;
       mid = g.A.Adapter.device c.write_table.new.adapter;
       mid_on = c.write_table.ensures.on;
-      stores = c.write_table.ensures.followed;
+      stores = stored_for port slot _ _ transfer.op q.fits.transfers c.write_table.ensures.followed;
       told =
-          let P : List Prd → Type 0 = λ es. IsTableFor c.args.slot.0 c.command.result es (meaning_of c.args.transfer.now) (places_of c.args.frames.now c.args.transfer.now.range.count) in
-          c.write_table.ensures.says (meaning_of c.args.transfer.now) (places_of c.args.frames.now c.args.transfer.now.range.count) (subst P (sym c.as_slice.ensures.value) table);
+          let P : List Prd → Type 0 = λ es. IsTableFor slot c.command.result es (meaning_of transfer) addresses in
+          c.write_table.ensures.says (meaning_of transfer) addresses (subst P (sym c.as_slice.ensures.value) table);
+      block = no_block transfer.range port _ transfer.op q.fits.transfers;
       alone = c.bit_of-own.ensures;
       arms = c.arm.ensures;
     }

@@ -2,8 +2,8 @@ use Rattle.std.proofs.Common.{List, Some, not, ap, ◌∙◌, subst}
 use Rattle.agreement.specs.Readying.{IsStored}
 use Rattle.ata_types.specs.declared.request.Frame.{Frame}
 use Rattle.command_table.specs.Places.{places_of}
-use Rattle.ncq.specs.Transfers.{IssuesTransfer, meaning_of}
-use Rattle.ncq.specs.declared.Transfer.{Transfer}
+use Rattle.ncq.specs.Tasks.{IssuesTask, meaning_of}
+use Rattle.ncq.specs.declared.Task.{Task}
 use Rattle.slots.specs.Uses.{with_use}
 use Rattle.block_server.proofs.Sending as sending
 use Rattle.block_server.proofs.port.issue_one.Goals as goal
@@ -33,17 +33,17 @@ returns g c = record {
       let slot = c.in-Some.slot.0 in
       let one = c.an_id_is_one_request.ensures.one in
       let e = c.requires.due.0 in
-      let transfer : Transfer = record { op = c.request-entry.result.op; range = c.request-entry.result.range; queued = not c.is_plain.result } in
+      let transfer : Task = record { op = c.request-entry.result.op; range = c.request-entry.result.range; queued = not c.is_plain.result } in
       let small = (sending.may_issue s (device c.args.adapter.now) c.args.book.now c.args.slots.now port c.args.mode l c.args.id c.requires.due c.a_due_request_may_issue.ensures.lowest slot c.in-Some.ensures.lowest).0 in
       let entry_is = sending.entry_is s (device c.args.adapter.now) c.args.book.now c.args.slots.now port c.args.mode l c.args.id c.requires.due one c.request-entry.result c.request-entry.ensures in
       let transfer_is = sending.transfer_is s (device c.args.adapter.now) c.args.book.now c.args.slots.now port c.args.mode l c.args.id c.requires.due c.is_plain.result c.request-entry.result c.is_plain.ensures entry_is in
       let lent_is = c.frames.ensures.frames ∙ sending.frames_are s (device c.args.adapter.now) c.args.book.now c.args.slots.now port c.args.mode l c.args.id c.requires.due one c.loan.result.now.frames c.loan.ensures.held in
-      let F : List Frame → Type 0 = λ frames. IssuesTransfer port slot transfer frames (device c.args.adapter.now) (device c.issue.new.adapter) in
-      let T : Transfer → Type 0 = λ t. IssuesTransfer port slot t e.frames (device c.args.adapter.now) (device c.issue.new.adapter) in
+      let F : List Frame → Type 0 = λ frames. IssuesTask port slot transfer frames (device c.args.adapter.now) (device c.issue.new.adapter) in
+      let T : Task → Type 0 = λ t. IssuesTask port slot t e.frames (device c.args.adapter.now) (device c.issue.new.adapter) in
       let FS : List Frame → Type 0 = λ frames. IsStored (device c.issue.new.adapter) port.0 slot (meaning_of transfer) (places_of frames transfer.range.count) in
-      let TS : Transfer → Type 0 = λ t. IsStored (device c.issue.new.adapter) port.0 slot (meaning_of t) (places_of e.frames t.range.count) in
+      let TS : Task → Type 0 = λ t. IsStored (device c.issue.new.adapter) port.0 slot (meaning_of t) (places_of e.frames t.range.count) in
       sending.sent s (device c.args.adapter.now) c.args.book.now c.args.slots.now port c.args.mode l c.args.id c.requires.due
       slot small c.in-Some.ensures.lowest (device c.issue.new.adapter)
       (subst T transfer_is (subst F lent_is c.issue.ensures.issues)) (subst TS transfer_is (subst FS lent_is c.issue.ensures.stored)) c.issue-2.new.self c.issue-2.ensures
-      c.take.new.self (c.in-Some.ensures.taken ∙ ap (λ (t : Transfer). with_use c.args.slots.now slot (Some (record { id = c.args.id; queued = t.queued }))) transfer_is);
+      c.take.new.self (c.in-Some.ensures.taken ∙ ap (λ (t : Task). with_use c.args.slots.now slot (Some (record { id = c.args.id; queued = t.queued }))) transfer_is);
 }

@@ -1,5 +1,5 @@
 use Rattle.ncq.proofs.Issued.{leads}
-use Rattle.ncq.proofs.issuing.writing_issues.Goals as goal
+use Rattle.ncq.proofs.laws.writing_issues.Goals as goal
 
 pub returns : goal.returns
 returns c = leads (record {
@@ -24,7 +24,6 @@ returns c = leads (record {
   permitted = c.readied_is_issued.ensures.permitted;
   prepared = c.readied_is_issued.ensures.prepared;
   follows = c.device_is_followed.ensures;
-  spares = c.stores_are_of_one_port.ensures.spares;
   put_here = c.putting_is_of_one_slot.ensures.here;
   put_others = c.putting_is_of_one_slot.ensures.others;
 })
