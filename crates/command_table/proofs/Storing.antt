@@ -1,11 +1,13 @@
 -- Stores into the header and the table of an unused slot.
-use Rattle.std.proofs.Common.{ℕ, ◌≡◌, ◌⊎◌, ◌+◌, ◌*◌, ◌<◌, ◌≤◌, Bool, List, length, take, refl, sym, ◌∙◌, ap, inl, inr, arith, slice_index_or}
+use Rattle.std.proofs.Common.{ℕ, ◌≡◌, ◌⊎◌, ◌+◌, ◌*◌, ◌%◌, ◌<◌, ◌≤◌, Bool, List, [], ◌∷◌, length, take, refl, sym, ◌∙◌, ap, inl, inr, arith, slice_index_or}
 use Rattle.byteorder.specs.Endian.{little_from}
+use Rattle.std.specs.List.{All}
 use Rattle.ata_types.specs.declared.Port.{Port}
 use Rattle.hba_regs.specs.declared.reg.Reg.{Reg}
 use Rattle.adapter.specs.Access.{Access, Stores}
 use Rattle.adapter.specs.Access.Access.{Reading, Writing, Loading, Storing}
-use Rattle.adapter.specs.Commands.{Meaning, command_of, reads_memory}
+use Rattle.adapter.specs.Commands.{IsMeaning, Meaning, command_of, pieces_moved, reads_memory}
+use Rattle.adapter.specs.Says.{IsWhole, pieces}
 use Rattle.adapter.specs.Device.{Device}
 use Rattle.adapter.specs.Memory.{patched, bytes_at}
 use Rattle.adapter.specs.Rules.{IsOn, IsFree, Stays}
@@ -14,18 +16,20 @@ use Rattle.adapter.specs.declared.command.Command.{Command}
 use Rattle.adapter.specs.declared.command.Operation.{Operation}
 use Rattle.adapter.specs.declared.command.Prd.{Prd}
 use Rattle.adapter.proofs.MemoryLemmas.{bytes_same, patched_apart, patched_bytes}
-use Rattle.agreement.specs.Driven.{IsAgreed, IsFollowed, IsOf, NoneWrites}
-use Rattle.agreement.specs.Driver.{LeavesFree, MayStore}
-use Rattle.agreement.specs.Places.{list_of, table_of}
+use Rattle.agreement.specs.Driven.{AnyAccess, IsAgreed, IsDrivenBy, IsFollowed, IsOf, NoneWrites}
+use Rattle.agreement.specs.Links.{SameAdapter}
+use Rattle.agreement.specs.Driver.{LeavesFree, MayStore, MissesTable}
+use Rattle.agreement.specs.Places.{list_of, scratch_of, table_of}
 use Rattle.agreement.specs.Slots.{Uses, Told}
 use Rattle.agreement.proofs.Controlled.{agreed_on}
-use Rattle.agreement.proofs.Driven.{followed_store}
+use Rattle.agreement.proofs.Driven.{driven_as, followed_as, followed_store, followed_then}
 use Rattle.agreement.proofs.Keeping.{told_is_left}
 use Rattle.agreement.proofs.Lasting.{access_on, access_same}
-use Rattle.agreement.proofs.Leaving.{stores_leave}
+use Rattle.agreement.proofs.Leaving.{stores_leave, told_beside}
 use Rattle.agreement.proofs.Permitting.{stores_are_free}
 use Rattle.command_table.specs.Bytes.{part}
-use Rattle.command_table.specs.Written.{IsTableFor, IsHeader, IsInTable, IsTableStore, IsUnused}
+use Rattle.command_table.specs.Written.{IsTableFor, IsHeader, IsInTable, IsStoreWithBlock, IsTableStore, IsUnused}
+use Rattle.command_table.specs.Places.{places_of}
 use Rattle.command_table.proofs.Saying.{table_says}
 
 -- the driver may store them
@@ -126,3 +130,61 @@ module _ (port slot : ℕ) (below : port < 4) (small : slot < 32) (uses : Uses) 
       (store_left port slot below small (list_of port + 32 * slot) header mid new in_header second mid_on uses free mid_agrees)
       port slot m places below small
       (record { says = x.0; table_is = x.1; few = let same = x.2 in rw same few })
+
+-- ---- a block behind them
+
+-- the block is no byte of a table or of a header
+block_misses : (port at n : ℕ) → at ≡ scratch_of port → MissesTable port 0 at n
+block_misses port at n is place (inl header) from to = let h = header.1 in omega (arith, is, h, from)
+block_misses port at n is place (inr (inl header)) from to = let h = header.1 in omega (arith, is, h, from)
+block_misses port at n is place (inr (inr table)) from to = let t = table.1 in omega (arith, is, t, from)
+
+may_store_block : (uses : Uses) (port at : ℕ) (block : List ℕ) → port < 4 → at ≡ scratch_of port → length block ≡ 512 → IsUnused port 0 uses → MayStore uses at (length block)
+may_store_block uses port at block below is size free = inr (record { port = port; below = below; free = free; from = omega (arith, is); to = omega (arith, is, size) })
+
+pub block_free : (uses : Uses) (d : Device) (port at : ℕ) (block : List ℕ) → IsAgreed uses d → 163840 ≤ d.size → port < 4 → at ≡ scratch_of port → length block ≡ 512 → IsUnused port 0 uses →
+    Stays (IsFree at (length block)) d
+block_free uses d port at block a room below is size free =
+    stores_are_free uses a.machine d a.reached a.knows.agrees at (length block) (omega (arith, room, below, is, size)) (may_store_block uses port at block below is size free)
+
+module _ (port at : ℕ) (below : port < 4) (is : at ≡ scratch_of port) (block : List ℕ) (size : length block ≡ 512) (old new : Device) (call : Stores at block old new) where
+  pub block_followed : IsFollowed (IsStoreWithBlock port 0) (IsUnused port 0) old new
+  block_followed =
+      followed_store (IsStoreWithBlock port 0) (IsUnused port 0) at block old new (inr (refl, is, size)) (λ uses free. may_store_block uses port at block below is size free) call
+
+  pub block_on : IsOn old → IsOn new
+  block_on on = access_on (Storing at block) old new on (λ v e. absurd cc) call
+
+  pub block_there : bytes_at new.memory (scratch_of port) 512 ≡ block
+  block_there =
+      ap (λ (place : ℕ). bytes_at new.memory place 512) (sym is)
+      ∙ (ap (bytes_at new.memory at) (sym size) ∙ (ap (λ (d : Device). bytes_at d.memory at (length block)) call.effect ∙ patched_bytes call.mid.memory at block))
+
+  pub block_told : (uses : Uses) → IsAgreed uses old → IsOn old → (m : Meaning) (places : List ℕ) → Told old.memory (list_of port) port 0 m places → Told new.memory (list_of port) port 0 m places
+  block_told uses a on m places told =
+      told_beside uses at block old new (stores_leave uses a.machine old new a.reached a.knows.agrees on.no_reset at block call) port 0 m places below (omega arith) (block_misses port at (length block) is) told
+
+-- after header and table, the slot is unused still, and the memory as large
+pub table_agrees : (port : ℕ) (uses : Uses) (old mid : Device) → IsUnused port 0 uses → IsFollowed (IsTableStore port 0) (IsUnused port 0) old mid → IsAgreed uses old → IsAgreed uses mid
+table_agrees port uses old mid = agreed_on (IsTableStore port 0) (IsUnused port 0) uses old mid
+
+pub table_size : ((old new : Device) → IsDrivenBy AnyAccess old new → SameAdapter old new) → (port : ℕ) (old mid : Device) → IsFollowed (IsTableStore port 0) (IsUnused port 0) old mid → mid.size ≡ old.size
+table_size same port old mid table = (same old mid (driven_as (IsTableStore port 0) AnyAccess old mid (λ access here. tt) table.driven)).size
+
+-- header and table, and then a block
+pub with_block : (port : ℕ) (old mid new : Device) → IsFollowed (IsTableStore port 0) (IsUnused port 0) old mid → IsFollowed (IsStoreWithBlock port 0) (IsUnused port 0) mid new →
+    IsFollowed (IsStoreWithBlock port 0) (IsUnused port 0) old new
+with_block port old mid new table block =
+    followed_then (IsStoreWithBlock port 0) (IsUnused port 0) old mid new
+    (followed_as (IsTableStore port 0) (IsStoreWithBlock port 0) (IsUnused port 0) (IsUnused port 0) old mid (λ access here. inl here) (λ uses free. free) table) block
+
+-- the table of a command to which one block goes, from the port's scratch frame
+pub table_for_block : (m : Meaning) (command : Command) (prds : List Prd) (port frame : ℕ) → frame ≡ 10 * port + 9 → IsMeaning m → command ≡ command_of m.operation 0 m.first m.count →
+    pieces_moved m.operation m.count ≡ 1 → All IsWhole prds → pieces prds ≡ places_of (record { 0 = frame } ∷ []) 1 → IsTableFor 0 command prds m (scratch_of port ∷ [])
+table_for_block m command prds port frame same meaning fields one whole places = record {
+  meaning = meaning;
+  fields = fields;
+  whole = whole;
+  in_order = (let at : 4096 * frame + 512 * (0 % 8) ≡ scratch_of port = omega (arith, same) in ap (λ (a : ℕ). a ∷ []) (sym at)) ∙ sym places;
+  as_many = sym one;
+}

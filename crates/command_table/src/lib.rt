@@ -1,35 +1,38 @@
 //! What the device reads to do a command: a header of the command list, and a command table (AHCI 1.3.1, 4.2.2 and 4.2.3).
 #![tactic(auto)]
 
-ghost use Rattle.std.specs.Prelude.{◌≡◌, ℕ, List, ◌+◌, ◌*◌, ◌/◌, ◌%◌, ◌^◌, ◌<◌, ◌≤◌, length, take, drop, slice_index_or, All};
+ghost use Rattle.std.specs.Prelude.{◌≡◌, ℕ, List, [], ◌∷◌, ◌+◌, ◌*◌, ◌/◌, ◌%◌, ◌^◌, ◌<◌, ◌≤◌, length, take, drop, slice_index_or, All};
 ghost use Rattle.byteorder.specs.Endian.{little_from};
 ghost use Rattle.adapter.specs.Says.{pieces, IsWhole};
 ghost use Rattle.adapter.specs.Spelling.{AreZero, SpellsCommand, SpellsHeader, SpellsPrd, IsAllowed};
-ghost use Rattle.adapter.specs.Commands.{Meaning, command_of, reads_memory};
+ghost use Rattle.adapter.specs.Commands.{IsMeaning, Meaning, command_of, pieces_moved, reads_memory};
 ghost use Rattle.adapter.specs.Memory.{bytes_at};
 ghost use Rattle.adapter.specs.Rules.{IsOn};
 ghost use Rattle.adapter.specs.declared.command.Operation.{Operation};
 ghost use Rattle.adapter.specs.declared.command.Prd.{Prd};
 ghost use Rattle.agreement.specs.Driven.{AgreesWith, IsFollowed};
-ghost use Rattle.agreement.specs.Places.{list_of};
+ghost use Rattle.agreement.specs.Places.{list_of, scratch_of};
 ghost use Rattle.agreement.specs.Slots.{Told};
-ghost use Rattle.command_table.specs.Written.{IsTable, IsTableFor, IsTableStore, IsUnused};
+ghost use Rattle.command_table.specs.Written.{IsStoreWithBlock, IsTable, IsTableFor, IsTableStore, IsUnused};
 ghost use Rattle.command_table.specs.Places.{IsPrdOf, places_of};
 ghost use Rattle.command_table.specs.Bytes.{Stores, part};
 
 pub mod laws;
 
 use adapter::{Adapter, Command, Prd};
+use agreement::stretches::other_ports_are_left;
 use arrayvec::ArrayVec;
 use ata_types::{
-    DRIVER_BYTES, FRAME_BYTES, Frame, HEADER_BYTES, PORT_BYTES, Port, Slot, TABLE_ALIGNMENT,
-    TABLE_BYTES, TABLES,
+    DRIVER_BYTES, FRAME_BYTES, Frame, HEADER_BYTES, PORT_BYTES, PORT_FRAMES, Port, SCRATCH_FRAME,
+    Slot, TABLE_ALIGNMENT, TABLE_BYTES, TABLES,
 };
 use fis::encode_h2d;
 
 const FIS_DWORDS: u32 = 5;
 
 const WRITE_BIT: u32 = 1 << 6;
+
+const BLOCK_BYTES: u32 = 512;
 
 /// The commands by which the device reads memory: DATA SET MANAGEMENT, WRITE DMA EXT and WRITE FPDMA QUEUED (ACS-3; Serial ATA).
 const DATA_SET_MANAGEMENT: u8 = 0x06;
@@ -157,4 +160,30 @@ pub fn write_table<A: Adapter>(
     adapter.store(table, &bytes[..128 + 16 * prds.len()]);
     let head = header(is_write(command), prds.len() as u16, table);
     adapter.store(list + HEADER_BYTES * u32::from(slot.0), &head);
+}
+
+/// Writes table and header of slot 0 of a port, which is unused, for a command that takes one block from memory; and then the block, at the
+/// head of the port's scratch frame, where the table says it is. The slot's places are as `write_table` has them.
+pub fn write_table_with_block<A: Adapter>(
+    adapter: &mut A,
+    port: Port,
+    command: &Command,
+    block: &[u8; 512],
+)
+    requires on { IsOn (A.device adapter.old) }
+    requires agreed { AgreesWith (IsUnused port.0 0) (A.device adapter.old) }
+    requires room { DRIVER_BYTES ≤ (A.device adapter.old).size }
+    requires port { port.0 < 4 }
+    requires lba { command.now.lba < 2 ^ 48 }
+    ensures on { IsOn (A.device adapter.new) }
+    ensures followed { IsFollowed (IsStoreWithBlock port.0 0) (IsUnused port.0 0) (A.device adapter.old) (A.device adapter.new) }
+    ensures says { (m : Meaning) → IsMeaning m → command.now ≡ command_of m.operation 0 m.first m.count → pieces_moved m.operation m.count ≡ 1
+        → Told (A.device adapter.new).memory (list_of port.0) port.0 0 m (scratch_of port.0 ∷ []) }
+    ensures block { bytes_at (A.device adapter.new).memory (scratch_of port.0) 512 ≡ block.now }
+{
+    other_ports_are_left();
+    let scratch = Frame(PORT_FRAMES * u16::from(port.0) + SCRATCH_FRAME);
+    let prds = prds(&[scratch], BLOCK_BYTES);
+    write_table(adapter, port, Slot(0), command, prds.as_slice());
+    adapter.store(FRAME_BYTES * u32::from(scratch.0), block);
 }

@@ -1,11 +1,43 @@
-//! The block of a trim, which DATA SET MANAGEMENT with TRIM brings to a disk: which sectors it is to forget (ACS-3).
+//! The plain commands that a port has alone, in slot 0: FLUSH CACHE EXT, and DATA SET MANAGEMENT with TRIM, whose block tells which sectors a
+//! disk is to forget (AHCI 1.3.1, 5.5; ACS-3).
 #![tactic(auto)]
 
-ghost use Rattle.std.specs.Prelude.{◌≡◌, ◌+◌, ◌^◌, ◌<◌, ◌≤◌};
+ghost use Rattle.std.specs.Prelude.{◌≡◌, ◌+◌, ◌^◌, ◌<◌, ◌≤◌, true, List};
+ghost use Rattle.ata_types.specs.declared.range.Range.{Range};
+ghost use Rattle.ata_types.specs.declared.request.Frame.{Frame};
+ghost use Rattle.ata_types.specs.declared.request.Op.TheVariants.{Trim, Flush};
+ghost use Rattle.adapter.specs.Commands.{command_of};
+ghost use Rattle.adapter.specs.Rules.{IsOn, HasPort};
 ghost use Rattle.adapter.specs.Trim.{consecutive, trim_sectors};
+ghost use Rattle.adapter.specs.declared.command.Operation.TheVariants as operation;
+ghost use Rattle.agreement.specs.Driven.{AgreesWith};
+ghost use Rattle.agreement.specs.Readying.{IsStored};
+ghost use Rattle.command_table.specs.Written.{IsUnused};
+ghost use Rattle.ncq.specs.Tasks.{IssuesTask, RunsItsList, addresses_of, meaning_of};
 ghost use Rattle.flush_trim.specs.Block.{IsCut, entry_first, entry_length, first_of, length_of};
+ghost use Rattle.flush_trim.specs.Tasks.{flush_of, trim_of};
 
-use ata_types::Range;
+use adapter::{Adapter, Command};
+use ata_types::{DRIVER_BYTES, Port, Range, Slot};
+use command_table::{write_table, write_table_with_block};
+use hba_regs::{PortReg, Reg};
+use ncq::bit_of;
+use ncq::laws::writing_issues;
+
+/// FLUSH CACHE EXT (ACS-3).
+const FLUSH_CACHE_EXT: u8 = 0xea;
+
+/// DATA SET MANAGEMENT (ACS-3).
+const DATA_SET_MANAGEMENT: u8 = 0x06;
+
+/// Bit 0 of the features of DATA SET MANAGEMENT: TRIM (ACS-3).
+const TRIM: u16 = 1;
+
+/// The blocks that the command brings.
+const BLOCKS: u16 = 1;
+
+/// The slot of a plain command, which is alone on its port.
+const SLOT: Slot = Slot(0);
 
 /// Entries of a block.
 const ENTRIES: usize = 64;
@@ -47,4 +79,68 @@ pub fn trim_block(range: &Range) -> [u8; 512]
         block[at..at + ENTRY_BYTES].copy_from_slice(&entry_of(range, place));
     }
     block
+}
+
+/// The command of a flush.
+fn flush_command() -> Command
+    ensures { result ≡ command_of operation.Flush 0 0 0 }
+{
+    Command {
+        code: FLUSH_CACHE_EXT,
+        features: 0,
+        count: 0,
+        lba: 0,
+        device: 0,
+    }
+}
+
+/// The command of a trim: its sectors stand in its block.
+fn trim_command() -> Command
+    ensures { result ≡ command_of operation.Trim 0 0 0 }
+{
+    Command {
+        code: DATA_SET_MANAGEMENT,
+        features: TRIM,
+        count: BLOCKS,
+        lba: 0,
+        device: 0,
+    }
+}
+
+/// Has the disk of a port that runs write its cache back (FLUSH CACHE EXT), by slot 0, which is unused. A flush names no sectors, so the range
+/// of its request is any.
+pub fn issue_flush<A: Adapter>(adapter: &mut A, port: Port)
+    requires on { IsOn (A.device adapter.old) }
+    requires there { HasPort (A.device adapter.old) port.0 }
+    requires room { DRIVER_BYTES ≤ (A.device adapter.old).size }
+    requires agreed { AgreesWith (IsUnused port.0 0) (A.device adapter.old) }
+    requires may { RunsItsList port.0 (A.device adapter.old) }
+    ensures on { IsOn (A.device adapter.new) }
+    ensures issues { (range : Range) (frames : List Frame) → IssuesTask port 0 (flush_of range) frames (A.device adapter.old) (A.device adapter.new) }
+    ensures stored { (range : Range) (frames : List Frame) → IsStored (A.device adapter.new) port.0 0 (meaning_of (flush_of range)) (addresses_of port.0 Flush range.count frames) }
+    ensures set { ((A.device adapter.new).port port.0).ci 0 ≡ true }
+{
+    writing_issues();
+    write_table(adapter, port, SLOT, &flush_command(), &[]);
+    adapter.write(Reg::Px(port, PortReg::Ci), bit_of(SLOT));
+}
+
+/// Has the disk of a port that runs forget these sectors (DATA SET MANAGEMENT with TRIM), by slot 0, which is unused: 4,194,240 of them at most, each
+/// below 2^48. The block that names them stands in the port's scratch frame.
+pub fn issue_trim<A: Adapter>(adapter: &mut A, port: Port, range: &Range)
+    requires on { IsOn (A.device adapter.old) }
+    requires there { HasPort (A.device adapter.old) port.0 }
+    requires room { DRIVER_BYTES ≤ (A.device adapter.old).size }
+    requires agreed { AgreesWith (IsUnused port.0 0) (A.device adapter.old) }
+    requires may { RunsItsList port.0 (A.device adapter.old) }
+    requires count { range.now.count ≤ 4194240 }
+    requires sectors { 0 < range.now.count → range.now.first.0 + range.now.count ≤ 2 ^ 48 }
+    ensures on { IsOn (A.device adapter.new) }
+    ensures issues { (frames : List Frame) → IssuesTask port 0 (trim_of range.now) frames (A.device adapter.old) (A.device adapter.new) }
+    ensures stored { (frames : List Frame) → IsStored (A.device adapter.new) port.0 0 (meaning_of (trim_of range.now)) (addresses_of port.0 Trim range.now.count frames) }
+    ensures set { ((A.device adapter.new).port port.0).ci 0 ≡ true }
+{
+    writing_issues();
+    write_table_with_block(adapter, port, &trim_command(), &trim_block(range));
+    adapter.write(Reg::Px(port, PortReg::Ci), bit_of(SLOT));
 }

@@ -88,7 +88,7 @@ fn command(transfer: &Task, slot: Slot) -> Command
 }
 
 /// The slot's bit of PxCI and PxSACT, alone.
-fn bit_of(slot: Slot) -> u32
+pub fn bit_of(slot: Slot) -> u32
     requires { slot.0 < 32 }
     ensures { IsBitOf slot.0 result }
 {

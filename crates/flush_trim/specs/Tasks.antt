@@ -1,0 +1,13 @@
+-- What the plain commands of this crate are to do (ACS-3).
+use Rattle.std.specs.Prelude.{false}
+use Rattle.ata_types.specs.declared.range.Range.{Range}
+use Rattle.ata_types.specs.declared.request.Op.TheVariants.{Trim, Flush}
+use Rattle.ncq.specs.declared.Task.{Task}
+
+-- the disk's cache is written back, whatever range the request names
+abbrev pub flush_of : Range → Task
+flush_of range = record { op = Flush; range = range; queued = false }
+
+-- these sectors are forgotten
+abbrev pub trim_of : Range → Task
+trim_of range = record { op = Trim; range = range; queued = false }
