@@ -148,7 +148,7 @@ module _ (laws : LawsBelow) (s : Server) (k : IsKept s) (r : Request) (acc : IsA
       (append_in s.book e h there)
 
   pub accept_kept : IsKept more
-  accept_kept = kept_then s s.device table s.slots (s.book ++ e ∷ []) (s.last + 1) k k.on (same_refl s.device) k.behind lends.owners k.four k.slots kinds_then k.commands accepted
+  accept_kept = kept_then s s.device table s.slots (s.book ++ e ∷ []) (s.last + 1) k k.on (same_refl s.device) k.behind lends.owners k.four k.slots kinds_then k.commands k.alone accepted
       (laws.longer s.book e k.ordered earlier (refl, refl, refl) its.client_from its.client_to (has_room s r acc row named port port_is))
       (All-push (λ (x : Held). x.entry.id.0 ≤ s.last + 1) s.book e (All-weaker (λ (x : Held). x.entry.id.0 ≤ s.last) (λ (x : Held). x.entry.id.0 ≤ s.last + 1) (λ x low. omega (arith, low)) s.book k.handed_out) (omega (arith, id_is)))
       (All-push (λ (x : Held). state_of (found_of s.ports x.entry.port.0) ≡ ReadyState) s.book e k.ready ready)

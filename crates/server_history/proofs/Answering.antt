@@ -29,11 +29,11 @@ use Rattle.host_boot.specs.Taken.{found_of}
 use Rattle.request_queue.specs.Entries.{Held, IsAccepted, without}
 use Rattle.request_queue.specs.Machine.{IsBook, IsEntry}
 use Rattle.server_history.specs.Served.{AnswersOne, HasEnded}
-use Rattle.server_history.specs.Server.{Server, IsKept, IsMachineOf, mode_at, none_parked, slots_at, state_of, usable_of, with_slot}
+use Rattle.server_history.specs.Server.{Server, IsKept, IsMachineOf, mode_at, none_parked, slots_at, state_of, usable_of, with_slot, used_for}
 use Rattle.server_history.specs.Below.{LawsBelow}
 use Rattle.server_history.proofs.Going.{kept_then}
 use Rattle.server_history.proofs.Placing.{freed_was, placed_four, placed_has, placed_uses}
-use Rattle.server_history.proofs.Slots.{IsServedBy, its_mode, used_low, parked_at, ready_found, served_request, serves_used, stage_over, usable_ready}
+use Rattle.server_history.proofs.Slots.{IsServedBy, its_mode, used_low, used_or_not, parked_at, ready_found, served_request, serves_used, stage_over, usable_ready}
 
 -- ---- loans
 
@@ -187,6 +187,9 @@ module _ (laws : LawsBelow) (s new : Server) (port : Port) (e : Held) (k : IsKep
       (placed_has s.ports s.modes s.slots port.0 slot None k.four low slot_low few k.slots)
       (λ q n used h is there same. k.kinds q n used h (freed_was s.slots port.0 slot in_list in_places q.0 n used is) ((laws.left s.book id h).0 there).0 same)
       (λ q n used is. k.commands q n used (freed_was s.slots port.0 slot in_list in_places q n used is))
+      (λ q n used is plain.
+      let a = k.alone q n used (freed_was s.slots port.0 slot in_list in_places q n used is) plain in
+      (a.0, λ other ne. still_none q other (a.1 other ne)))
       (laws.still_answered s.grants s.table new.table s.book e one.here one.lent k.accepted)
       (laws.fewer s.book id k.ordered)
       (left_each (λ y. y.entry.id.0 ≤ s.last) k.handed_out)
@@ -202,6 +205,13 @@ module _ (laws : LawsBelow) (s new : Server) (port : Port) (e : Held) (k : IsKep
 
       in_places : slot < length (slots_at s.slots port.0).places
       in_places = let p = (k.slots port.0 low).places in let t = one.small in omega (arith, p, t)
+
+      -- what wasn't used isn't now
+      still_none : (q n : ℕ) → used_for s.slots q n ≡ None → used_for (with_slot s.slots port.0 slot None) q n ≡ None
+      still_none q n none = ⊎_elim
+          (λ x. let z : None ≡ Some x.0 = sym none ∙ freed_was s.slots port.0 slot in_list in_places q n x.0 x.1 in absurd cc)
+          (λ free. free)
+          (used_or_not (used_for (with_slot s.slots port.0 slot None) q n))
 
       few : usable_of (found_of s.ports port.0) (mode_at s.modes port.0) ≤ 32
       few = let u = usable_ready s port.0 k ready in let f = (its_mode s port.0 k (ready_found s port.0 k ready).0).0.1 in omega (arith, u, f)

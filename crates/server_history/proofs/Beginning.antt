@@ -22,7 +22,7 @@ use Rattle.agreement.proofs.Idling.{idle_knows}
 use Rattle.agreement.proofs.Sparing.{steps_spare}
 use Rattle.agreement.specs.Links.{HasDeviceOrNone}
 use Rattle.block_machine.specs.Histories.{IsReached}
-use Rattle.block_machine.specs.Left.{after, IsStart}
+use Rattle.block_machine.specs.Left.{after, IsRow, IsStart}
 use Rattle.block_machine.specs.Ports.{AreFit, IsMode}
 use Rattle.block_machine.specs.State.{Disk, Machine, Pending}
 use Rattle.block_machine.specs.Rules.{DifferInName}
@@ -49,7 +49,7 @@ use Rattle.block_machine.proofs.Members.{contains_none}
 use Rattle.request_queue.specs.Entries.{Held, IsAccepted, IsInOrder, asks_of}
 use Rattle.request_queue.specs.Machine.{IsBook}
 use Rattle.slots.specs.Uses.{Uses as PortSlots}
-use Rattle.server_history.specs.Server.{Server, AreUsesOf, IsKept, IsMachineOf, IsNewServer, IsPortOf, IsSettled, IsTransferRow, IsUsedAs, is_served, none_parked, mode_in, ports_of, state_of, use_of, used_for}
+use Rattle.server_history.specs.Server.{Server, AreUsesOf, IsKept, IsMachineOf, IsNewServer, IsPortOf, IsSettled, IsUsedAs, is_served, none_parked, mode_in, ports_of, state_of, use_of, used_for}
 use Rattle.host_boot.proofs.Leaving.{boots_begin}
 use Rattle.agreement.proofs.Driven.{followed_adds}
 
@@ -190,7 +190,7 @@ module _ (laws : TakenLaws) (s : Server) (host : Host) (d : Device) (is : IsIdle
     next = refl;
     few = n.few;
     rows = n.names;
-    configured = λ row here. (All-contains (λ (row : GrantRow). IsTransferRow row) s.grants row n.rows here).row_is;
+    configured = λ row here. All-contains (λ (row : GrantRow). IsRow row) s.grants row n.rows here;
     owned = λ frame client own. let c = n.clients frame client own in (c.0, c.1, (n.owners frame client own).0, c.2);
   }
 
@@ -273,6 +273,7 @@ module _ (laws : TakenLaws) (s : Server) (host : Host) (d : Device) (is : IsIdle
     modes = n.modes;
     kinds = λ port slot used e is. absurd (let z : None ≡ Some used = sym (n.unused port.0 slot) ∙ is in cc);
     commands = λ port slot used is. absurd (let z : None ≡ Some used = sym (n.unused port slot) ∙ is in cc);
+    alone = λ port slot used is. absurd (let z : None ≡ Some used = sym (n.unused port slot) ∙ is in cc);
     accepted = subst (λ (book : List Held). All (IsAccepted s.grants s.table) book) (sym n.book) (All-nil (IsAccepted s.grants s.table));
     ordered = subst IsInOrder (sym n.book) none_in_order;
     handed_out = subst (λ (book : List Held). All (λ e. e.entry.id.0 ≤ s.last) book) (sym n.book) (All-nil (λ (e : Held). e.entry.id.0 ≤ s.last));

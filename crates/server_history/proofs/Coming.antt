@@ -20,7 +20,7 @@ use Rattle.adapter.specs.Steps.{Steps}
 use Rattle.adapter.proofs.Calls.{does_append}
 use Rattle.agreement.specs.Driven.{IsDrivenBy}
 use Rattle.agreement.specs.Facts.{RunsWell, Undisturbed}
-use Rattle.command_table.specs.Written.{IsTableStore}
+use Rattle.command_table.specs.Written.{IsStoreWithBlock, IsTableStore}
 use Rattle.driver_history.specs.Histories.{IssuesOn}
 use Rattle.ncq.specs.Tasks.{IsIssuing}
 use Rattle.driver_history.specs.Trace.{IsDriversOwn, IsOfPorts, IsServing, LeavesCommand, LeavesEngine, ReadsMasks}
@@ -53,9 +53,14 @@ table_own : (port slot at : ℕ) (bytes : List ℕ) → port < 4 → slot < 32 �
 table_own port slot at bytes low small (inl h) = omega (arith, low, small, h.0, h.1)
 table_own port slot at bytes low small (inr h) = omega (arith, low, small, h.0, h.1)
 
+-- and so does a trim's block
+stored_own : (port slot at : ℕ) (bytes : List ℕ) → port < 4 → slot < 32 → IsStoreWithBlock port slot (Storing at bytes) → at + length bytes ≤ 163840
+stored_own port slot at bytes low small (inl table) = table_own port slot at bytes low small table
+stored_own port slot at bytes low small (inr block) = let here = block.1 in let size = block.2 in omega (arith, low, here, size)
+
 issuing_on : (port : Port) (slot : ℕ) → port.0 < 4 → slot < 32 → (access : Access) → IsIssuing port slot access → IssuesOn port access
 issuing_on port slot low small (Writing r v) here = here.0
-issuing_on port slot low small (Storing at bytes) here = table_own port.0 slot at bytes low small here
+issuing_on port slot low small (Storing at bytes) here = stored_own port.0 slot at bytes low small here
 issuing_on port slot low small (Reading r v) here = absurd here
 issuing_on port slot low small (Loading at bytes) here = absurd here
 
@@ -72,7 +77,7 @@ issuing_turn Such port slot such low small (Writing r v) here = (
         (λ (is : r ≡ Px port Ci). subst (λ (q : Reg). IsOfPorts Such (Writing q v)) (sym is) such) here.0,
   ),
 )
-issuing_turn Such port slot such low small (Storing at bytes) here = (issuing_serves port slot (Storing at bytes) here, (table_own port.0 slot at bytes low small here, tt))
+issuing_turn Such port slot such low small (Storing at bytes) here = (issuing_serves port slot (Storing at bytes) here, (stored_own port.0 slot at bytes low small here, tt))
 issuing_turn Such port slot such low small (Reading r v) here = absurd here
 issuing_turn Such port slot such low small (Loading at bytes) here = absurd here
 

@@ -1,5 +1,5 @@
 -- A server goes on over steps of the device, and calls add events to its histories.
-use Rattle.std.proofs.Common.{ℕ, ◌≡◌, ◌≤◌, ◌<◌, ◌+◌, ◌*◌, get_or, length, not, Option, None, Some, List, [], ◌∷◌, refl, sym, ap, ◌∙◌, subst}
+use Rattle.std.proofs.Common.{false, ℕ, ◌≡◌, ◌≤◌, ◌<◌, ◌+◌, ◌*◌, get_or, length, not, Option, None, Some, List, [], ◌∷◌, refl, sym, ap, ◌∙◌, subst}
 use Rattle.std.specs.List.{All, AllZip, Contains}
 use Rattle.ata_types.specs.declared.Port.{Port}
 use Rattle.ata_types.specs.declared.PortState.TheVariants.{Ready as ReadyState}
@@ -31,7 +31,7 @@ use Rattle.server_history.specs.Histories.{Leads, Stands}
 use Rattle.request_queue.specs.Entries.{Held, IsAccepted, IsInOrder}
 use Rattle.request_queue.specs.Machine.{IsBook, IsEntry, range_of}
 use Rattle.slots.specs.Uses.{Uses as PortSlots}
-use Rattle.server_history.specs.Server.{HasCommand, HasSlots, Server, IsKept, IsMachineOf, IsPortOf, mode_found, mode_in, none_parked, ports_of, state_of, used_for}
+use Rattle.server_history.specs.Server.{HasCommand, IsAlone, HasSlots, Server, IsKept, IsMachineOf, IsPortOf, mode_found, mode_in, none_parked, ports_of, state_of, used_for}
 use Rattle.slots.specs.declared.Use.{Use as SlotUse}
 use Rattle.block_machine.specs.Due.{is_plain}
 use Rattle.server_history.proofs.Standing.{holds_with, slots}
@@ -95,10 +95,11 @@ pub kept_then : (s : Server) (device : Device) (table : Table) (slots : List Por
     → ((port : ℕ) → port < 4 → IsPortOf s.wanted s.ports port device) → table.owners ≡ s.table.owners → length slots ≡ 4 → ((port : ℕ) → port < 4 → HasSlots s.ports s.modes slots port)
     → ((port : Port) (slot : ℕ) (used : SlotUse) (e : Held) → used_for slots port.0 slot ≡ Some used → Contains book e → e.entry.id ≡ used.id → used.queued ≡ not (is_plain (mode_in s port) e.entry.op))
     → ((port slot : ℕ) (used : SlotUse) → used_for slots port slot ≡ Some used → HasCommand used.queued device port slot)
+    → ((port slot : ℕ) (used : SlotUse) → used_for slots port slot ≡ Some used → used.queued ≡ false → IsAlone slots port slot)
     → All (IsAccepted s.grants table) book → IsInOrder book → All (λ e. e.entry.id.0 ≤ last) book → All (λ e. state_of (found_of s.ports e.entry.port.0) ≡ ReadyState) book → (m : Machine) → IsReached m
     → IsMachineOf (record s { device = device; table = table; slots = slots; book = book; last = last }) m
     → IsKept (record s { device = device; table = table; slots = slots; book = book; last = last })
-kept_then s device table slots book last k on same behind owners four used kinds commands accepted ordered handed_out ready m reached is = record {
+kept_then s device table slots book last k on same behind owners four used kinds commands alone accepted ordered handed_out ready m reached is = record {
   on = on;
   room = subst (λ (n : ℕ). 163840 ≤ n) (sym same.size) k.room;
   there = λ port served. let t = k.there port served in (t.0, ap (λ (pi : ℕ). bit pi port) same.pi ∙ t.1);
@@ -108,6 +109,7 @@ kept_then s device table slots book last k on same behind owners four used kinds
   slots = used;
   kinds = kinds;
   commands = commands;
+  alone = alone;
   rows = k.rows;
   owners = λ frame client own.
       let o = k.owners frame client (ap (λ (list : List (Option ClientId)). get_or list frame.0 None) (sym owners) ∙ own) in
@@ -126,7 +128,7 @@ pub kept_on : (s : Server) (new : Device) → (k : IsKept s) → IsOn new → Sa
     → ((port : ℕ) → port < 4 → IsPortOf s.wanted s.ports port new) → ((port slot : ℕ) (used : SlotUse) → used_for s.slots port slot ≡ Some used → HasCommand used.queued new port slot) → (steps : List Step) → AllMay k.machine steps
     → IsMachineOf (record s { device = new }) (after k.machine steps) → IsKept (record s { device = new })
 kept_on s new k on same behind commands steps may is =
-    kept_then s new s.table s.slots s.book s.last k on same behind refl k.four k.slots k.kinds commands k.accepted k.ordered k.handed_out k.ready (after k.machine steps) (reached_more k.machine steps k.reached may) is
+    kept_then s new s.table s.slots s.book s.last k on same behind refl k.four k.slots k.kinds commands k.alone k.accepted k.ordered k.handed_out k.ready (after k.machine steps) (reached_more k.machine steps k.reached may) is
 
 -- ---- events
 

@@ -36,7 +36,8 @@ use Rattle.host_boot.specs.Taken.{found_of}
 use Rattle.request_queue.specs.Entries.{IsAccepted, unanswered_of}
 use Rattle.request_queue.specs.Machine.{IsEntry}
 use Rattle.server_history.specs.Served.{accepted_as}
-use Rattle.server_history.specs.Server.{Server, IsKept, IsMachineOf, IsTransferRow, ports_of, situation_of, state_of}
+use Rattle.block_machine.specs.Left.{IsRow}
+use Rattle.server_history.specs.Server.{Server, IsKept, IsMachineOf, ports_of, situation_of, state_of}
 use Rattle.server_history.specs.Below.{LawsBelow}
 use Rattle.server_history.proofs.Calls.{situation_is}
 
@@ -132,8 +133,8 @@ module _ (s : Server) (r : Request) (acc : IsAcceptable (situation_of s) r) (row
       there : Contains s.grants granted.row
       there = subst (λ (rows : List GrantRow). Contains rows granted.row) k.stands.rows granted.named.0
 
-      transfers : IsTransferRow granted.row
-      transfers = All-contains IsTransferRow s.grants granted.row k.rows there
+      row_is : IsRow granted.row
+      row_is = All-contains IsRow s.grants granted.row k.rows there
 
       count : IsCount r.op r.count
       count = count_is r.op r.count (λ other. acc (Rule BadCount) other)
@@ -142,7 +143,7 @@ module _ (s : Server) (r : Request) (acc : IsAcceptable (situation_of s) r) (row
       first_below other =
           let covers = granted.covered other in
           let some = some_sector r.op r.count count other in
-          let below = transfers.row_is.below in
+          let below = row_is.below in
           omega (arith, covers.1, some, below)
 
       own : All (λ frame. owner_of s.table frame ≡ Some r.client) r.frames.items
@@ -160,8 +161,8 @@ module _ (s : Server) (r : Request) (acc : IsAcceptable (situation_of s) r) (row
 
       pub is_accepted : (table : Table) → LendsOnly s.table table r.frames.items (Some id) → IsAccepted s.grants table (accepted_as port r id)
       is_accepted table lends = record {
-        client_from = subst (λ (c : ClientId). 1 ≤ c.0) granted.named.1.0 transfers.row_is.client.0;
-        client_to = subst (λ (c : ClientId). c.0 ≤ 8) granted.named.1.0 transfers.row_is.client.1;
+        client_from = subst (λ (c : ClientId). 1 ≤ c.0) granted.named.1.0 row_is.client.0;
+        client_to = subst (λ (c : ClientId). c.0 ≤ 8) granted.named.1.0 row_is.client.1;
         sectors = count;
         first = first_below;
         frames = ⊎_elim (λ (same : length r.frames.items ≡ frames_for r.op r.count). same) (λ other. absurd (acc (Rule FrameCount) other)) (cases_eq (length r.frames.items) (frames_for r.op r.count));

@@ -1,13 +1,14 @@
 -- A due request is issued in the lowest free slot of its port.
-use Rattle.std.proofs.Common.{ℕ, ◌≡◌, ◌⊎◌, ⊎_elim, inl, inr, length, ◌<◌, ◌≤◌, ◌/◌, ◌%◌, false, true, not, Bool, List, ◌∷◌, map, Option, Some, refl, sym, ap, ◌∙◌, subst, arith}
-use Rattle.std.proofs.lemmas.Bool.{and_parts, false≢true}
-use Rattle.std.specs.List.{All, Contains}
+use Rattle.std.proofs.Common.{ℕ, ◌≡◌, ◌⊎◌, ⊎_elim, inl, inr, length, ◌<◌, ◌≤◌, ◌/◌, ◌%◌, false, true, not, Bool, List, ◌∷◌, map, Option, Some, None, nat_lt, ◌&&◌, ◌||◌, ◌≢◌, refl, sym, ap, ◌∙◌, subst, arith}
+use Rattle.std.proofs.lemmas.Bool.{and_parts, cases_eq, eq-eqb, false≢true}
+use Rattle.std.proofs.lemmas.List.Folds.{list_any_at}
+use Rattle.std.specs.List.{All, Contains, list_any}
 use Rattle.ata_types.specs.declared.Port.{Port}
 use Rattle.ata_types.specs.declared.PortState.TheVariants.{Ready as ReadyState}
 use Rattle.ata_types.specs.declared.request.RequestId.{RequestId}
 use Rattle.adapter.specs.Device.{Device}
 use Rattle.adapter.specs.declared.command.Operation.TheVariants.{Identify}
-use Rattle.block_machine.specs.Due.{IsDue, is_plain}
+use Rattle.block_machine.specs.Due.{IsDue, conflict, holds_back, is_plain}
 use Rattle.block_machine.specs.Events.{AllDevices, AllMay}
 use Rattle.block_machine.specs.Histories.{IsReached}
 use Rattle.block_machine.specs.Left.{after}
@@ -16,7 +17,7 @@ use Rattle.block_machine.specs.Steps.{Step, Issue, May}
 use Rattle.block_machine.specs.declared.due.Mode.{Mode}
 use Rattle.block_machine.specs.declared.due.Unanswered.{Unanswered}
 use Rattle.block_machine.proofs.HistoryLemmas.{reached_more}
-use Rattle.block_machine.proofs.Members.{contains_none, map_in}
+use Rattle.block_machine.proofs.Members.{contains_none, into_map, map_in}
 use Rattle.agreement.specs.Driven.{known, IsDrivenBy}
 use Rattle.agreement.specs.Driver.{EndsWith, IsBacked, serving}
 use Rattle.agreement.specs.Slots.{Free, Serves, Use, put}
@@ -34,7 +35,7 @@ use Rattle.request_queue.specs.Entries.{asks}
 use Rattle.slots.specs.Uses.{IsLowestFree}
 use Rattle.slots.specs.declared.Use.{Use as SlotUse}
 use Rattle.server_history.specs.Served.{IssuesOne, task_of, use_for}
-use Rattle.server_history.specs.Server.{HasCommand, Server, IsKept, IsMachineOf, IsPortOf, IsUsedAs, mode_at, mode_in, none_parked, slots_at, state_of, usable_of, used_for, with_slot}
+use Rattle.server_history.specs.Server.{HasCommand, IsAlone, Server, IsKept, IsMachineOf, IsPortOf, IsUsedAs, mode_at, mode_in, none_parked, slots_at, state_of, usable_of, used_for, with_slot}
 use Rattle.server_history.specs.Below.{LawsBelow}
 use Rattle.server_history.proofs.Asks.{asked_alike, same_book}
 use Rattle.server_history.proofs.Changed.{all_changed}
@@ -47,23 +48,15 @@ use Rattle.adapter.specs.Commands.{is_queued}
 use Rattle.agreement.specs.Acts.{at as at_slots}
 use Rattle.agreement.specs.Agrees.{port_at}
 use Rattle.ata_types.specs.declared.request.Op.{Op}
-use Rattle.ata_types.specs.declared.request.Op.TheVariants.{Read, Write}
+use Rattle.ata_types.specs.declared.request.Op.TheVariants.{Read, Write, Trim, Flush}
 use Rattle.ncq.specs.Tasks.{operation_of}
-use Rattle.server_history.proofs.Slots.{free_unused, its_mode, lowest_may, not_own, of_ready, ready_found, transfers, usable_ready, used_there}
+use Rattle.server_history.proofs.Slots.{free_unused, IsServedBy, its_mode, lowest_may, not_false, not_own, not_true, of_ready, ready_found, served_request, serves_used, usable_ready, used_or_not, used_there}
 use Rattle.server_history.proofs.Zips.{at_left}
 use Rattle.port_look.specs.Services.{IsService}
 use Rattle.ncq.specs.Tasks.{IsIssuing, IsTaskOf, IssuesTask, MayServe}
 use Rattle.server_history.proofs.Plain.{issuing_serves}
 use Rattle.port_look.proofs.Apart.{apart}
 use Rattle.port_look.proofs.Serving.{services_on, services_same}
-
-not_false : (b : Bool) → not b ≡ false → b ≡ true
-not_false true is = refl
-not_false false is = absurd (false≢true (sym is))
-
-not_true : (b : Bool) → not b ≡ true → b ≡ false
-not_true false is = refl
-not_true true is = absurd (false≢true is)
 
 -- Steps of the device, and then the issue of this request, lead from the machine to one that stands for the new server.
 pub record IsIssue (port : Port) (id : RequestId) (old new : Server) (m : Machine) : Type 0 where
@@ -258,7 +251,7 @@ module _ (laws : LawsBelow) (s new : Server) (port : Port) (id : RequestId) (k :
       (λ (its : (q ≡ port.0) × (n ≡ slot)).
       subst (λ (u : SlotUse). HasCommand u.queued new.device q n) (its_there q n used its.0 its.1 is)
       (subst (λ (p : ℕ). HasCommand r.queued new.device p n) (sym its.0) (subst (λ (m : ℕ). HasCommand r.queued new.device port.0 m) (sym its.1)
-      (record { command = _; places = _; stored = one.stored; kind = queued_is r.queued e.entry.op (transfers s k e one.here) }))))
+      (record { command = _; places = _; stored = one.stored; kind = queued_is mode e.entry.op }))))
       (λ (other : AreApart port.0 slot q n).
       let was = was_used q n used other is in
       let t = used_there s q n used k was in
@@ -274,11 +267,73 @@ module _ (laws : LawsBelow) (s new : Server) (port : Port) (id : RequestId) (k :
       })
       (its_or_other port.0 slot q n)
     where
-      queued_is : (queued : Bool) (op : Op) → (op ≡ Read) ⊎ (op ≡ Write) → is_queued (operation_of queued op) ≡ queued
-      queued_is true op (inl is) = ap (λ (o : Op). is_queued (operation_of true o)) is
-      queued_is false op (inl is) = ap (λ (o : Op). is_queued (operation_of false o)) is
-      queued_is true op (inr is) = ap (λ (o : Op). is_queued (operation_of true o)) is
-      queued_is false op (inr is) = ap (λ (o : Op). is_queued (operation_of false o)) is
+      transfer_is : (queued : Bool) → (is_queued (operation_of queued Read) ≡ queued) × (is_queued (operation_of queued Write) ≡ queued)
+      transfer_is true = (refl, refl)
+      transfer_is false = (refl, refl)
+
+      queued_is : (its : Mode) (op : Op) → is_queued (operation_of (not (is_plain its op)) op) ≡ not (is_plain its op)
+      queued_is its Read = (transfer_is (not (not its.queued))).0
+      queued_is its Write = (transfer_is (not (not its.queued))).1
+      queued_is its Trim = refl
+      queued_is its Flush = refl
+
+  -- ---- a plain command is alone
+
+  any_here : {X : Type 0} (test : X → Bool) (list : List X) (element : X) → Contains list element → test element ≡ true → list_any test list ≡ true
+  any_here test list element here passes = list_any_at test list here.0 element here.1 (ap test here.2 ∙ passes)
+
+  -- an issued request of the port holds back each one, if either is plain
+  holds : (other : Unanswered) → other.port.0 ≡ port.0 → other.issued ≡ true → (is_plain mode e.entry.op ≡ true) ⊎ (is_plain mode other.op ≡ true) → holds_back mode (asks e.entry) other ≡ true
+  holds other own issued plain =
+      ap (λ (b : Bool). b && kept) (eq-eqb other.port.0 e.entry.port.0 (own ∙ sym port_same)) ∙ by (is_plain mode e.entry.op) plain
+    where
+      kept : Bool
+      kept = if is_plain mode e.entry.op then other.issued || nat_lt other.id.0 e.entry.id.0 else (is_plain mode other.op && other.issued) || (nat_lt other.id.0 e.entry.id.0 && (is_plain mode other.op || conflict other (asks e.entry)))
+
+      by : (b : Bool) → (b ≡ true) ⊎ (is_plain mode other.op ≡ true) →
+          (if b then other.issued || nat_lt other.id.0 e.entry.id.0 else (is_plain mode other.op && other.issued) || (nat_lt other.id.0 e.entry.id.0 && (is_plain mode other.op || conflict other (asks e.entry)))) ≡ true
+      by true it = ap (λ (x : Bool). x || nat_lt other.id.0 e.entry.id.0) issued
+      by false (inl queued) = absurd (false≢true queued)
+      by false (inr its) =
+          ap (λ (x : Bool). (x && other.issued) || (nat_lt other.id.0 e.entry.id.0 && (x || conflict other (asks e.entry)))) its
+          ∙ ap (λ (x : Bool). x || (nat_lt other.id.0 e.entry.id.0 && (true || conflict other (asks e.entry)))) issued
+
+  -- so no slot of the port is used where a plain request is due, and none for a plain one where any is
+  none_beside : (n : ℕ) (u : SlotUse) → used_for s.slots port.0 n ≡ Some u → (is_plain mode e.entry.op ≡ true) ⊎ (u.queued ≡ false) → ⊥
+  none_beside n u used plain = false≢true (sym (not_true _ (and_parts _ _ one.due.clear).1) ∙ any_here (holds_back mode (asks e.entry)) (asks_of s.book) (asks x.request.entry)
+      (into_map (λ (h : Held). asks h.entry) s.book x.request x.there)
+      (holds (asks x.request.entry) x.port_is (sym x.entry.issued ∙ x.issued) (⊎_elim (λ it. inl it) (λ its. inr (plain_of its)) plain)))
+    where
+      x : IsServedBy s k.machine port.0 n u.id
+      x = served_request s k.machine port.0 n k.stands u.id (serves_used s k.machine port.0 k.stands issued_ready n u used)
+
+      plain_of : u.queued ≡ false → is_plain mode x.request.entry.op ≡ true
+      plain_of its = not_false (is_plain mode x.request.entry.op) (sym (k.kinds port n u x.request used x.there x.id_is) ∙ its)
+
+  alone_then : (q n : ℕ) (used : SlotUse) → used_for (with_slot s.slots port.0 slot its_use) q n ≡ Some used → used.queued ≡ false → IsAlone (with_slot s.slots port.0 slot its_use) q n
+  alone_then q n used is plain = ⊎_elim
+      (λ (its : (q ≡ port.0) × (n ≡ slot)).
+      let its_plain : is_plain mode e.entry.op ≡ true = not_false (is_plain mode e.entry.op) (ap (λ (u : SlotUse). u.queued) (its_there q n used its.0 its.1 is) ∙ plain) in
+      let head : slot ≡ 0 = may_use.3 its_plain in (
+        its.1 ∙ head,
+        λ other ne. none_else q other (λ u used_now.
+            none_beside other u (subst (λ (p : ℕ). used_for s.slots p other ≡ Some u) its.0 (was_used q other u (λ a b. ne (b ∙ head)) used_now)) (inl its_plain)),
+      ))
+      (λ (apart : AreApart port.0 slot q n).
+      let was = was_used q n used apart is in
+      let old = k.alone q n used was plain in
+      ⊎_elim
+      (λ (same : q ≡ port.0). absurd (none_beside n used (subst (λ (p : ℕ). used_for s.slots p n ≡ Some used) same was) (inr plain)))
+      (λ (beside : q ≢ port.0). (
+        old.0,
+        λ other ne. none_else q other (λ u used_now.
+            let z : None ≡ Some u = sym (old.1 other ne) ∙ was_used q other u (λ a b. beside a) used_now in cc),
+      ))
+      (cases_eq q port.0))
+      (its_or_other port.0 slot q n)
+    where
+      none_else : (q other : ℕ) → ((u : SlotUse) → used_for (with_slot s.slots port.0 slot its_use) q other ≡ Some u → ⊥) → used_for (with_slot s.slots port.0 slot its_use) q other ≡ None
+      none_else q other never = ⊎_elim (λ x. absurd (never x.0 x.1)) (λ none. none) (used_or_not (used_for (with_slot s.slots port.0 slot its_use) q other))
 
   -- the server keeps what it keeps
   pub issue_kept : IsKept new
@@ -294,6 +349,7 @@ module _ (laws : LawsBelow) (s new : Server) (port : Port) (id : RequestId) (k :
       (placed_has s.ports s.modes s.slots port.0 slot its_use k.four low slot_low few k.slots)
       kinds_then
       commands_then
+      alone_then
       (laws.still_issued s.grants s.table s.book id k.accepted)
       (laws.issued s.book id k.ordered (e, one.here, one.id_is, waiting))
       (all_changed id issue (λ y. y.entry.id.0 ≤ s.last) (λ y a. a) s.book k.handed_out)

@@ -24,6 +24,7 @@ pub mod Accepting
 pub mod Answering
 pub mod Settling
 pub mod Answered
+pub mod Serviced
 pub mod Services
 pub mod Origins
 pub mod Coming

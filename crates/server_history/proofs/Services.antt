@@ -10,9 +10,9 @@ use Rattle.std.proofs.lemmas.List.Quantifiers.{all_pairs_push}
 use Rattle.std.proofs.lemmas.List.Sorted.{IsPermutation-push_more, IsPermutation-refl}
 use Rattle.ata_types.specs.declared.Port.{Port}
 use Rattle.ata_types.specs.declared.PortState.{PortState}
-use Rattle.ata_types.specs.declared.PortState.TheVariants.{Absent, Dead, Foreign, Ready as ReadyState, Unfit}
+use Rattle.ata_types.specs.declared.PortState.TheVariants.{Absent, Dead, Ready as ReadyState}
 use Rattle.ata_types.specs.declared.request.Outcome.{Outcome}
-use Rattle.ata_types.specs.declared.request.Outcome.TheVariants.{Ok, Unplugged}
+use Rattle.ata_types.specs.declared.request.Outcome.TheVariants.{Ok}
 use Rattle.ata_types.specs.declared.request.Reply.{Reply}
 use Rattle.ata_types.specs.declared.request.RequestId.{RequestId}
 use Rattle.hba_regs.specs.Bits.{bit}
@@ -22,7 +22,6 @@ use Rattle.adapter.specs.Access.{Access, Reads}
 use Rattle.adapter.specs.Access.Access.{Reading}
 use Rattle.adapter.specs.Device.{Device}
 use Rattle.adapter.proofs.Calls.{does_append}
-use Rattle.adapter.specs.declared.access.DeviceStep.{DeviceStep}
 use Rattle.agreement.specs.Agrees.{port_at}
 use Rattle.agreement.specs.Driven.{IsDrivenBy}
 use Rattle.agreement.specs.Driver.{IsBacked}
@@ -35,17 +34,15 @@ use Rattle.agreement.proofs.Finished.{steps_over}
 use Rattle.agreement.proofs.Unarmed.{reads_clear, steps_clear}
 use Rattle.agreement.proofs.Finding.{ended_is_clear}
 use Rattle.agreement.proofs.Sparing.{found_before, steps_spare}
-use Rattle.block_machine.specs.Events.{Moment, Service, Served, AllMay, AnswersEnded, IsIssuedIn, AnswersService, IsToldBefore, ServesReady, answers_of, issues_it, reply_of}
-use Rattle.block_machine.specs.Histories.{Instant, Happening, IsReached, now}
+use Rattle.block_machine.specs.Events.{Moment, AllMay, AnswersEnded, IsIssuedIn, IsToldBefore, answers_of, issues_it, reply_of}
+use Rattle.block_machine.specs.Histories.{Instant, IsReached}
 use Rattle.block_machine.specs.Left.{after}
-use Rattle.block_machine.specs.Ports.{Ports}
 use Rattle.block_machine.specs.Due.{of_port}
 use Rattle.block_machine.specs.State.{Pending, Machine, unanswered}
 use Rattle.block_machine.specs.declared.due.Unanswered.{Unanswered}
 use Rattle.block_machine.specs.Steps.{Step, Answer}
-use Rattle.block_machine.proofs.Calm.{calmly}
 use Rattle.block_machine.proofs.EventLemmas.{after-append}
-use Rattle.block_machine.proofs.HistoryLemmas.{history_reaches, reached_more}
+use Rattle.block_machine.proofs.HistoryLemmas.{reached_more}
 use Rattle.block_machine.proofs.Members.{contains_none, into_map, map_in}
 use Rattle.block_machine.proofs.Standing.{standing}
 use Rattle.block_machine.proofs.Started.{ended_issued}
@@ -54,26 +51,20 @@ use Rattle.host_boot.specs.declared.Found.{Found}
 use Rattle.host_boot.specs.declared.Found.TheVariants.{Unserved, Ready, Unready}
 use Rattle.identify.specs.declared.DiskInfo.{DiskInfo}
 use Rattle.driver_history.specs.Evidence.{StaysHealthy}
-use Rattle.driver_history.specs.Histories.{Begins, FindsDone, HasBadDisk, IsAnsweredOk, IsIssuedOn, IssuesDue, TendsPort, Ties, TiesPort}
+use Rattle.driver_history.specs.Histories.{FindsDone, IsAnsweredOk, IsIssuedOn, IssuesDue, TendsPort}
 use Rattle.request_queue.specs.Entries.{Held, IsEarlier}
-use Rattle.request_queue.specs.Machine.{IsEntry}
-use Rattle.driver_history.specs.Trace.{IsServing, LeavesCommand, ReadsMasks}
-use Rattle.driver_history.proofs.Calm.{untroubled}
-use Rattle.server_history.specs.Histories.{Adds, Leads}
+use Rattle.driver_history.specs.Trace.{LeavesCommand, ReadsMasks}
 use Rattle.server_history.specs.Below.{LawsBelow}
 use Rattle.server_history.specs.Served.{AddsTurn, AnswersBy, Checks, HasEnded, IsMaskOf, IsAnsweredIn, SameSettings, ServePorts, ServesPort, answers_in, done_reply, is_used}
 use Rattle.server_history.specs.Server.{Server, IsKept, IsMachineOf, IsSettled, is_served, mode_in, ports_of, slots_at, state_of, used_for}
-use Rattle.server_history.proofs.Coming.{IsBusy, IsTurn, TurnList, turn_leaves, turn_list, turn_serving}
-use Rattle.server_history.proofs.Asks.{none_due, none_issued, same_book}
-use Rattle.server_history.proofs.Going.{happening, lead_by, ports_same, with_device}
+use Rattle.server_history.proofs.Coming.{IsBusy, IsTurn, TurnList, turn_leaves, turn_list}
+use Rattle.server_history.proofs.Asks.{none_issued, same_book}
 use Rattle.server_history.proofs.Origins.{TurnSteps, answers_turn, issued_before, stood}
 use Rattle.server_history.proofs.Settling.{same_more, turn_apart, turn_settings, turn_slots}
 use Rattle.server_history.proofs.Rounds.{any_append, dues_carried, or_none}
 use Rattle.server_history.proofs.Serving.{still_over}
-use Rattle.server_history.proofs.Answered.{answered_in, ended_stood, in_answered, issuing_answers, may_parts, no_answer, no_answer_issuing, none_refused, serviced_same, told_so, with_ok}
-use Rattle.server_history.proofs.Standing.{not_running}
-use Rattle.server_history.proofs.Told.{fatal_shows, grounded_told, loss_shows, no_evidence, no_fatal, no_loss, serves_told, told_by, uninterrupted}
-use Rattle.server_history.proofs.Slots.{HasSlot, free_unused, issued_has, of_ready, ready_found, serves_used, used_or_not}
+use Rattle.server_history.proofs.Answered.{answered_in, ended_stood, in_answered, issuing_answers, may_parts, no_answer, no_answer_issuing, told_so, with_ok}
+use Rattle.server_history.proofs.Slots.{HasSlot, free_unused, issued_has, ready_found, serves_used, used_or_not}
 use Rattle.server_history.proofs.Said.{one_said}
 use Rattle.slots.specs.declared.Use.{Use as SlotUse}
 use Rattle.slots.specs.Uses.{Uses as PortSlots, use_at}
@@ -114,26 +105,26 @@ module _ (laws : LawsBelow) (s : Server) (start : IsSettled s) (old : Moment) (r
   began = record { device = s.device; moment = old }
 
   -- Ports below this number had their turns, which led to this server with these replies.
-  record Progress (n : ℕ) (c : Server) (replies : List Reply) : Type 0 where
-    settled : IsSettled c
-    same : SameSettings s c
-    driven : IsDrivenBy (IsTurn (TendsPort (ports_of s))) s.device c.device
-    steps : List Step
-    turns : AreTurns old (ports_of s) n n steps
-    stands : IsMachineOf c (after old.machine steps)
-    backed : IsBacked s.device c.device old.machine steps
-    answers : List (Pending × Outcome)
-    permuted : IsPermutation answers (answers_of steps)
-    ordered : AllPairs IsToldBefore answers
-    low : All (λ a. a.0.request.port.0 < n) answers
-    told : replies ≡ map reply_of answers
-    heeded : (port : Port) → port.0 < n → state_of (found_of s.ports port.0) ≡ ReadyState → StaysHealthy port.0 s.device c.device → AnswersEnded old.machine steps port
-    finds : (port : Port) → port.0 < n → state_of (found_of s.ports port.0) ≡ ReadyState → StaysHealthy port.0 s.device c.device → (e : Pending) → IsIssuedOn port old.machine e
+  pub record Progress (n : ℕ) (c : Server) (replies : List Reply) : Type 0 where
+    pub settled : IsSettled c
+    pub same : SameSettings s c
+    pub driven : IsDrivenBy (IsTurn (TendsPort (ports_of s))) s.device c.device
+    pub steps : List Step
+    pub turns : AreTurns old (ports_of s) n n steps
+    pub stands : IsMachineOf c (after old.machine steps)
+    pub backed : IsBacked s.device c.device old.machine steps
+    pub answers : List (Pending × Outcome)
+    pub permuted : IsPermutation answers (answers_of steps)
+    pub ordered : AllPairs IsToldBefore answers
+    pub low : All (λ a. a.0.request.port.0 < n) answers
+    pub told : replies ≡ map reply_of answers
+    pub heeded : (port : Port) → port.0 < n → state_of (found_of s.ports port.0) ≡ ReadyState → StaysHealthy port.0 s.device c.device → AnswersEnded old.machine steps port
+    pub finds : (port : Port) → port.0 < n → state_of (found_of s.ports port.0) ≡ ReadyState → StaysHealthy port.0 s.device c.device → (e : Pending) → IsIssuedOn port old.machine e
         → FindsDone port driven.accesses began steps
-    due : (port : Port) → IssuesDue (mode_in s port) steps (after old.machine steps) port
-    ahead : (port : ℕ) → n ≤ port → slots_at c.slots port ≡ slots_at s.slots port
+    pub due : (port : Port) → IssuesDue (mode_in s port) steps (after old.machine steps) port
+    pub ahead : (port : ℕ) → n ≤ port → slots_at c.slots port ≡ slots_at s.slots port
 
-  begun : Progress 0 s []
+  pub begun : Progress 0 s []
   begun = record {
     settled = start;
     same = refl;
@@ -661,10 +652,10 @@ module _ (laws : LawsBelow) (s : Server) (start : IsSettled s) (old : Moment) (r
   -- ---- all ports
 
   -- how far all got, where no port from there on is ready
-  record Whole (new : Server) (replies : List Reply) : Type 0 where
-    count : ℕ
-    past : (port : ℕ) → count ≤ port → state_of (found_of s.ports port) ≡ ReadyState → ⊥
-    progress : Progress count new replies
+  pub record Whole (new : Server) (replies : List Reply) : Type 0 where
+    pub count : ℕ
+    pub past : (port : ℕ) → count ≤ port → state_of (found_of s.ports port) ≡ ReadyState → ⊥
+    pub progress : Progress count new replies
 
   on : (f : Found) (found : List Found) (n : ℕ) → ((i : ℕ) → found_of s.ports (n + i) ≡ found_of (f ∷ found) i) → (i : ℕ) → found_of s.ports (n + 1 + i) ≡ found_of found i
   on f found n here i = ap (λ (k : ℕ). found_of s.ports k) (omega arith) ∙ here (suc i)
@@ -676,7 +667,7 @@ module _ (laws : LawsBelow) (s : Server) (start : IsSettled s) (old : Moment) (r
   unready : (state : PortState) (n : ℕ) → found_of s.ports n ≡ Unready state → state_of (found_of s.ports n) ≢ ReadyState
   unready state n is is_ready = let z : Unready state ≡ Ready _ = sym is ∙ (ready_found s n kept is_ready).1.1 in absurd cc
 
-  go : (found : List Found) (n : ℕ) → ((i : ℕ) → found_of s.ports (n + i) ≡ found_of found i) → (c new : Server) (before replies : List Reply) → Progress n c before → ServePorts n found replies c new
+  pub go : (found : List Found) (n : ℕ) → ((i : ℕ) → found_of s.ports (n + i) ≡ found_of found i) → (c new : Server) (before replies : List Reply) → Progress n c before → ServePorts n found replies c new
       → Whole new (before ++ replies)
   go [] n here c new before replies p serves = record {
     count = n;
@@ -694,132 +685,3 @@ module _ (laws : LawsBelow) (s : Server) (start : IsSettled s) (old : Moment) (r
       (skipped n c before (λ is_ready. let z : Absent ≡ ReadyState = sym (ap state_of (head_is Unserved found n here)) ∙ is_ready in cc) p) serves
   go (Unready state ∷ found) n here c new before replies p serves =
       go found (n + 1) (on (Unready state) found n here) c new before replies (skipped n c before (unready state n (head_is (Unready state) found n here)) p) serves
-
--- ---- the event
-
-module _ (laws : LawsBelow) (s new : Server) (replies : List Reply) (start : IsSettled s) (serves : ServePorts 0 s.ports replies s new) (first : Instant Device) (past : List (Happening Device DeviceStep)) (leads : Leads first past s) where
-  abbrev old : Moment
-  old = (now first past).moment
-
-  at : IsMachineOf s old.machine
-  at = leads.stands.machine
-
-  reached : IsReached old.machine
-  reached = history_reaches (Begins s.wanted) (Ties s.wanted) first past leads.history
-
-  ends : Whole laws s start old reached at new replies
-  ends = go laws s start old reached at s.ports 0 (λ i. ap (λ (k : ℕ). found_of s.ports k) (omega arith)) s new [] replies (begun laws s start old reached at) serves
-
-  p : Progress laws s start old reached at ends.count new replies
-  p = ends.progress
-
-  -- but for what a service changes, the old server
-  abbrev later : Server
-  later = record s { device = new.device; table = new.table; slots = new.slots; book = new.book }
-
-  settled : IsSettled later
-  settled = subst IsSettled p.same p.settled
-
-  abbrev holds : IsKept later
-  holds = settled.kept
-
-  stands : IsMachineOf later (after old.machine p.steps)
-  stands = subst (λ (x : Server). IsMachineOf x (after old.machine p.steps)) p.same p.stands
-
-  abbrev end : Moment
-  end = record { machine = after old.machine p.steps; ports = ports_of s }
-
-  same : old.ports ≡ ports_of s
-  same = leads.stands.ports_are
-
-  is_ready : (port : Port) → old.ports.state port ≡ state_of (found_of s.ports port.0)
-  is_ready port = ap (λ (ports : Ports). ports.state port) same
-
-  not_unplugged : (o : Outcome) → Unplugged ≡ o → o ≡ Ok → ⊥
-  not_unplugged o one two = let z : Unplugged ≡ Ok = one ∙ two in absurd cc
-
-  emptied : (port : Port) → state_of (found_of s.ports port.0) ≢ ReadyState → (e : Pending) → Contains (after old.machine p.steps).book e → e.request.port ≢ port
-  emptied port other e here own =
-      let a = at_right IsEntry new.book (after old.machine p.steps).book stands.book e here in
-      other (ap (λ (q : Port). state_of (found_of s.ports q.0)) (sym own ∙ a.2.port) ∙ of_ready later holds a.0 a.1)
-
-  all_answered : AnswersService old (told_by s.device old.ports) p.steps replies end
-  all_answered = record {
-    tells = record { answers = p.answers; same = p.permuted; ordered = p.ordered; told = p.told };
-    dead = λ e o h dead. let z : Dead ≡ ReadyState = sym dead ∙ is_ready e.request.port ∙ (p.turns.told e o h).1 in absurd cc;
-    grounded = grounded_told s.device old.ports p.steps p.turns.grounded;
-    unplugs = record {
-      emptied = λ e other h here own. not_unplugged Unplugged refl (p.turns.told e Unplugged h).0;
-      alike = λ e other h here own. not_unplugged Unplugged refl (p.turns.told e Unplugged h).0;
-    };
-    issues = λ port is. none_due later (after old.machine p.steps) stands (mode_in later port) port (settled.issued port);
-    emptied = emptied;
-    becomes = serviced_same s.device old.ports old.ports (ports_of s) same;
-    disk = λ port. inl (ports_same old.ports (ports_of s) same port);
-  }
-
-  -- a ready port had its turn
-  counted : (port : Port) → old.ports.state port ≡ ReadyState → port.0 < ends.count
-  counted port ready = ⊎_elim (λ less. less) (λ most. absurd (ends.past port.0 most (sym (is_ready port) ∙ ready))) (cases_lt port.0 ends.count)
-
-  -- a ready port that goes well is served
-  heeds : (port : Port) → StaysHealthy port.0 s.device new.device → old.ports.state port ≡ ReadyState → ServesReady old no_evidence p.steps end port
-  heeds port well ready =
-      let found_ready : state_of (found_of s.ports port.0) ≡ ReadyState = sym (is_ready port) ∙ ready in
-      calmly old end p.steps port
-      ((at.knows.agrees.disk port.0).present ∙ well.well.present)
-      (ports_same old.ports (ports_of s) same port)
-      (none_refused p.steps (λ e o h. (p.turns.told e o h).0))
-      (p.heeded port (counted port ready) found_ready well)
-
-  -- a port that isn't ready is stopped, or idle: it doesn't run well
-  port_part : (port : Port) → StaysHealthy port.0 s.device new.device
-      → TiesPort (with_device s.device (now first past)) (happening (with_device s.device (now first past)) new.device Service (Served replies) p.steps (ports_of s)) p.driven.accesses port
-  port_part port well = record {
-    finds = λ ready e its. p.finds port (counted port ready) (sym (is_ready port) ∙ ready) well e its;
-    faults = λ alone. absurd (false≢true (sym (well.well.quiet.quiet 30 (omega arith) (omega arith)) ∙ alone.shows.fault));
-    tries = λ served coming. record {
-      shown = λ absent det. absurd (idle (ap (λ (ports : Ports). ports.served port) (sym same) ∙ served) (λ ready. let z : Absent ≡ ReadyState = sym absent ∙ is_ready port ∙ ready in cc));
-      absent = λ absent det fresh. absurd (idle (ap (λ (ports : Ports). ports.served port) (sym same) ∙ served) (λ ready. let z : Absent ≡ ReadyState = sym absent ∙ is_ready port ∙ ready in cc));
-      missing = λ bad. absurd (idle (ap (λ (ports : Ports). ports.served port) (sym same) ∙ served) (λ ready. not_bad bad (is_ready port ∙ ready)));
-      changed = λ bad. absurd (idle (ap (λ (ports : Ports). ports.served port) (sym same) ∙ served) (λ ready. not_bad bad (is_ready port ∙ ready)));
-    };
-    boots = (
-      λ ready trouble. absurd (⊎_elim
-          (λ fatal. no_fatal (s.device.port port.0) well.well (fatal_shows (s.device.port port.0) fatal))
-          (λ loss. no_loss (s.device.port port.0) well.well (loss_shows (s.device.port port.0) (⊎_elim (λ change. inl change) (λ out. inr out.0) loss)))
-          trouble),
-      inl (ports_same old.ports (ports_of s) same port),
-    );
-    trouble = untroubled (told_by s.device old.ports) (with_device s.device (now first past)) (ports_of s) new.device port well;
-    well = λ i. absurd (uninterrupted s.device old.ports port i);
-    heeds = λ ready. serves_told s.device old.ports old end p.steps port well.well (heeds port well ready);
-  }
-    where
-      idle : (ports_of s).served port ≡ true → state_of (found_of s.ports port.0) ≢ ReadyState → ⊥
-      idle served other = not_running s start.kept port served other well.well
-
-      not_bad : HasBadDisk old.ports port → old.ports.state port ≡ ReadyState → ⊥
-      not_bad (inl foreign) ready = let z : Foreign ≡ ReadyState = sym foreign ∙ ready in cc
-      not_bad (inr (cause, unfit)) ready = let z : Unfit cause ≡ ReadyState = sym unfit ∙ ready in cc
-
-  pub service_event : (h : Happening Device DeviceStep) × (h.event.ask ≡ Service) × (h.event.said ≡ Served replies) × Leads first (h ∷ past) new
-  service_event = subst (λ (x : Server). (h : Happening Device DeviceStep) × (h.event.ask ≡ Service) × (h.event.said ≡ Served replies) × Leads first (h ∷ past) x) (sym p.same)
-      (lead_by first past s later Service (Served replies) p.steps refl refl refl leads holds
-      p.turns.may p.turns.belong p.turns.last p.turns.lawful all_answered
-      p.driven.accesses
-      (p.driven.all, subst (λ (ports : Ports). All (IsServing (TendsPort ports)) p.driven.accesses) (sym same) (λ i d small. turn_serving (TendsPort (ports_of s)) _ (p.driven.only i d small)))
-      (λ port i d small. turn_leaves (TendsPort (ports_of s)) port _ (p.driven.only i d small))
-      (λ port ready. p.due port)
-      port_part
-      p.backed stands)
-
--- a server that served ports keeps what it keeps
-served_kept : (found : List Found) (n : ℕ) (s new : Server) (replies : List Reply) → IsSettled s → ServePorts n found replies s new → IsSettled new
-served_kept [] n s new replies kept serves = subst IsSettled (sym serves.1) kept
-served_kept (Ready info ∷ found) n s new replies kept (mid, its, later, is, next, serves, more) = served_kept found (n + 1) mid new later next more
-served_kept (Unserved ∷ found) n s new replies kept serves = served_kept found (n + 1) s new replies kept serves
-served_kept (Unready state ∷ found) n s new replies kept serves = served_kept found (n + 1) s new replies kept serves
-
-pub services_add : LawsBelow → (s new : Server) (replies : List Reply) → IsSettled s → ServePorts 0 s.ports replies s new → Adds s new Service (Served replies)
-services_add laws s new replies start serves = record { settled = served_kept s.ports 0 s new replies start serves; adds = λ first past leads. service_event laws s new replies start serves first past leads }

@@ -1,6 +1,6 @@
 -- What the slots of ports are used for, and how that of a ready port is given up.
 use Rattle.std.proofs.Common.{ℕ, Bool, ◌&&◌, ◌≡◌, ◌≢◌, ◌≤◌, ◌<◌, ◌+◌, ◌/◌, ◌%◌, ◌⊎◌, true, false, not, List, Option, None, Some, inl, inr, refl, sym, ap, ◌∙◌, subst, ⊎_elim, arith}
-use Rattle.std.specs.List.{All, Contains}
+use Rattle.std.specs.List.{Contains}
 use Rattle.std.specs.Prelude.{if◌then◌else◌, min}
 use Rattle.std.proofs.Math.Nat.{min-eq_left, min-eq_right, min-le_left, min-le_right}
 use Rattle.identify.specs.declared.wanted.Wanted.{Wanted}
@@ -33,16 +33,13 @@ use Rattle.host_boot.specs.Taken.{StillStandsBehind, found_of, wanted_of}
 use Rattle.host_boot.specs.declared.Found.{Found}
 use Rattle.host_boot.specs.declared.Found.TheVariants.{Unserved, Ready, Unready}
 use Rattle.identify.specs.declared.DiskInfo.{DiskInfo}
-use Rattle.ata_types.specs.declared.grant.GrantRow.{GrantRow}
-use Rattle.ata_types.specs.Grant.{Allows}
-use Rattle.dma_frames.specs.Table.{Table}
-use Rattle.request_queue.specs.Entries.{Held, IsAccepted, asks, asks_of}
+use Rattle.request_queue.specs.Entries.{Held, asks, asks_of}
 use Rattle.request_queue.specs.Machine.{IsEntry}
 use Rattle.std.proofs.lemmas.List.{get_or_past}
 use Rattle.slots.specs.Uses.{Uses as PortSlots, IsLowestFree, IsTaken, use_at}
 use Rattle.slots.specs.declared.Use.{Use as SlotUse}
 use Rattle.server_history.specs.Served.{is_used}
-use Rattle.server_history.specs.Server.{Server, IsKept, IsMachineOf, IsTransferRow, IsUsedAs, is_served, mode_at, mode_found, mode_in, no_slots, none_parked, slots_at, state_of, usable_of, use_of, used_for}
+use Rattle.server_history.specs.Server.{Server, IsKept, IsMachineOf, IsUsedAs, is_served, mode_at, mode_found, mode_in, no_slots, none_parked, slots_at, state_of, usable_of, use_of, used_for}
 use Rattle.server_history.specs.Below.{LawsBelow}
 use Rattle.server_history.proofs.Asks.{asked_alike, same_book}
 use Rattle.server_history.proofs.Zips.{at_left, at_right}
@@ -123,24 +120,20 @@ its_mode s port k low =
 pub usable_ready : (s : Server) (port : ℕ) (k : IsKept s) → state_of (found_of s.ports port) ≡ ReadyState → usable_of (found_of s.ports port) (mode_at s.modes port) ≡ (mode_at s.modes port).usable
 usable_ready s port k ready = ap (λ (f : Found). usable_of f (mode_at s.modes port)) (ready_found s port k ready).1.1
 
--- a read or a write is plain where commands aren't queued
-pub transfer_plain : (mode : Mode) (op : Op) → (op ≡ Read) ⊎ (op ≡ Write) → is_plain mode op ≡ not mode.queued
-transfer_plain mode op (inl e) = ap (is_plain mode) e
-transfer_plain mode op (inr e) = ap (is_plain mode) e
+pub not_true : (b : Bool) → not b ≡ true → b ≡ false
+not_true false is = refl
+not_true true is = absurd (false≢true is)
 
--- each request of the book is a read or a write
-accepted_op : (rows : List GrantRow) (table : Table) (e : Held) → All IsTransferRow rows → IsAccepted rows table e → (op : Op) → e.entry.op ≡ op → (e.entry.op ≡ Read) ⊎ (e.entry.op ≡ Write)
-accepted_op rows table e reads is Read same = inl same
-accepted_op rows table e reads is Write same = inr same
-accepted_op rows table e reads is Trim same =
-    let t : IsTransferRow is.row.0 = All-contains IsTransferRow rows is.row.0 reads is.row.1 in
-    let P : Op → Type 0 = λ x. Allows is.row.0.rights x in absurd (false≢true (sym t.trim ∙ subst P same is.row.5))
-accepted_op rows table e reads is Flush same =
-    let t : IsTransferRow is.row.0 = All-contains IsTransferRow rows is.row.0 reads is.row.1 in
-    let P : Op → Type 0 = λ x. Allows is.row.0.rights x in absurd (false≢true (sym t.flush ∙ subst P same is.row.5))
+pub not_false : (b : Bool) → not b ≡ false → b ≡ true
+not_false true is = refl
+not_false false is = absurd (false≢true (sym is))
 
-pub transfers : (s : Server) → IsKept s → (e : Held) → Contains s.book e → (e.entry.op ≡ Read) ⊎ (e.entry.op ≡ Write)
-transfers s k e here = accepted_op s.grants s.table e k.rows (All-contains (IsAccepted s.grants s.table) s.book e k.accepted here) e.entry.op refl
+-- what isn't plain is a read or a write
+pub queued_op : (mode : Mode) (op : Op) → is_plain mode op ≡ false → (op ≡ Read) ⊎ (op ≡ Write)
+queued_op mode Read queued = inl refl
+queued_op mode Write queued = inr refl
+queued_op mode Trim queued = absurd (false≢true (sym queued))
+queued_op mode Flush queued = absurd (false≢true (sym queued))
 
 -- ---- slots
 

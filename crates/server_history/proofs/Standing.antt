@@ -1,12 +1,11 @@
 -- What holds at the instant of a server that keeps what it keeps.
-use Rattle.std.proofs.Common.{ℕ, ◌≡◌, ◌≢◌, ◌<◌, ◌≤◌, ◌⊎◌, not, Bool, true, false, List, Option, Some, None, inl, inr, refl, sym, ap, ◌∙◌, subst, arith}
+use Rattle.std.proofs.Common.{ℕ, ◌≡◌, ◌≢◌, ◌<◌, ◌≤◌, not, true, false, List, Option, Some, None, inl, inr, refl, sym, ap, ◌∙◌, subst, arith}
 use Rattle.std.specs.Prelude.{◌↔◌}
 use Rattle.std.specs.List.{Contains}
 use Rattle.std.proofs.lemmas.Bool.{false≢true}
 use Rattle.ata_types.specs.declared.Port.{Port}
 use Rattle.ata_types.specs.declared.PortState.TheVariants.{Absent, Ready as ReadyState, Foreign, Unfit, Dead}
 use Rattle.ata_types.specs.declared.request.Op.{Op}
-use Rattle.ata_types.specs.declared.request.Op.TheVariants.{Read, Write}
 use Rattle.adapter.specs.Device.{Device}
 use Rattle.agreement.specs.Acts.{InSlots}
 use Rattle.agreement.specs.Facts.{RunsWell}
@@ -28,13 +27,9 @@ use Rattle.identify.specs.declared.wanted.Wanted.{Wanted}
 use Rattle.request_queue.specs.Entries.{Held}
 use Rattle.request_queue.specs.Machine.{IsEntry}
 use Rattle.slots.specs.declared.Use.{Use as SlotUse}
-use Rattle.server_history.specs.Server.{Server, IsKept, IsMachineOf, IsUsedAs, is_served, mode_at, mode_found, mode_in, none_parked, ports_of, sectors_of, serial_of, state_of, trims_of, usable_of, use_of, used_for}
-use Rattle.server_history.proofs.Slots.{free_unused, its_mode, of_ready, ready_use, transfer_plain, transfers, usable_ready, used_as, used_low, used_serves}
+use Rattle.server_history.specs.Server.{IsAlone, Server, IsKept, IsMachineOf, IsUsedAs, is_served, mode_at, mode_found, mode_in, none_parked, ports_of, sectors_of, serial_of, state_of, trims_of, usable_of, use_of, used_for}
+use Rattle.server_history.proofs.Slots.{free_unused, its_mode, of_ready, ready_use, usable_ready, used_as, used_serves}
 use Rattle.server_history.proofs.Zips.{at_right}
-
-not_true : (b : Bool) → not b ≡ true → b ≡ false
-not_true false is = refl
-not_true true is = absurd (false≢true is)
 
 -- what is used for a client's request or for none
 clients : (used : Option SlotUse) → IsClients (use_of used)
@@ -107,18 +102,15 @@ module _ (s : Server) (k : IsKept s) (m : Machine) (reached : IsReached m) (is :
       unused : (slot : ℕ) → mode.usable ≤ slot → is.uses port.0 slot ≡ Free
       unused slot high = free_unused s m port.0 is ready slot ((k.slots port.0 low).unused slot (subst (λ (n : ℕ). n ≤ slot) (sym (usable_ready s port.0 k ready)) high))
 
-      -- a plain one is alone: reads and writes are, where commands aren't queued, and then one slot is usable
+      -- a plain one is alone
       alone : (slot : ℕ) (e : Pending) → ServesIn slots instant port slot e → is_plain mode e.request.asked.op ≡ true → (slot ≡ 0) × ((other : ℕ) → other ≢ 0 → is.uses port.0 other ≡ Free)
-      alone slot e serves plain = (
-        (let small = used_low s port.0 slot x.0 k low x.1 in let u = usable_ready s port.0 k ready in omega (arith, small, u, one)),
-        λ other ne. unused other (omega (arith, one, ne)),
-      )
+      alone slot e serves plain = (a.0, λ other ne. free_unused s m port.0 is ready other (a.1 other ne))
         where
           x : (u : SlotUse) × (used_for s.slots port.0 slot ≡ Some u) × ((h : Held) × Contains s.book h × IsEntry h e × (h.entry.id ≡ u.id))
           x = serving slot e serves
 
-          one : mode.usable ≡ 1
-          one = fit.2 (not_true mode.queued (sym (transfer_plain mode e.request.asked.op (subst (λ (o : Op). (o ≡ Read) ⊎ (o ≡ Write)) (sym x.2.2.op) (transfers s k x.2.0 x.2.1))) ∙ plain))
+          a : IsAlone s.slots port.0 slot
+          a = k.alone port.0 slot x.0 x.1 (kind_is slot e serves x.0 x.1 ∙ ap not plain)
 
       requests : HasRequests slots instant port mode
       requests = record {

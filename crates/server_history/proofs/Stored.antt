@@ -1,6 +1,6 @@
 -- What is stored for a slot stays so while another is issued in.
 use Rattle.std.proofs.Common.{ℕ, ◌≡◌, ◌≢◌, ◌⊎◌, ◌<◌, ◌≤◌, ◌+◌, ◌*◌, length, List, inl, inr, refl, subst, ⊎_elim, arith}
-use Rattle.std.proofs.lemmas.Bool.{cases_eq}
+use Rattle.std.proofs.lemmas.Bool.{cases_eq, cases_lt}
 use Rattle.ata_types.specs.declared.Port.{Port}
 use Rattle.hba_regs.specs.declared.reg.PortReg.TheVariants.{Cmd, Clb}
 use Rattle.hba_regs.specs.declared.reg.Reg.TheVariants.{Px}
@@ -9,7 +9,7 @@ use Rattle.adapter.specs.Access.Access.{Storing}
 use Rattle.agreement.specs.Links.{SparesRegister}
 use Rattle.agreement.specs.Places.{IsTable}
 use Rattle.agreement.specs.Readying.{LeavesStored}
-use Rattle.command_table.specs.Written.{IsTableStore}
+use Rattle.command_table.specs.Written.{IsBlockStore, IsTableStore}
 use Rattle.ncq.specs.Tasks.{IsIssuing}
 use Rattle.port_look.specs.Services.{IsService}
 use Rattle.port_look.proofs.Serving.{spares_ghc, spares_port}
@@ -29,6 +29,10 @@ of_table : (port slot place : ℕ) → IsTable port slot place → IsWithin port
 of_table port slot place (inl t) = inl (omega (arith, t.0), omega (arith, t.1))
 of_table port slot place (inr (inl t)) = inl (omega (arith, t.0), omega (arith, t.1))
 of_table port slot place (inr (inr t)) = inr (omega (arith, t.0), omega (arith, t.1))
+
+-- and one of the scratch frame
+abbrev IsBeyond : (port place : ℕ) → Type 0
+IsBeyond port place = (40960 * port + 36864 ≤ place) × (place < 40960 * port + 37376)
 
 of_store : (port slot at place : ℕ) (bytes : List ℕ) → IsTableStore port slot (Storing at bytes) → at ≤ place → place < at + length bytes → IsWithin port slot place
 of_store port slot at place bytes (inl h) from to = inl (omega (arith, h.0, from), omega (arith, h.0, h.1, to))
@@ -63,7 +67,22 @@ service_leaves_stored other k access is misses = record {
   table = λ at bytes e place t from to. misses at bytes place e t from to;
 }
 
+-- the block of a trim is no byte of a header or table
+never_beyond : (port other k place : ℕ) → port < 4 → other < 4 → k < 32 → IsBeyond port place → IsWithin other k place → ⊥
+never_beyond port other k place a b c block (inl h) = ⊎_elim
+    (λ (less : other < port). omega (arith, a, b, c, less, block.0, block.1, h.0, h.1))
+    (λ (most : port ≤ other). omega (arith, a, b, c, most, block.0, block.1, h.0, h.1))
+    (cases_lt other port)
+never_beyond port other k place a b c block (inr h) = ⊎_elim
+    (λ (less : other < port). omega (arith, a, b, c, less, block.0, block.1, h.0, h.1))
+    (λ (most : port ≤ other). omega (arith, a, b, c, most, block.0, block.1, h.0, h.1))
+    (cases_lt other port)
+
 -- what issues in one slot leaves what is stored for another
 pub issuing_leaves_stored : (port other : Port) (slot k : ℕ) → port.0 < 4 → slot < 32 → other.0 < 4 → k < 32 → AreApart port.0 slot other.0 k → (access : Access) → IsIssuing port slot access → LeavesStored other k access
 issuing_leaves_stored port other slot k a b c d apart access is = service_leaves_stored other k access (issuing_serves port slot access is) (λ at bytes place e t from to.
-    never_both port.0 slot other.0 k place a b c d apart (of_store port.0 slot at place bytes (subst (IsIssuing port slot) e is) from to) (of_table other.0 k place t))
+    ⊎_elim
+    (λ (table : IsTableStore port.0 slot (Storing at bytes)). never_both port.0 slot other.0 k place a b c d apart (of_store port.0 slot at place bytes table from to) (of_table other.0 k place t))
+    (λ (block : IsBlockStore port.0 slot (Storing at bytes)).
+    never_beyond port.0 other.0 k place a c d (let here = block.1 in let size = block.2 in (omega (arith, here, from), omega (arith, here, size, to))) (of_table other.0 k place t))
+    (subst (IsIssuing port slot) e is))

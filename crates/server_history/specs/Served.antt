@@ -27,9 +27,8 @@ use Rattle.host_boot.specs.declared.Found.TheVariants.{Ready}
 use Rattle.adapter.specs.Access.{Access}
 use Rattle.hba_regs.specs.Bits.{bit}
 use Rattle.ncq.specs.Masks.{ReadsDone}
-use Rattle.ncq.specs.Tasks.{IsIssuing, IssuesTask, meaning_of}
+use Rattle.ncq.specs.Tasks.{IsIssuing, IssuesTask, addresses_of, meaning_of}
 use Rattle.agreement.specs.Readying.{IsStored}
-use Rattle.command_table.specs.Places.{places_of}
 use Rattle.ncq.specs.declared.Task.{Task}
 use Rattle.request_queue.specs.Entries.{Held, IsEarlier, asks, asks_of, at, due_ids, issue, without}
 use Rattle.request_queue.specs.Machine.{IsEntry}
@@ -110,7 +109,7 @@ pub record IssuesOne (port : Port) (id : RequestId) (old new : Server) : Type 0 
   pub small : slot < 32
   pub lowest : IsLowestFree (slots_at old.slots port.0) slot
   pub issues : IssuesTask port slot (task_of (mode_in old port) request) request.frames old.device new.device
-  pub stored : IsStored new.device port.0 slot (meaning_of (task_of (mode_in old port) request)) (places_of request.frames request.entry.range.count)
+  pub stored : IsStored new.device port.0 slot (meaning_of (task_of (mode_in old port) request)) (addresses_of port.0 request.entry.op request.entry.range.count request.frames)
   pub server : new ≡ record old {
     device = new.device;
     slots = with_slot old.slots port.0 slot (Some (use_for (mode_in old port) request));

@@ -1,5 +1,5 @@
 -- What a server of several ports holds, and the block machine that stands for it (this project's own).
-use Rattle.std.specs.Prelude.{ℕ, Bool, true, false, not, ◌≡◌, ◌⊎◌, ◌+◌, ◌*◌, ◌<◌, ◌≤◌, List, [], Option, Some, None, All, AllPairs, Contains, length, slice_index_or, slice_set}
+use Rattle.std.specs.Prelude.{ℕ, Bool, true, false, not, ◌≡◌, ◌≢◌, ◌⊎◌, ◌+◌, ◌*◌, ◌<◌, ◌≤◌, List, [], Option, Some, None, All, AllPairs, Contains, length, slice_index_or, slice_set}
 use Rattle.ata_types.specs.declared.Port.{Port}
 use Rattle.ata_types.specs.declared.PortState.{PortState}
 use Rattle.ata_types.specs.declared.PortState.TheVariants.{Absent, Ready as ReadyState, Dead}
@@ -169,12 +169,6 @@ pub record IsMachineOf (s : Server) (m : Machine) : Type 0 where
 
 -- ---- what holds of a server between calls
 
--- a grant as a configuration may give it, without the rights to trim and to flush
-pub record IsTransferRow (row : GrantRow) : Type 0 where
-  pub row_is : IsRow row
-  pub trim : row.rights.trim ≡ false
-  pub flush : row.rights.flush ≡ false
-
 -- frames that have an owner are clients' frames of the memory
 abbrev pub OwnsClientFrames : Table → ℕ → Type 0
 OwnsClientFrames table size = (frame : Frame) (client : ClientId) → owner_of table frame ≡ Some client
@@ -204,9 +198,13 @@ pub record HasCommand (queued : Bool) (d : Device) (port slot : ℕ) : Type 0 wh
   pub stored : IsStored d port slot command places
   pub kind : is_queued command.operation ≡ queued
 
+-- the slot is slot 0, and no other one of the port is used
+abbrev pub IsAlone : List PortSlots → ℕ → ℕ → Type 0
+IsAlone slots port slot = (slot ≡ 0) × ((other : ℕ) → other ≢ 0 → used_for slots port other ≡ None)
+
 -- What holds of a server at each moment of a call. The adapter is on and has the memory of the driver and of the clients, and each port that is
 -- served; each port is as it was found, and runs if that was ready; the four ports take commands as adapter and disk can, and use the slots that
--- they may, for queued commands or for plain ones; grants are for reads and writes;
+-- they may, for queued commands or for plain ones, of which each is alone in slot 0; grants are as a configuration may give them;
 -- requests are as they were accepted, in order, and of ready ports; and some machine that a history leads to stands for the server.
 pub record IsKept (s : Server) : Type 0 where
   pub on : IsOn s.device
@@ -219,7 +217,8 @@ pub record IsKept (s : Server) : Type 0 where
   pub kinds : (port : Port) (slot : ℕ) (used : SlotUse) (e : Held) → used_for s.slots port.0 slot ≡ Some used → Contains s.book e → e.entry.id ≡ used.id
       → used.queued ≡ not (is_plain (mode_in s port) e.entry.op)
   pub commands : (port slot : ℕ) (used : SlotUse) → used_for s.slots port slot ≡ Some used → HasCommand used.queued s.device port slot
-  pub rows : All IsTransferRow s.grants
+  pub alone : (port slot : ℕ) (used : SlotUse) → used_for s.slots port slot ≡ Some used → used.queued ≡ false → IsAlone s.slots port slot
+  pub rows : All IsRow s.grants
   pub owners : OwnsClientFrames s.table s.device.size
   pub accepted : All (IsAccepted s.grants s.table) s.book
   pub ordered : IsInOrder s.book
@@ -239,7 +238,7 @@ pub record IsSettled (s : Server) : Type 0 where
 pub record IsNewServer (host : Host) (s : Server) : Type 0 where
   pub ports : s.ports ≡ host.ports
   pub four : length host.ports ≡ 4
-  pub rows : All IsTransferRow s.grants
+  pub rows : All IsRow s.grants
   pub names : AllPairs DifferInName s.grants
   pub few : length s.grants ≤ 64
   pub owners : OwnsClientFrames s.table s.device.size
