@@ -1,44 +1,29 @@
 -- What a server holds when it is made.
-use Rattle.std.proofs.Common.{ℕ, ◌≡◌, ◌*◌, ◌<◌, ◌≤◌, List, [], length, map, Some, None, get_or, refl, sym, subst, arith}
+use Rattle.std.proofs.Common.{ℕ, ◌≡◌, ◌*◌, ◌<◌, ◌≤◌, [], length, Some, None, get_or, subst, arith}
 use Rattle.std.specs.List.{AllPairs, Contains}
-use Rattle.std.proofs.lemmas.List.{get_or-map, get_or_default, length-map}
+use Rattle.std.proofs.lemmas.List.{get_or_default}
 use Rattle.std.proofs.lemmas.List.Elements.{All-contains}
 use Rattle.ata_types.specs.declared.grant.GrantRow.{GrantRow}
 use Rattle.ata_types.specs.declared.request.ClientId.{ClientId}
 use Rattle.ata_types.specs.declared.request.Frame.{Frame}
 use Rattle.block_machine.specs.Rules.{DifferInName}
-use Rattle.block_machine.proofs.Members.{map_in}
+use Rattle.block_machine.specs.Left.{IsRow}
 use Rattle.dma_frames.specs.Table.{HasFrame, Run, owner_of, lent_to}
 use Rattle.grants.specs.Rows.{SameRows}
 use Rattle.host_boot.specs.Taken.{found_of}
 use Rattle.host_boot.specs.declared.Host.{Host}
 use Rattle.plan.specs.Plan.{HasClientFrames, IsClient, IsPlan, IsServedGrant, PlanView}
-use Rattle.server_history.specs.Server.{IsNewServer, IsTransferRow, Server, mode_at, mode_found, no_slots, used_for}
-use Rattle.block_server.specs.Made.{transfer_row}
+use Rattle.server_history.specs.Server.{IsNewServer, Server, mode_at, mode_found, no_slots, used_for}
 
--- rows keep their names
-pub named_apart : (rows : List GrantRow) → AllPairs DifferInName rows → AllPairs DifferInName (map transfer_row rows)
-named_apart rows apart i j d lt small =
-    let small_j : j < length rows = let l = length-map rows transfer_row in omega (arith, l, small) in
-    let small_i : i < length rows = omega (arith, lt, small_j) in
-    subst (λ (x : GrantRow). DifferInName x (get_or (map transfer_row rows) j d)) (sym (get_or-map transfer_row rows i d d small_i))
-    (subst (λ (y : GrantRow). DifferInName (transfer_row (get_or rows i d)) y) (sym (get_or-map transfer_row rows j d d small_j)) (apart i j d lt small_j))
+-- a row of a plan is one that a configuration may give
+row_is : (plan : PlanView) (row : GrantRow) → IsServedGrant plan.wanted row → IsRow row
+row_is plan row g = record { client = (g.client.0, g.client.1); number = g.number; port = g.port; some = g.some; below = g.sectors }
 
--- a row of a plan, without the rights to trim and to flush
-row_is : (plan : PlanView) (row : GrantRow) → IsServedGrant plan.wanted row → IsTransferRow (transfer_row row)
-row_is plan row g = record {
-  row_is = record { client = (g.client.0, g.client.1); number = g.number; port = g.port; some = g.some; below = g.sectors };
-  trim = refl;
-  flush = refl;
-}
-
-module _ (s : Server) (host : Host) (plan : PlanView) (is : IsPlan plan) (rows : SameRows (map transfer_row plan.grants) s.grants)
+module _ (s : Server) (host : Host) (plan : PlanView) (is : IsPlan plan) (rows : SameRows plan.grants s.grants)
     (only : (f : Frame) (client : ClientId) → owner_of s.table f ≡ Some client → (run : Run) × Contains plan.owners run × HasFrame run f × (run.0 ≡ client))
     (room : 4096 * plan.frames ≤ s.device.size) where
-  transfer_rows : (row : GrantRow) → Contains s.grants row → IsTransferRow row
-  transfer_rows row here =
-      let x = map_in transfer_row plan.grants row (rows.1 row here) in
-      subst IsTransferRow (sym x.2) (row_is plan x.0 (All-contains (IsServedGrant plan.wanted) plan.grants x.0 is.grants x.1))
+  planned : (row : GrantRow) → Contains s.grants row → IsRow row
+  planned row here = row_is plan row (All-contains (IsServedGrant plan.wanted) plan.grants row is.grants (rows.1 row here))
 
   within : (frame : Frame) (client : ClientId) → owner_of s.table frame ≡ Some client → (40 ≤ frame.0) × (frame.0 < plan.frames) × IsClient client
   within frame client own =
@@ -54,7 +39,7 @@ module _ (s : Server) (host : Host) (plan : PlanView) (is : IsPlan plan) (rows :
   new_fits names few free ports four four_slots places modes usable unused book last = record {
     ports = ports;
     four = four;
-    rows = λ k d small. transfer_rows (get_or s.grants k d) (k, small, get_or_default s.grants k (get_or s.grants k d) d small);
+    rows = λ k d small. planned (get_or s.grants k d) (k, small, get_or_default s.grants k (get_or s.grants k d) d small);
     names = names;
     few = few;
     owners = λ frame client own. let w = within frame client own in (w.0, omega (arith, w.1, room));

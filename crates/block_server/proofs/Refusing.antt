@@ -1,31 +1,31 @@
 -- The first cause to refuse a request, as the server looks for it.
-use Rattle.std.proofs.Common.{ℕ, ◌≡◌, ◌≢◌, ◌+◌, ◌^◌, ◌<◌, ◌≤◌, Option, Some, sym, ◌∙◌, ⊎_elim, ap, subst, arith}
-use Rattle.std.specs.List.{All}
+use Rattle.std.proofs.Common.{ℕ, ◌≡◌, ◌≢◌, ◌+◌, ◌^◌, ◌<◌, ◌≤◌, Option, Some, Bool, true, false, refl, sym, ◌∙◌, ap, subst, arith}
+use Rattle.std.specs.Prelude.{IsTrue}
+use Rattle.std.proofs.lemmas.Bool.{true≢false}
 use Rattle.ata_types.specs.declared.PortState.{PortState}
 use Rattle.ata_types.specs.declared.PortState.TheVariants.{Ready}
 use Rattle.ata_types.specs.declared.grant.GrantRow.{GrantRow}
 use Rattle.ata_types.specs.declared.refusal.Refusal.TheVariants.{PortNotReady, OutsideDisk, TrimUnsupported, ClientFull, IdsSpent}
-use Rattle.ata_types.specs.declared.request.Op.TheVariants.{Read, Write, Trim, Flush}
+use Rattle.ata_types.specs.declared.request.Op.TheVariants.{Trim, Flush}
 use Rattle.ata_types.specs.declared.request.Request.{Request}
 use Rattle.block_machine.specs.Refusals.{Applies, IsAcceptable, IsFirstRefusal}
 use Rattle.block_machine.specs.Rules.{IsNamed, BreaksNone}
 use Rattle.dma_frames.specs.Table.{owner_of, lent_to}
 use Rattle.request_queue.specs.Entries.{unanswered_of}
-use Rattle.server_history.specs.Server.{Server, IsTransferRow, ports_of, situation_of}
+use Rattle.server_history.specs.Server.{Server, ports_of, situation_of}
 use Rattle.block_server.proofs.Ruling as ruling
 
+-- what is told of a trim that its port doesn't take tells of each other request that it isn't so
+pub takes_trim : (trims told : Bool) (trim : Type 0) → (trim × (trims ≡ false) → IsTrue told) → told ≡ false → trim → trims ≡ true
+takes_trim true told trim lacks none asked = refl
+takes_trim false told trim lacks none asked = absurd (true≢false (sym (lacks (asked, refl)) ∙ none))
+
 -- the row is the only one that the request names
-module _ (s : Server) (reads : All IsTransferRow s.grants) (r : Request) (none : BreaksNone s.grants (owner_of s.table) (lent_to s.table) r)
+module _ (s : Server) (r : Request) (none : BreaksNone s.grants (owner_of s.table) (lent_to s.table) r)
     (row : GrantRow) (found : Option GrantRow) (is : found ≡ Some row) (all : (other : GrantRow) → IsNamed s.grants r other → found ≡ Some other)
     (named : IsNamed s.grants r row) where
   the_same : (other : GrantRow) → IsNamed s.grants r other → other ≡ row
   the_same other its = let e : Some other ≡ Some row = sym (all other its) ∙ is in cc
-
-  never_trim : Applies (situation_of s) r TrimUnsupported → ⊥
-  never_trim applies = ⊎_elim
-      (λ e. let x : Trim ≡ Read = sym applies.0 ∙ e in cc)
-      (λ e. let x : Trim ≡ Write = sym applies.0 ∙ e in cc)
-      (ruling.transfers s.grants s.table r reads none)
 
   below : {B : Type 0} (n m : ℕ) → m ≤ n → n < m → B
   below n m le lt = absurd (omega (arith, le, lt))
@@ -60,33 +60,50 @@ module _ (s : Server) (reads : All IsTransferRow s.grants) (r : Request) (none :
     })
 
     module _ (inside : ((r.op ≢ Flush) × ((ports_of s).sectors row.port < r.first.0 + r.count)) → ⊥) where
-      pub client_full : 16 ≤ unanswered_of s.book r.client.0 → IsFirstRefusal (situation_of s) r ClientFull
-      client_full full = ruling.client_full_first (situation_of s) r full (record {
+      never_outside : Applies (situation_of s) r OutsideDisk → ⊥
+      never_outside applies = inside (applies.0, subst (λ (x : GrantRow). (ports_of s).sectors x.port < r.first.0 + r.count) (the_same applies.1.0 applies.1.1) applies.1.2)
+
+      pub trim_unsupported : r.op ≡ Trim → (ports_of s).trims row.port ≡ false → IsFirstRefusal (situation_of s) r TrimUnsupported
+      trim_unsupported trims none_trims = ruling.trim_unsupported_first (situation_of s) r (trims, (row, named, λ (does : IsTrue ((ports_of s).trims row.port)). absurd (true≢false (sym does ∙ none_trims)))) (record {
         rules = none;
         ready = λ _. always_ready;
-        disk = λ _ applies. inside (applies.0, subst (λ (x : GrantRow). (ports_of s).sectors x.port < r.first.0 + r.count) (the_same applies.1.0 applies.1.1) applies.1.2);
-        trim = λ _. never_trim;
-        full = λ h. below 12 12 (omega arith) h;
-        ids = λ h. below 13 12 (omega arith) h;
+        disk = λ _. never_outside;
+        trim = λ h. below 11 11 (omega arith) h;
+        full = λ h. below 12 11 (omega arith) h;
+        ids = λ h. below 13 11 (omega arith) h;
       })
 
-      module _ (room : unanswered_of s.book r.client.0 < 16) where
-        pub ids_spent : 2 ^ 64 ≤ s.last + 1 → IsFirstRefusal (situation_of s) r IdsSpent
-        ids_spent spent = ruling.ids_spent_first (situation_of s) r spent (record {
+      module _ (trims : r.op ≡ Trim → (ports_of s).trims row.port ≡ true) where
+        never_trim : Applies (situation_of s) r TrimUnsupported → ⊥
+        never_trim applies = applies.1.2 (subst (λ (x : GrantRow). IsTrue ((ports_of s).trims x.port)) (sym (the_same applies.1.0 applies.1.1)) (trims applies.0))
+
+        pub client_full : 16 ≤ unanswered_of s.book r.client.0 → IsFirstRefusal (situation_of s) r ClientFull
+        client_full full = ruling.client_full_first (situation_of s) r full (record {
           rules = none;
           ready = λ _. always_ready;
-          disk = λ _ applies. inside (applies.0, subst (λ (x : GrantRow). (ports_of s).sectors x.port < r.first.0 + r.count) (the_same applies.1.0 applies.1.1) applies.1.2);
+          disk = λ _. never_outside;
           trim = λ _. never_trim;
-          full = λ _ applies. omega (arith, applies, room);
-          ids = λ h. below 13 13 (omega arith) h;
+          full = λ h. below 12 12 (omega arith) h;
+          ids = λ h. below 13 12 (omega arith) h;
         })
 
-        pub none_applies : s.last + 1 < 2 ^ 64 → IsAcceptable (situation_of s) r
-        none_applies left = ruling.acceptable (situation_of s) r (record {
-          rules = none;
-          ready = λ _. always_ready;
-          disk = λ _ applies. inside (applies.0, subst (λ (x : GrantRow). (ports_of s).sectors x.port < r.first.0 + r.count) (the_same applies.1.0 applies.1.1) applies.1.2);
-          trim = λ _. never_trim;
-          full = λ _ applies. omega (arith, applies, room);
-          ids = λ _ applies. omega (arith, applies, left);
-        })
+        module _ (room : unanswered_of s.book r.client.0 < 16) where
+          pub ids_spent : 2 ^ 64 ≤ s.last + 1 → IsFirstRefusal (situation_of s) r IdsSpent
+          ids_spent spent = ruling.ids_spent_first (situation_of s) r spent (record {
+            rules = none;
+            ready = λ _. always_ready;
+            disk = λ _. never_outside;
+            trim = λ _. never_trim;
+            full = λ _ applies. omega (arith, applies, room);
+            ids = λ h. below 13 13 (omega arith) h;
+          })
+
+          pub none_applies : s.last + 1 < 2 ^ 64 → IsAcceptable (situation_of s) r
+          none_applies left = ruling.acceptable (situation_of s) r (record {
+            rules = none;
+            ready = λ _. always_ready;
+            disk = λ _. never_outside;
+            trim = λ _. never_trim;
+            full = λ _ applies. omega (arith, applies, room);
+            ids = λ _ applies. omega (arith, applies, left);
+          })

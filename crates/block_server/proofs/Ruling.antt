@@ -1,31 +1,15 @@
--- From the causes in turn to the first that applies, and what an acceptable request is.
-use Rattle.std.proofs.Common.{ℕ, ◌≡◌, ◌≢◌, ◌+◌, ◌/◌, ◌^◌, ◌<◌, ◌≤◌, inl, inr, Bool, false, List, length, Option, Some, refl, sym, ◌∙◌, ap, subst, arith, get_or}
-use Rattle.std.specs.Prelude.{IsTrue, IsSome}
-use Rattle.std.specs.List.{All, Contains}
-use Rattle.std.proofs.lemmas.Bool.{cases_eq, cases_lt, true≢false}
-use Rattle.std.proofs.lemmas.Option.{slice_get-get_or}
-use Rattle.ata_types.specs.Grant.{Allows}
+-- From the causes in turn to the first that applies.
+use Rattle.std.proofs.Common.{ℕ, ◌<◌, ◌≤◌, inl, inr, arith}
 use Rattle.ata_types.specs.declared.PortState.{PortState}
-use Rattle.ata_types.specs.declared.grant.GrantRow.{GrantRow}
 use Rattle.ata_types.specs.declared.refusal.FrameFault.TheVariants.{FrameForeign, FrameTwice, FrameLent}
 use Rattle.ata_types.specs.declared.refusal.Refusal.{Refusal}
 use Rattle.ata_types.specs.declared.refusal.Refusal.TheVariants.{Rule, PortNotReady, OutsideDisk, TrimUnsupported, ClientFull, IdsSpent}
 use Rattle.ata_types.specs.declared.refusal.Rule as rules
 use Rattle.ata_types.specs.declared.refusal.Rule.TheVariants.{NoGrant, NoRight, BadCount, OutsideGrant, FrameCount, Frames}
-use Rattle.ata_types.specs.declared.request.ClientId.{ClientId}
-use Rattle.ata_types.specs.declared.request.Frame.{Frame}
-use Rattle.ata_types.specs.declared.request.Op.{Op}
-use Rattle.ata_types.specs.declared.request.Op.TheVariants.{Read, Write, Trim, Flush}
 use Rattle.ata_types.specs.declared.request.Request.{Request}
-use Rattle.ata_types.specs.declared.request.RequestId.{RequestId}
 use Rattle.block_machine.specs.Refusals.{Situation, Applies, IsAcceptable, IsFirstRefusal}
-use Rattle.block_machine.specs.Rules.{IsCount, frames_for, IsNamed, HasNoFault, Breaks, BreaksNone, IsFirstBroken, IsBefore, rank}
+use Rattle.block_machine.specs.Rules.{BreaksNone, IsFirstBroken, IsBefore, rank}
 use Rattle.block_machine.proofs.RuleLemmas.{number, place}
-use Rattle.dma_frames.specs.Table.{Table, owner_of, lent_to}
-use Rattle.ncq.specs.Tasks.{IsTransfer}
-use Rattle.server_history.specs.Server.{IsTransferRow, OwnsClientFrames}
-
--- ---- the first refusal
 
 rule_small : (rule : rules.Rule) → number rule ≤ 8
 rule_small NoGrant = omega arith
@@ -96,6 +80,9 @@ module _ (s : Situation) (r : Request) where
   pub outside_disk_first : Applies s r OutsideDisk → NoneBelow 10 → IsFirstRefusal s r OutsideDisk
   outside_disk_first applies none = (applies, none_before 10 none)
 
+  pub trim_unsupported_first : Applies s r TrimUnsupported → NoneBelow 11 → IsFirstRefusal s r TrimUnsupported
+  trim_unsupported_first applies none = (applies, none_before 11 none)
+
   pub client_full_first : Applies s r ClientFull → NoneBelow 12 → IsFirstRefusal s r ClientFull
   client_full_first applies none = (applies, none_before 12 none)
 
@@ -109,106 +96,3 @@ module _ (s : Situation) (r : Request) where
   acceptable none TrimUnsupported = none.trim (omega arith)
   acceptable none ClientFull = none.full (omega arith)
   acceptable none IdsSpent = none.ids (omega arith)
-
--- ---- what an acceptable request is, where grants are to read and to write
-
-is_true_false : {b : Bool} {A : Type 0} → IsTrue b → b ≡ false → A
-is_true_false h e = absurd (true≢false (sym h ∙ e))
-
-module _ (rows : List GrantRow) (table : Table) (r : Request) (reads : All IsTransferRow rows)
-    (none : BreaksNone rows (owner_of table) (lent_to table) r) where
-  pub grant_of : (row : GrantRow) → IsNamed rows r row → IsTransferRow row
-  grant_of row named = let c = named.0 in let P : GrantRow → Type 0 = λ x. IsTransferRow x in subst P c.2 (reads c.0 row c.1)
-
-  -- what can be told apart holds if it holds of each row that is named
-  by_rows : {A : Type 0} → ((row : GrantRow) → IsNamed rows r row → ⊥) → A
-  by_rows h = absurd (none NoGrant h)
-
-  pub asks_transfer : (op : Op) → r.op ≡ op → IsTransfer r.op
-  asks_transfer Read e = inl e
-  asks_transfer Write e = inr e
-  asks_transfer Trim e = by_rows (λ row named. none NoRight (
-    row,
-    named,
-    λ allowed.
-        let P : Op → Type 0 = λ op. Allows row.rights op in is_true_false (subst P e allowed) (grant_of row named).trim,
-  ))
-  asks_transfer Flush e = by_rows (λ row named. none NoRight (
-    row,
-    named,
-    λ allowed.
-        let P : Op → Type 0 = λ op. Allows row.rights op in is_true_false (subst P e allowed) (grant_of row named).flush,
-  ))
-
-  pub transfers : IsTransfer r.op
-  transfers = asks_transfer r.op refl
-
-  -- what holds of reads and of writes
-  of_both : (P : Op → Type 0) → P Read → P Write → P r.op
-  of_both P read write = elim transfers [ inl e ↦ subst P (sym e) read | inr e ↦ subst P (sym e) write ]
-
-  pub client_from : 1 ≤ r.client.0
-  client_from =
-      elim (cases_lt r.client.0 1) [
-        | inl low ↦ by_rows (λ row named. let g = grant_of row named in let e = ap (λ (c : ClientId). c.0) named.1.0 in omega (arith, low, e, g.row_is.client.0))
-        | inr high ↦ high
-      ]
-
-  pub client_to : r.client.0 ≤ 8
-  client_to =
-      elim (cases_lt 8 r.client.0) [
-        | inl high ↦ by_rows (λ row named. let g = grant_of row named in let e = ap (λ (c : ClientId). c.0) named.1.0 in omega (arith, high, e, g.row_is.client.1))
-        | inr low ↦ low
-      ]
-
-  counted_right : ((1 ≤ r.count) × (r.count ≤ 256)) → Breaks rows (owner_of table) (lent_to table) r BadCount → ⊥
-  counted_right fits broken = broken (of_both (λ op. IsCount op r.count) fits fits)
-
-  count_is : IsCount r.op r.count → (1 ≤ r.count) × (r.count ≤ 256)
-  count_is = of_both (λ op. IsCount op r.count → (1 ≤ r.count) × (r.count ≤ 256)) (λ fits. fits) (λ fits. fits)
-
-  pub not_flush : r.op ≢ Flush
-  not_flush = of_both (λ op. op ≢ Flush) (λ e. cc) (λ e. cc)
-
-  pub some : 1 ≤ r.count
-  some = elim (cases_lt r.count 1) [ inl low ↦ absurd (none BadCount (λ fits. let c = count_is fits in omega (arith, c.0))) | inr high ↦ high ]
-
-  pub few : r.count ≤ 256
-  few = elim (cases_lt 256 r.count) [ inl high ↦ absurd (none BadCount (λ fits. let c = count_is fits in omega (arith, c.1))) | inr low ↦ low ]
-
-  pub first : r.first.0 < 2 ^ 48
-  first =
-      elim (cases_lt r.first.0 (2 ^ 48)) [
-        | inl low ↦ low
-        | inr high ↦ by_rows (λ row named. none OutsideGrant (
-          not_flush,
-          (row, named, λ covers. let g = grant_of row named in let c = some in omega (arith, high, covers.1, g.row_is.below, c)),
-        ))
-      ]
-
-  pub frames_fit : length r.frames.items ≡ (r.count + 7) / 8
-  frames_fit =
-      let e : frames_for r.op r.count ≡ (r.count + 7) / 8 = of_both (λ op. frames_for op r.count ≡ (r.count + 7) / 8) refl refl in
-      elim (cases_eq (length r.frames.items) ((r.count + 7) / 8)) [
-        | inl same ↦ same
-        | inr ne ↦ absurd (none FrameCount (λ same. ne (same ∙ e)))
-      ]
-
-  pub faultless : HasNoFault (owner_of table) (lent_to table) r.client r.frames.items
-  faultless fault has = none (Frames fault) has
-
-  pub clients : (size : ℕ) → OwnsClientFrames table size → All (λ frame. 40 ≤ frame.0) r.frames.items
-  clients size owns k d small =
-      let f : Frame = get_or r.frames.items k d in
-      elim (cases_lt f.0 40) [
-        | inl low ↦ absurd (none (Frames (FrameForeign k)) (f, slice_get-get_or r.frames.items k d small, λ e. let o = owns f r.client e in omega (arith, low, o.0)))
-        | inr high ↦ high
-      ]
-
-  -- a frame that is lent to a request is none of these
-  pub lent_elsewhere : (f : Frame) (id : RequestId) → lent_to table f ≡ Some id → Contains r.frames.items f → ⊥
-  lent_elsewhere f id lent there =
-      let at : Frame = get_or r.frames.items there.0 f in
-      let is : at ≡ f = there.2 in
-      let P : Option RequestId → Type 0 = λ o. IsSome o in
-      none (Frames (FrameLent there.0)) (at, slice_get-get_or r.frames.items there.0 f there.1, subst P (sym (ap (lent_to table) is ∙ lent)) refl)

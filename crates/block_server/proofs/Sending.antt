@@ -1,10 +1,8 @@
 -- A due request of a port is issued: what is asked of the calls, and what the server then is.
 use Rattle.std.proofs.Common.{ℕ, ◌≡◌, ◌≢◌, ◌+◌, ◌/◌, ◌%◌, ◌^◌, ◌<◌, ◌≤◌, Bool, not, true, inl, inr, List, ◌∷◌, drop, length, map, get_or, set, Some, refl, sym, ◌∙◌, ap, subst, arith}
 use Rattle.std.specs.List.{All, Contains}
-use Rattle.std.proofs.lemmas.Bool.{true≢false}
 use Rattle.std.proofs.lemmas.List.{drop_more, get_or_default, get_or-set_same, set-get_or, set-set}
 use Rattle.std.proofs.lemmas.List.Elements.{All-contains}
-use Rattle.ata_types.specs.Grant.{Allows}
 use Rattle.ata_types.specs.declared.Port.{Port}
 use Rattle.ata_types.specs.declared.PortState.TheVariants.{Absent, Ready}
 use Rattle.ata_types.specs.declared.grant.GrantRow.{GrantRow}
@@ -16,14 +14,14 @@ use Rattle.adapter.specs.Device.{Device}
 use Rattle.agreement.specs.Readying.{IsStored}
 use Rattle.block_machine.specs.Due.{AreDueInTurn, IsDue, is_plain}
 use Rattle.block_machine.proofs.Members.{map_in}
+use Rattle.block_machine.specs.Left.{IsRow}
 use Rattle.block_machine.specs.Rules.{IsCount, frames_for}
 use Rattle.block_machine.specs.declared.due.Mode.{Mode}
 use Rattle.block_machine.specs.declared.due.Unanswered.{Unanswered}
-use Rattle.block_server.specs.Ports.{Lends, with_part}
+use Rattle.block_server.specs.Ports.{Lends, MayGoIn, with_part}
 use Rattle.dma_frames.specs.Table.{Table}
 use Rattle.adapter.specs.Rules.{IsOn, HasPort}
 use Rattle.agreement.specs.Driven.{AgreesWith}
-use Rattle.command_table.specs.Places.{places_of}
 use Rattle.command_table.specs.Written.{IsUnused}
 use Rattle.driver_history.specs.Holds.{Runs}
 use Rattle.host_boot.specs.Taken.{found_of}
@@ -32,53 +30,39 @@ use Rattle.host_boot.specs.declared.Found.TheVariants.{Unserved, Ready as FoundR
 use Rattle.request_queue.specs.Entries.{Held, IsAccepted, IsInOrder, asks, asks_of, at, issue}
 use Rattle.request_queue.specs.declared.Entry.{Entry}
 use Rattle.server_history.specs.Served.{IssuesOne, task_of, use_for}
-use Rattle.server_history.specs.Server.{Server, IsKept, IsTransferRow, is_served, mode_in, no_slots, slots_at, state_of, with_slot}
+use Rattle.server_history.specs.Server.{Server, IsKept, is_served, mode_in, no_slots, slots_at, state_of, with_slot}
 use Rattle.slots.specs.Uses.{Uses as PortSlots, IsLowestFree, IsTaken, with_use}
-use Rattle.ncq.specs.Tasks.{IsFit, IsTransfer, IssuesTask, RunsItsList, meaning_of}
+use Rattle.ncq.specs.Tasks.{IssuesTask, RunsItsList, addresses_of, meaning_of}
 
--- ---- what a request of the book is, where grants are to read and to write
+-- ---- what a request of the book is
 
-module _ (rows : List GrantRow) (table : Table) (e : Held) (reads : All IsTransferRow rows) (is : IsAccepted rows table e) where
-  transfer : IsTransferRow is.row.0
-  transfer = All-contains IsTransferRow rows is.row.0 reads is.row.1
+module _ (rows : List GrantRow) (table : Table) (e : Held) (configured : All IsRow rows) (is : IsAccepted rows table e) (mode : Mode) (slot : ℕ)
+    (head : is_plain mode e.entry.op ≡ true → slot ≡ 0) where
+  counted : (op : Op) → e.entry.op ≡ op → IsCount op e.entry.range.count
+  counted op same = subst (λ (o : Op). IsCount o e.entry.range.count) same is.sectors
 
-  allowed : (op : Op) → e.entry.op ≡ op → Allows is.row.0.rights op
-  allowed op same = let P : Op → Type 0 = λ x. Allows is.row.0.rights x in subst P same is.row.5
+  enough : (op : Op) → e.entry.op ≡ op → length e.frames ≡ frames_for op e.entry.range.count
+  enough op same = is.frames ∙ ap (λ (o : Op). frames_for o e.entry.range.count) same
 
-  by_op : (op : Op) → e.entry.op ≡ op → IsTransfer e.entry.op
-  by_op Read same = inl same
-  by_op Write same = inr same
-  by_op Trim same = absurd (true≢false (sym (allowed Trim same) ∙ transfer.trim))
-  by_op Flush same = absurd (true≢false (sym (allowed Flush same) ∙ transfer.flush))
+  not_flush : (op : Op) → op ≢ Flush → e.entry.op ≡ op → e.entry.op ≢ Flush
+  not_flush op other same flush = other (sym same ∙ flush)
 
-  moves : IsTransfer e.entry.op
-  moves = by_op e.entry.op refl
+  -- a grant's sectors are below 2^48
+  below : e.entry.op ≢ Flush → e.entry.range.first.0 + e.entry.range.count ≤ 2 ^ 48
+  below other = let covers = (is.row.6 other).1 in let row = (All-contains IsRow rows is.row.0 configured is.row.1).below in omega (arith, covers, row)
 
-  -- what holds of reads and of writes
-  of_both : (P : Op → Type 0) → P Read → P Write → P e.entry.op
-  of_both P read write = elim moves [ inl same ↦ subst P (sym same) read | inr same ↦ subst P (sym same) write ]
+  goes : (queued : Bool) → queued ≡ not (is_plain mode e.entry.op) → (op : Op) → e.entry.op ≡ op → MayGoIn op (record { op = e.entry.op; range = e.entry.range; queued = queued }) e.frames slot
+  goes queued kind Read same = record { transfers = inl same; some = (counted Read same).0; few = (counted Read same).1; first = is.first (not_flush Read (λ e. cc) same); number = enough Read same }
+  goes queued kind Write same = record { transfers = inr same; some = (counted Write same).0; few = (counted Write same).1; first = is.first (not_flush Write (λ e. cc) same); number = enough Write same }
+  goes queued kind Trim same = (head (ap (is_plain mode) same), kind ∙ ap (λ (o : Op). not (is_plain mode o)) same, (counted Trim same).1, below (not_flush Trim (λ e. cc) same))
+  goes queued kind Flush same = (head (ap (is_plain mode) same), kind ∙ ap (λ (o : Op). not (is_plain mode o)) same)
 
-  counted : (1 ≤ e.entry.range.count) × (e.entry.range.count ≤ 256)
-  counted = of_both (λ op. IsCount op e.entry.range.count → (1 ≤ e.entry.range.count) × (e.entry.range.count ≤ 256)) (λ fits. fits) (λ fits. fits) is.sectors
-
-  some_sector : 1 ≤ e.entry.range.count
-  some_sector = counted.0
-
-  few_sectors : e.entry.range.count ≤ 256
-  few_sectors = counted.1
-
-  first_below : e.entry.range.first.0 < 2 ^ 48
-  first_below = is.first (of_both (λ op. op ≢ Flush) (λ same. cc) (λ same. cc))
-
-  frames_fit : length e.frames ≡ (e.entry.range.count + 7) / 8
-  frames_fit = is.frames ∙ of_both (λ op. frames_for op e.entry.range.count ≡ (e.entry.range.count + 7) / 8) refl refl
-
-  -- as a transfer, wherever its entry and its frames are told
-  pub fits : (queued : Bool) (entry : Entry) → entry ≡ e.entry → (frames : List Frame) → frames ≡ e.frames → IsFit (record { op = entry.op; range = entry.range; queued = queued }) frames
-  fits queued entry entry_is frames frames_are =
-      subst (λ (x : Entry). IsFit (record { op = x.op; range = x.range; queued = queued }) frames) (sym entry_is)
-      (subst (IsFit (record { op = e.entry.op; range = e.entry.range; queued = queued })) (sym frames_are)
-      (record { transfers = moves; some = some_sector; few = few_sectors; first = first_below; number = frames_fit }))
+  -- it may go in the slot, wherever its entry and its frames are told
+  pub may_go : (queued : Bool) → queued ≡ not (is_plain mode e.entry.op) → (entry : Entry) → entry ≡ e.entry → (frames : List Frame) → frames ≡ e.frames
+      → MayGoIn entry.op (record { op = entry.op; range = entry.range; queued = queued }) frames slot
+  may_go queued kind entry entry_is frames frames_are =
+      subst (λ (x : Entry). MayGoIn x.op (record { op = x.op; range = x.range; queued = queued }) frames slot) (sym entry_is)
+      (subst (λ (fs : List Frame). MayGoIn e.entry.op (record { op = e.entry.op; range = e.entry.range; queued = queued }) fs slot) (sym frames_are) (goes queued kind e.entry.op refl))
 
 -- ---- what is lent
 
@@ -165,8 +149,8 @@ module _ (s : Server) (device : Device) (book : List Held) (slots : PortSlots) (
       frames_are fs f = sym f.3 ∙ ap (λ (x : Held). x.frames) (found_is f.0 f.1 f.2)
 
     -- as its port's mode has it, wherever its entry is told
-    pub transfer_is : (plain : Bool) (r : Entry) → plain ≡ is_plain mode r.op → r ≡ e.entry → record { op = r.op; range = r.range; queued = not plain } ≡ task_of mode e
-    transfer_is plain r plain_is r_is =
+    pub task_is : (plain : Bool) (r : Entry) → plain ≡ is_plain mode r.op → r ≡ e.entry → record { op = r.op; range = r.range; queued = not plain } ≡ task_of mode e
+    task_is plain r plain_is r_is =
         ap (λ (b : Bool). record { op = r.op; range = r.range; queued = not b }) plain_is
         ∙ ap (λ (x : Entry). record { op = x.op; range = x.range; queued = not (is_plain mode x.op) }) r_is
 
@@ -175,11 +159,12 @@ module _ (s : Server) (device : Device) (book : List Held) (slots : PortSlots) (
         → (slot : ℕ) → IsLowestFree (slots_at s.slots request.entry.port.0) slot
         → (slot < (mode_in s request.entry.port).usable) × (slot < 32) × (slot ≤ s.device.cap / 256 % 32)
         × (is_plain (mode_in s request.entry.port) request.entry.op ≡ true → slot ≡ 0) × AgreesWith (IsUnused request.entry.port.0 slot) s.device)
-        → (slot : ℕ) → IsLowestFree slots slot → (slot < 32) × (slot ≤ device.cap / 256 % 32) × AgreesWith (IsUnused port.0 slot) device
+        → (slot : ℕ) → IsLowestFree slots slot → (slot < 32) × (slot ≤ device.cap / 256 % 32) × (is_plain mode e.entry.op ≡ true → slot ≡ 0) × AgreesWith (IsUnused port.0 slot) device
     may_issue may slot lowest =
         let m = may s e l.kept here its_due slot (subst (λ (u : PortSlots). IsLowestFree u slot) its_slots lowest) in (
           m.1,
           subst (λ (d : Device). slot ≤ d.cap / 256 % 32) l.device_is m.2,
+          subst (λ (x : Mode). is_plain x e.entry.op ≡ true → slot ≡ 0) l.mode_is (subst (λ (p : Port). is_plain (mode_in s p) e.entry.op ≡ true → slot ≡ 0) turn.3 m.3),
           subst (AgreesWith (IsUnused port.0 slot)) l.device_is (subst (λ (p : Port). AgreesWith (IsUnused p.0 slot) s.device) turn.3 m.4),
         )
 
@@ -191,7 +176,7 @@ module _ (s : Server) (device : Device) (book : List Held) (slots : PortSlots) (
 
     -- it was issued
     pub sent : (slot : ℕ) → slot < 32 → IsLowestFree slots slot → (new : Device) → IssuesTask port slot (task_of mode e) e.frames device new
-        → IsStored new port.0 slot (meaning_of (task_of mode e)) (places_of e.frames e.entry.range.count) → (later : List Held) → later ≡ map (at id issue) book
+        → IsStored new port.0 slot (meaning_of (task_of mode e)) (addresses_of port.0 e.entry.op e.entry.range.count e.frames) → (later : List Held) → later ≡ map (at id issue) book
         → (used : PortSlots) → used ≡ with_use slots slot (Some (record { id = id; queued = not (is_plain mode e.entry.op) })) → IssuesOne port id s (with_part s new later used port)
     sent slot small lowest new issues stored later later_is used used_is = record {
       request = e;
@@ -204,7 +189,7 @@ module _ (s : Server) (device : Device) (book : List Held) (slots : PortSlots) (
       lowest = subst (λ (u : PortSlots). IsLowestFree u slot) (sym l.slots_are) lowest;
       issues = subst (λ (m : Mode). IssuesTask port slot (task_of m e) e.frames s.device new) (sym l.mode_is)
           (subst (λ (d : Device). IssuesTask port slot (task_of mode e) e.frames d new) (sym l.device_is) issues);
-      stored = subst (λ (m : Mode). IsStored new port.0 slot (meaning_of (task_of m e)) (places_of e.frames e.entry.range.count)) (sym l.mode_is) stored;
+      stored = subst (λ (m : Mode). IsStored new port.0 slot (meaning_of (task_of m e)) (addresses_of port.0 e.entry.op e.entry.range.count e.frames)) (sym l.mode_is) stored;
       server = λ i. record s { device = new; slots = set_to i; book = (later_is ∙ ap (map (at id issue)) (sym l.book_is)) i };
     }
       where

@@ -1,7 +1,6 @@
 -- A server as it is made (this project's own).
-use Rattle.std.specs.Prelude.{ℕ, false, ◌≡◌, ◌≤◌, ◌*◌, [], None, map, Some}
+use Rattle.std.specs.Prelude.{ℕ, ◌≡◌, ◌≤◌, ◌*◌, [], None, Some}
 use Rattle.std.specs.List.{Contains}
-use Rattle.ata_types.specs.declared.grant.GrantRow.{GrantRow}
 use Rattle.ata_types.specs.declared.memory.TheConstants.{FRAME_BYTES}
 use Rattle.ata_types.specs.declared.request.ClientId.{ClientId}
 use Rattle.ata_types.specs.declared.request.Frame.{Frame}
@@ -25,18 +24,13 @@ pub record IsReadyFor (config : Config) (d : Device) : Type 0 where
   pub idle : IsIdle d
   pub room : IsSound config → FRAME_BYTES * config.frames ≤ d.size
 
--- a row without the rights to trim and to flush
-abbrev pub transfer_row : GrantRow → GrantRow
-transfer_row row = record row { rights = record row.rights { trim = false; flush = false } }
-
--- The server has what the configuration's plan says: its grants, without the rights to trim and to flush, its owners, and the disks that it
--- asks for. The adapter was taken over. Nothing is asked, nothing lent, no slot used, no id handed out. It keeps what
+-- The server has what the configuration's plan says: its grants, its owners, and the disks that it asks for. The adapter was taken over. Nothing is asked, nothing lent, no slot used, no id handed out. It keeps what
 -- a server keeps, and a history without calls leads to it.
 pub record IsNew {A : Type 0} (device : A → Device) (config : Config) (adapter : A) (s : ServerView A) : Type 0 where
   pub plan : PlanView
   pub is_plan : IsPlan plan
   pub planned : IsPlanOf config plan
-  pub rows : SameRows (map transfer_row plan.grants) s.grants
+  pub rows : SameRows plan.grants s.grants
   pub owned : (run : Run) (f : Frame) → Contains plan.owners run → HasFrame run f → owner_of s.table f ≡ Some run.0
   pub only : (f : Frame) (client : ClientId) → owner_of s.table f ≡ Some client → (run : Run) × Contains plan.owners run × HasFrame run f × (run.0 ≡ client)
   pub free : (f : Frame) → lent_to s.table f ≡ None

@@ -1,7 +1,10 @@
 -- A port's part of a server, as it is lent to what drives the port (this project's own).
-use Rattle.std.specs.Prelude.{ℕ, true, ◌≡◌, ◌<◌, ◌++◌, List, AllPairs, None, map, slice_set}
+use Rattle.std.specs.Prelude.{ℕ, true, false, ◌≡◌, ◌+◌, ◌^◌, ◌<◌, ◌≤◌, ◌++◌, List, AllPairs, None, map, slice_set}
 use Rattle.ata_types.specs.declared.Port.{Port}
 use Rattle.ata_types.specs.declared.PortState.TheVariants.{Ready}
+use Rattle.ata_types.specs.declared.request.Frame.{Frame}
+use Rattle.ata_types.specs.declared.request.Op.{Op}
+use Rattle.ata_types.specs.declared.request.Op.TheVariants.{Read, Write, Trim, Flush}
 use Rattle.ata_types.specs.declared.request.Reply.{Reply}
 use Rattle.hba_regs.specs.Bits.{bit}
 use Rattle.adapter.specs.Device.{Device}
@@ -9,6 +12,8 @@ use Rattle.agreement.specs.Slots.{IsOver}
 use Rattle.block_machine.specs.declared.due.Mode.{Mode}
 use Rattle.dma_frames.specs.Table.{Table}
 use Rattle.host_boot.specs.Taken.{found_of}
+use Rattle.ncq.specs.Tasks.{IsFit}
+use Rattle.ncq.specs.declared.Task.{Task}
 use Rattle.request_queue.specs.Entries.{Held, IsEarlier}
 use Rattle.server_history.specs.Served.{AnswersEach, AnswersOne, done_reply}
 use Rattle.server_history.specs.Server.{Server, IsKept, mode_in, slots_at, state_of, used_for}
@@ -55,3 +60,13 @@ pub record AnswersAll (port : Port) (done : ℕ) (before after : List Reply) (ol
   pub ordered : AllPairs IsEarlier requests
   pub each : AnswersEach port done requests old new
   pub free : (slot : ℕ) → slot < 32 → bit done slot ≡ true → used_for new.slots port.0 slot ≡ None
+
+-- ---- tasks
+
+-- A task of this operation may be issued in the slot: a transfer has its frames; a trim names at most 4,194,240 sectors, each below 2^48 (64 entries of
+-- 65,535 in its block); and what is plain alone is so, in slot 0.
+abbrev pub MayGoIn : Op → Task → List Frame → ℕ → Type 0
+MayGoIn Read r frames slot = IsFit r frames
+MayGoIn Write r frames slot = IsFit r frames
+MayGoIn Trim r frames slot = (slot ≡ 0) × (r.queued ≡ false) × (r.range.count ≤ 4194240) × (r.range.first.0 + r.range.count ≤ 2 ^ 48)
+MayGoIn Flush r frames slot = (slot ≡ 0) × (r.queued ≡ false)

@@ -1,16 +1,22 @@
 // What is due on a port is issued.
-ghost use Rattle.std.specs.Prelude.{◌≡◌, [], length, map};
+ghost use Rattle.std.specs.Prelude.{◌≡◌, ◌<◌, ◌≤◌, ◌/◌, ◌%◌, [], length, map};
+ghost use Rattle.adapter.specs.Rules.{HasPort, IsOn};
+ghost use Rattle.agreement.specs.Driven.{AgreesWith};
+ghost use Rattle.agreement.specs.Readying.{IsStored};
 ghost use Rattle.block_machine.specs.Due.{IsDue, due_of};
-ghost use Rattle.block_server.specs.Ports.{Lends, with_part};
+ghost use Rattle.block_server.specs.Ports.{Lends, MayGoIn, with_part};
+ghost use Rattle.command_table.specs.Written.{IsUnused};
+ghost use Rattle.ncq.specs.Tasks.{IssuesTask, RunsItsList, addresses_of, meaning_of};
 ghost use Rattle.request_queue.specs.Entries.{Held, asks, asks_of};
 ghost use Rattle.server_history.specs.Served.{IssuesAll, IssuesOne};
 ghost use Rattle.server_history.specs.Server.{Server};
 ghost use Rattle.std.specs.List.{Contains};
 
 use adapter::Adapter;
-use ata_types::{Port, RequestId};
+use ata_types::{DRIVER_BYTES, Frame, Op, Port, RequestId, Slot};
 use block_machine::laws::due_in_turn;
 use block_machine::{Mode, is_plain};
+use flush_trim::{issue_flush, issue_trim};
 use ncq::{Task, issue};
 use request_queue::Book;
 use request_queue::laws::{
@@ -18,6 +24,27 @@ use request_queue::laws::{
 };
 use server_history::laws::{a_due_request_may_issue, requests_keep};
 use slots::Slots;
+
+/// Issues a task in a slot that it may go in: the slot's command then says the task.
+fn issue_task<A: Adapter>(adapter: &mut A, port: Port, slot: Slot, task: &Task, frames: &[Frame])
+    requires on { IsOn (A.device adapter.old) }
+    requires there { HasPort (A.device adapter.old) port.0 }
+    requires room { DRIVER_BYTES ≤ (A.device adapter.old).size }
+    requires slot { slot.0 < 32 }
+    requires usable { slot.0 ≤ (A.device adapter.old).cap / 256 % 32 }
+    requires agreed { AgreesWith (IsUnused port.0 slot.0) (A.device adapter.old) }
+    requires runs { RunsItsList port.0 (A.device adapter.old) }
+    requires may { MayGoIn task.now.op task.now frames.now slot.0 }
+    ensures issues { IssuesTask port slot.0 task.now frames.now (A.device adapter.old) (A.device adapter.new) }
+    ensures stored { IsStored (A.device adapter.new) port.0 slot.0 (meaning_of task.now) (addresses_of port.0 task.now.op task.now.range.count frames.now) }
+{
+    match task.op {
+        Op::Read => issue(adapter, port, slot, task, frames),
+        Op::Write => issue(adapter, port, slot, task, frames),
+        Op::Trim => issue_trim(adapter, port, &task.range),
+        Op::Flush => issue_flush(adapter, port),
+    }
+}
 
 /// Issues a due request of a port that takes commands in this mode, in the lowest free slot.
 fn issue_one<A: Adapter>(
@@ -37,15 +64,15 @@ fn issue_one<A: Adapter>(
     a_due_request_may_issue();
     an_id_is_one_request();
     let entry = book.request(id);
-    let transfer = Task {
+    let task = Task {
         op: entry.op,
         range: entry.range,
         queued: !is_plain(mode, entry.op),
     };
-    let Some(slot) = slots.take(id, transfer.queued) else {
+    let Some(slot) = slots.take(id, task.queued) else {
         unreachable!()
     };
-    issue(adapter, port, slot, &transfer, book.loan(id).frames());
+    issue_task(adapter, port, slot, &task, book.loan(id).frames());
     book.issue(id);
 }
 

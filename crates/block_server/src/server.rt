@@ -1,16 +1,14 @@
 // The server.
-ghost use Rattle.block_server.specs.Made.{transfer_row};
-ghost use Rattle.std.specs.Prelude.{◌≡◌, ◌≢◌, ◌<◌, ◌≤◌, ◌+◌, ◌↔◌, ◌*◌, ◌++◌, List, ℕ, IsTrue, IfOk, IfErr, OnOk, MatchOption, Ok, length, map, option_map, true};
+ghost use Rattle.std.specs.Prelude.{◌≡◌, ◌≢◌, false, ◌<◌, ◌≤◌, ◌+◌, ◌↔◌, ◌*◌, ◌++◌, List, ℕ, IsTrue, IfOk, IfErr, OnOk, MatchOption, Ok, length, map, option_map, true};
 
 use crate::ServerError;
 use crate::answering::answer_done;
 use crate::modes::{PLAIN, modes_of, unused_slots};
 use crate::port::issue_due;
 use adapter::{Adapter, DeviceStep, Stepped};
-use arrayvec::ArrayVec;
 use ata_types::{
-    ClientId, FRAME_BYTES, Frame, GrantRow, MemFault, Op, Port, PortState, Range, Refusal, Replies,
-    Request, RequestId, Rights,
+    ClientId, FRAME_BYTES, Frame, MemFault, Op, Port, PortState, Range, Refusal, Replies, Request,
+    RequestId,
 };
 use block_machine::Mode;
 use configuration::Config;
@@ -35,9 +33,7 @@ use std::marker::Model;
 /// Unanswered requests of one client at most.
 const CLIENT_PLACES: usize = 16;
 
-const MOST_GRANTS: usize = 64;
-
-/// A server of reads and writes on up to four ports of an adapter. It can't be dropped: `close` ends it.
+/// A server of reads, writes, trims and flushes on up to four ports of an adapter. It can't be dropped: `close` ends it.
 pub struct Server<A: Adapter> {
     adapter: A,
     grants: Grants,
@@ -71,24 +67,6 @@ fn leaves_disk(r: &Request, sectors: u64) -> bool
     r.op != Op::Flush && end > sectors as u128
 }
 
-/// The rows without the rights to trim and to flush: the server does neither yet.
-#[inline(never)]
-fn transfer_rows(rows: &[GrantRow]) -> ArrayVec<GrantRow, MOST_GRANTS>
-    requires few { length rows.now ≤ 64 }
-    ensures { result.items ≡ map transfer_row rows.now }
-{
-    let mut kept = ArrayVec::new();
-    for row in rows {
-        let rights = Rights {
-            trim: false,
-            flush: false,
-            ..row.rights
-        };
-        kept.push(GrantRow { rights, ..*row });
-    }
-    kept
-}
-
 impl<A: Adapter> Server<A> {
     ghost use Rattle.block_machine.specs.Events.{Service, Served, Submit, Submitted, StoreAt, LoadAt, State, Shown};
     ghost use Rattle.block_machine.specs.Refusals.{IsAcceptable, IsFirstRefusal, IsOpen, IsFirstMemFault};
@@ -102,13 +80,13 @@ impl<A: Adapter> Server<A> {
     ghost use Rattle.server_history.specs.Histories.{Adds, store_said, load_said};
     ghost use Rattle.ata_types.specs.declared.request.Reply.{Reply};
     ghost use Rattle.server_history.specs.Served.{AnswersDone, ServesPort};
-    ghost use Rattle.server_history.specs.Server.{IsSettled, mode_at, situation_of, state_of, sectors_of};
+    ghost use Rattle.server_history.specs.Server.{IsSettled, mode_at, situation_of, state_of, sectors_of, trims_of};
     ghost use Rattle.hba_regs.specs.Bits.{bit};
     ghost use Rattle.agreement.specs.Slots.{IsOver};
     ghost use Rattle.ata_types.specs.declared.PortState.TheVariants.{Ready};
 
     /// A server of an idle adapter, by a configuration: who owns which frames, which grants there are, and which disks are wanted. Each
-    /// port is booted in which a disk is wanted; nothing is asked yet. Grants are kept without the rights to trim and to flush.
+    /// port is booted in which a disk is wanted; nothing is asked yet.
     ///
     /// Where the configuration breaks a rule, or else where memory is refused, no access is made, and the adapter comes back as it
     /// was.
@@ -123,7 +101,7 @@ impl<A: Adapter> Server<A> {
             Ok(plan) => plan,
             Err(kind) => return Err((ServerError::BadConfig(kind), adapter)),
         };
-        let Ok(grants) = Grants::from_rows(alloc, transfer_rows(plan.grants()).as_slice()) else {
+        let Ok(grants) = Grants::from_rows(alloc, plan.grants()) else {
             return Err((ServerError::NoMemory, adapter));
         };
         let Ok(table) = FrameTable::boxed(alloc, plan.owners()) else {
@@ -201,6 +179,18 @@ impl<A: Adapter> Server<A> {
         }
     }
 
+    /// Whether a request is a trim, and the disk of its port doesn't take trims after which zeros are read. A port that isn't ready has none
+    /// that does.
+    fn lacks_trim(&self, r: &Request, port: Port) -> bool
+        ensures { IsTrue result ↔ ((r.now.op ≡ Op.Trim) × (trims_of (found_of self.now.ports port.0) ≡ false)) }
+    {
+        let trims = match self.found(port) {
+            Found::Ready(info) => info.trim,
+            _ => false,
+        };
+        r.op == Op::Trim && !trims
+    }
+
     /// The first cause to refuse the request, if there is one; else the port that it is for.
     fn admit(&self, r: &Request) -> Result<Port, Refusal>
         ensures admitted { IfOk result (λ port. IsAcceptable (situation_of (server_of A.device self.now)) r.now × IsFor self.now.grants r.now port) }
@@ -218,6 +208,9 @@ impl<A: Adapter> Server<A> {
         };
         if leaves_disk(r, self.sectors(row.port)) {
             return Err(Refusal::OutsideDisk);
+        }
+        if self.lacks_trim(r, row.port) {
+            return Err(Refusal::TrimUnsupported);
         }
         if self.book.unanswered(r.client) >= CLIENT_PLACES {
             return Err(Refusal::ClientFull);
@@ -318,7 +311,7 @@ impl<A: Adapter> Server<A> {
         }
     }
 
-    /// Serves each ready port, in rising number: transfers that are done are answered, in order of acceptance, their frames are given back, and
+    /// Serves each ready port, in rising number: requests that are done are answered, in order of acceptance, their frames are given back, and
     /// what is due then is issued. Where the look at a port tells of something, nobody is answered there.
     pub fn service(&mut self) -> Replies
         ensures services { Services A.device self.old self.new result.items }

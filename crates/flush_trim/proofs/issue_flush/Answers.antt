@@ -1,6 +1,5 @@
 use Rattle.std.proofs.Common.{List, []}
 use Rattle.ata_types.specs.declared.range.Range.{Range}
-use Rattle.ata_types.specs.declared.range.Sector.{Sector}
 use Rattle.ata_types.specs.declared.request.Frame.{Frame}
 use Rattle.ncq.specs.Issuing.{IsIssued}
 use Rattle.flush_trim.specs.Tasks.{flush_of}
@@ -23,9 +22,9 @@ returns g c =
     let q = c.requires in
     let table = c.write_table.ensures in
     let issued : (range : Range) (frames : List Frame) → IsIssued c.args.port 0 (flush_of range) frames (g.A.Adapter.device c.args.adapter.now) (g.A.Adapter.device c.write.new.self) = λ range frames.
-        (c.writing_issues.ensures c.args.port 0 (flush_of range) frames _ _ _
-        (armed_flush c.args.port range frames _ _ _ q.on q.there q.agreed q.may table.on c.bit_of.ensures table.followed (table.says flush [] (flush_table _ c.flush_command.ensures)))).1 _
-        c.write.ensures in
+    (c.writing_issues.ensures c.args.port 0 (flush_of range) frames _ _ _
+    (armed_flush c.args.port range frames _ _ _ q.on q.there q.agreed q.may table.on c.bit_of.ensures table.followed (table.says flush [] (flush_table _ c.flush_command.ensures)))).1 _
+    c.write.ensures in
     record {
       on = (issued nowhere []).on;
       issues = λ range frames. (issued range frames).issues;

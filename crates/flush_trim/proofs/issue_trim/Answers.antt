@@ -19,9 +19,9 @@ returns g c =
     let q = c.requires in
     let table = c.write_table_with_block.ensures in
     let issued : (frames : List Frame) → IsIssued c.args.port 0 (trim_of c.args.range.now) frames (g.A.Adapter.device c.args.adapter.now) (g.A.Adapter.device c.write.new.self) = λ frames.
-        (c.writing_issues.ensures c.args.port 0 (trim_of c.args.range.now) frames _ _ _
-        (armed_trim c.args.port c.args.range.now frames _ _ _ q.on q.there q.agreed q.may table.on c.bit_of.ensures table.followed (table.says trim is_trim c.trim_command.ensures refl)
-        (ap trim_sectors table.block ∙ c.trim_block.ensures.means))).1 _ c.write.ensures in
+    (c.writing_issues.ensures c.args.port 0 (trim_of c.args.range.now) frames _ _ _
+    (armed_trim c.args.port c.args.range.now frames _ _ _ q.on q.there q.agreed q.may table.on c.bit_of.ensures table.followed (table.says trim is_trim c.trim_command.ensures refl)
+    (ap trim_sectors table.block ∙ c.trim_block.ensures.means))).1 _ c.write.ensures in
     record {
       on = (issued []).on;
       issues = λ frames. (issued frames).issues;

@@ -1,28 +1,32 @@
 use Rattle.std.proofs.Common.{List, Some, not, ap, ◌∙◌, subst}
 use Rattle.agreement.specs.Readying.{IsStored}
 use Rattle.ata_types.specs.declared.request.Frame.{Frame}
-use Rattle.command_table.specs.Places.{places_of}
-use Rattle.ncq.specs.Tasks.{IssuesTask, meaning_of}
+use Rattle.ncq.specs.Tasks.{IssuesTask, addresses_of, meaning_of}
+use Rattle.block_machine.specs.Due.{is_plain}
+use Rattle.request_queue.specs.declared.Entry.{Entry}
 use Rattle.ncq.specs.declared.Task.{Task}
 use Rattle.slots.specs.Uses.{with_use}
 use Rattle.block_server.proofs.Sending as sending
 use Rattle.block_server.proofs.port.issue_one.Goals as goal
-use Rattle.block_server.proofs.port.issue_one.Goals.{After-issue-2, In-Some}
+use Rattle.block_server.proofs.port.issue_one.Goals.{After-issue, In-Some}
 
 pub unreachable-requires : goal.unreachable-requires
 unreachable-requires g c =
     let l = c.requires.lends in
     sending.is_free l.0 (g.A.Adapter.device c.args.adapter.now) c.args.book.now c.args.slots.now c.args.port c.args.mode l.1 c.args.id c.requires.due c.a_due_request_may_issue.ensures.full c.in_default.ensures.full
 
-pub issue-requires-clause-fits : goal.issue-requires-clause-fits
-issue-requires-clause-fits g c =
+pub issue_task-requires-clause-may : goal.issue_task-requires-clause-may
+issue_task-requires-clause-may g c =
     let l = c.requires.lends in
     let one = c.an_id_is_one_request.ensures.one in
     let device = g.A.Adapter.device c.args.adapter.now in
     let book = c.args.book.now in
     let slots = c.args.slots.now in
-    sending.fits l.0.grants l.0.table c.requires.due.0 l.1.kept.rows (sending.its l.0 device book slots c.args.port c.args.mode l.1 c.args.id c.requires.due) (not c.is_plain.result)
-    c.request-entry.result (sending.entry_is l.0 device book slots c.args.port c.args.mode l.1 c.args.id c.requires.due one c.request-entry.result c.request-entry.ensures)
+    let lowest = c.a_due_request_may_issue.ensures.lowest in
+    let entry_is = sending.entry_is l.0 device book slots c.args.port c.args.mode l.1 c.args.id c.requires.due one c.request-entry.result c.request-entry.ensures in
+    sending.may_go l.0.grants l.0.table c.requires.due.0 l.1.kept.rows (sending.its l.0 device book slots c.args.port c.args.mode l.1 c.args.id c.requires.due) c.args.mode c.in-Some.slot.0
+    (sending.may_issue l.0 device book slots c.args.port c.args.mode l.1 c.args.id c.requires.due lowest c.in-Some.slot.0 c.in-Some.ensures.lowest).2
+    (not c.is_plain.result) (ap not c.is_plain.ensures ∙ ap (λ (x : Entry). not (is_plain c.args.mode x.op)) entry_is) c.request-entry.result entry_is
     c.frames.result.now (c.frames.ensures.frames ∙ sending.frames_are l.0 device book slots c.args.port c.args.mode l.1 c.args.id c.requires.due one c.loan.result.now.frames c.loan.ensures.held)
 
 pub returns : goal.returns
@@ -33,17 +37,17 @@ returns g c = record {
       let slot = c.in-Some.slot.0 in
       let one = c.an_id_is_one_request.ensures.one in
       let e = c.requires.due.0 in
-      let transfer : Task = record { op = c.request-entry.result.op; range = c.request-entry.result.range; queued = not c.is_plain.result } in
+      let task : Task = record { op = c.request-entry.result.op; range = c.request-entry.result.range; queued = not c.is_plain.result } in
       let small = (sending.may_issue s (device c.args.adapter.now) c.args.book.now c.args.slots.now port c.args.mode l c.args.id c.requires.due c.a_due_request_may_issue.ensures.lowest slot c.in-Some.ensures.lowest).0 in
       let entry_is = sending.entry_is s (device c.args.adapter.now) c.args.book.now c.args.slots.now port c.args.mode l c.args.id c.requires.due one c.request-entry.result c.request-entry.ensures in
-      let transfer_is = sending.transfer_is s (device c.args.adapter.now) c.args.book.now c.args.slots.now port c.args.mode l c.args.id c.requires.due c.is_plain.result c.request-entry.result c.is_plain.ensures entry_is in
+      let task_is = sending.task_is s (device c.args.adapter.now) c.args.book.now c.args.slots.now port c.args.mode l c.args.id c.requires.due c.is_plain.result c.request-entry.result c.is_plain.ensures entry_is in
       let lent_is = c.frames.ensures.frames ∙ sending.frames_are s (device c.args.adapter.now) c.args.book.now c.args.slots.now port c.args.mode l c.args.id c.requires.due one c.loan.result.now.frames c.loan.ensures.held in
-      let F : List Frame → Type 0 = λ frames. IssuesTask port slot transfer frames (device c.args.adapter.now) (device c.issue.new.adapter) in
-      let T : Task → Type 0 = λ t. IssuesTask port slot t e.frames (device c.args.adapter.now) (device c.issue.new.adapter) in
-      let FS : List Frame → Type 0 = λ frames. IsStored (device c.issue.new.adapter) port.0 slot (meaning_of transfer) (places_of frames transfer.range.count) in
-      let TS : Task → Type 0 = λ t. IsStored (device c.issue.new.adapter) port.0 slot (meaning_of t) (places_of e.frames t.range.count) in
+      let F : List Frame → Type 0 = λ frames. IssuesTask port slot task frames (device c.args.adapter.now) (device c.issue_task.new.adapter) in
+      let T : Task → Type 0 = λ t. IssuesTask port slot t e.frames (device c.args.adapter.now) (device c.issue_task.new.adapter) in
+      let FS : List Frame → Type 0 = λ frames. IsStored (device c.issue_task.new.adapter) port.0 slot (meaning_of task) (addresses_of port.0 task.op task.range.count frames) in
+      let TS : Task → Type 0 = λ t. IsStored (device c.issue_task.new.adapter) port.0 slot (meaning_of t) (addresses_of port.0 t.op t.range.count e.frames) in
       sending.sent s (device c.args.adapter.now) c.args.book.now c.args.slots.now port c.args.mode l c.args.id c.requires.due
-      slot small c.in-Some.ensures.lowest (device c.issue.new.adapter)
-      (subst T transfer_is (subst F lent_is c.issue.ensures.issues)) (subst TS transfer_is (subst FS lent_is c.issue.ensures.stored)) c.issue-2.new.self c.issue-2.ensures
-      c.take.new.self (c.in-Some.ensures.taken ∙ ap (λ (t : Task). with_use c.args.slots.now slot (Some (record { id = c.args.id; queued = t.queued }))) transfer_is);
+      slot small c.in-Some.ensures.lowest (device c.issue_task.new.adapter)
+      (subst T task_is (subst F lent_is c.issue_task.ensures.issues)) (subst TS task_is (subst FS lent_is c.issue_task.ensures.stored)) c.issue.new.self c.issue.ensures
+      c.take.new.self (c.in-Some.ensures.taken ∙ ap (λ (t : Task). with_use c.args.slots.now slot (Some (record { id = c.args.id; queued = t.queued }))) task_is);
 }
