@@ -4,8 +4,9 @@ use Rattle.std.proofs.Common.{◌≡◌, ◌⊎◌, ℕ, ◌<◌, Bool, true, fa
 use Rattle.std.proofs.lemmas.Bool.{or_cases, false≢true}
 use Rattle.std.specs.List.{Contains}
 use Rattle.ata_types.specs.declared.request.Outcome.TheVariants.{Ok}
-use Rattle.block_machine.specs.State.{Accepted, Pending, Machine, sector_of}
-use Rattle.block_machine.specs.Steps.{Step, Accept, Issue, Touch, End, Age, Again, Answer, Release, Unplug, Replace, Store, Load, May, after_step, issue, touch, mark_ended, requeued, newly_accepted}
+use Rattle.block_machine.specs.State.{Accepted, Pending, Machine, sector_of, waiting}
+use Rattle.block_machine.specs.Steps.{Step, Accept, Issue, Touch, End, Age, Again, Answer, Release, Unplug, Replace, Store, Load, IsLiving, May, MayMove, after_step, issue, touch, mark_ended, requeued, newly_accepted}
+use Rattle.block_machine.specs.Due.{conflict}
 use Rattle.block_machine.specs.Left.{after, IsLegal, IsStart, IsIssue, IsTouch, IsEnd, HasTouchedSince, HasEndedSince}
 use Rattle.block_machine.specs.Events.{Moment, Event, IsRun, steps_of}
 use Rattle.block_machine.proofs.Members.{map_in, at_cases, without_in, append_in}
@@ -142,3 +143,8 @@ pub ok_was_ended : {D : Type 0} (first : Moment) (run : List (Event D)) (late ea
 ok_was_ended first run late early e r split =
     let u = step_of_run first run late (Answer e Ok) early r split in
     (traced_marks first.machine early (run_starts first run r) u.0 e u.1).ended u.2.1
+
+-- a request isn't moved while an earlier one that conflicts with it is there
+pub take_turns : (start : Machine) (history : List Step) (earlier later : Pending) → IsStart start → IsLegal start history → IsLiving (after start history) earlier → MayMove (after start history) later
+    → earlier.request.id.0 < later.request.id.0 → conflict (waiting earlier.request) (waiting later.request) ≡ true → ⊥
+take_turns start history earlier later starts legal living may before conflicts = (traced start history starts legal).sound.order later earlier may living before conflicts

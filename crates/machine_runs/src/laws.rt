@@ -11,8 +11,9 @@ ghost use Rattle.ata_types.specs.declared.request.Outcome.{Outcome};
 ghost use Rattle.ata_types.specs.declared.request.Outcome.TheVariants.{Ok, Aborted};
 ghost use Rattle.ata_types.specs.declared.request.Reply.{Reply};
 ghost use Rattle.ata_types.specs.declared.grant.GrantRow.{GrantRow};
-ghost use Rattle.block_machine.specs.State.{Block, Accepted, Pending, Machine, sector_of};
-ghost use Rattle.block_machine.specs.Steps.{Step, Answer, after_step, IsLiving};
+ghost use Rattle.block_machine.specs.Due.{conflict};
+ghost use Rattle.block_machine.specs.State.{Block, Accepted, Pending, Machine, sector_of, waiting};
+ghost use Rattle.block_machine.specs.Steps.{Step, Answer, after_step, IsLiving, MayMove};
 ghost use Rattle.block_machine.specs.Left.{IsStart, IsLegal, HasTouched, HasTouchedSince, HasEndedSince, IsLeft, after, bytes_when_plugged, disk_read};
 ghost use Rattle.block_machine.specs.Confined.{GrantsNoWrites, WasAccepted, MayChangeByte, MayChangeSector};
 ghost use Rattle.machine_runs.specs.Durable.{IsVolatile, EveryPlugFinds};
@@ -194,6 +195,14 @@ pub fn sectors_change_by()
     ensures { (m : Machine) (step : Step) (port : Port) (sector place : ℕ)
         → (after_step m step).disks port sector place ≢ m.disks port sector place
         → MayChangeSector step port sector }
+{}
+
+/// Of two requests that conflict, the later one may be moved only once the earlier one is neither unanswered nor kept: so the device writes no sector
+/// for a request while an earlier trim of the sector may clear it, and clears none that a write accepted after the trim has written.
+pub fn conflicting_requests_take_turns()
+    ensures { (start : Machine) (history : List Step) (earlier later : Pending) → IsStart start → IsLegal start history
+        → IsLiving (after start history) earlier → MayMove (after start history) later → earlier.request.id.0 < later.request.id.0
+        → conflict (waiting earlier.request) (waiting later.request) ≡ true → ⊥ }
 {}
 
 /// A machine to begin with exists.
