@@ -1,31 +1,37 @@
 -- Lists of calls serve ports on which nothing goes wrong.
-use Rattle.std.proofs.Common.{ℕ, true, false, ◌≡◌, ◌≢◌, ◌∙◌, List, [], ◌∷◌, ◌++◌, refl, sym, ap, subst}
+use Rattle.std.proofs.Common.{ℕ, true, ◌≡◌, ◌≢◌, ◌<◌, ◌∙◌, List, [], ◌∷◌, ◌++◌, refl, sym, ap, subst}
 use Rattle.std.proofs.lemmas.List.{append_assoc, append_cancel_left, append-nil}
 use Rattle.std.proofs.lemmas.List.Elements.{All-cons, All-head, All-nil, All-tail}
 use Rattle.std.specs.List.{All, Contains}
 use Rattle.ata_types.specs.declared.Port.{Port}
 use Rattle.ata_types.specs.declared.PortState.{PortState}
-use Rattle.ata_types.specs.declared.PortState.TheVariants.{Ready}
+use Rattle.ata_types.specs.declared.PortState.TheVariants.{Absent, Ready}
 use Rattle.ata_types.specs.declared.request.Outcome.{Outcome}
-use Rattle.ata_types.specs.declared.request.Outcome.TheVariants as outcome
 use Rattle.adapter.specs.Device.{Device}
+use Rattle.adapter.specs.Idle.{IsIdle}
 use Rattle.adapter.specs.declared.access.DeviceStep.{DeviceStep}
 use Rattle.adapter.specs.declared.tape.Entry.{Entry}
 use Rattle.agreement.specs.Facts.{IsDisturbance, RunsWell, Undisturbed}
-use Rattle.block_machine.specs.Events.{Ask, Submit as AskSubmit, StoreAt, LoadAt, Service as AskService, State as AskState, Device as AskDevice, Tick, Reset, EveryReadHolds, HeedsAt, IsRun, moment_after, steps_of}
+use Rattle.block_machine.specs.Events.{Ask, Submit as AskSubmit, StoreAt, Service as AskService, State as AskState, Device as AskDevice, Tick, Reset, EveryReadHolds, HeedsAt, IsRun, moment_after, steps_of}
 use Rattle.block_machine.specs.Histories.{Happening, Instant, events_of, now}
-use Rattle.block_machine.specs.Ports.{Ports}
+use Rattle.block_machine.specs.Ports.{AreFit, Ports}
 use Rattle.block_machine.specs.State.{Pending}
 use Rattle.block_machine.specs.Steps.{Answer}
 use Rattle.driver_history.specs.Claims.{AnswerRests, GoesWellFor, IsHealthyFor}
 use Rattle.driver_history.specs.Evidence.{StaysHealthy}
 use Rattle.driver_history.specs.Histories.{IsHistory}
 use Rattle.driver_history.specs.Moves.{KeepsMoves}
-use Rattle.host_boot.specs.Taken.{found_of}
+use Rattle.configuration.specs.declared.Config.{Config}
+use Rattle.host_boot.specs.Taken.{found_of, wanted_of, StandsBehind, TakesOver}
+use Rattle.host_boot.specs.declared.Found.{Found}
+use Rattle.host_boot.specs.declared.Found.TheVariants.{Unserved, Ready as IsFound, Unready}
+use Rattle.host_boot.specs.declared.Host.{Host}
+use Rattle.identify.specs.declared.DiskInfo.{DiskInfo}
 use Rattle.identify.specs.declared.wanted.Wanted.{Wanted}
 use Rattle.server_history.specs.Histories.{Leads}
-use Rattle.server_history.specs.Server.{state_of}
+use Rattle.server_history.specs.Server.{is_served, ports_of, state_of}
 use Rattle.block_server.specs.Healthy.{EachSince, IsServedWell, IsSound, ServesHealthyPorts, none, one_more}
+use Rattle.block_server.specs.Made.{IsNew}
 use Rattle.block_server.specs.Running.{AddEach, Ran, ask_of}
 use Rattle.block_server.specs.View.{ServerView, server_of}
 use Rattle.block_server.specs.declared.types.Event.{Event}
@@ -47,6 +53,11 @@ pub record HistoryLaws : Type 0 where
       → IsRun first.moment (events_of past)
   pub reads : (wanted : List Wanted) (first : Instant Device) (past : List (Happening Device DeviceStep)) → IsHistory wanted first past
       → first.device.telling ≡ true → EveryReadHolds first.moment (events_of past)
+
+-- What is known of ports that were found ready as an adapter was taken over.
+abbrev pub ReadyRunWell : Type 0
+ReadyRunWell = (wanted : List Wanted) (host : Host) (port : ℕ) (info : DiskInfo) (old new : Device) → IsIdle old → TakesOver wanted host old new
+    → found_of host.ports port ≡ IsFound info → Undisturbed port old new → RunsWell (new.port port)
 
 -- ---- lists of calls are neither ticks nor resets
 
@@ -190,3 +201,26 @@ module _ (laws : HistoryLaws) where
           sound = all_sound new.wanted first x.0 x.2.history;
           healthy = λ port ready stays. healthy port past x.0 old new events said x.1 leads ready stays;
         }
+
+-- ---- a server as it is made
+
+module _ (law : ReadyRunWell) {A : Type 0} (device : A → Device) (config : Config) (adapter : A) (s : ServerView A) (port : Port) where
+  pub begins_well : IsIdle (device adapter) → IsNew device config adapter s → state_of (found_of s.ports port.0) ≡ Ready
+      → Undisturbed port.0 (device adapter) (device s.adapter) → RunsWell ((device s.adapter).port port.0)
+  begins_well idle made ready calm = by (found_of s.ports port.0) refl ready
+    where
+      fit : AreFit (ports_of (server_of device s))
+      fit = subst AreFit made.begun.1.stands.ports_are made.begun.1.history.0.1
+
+      -- no port is told as ready that was found otherwise
+      unready : (state : PortState) → found_of s.ports port.0 ≡ Unready state → state ≡ Ready → ⊥
+      unready state e is =
+          let low : port.0 < 4 = fit.few port (ap is_served e) in
+          let found : found_of made.host.ports port.0 ≡ Unready Ready = ap (λ (l : List Found). found_of l port.0) (sym made.ports) ∙ e ∙ ap Unready is in
+          (subst (λ (f : Found). StandsBehind (wanted_of made.plan.wanted port.0) f port.0 (device s.adapter)) found (made.taken.stands port.0 low)).1
+
+      by : (f : Found) → found_of s.ports port.0 ≡ f → state_of f ≡ Ready → RunsWell ((device s.adapter).port port.0)
+      by Unserved e is = let z : Absent ≡ Ready = is in absurd cc
+      by (IsFound info) e is =
+          law made.plan.wanted made.host port.0 info (device adapter) (device s.adapter) idle made.taken (ap (λ (l : List Found). found_of l port.0) (sym made.ports) ∙ e) calm
+      by (Unready state) e is = absurd (unready state e is)
