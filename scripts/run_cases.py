@@ -17,7 +17,7 @@ ROOT = pathlib.Path(__file__).resolve().parent.parent
 SECTOR = 512
 SECONDS = 60
 # The files that stand in the folder of a run.
-GIVEN = [*ROOT.glob("examples/*.toml"), *ROOT.glob("examples/cases/*.toml"), ROOT / "examples/first.script"]
+GIVEN = [*ROOT.glob("examples/*.toml"), *ROOT.glob("examples/cases/*.toml"), *ROOT.glob("examples/*.script")]
 FILES = "--config config --image image --script script"
 ESCAPES = {b"n": b"\n", b"r": b"\r", b"t": b"\t", b"\\": b"\\"}
 
@@ -100,9 +100,11 @@ def with_head(case, key, value):
     if key == "ends":
         number, _, told = value.partition(" ")
         return with_fault(case, int(number), told)
-    if key.startswith("sector "):
+    if numbers := re.fullmatch(r"sector (\d+)|sectors (\d+) to (\d+)", key):
+        one, first, last = numbers.groups()
         sector = bytes.fromhex(value).ljust(SECTOR, b"\0")
-        return dataclasses.replace(case, written={**case.written, int(key[7:]): sector})
+        sectors = range(int(first or one), int(last or one) + 1)
+        return dataclasses.replace(case, written={**case.written, **dict.fromkeys(sectors, sector)})
     if key in ("image", "words", "output"):
         return dataclasses.replace(case, **{key: value})
     raise Misspelled(f"the key {key!r}")

@@ -8,3 +8,4 @@ pub mod Making
 pub mod Accepting
 pub mod Finishing
 mod Sending
+pub mod Healthy

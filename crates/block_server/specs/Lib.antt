@@ -4,3 +4,4 @@ pub mod Made
 pub mod Calls
 pub mod Running
 pub mod Ports
+pub mod Healthy

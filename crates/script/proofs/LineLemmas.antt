@@ -58,10 +58,19 @@ op_is Flush = fixed (op_word Flush) refl
 page_is : (page : DiskPage) → IsWord (page_word page)
 page_is Identity = fixed (page_word Identity) refl
 
-request_are : (r : Request) → IsRequest r → AreWords (request_words r)
-request_are r h =
-    more (number r.client.0 (omega (arith, h.client))) (more (number r.grant (omega (arith, h.grant))) (more (number r.first.0 h.first)
-    (more (number r.count (omega (arith, h.count))) (more (listed r.frames.items h.frames) none))))
+by_are : (r : Request) (words : List Word) → IsRequest r → AreWords words → AreWords (decimal r.client.0 ∷ decimal r.grant ∷ words)
+by_are r words h rest = more (number r.client.0 (omega (arith, h.client))) (more (number r.grant (omega (arith, h.grant))) rest)
+
+sectors_are : (r : Request) (words : List Word) → IsRequest r → AreWords words
+    → AreWords (decimal r.client.0 ∷ decimal r.grant ∷ decimal r.first.0 ∷ decimal r.count ∷ words)
+sectors_are r words h rest = by_are r (decimal r.first.0 ∷ decimal r.count ∷ words) h
+    (more (number r.first.0 h.first) (more (number r.count (omega (arith, h.count))) rest))
+
+request_are : (op : Op) (r : Request) → IsRequest r → AreWords (request_words op r)
+request_are Read r h = sectors_are r (frames_word r.frames.items ∷ []) h (more (listed r.frames.items h.frames) none)
+request_are Write r h = sectors_are r (frames_word r.frames.items ∷ []) h (more (listed r.frames.items h.frames) none)
+request_are Trim r h = sectors_are r [] h none
+request_are Flush r h = by_are r [] h none
 
 place_are : (port : Port) (slot : Slot) → IsPlace port slot → AreWords (place_words port slot)
 place_are port slot h = more (number port.0 (omega (arith, h.0))) (more (number slot.0 (omega (arith, h.1))) none)
@@ -72,6 +81,9 @@ port_are w port first small = more first (more (number port.0 (omega (arith, sma
 step_are : (s : DeviceStep) → IsStep s → AreWords (step_words s)
 step_are (step.Fetch port slot) h = more (fixed (codes "fetch") refl) (place_are port slot h)
 step_are (step.Move port slot) h = more (fixed (codes "move") refl) (place_are port slot h)
+step_are (step.Clear port slot count) h =
+    more (fixed (codes "clear") refl) (more (number port.0 (omega (arith, h.0))) (more (number slot.0 (omega (arith, h.1)))
+    (more (number count (omega (arith, h.2))) none)))
 step_are (step.Done port slot) h = more (fixed (codes "done") refl) (place_are port slot h)
 step_are (step.Finish port slot) h = more (fixed (codes "finish") refl) (place_are port slot h)
 step_are (step.Lie port page offset bits) h =
@@ -85,7 +97,7 @@ step_are (step.Plug port disk) h =
     more (fixed (codes "plug") refl) (more (number port.0 (omega (arith, h.0))) (more (number disk.0 (omega (arith, h.1))) none))
 
 line_are : (line : Line) → IsLine line → AreWords (line_words line)
-line_are (Submit r) h = more (op_is r.op) (request_are r h.1)
+line_are (Submit r) h = more (op_is r.op) (request_are r.op r h.1)
 line_are (Store client frame offset bytes) h =
     more (fixed (codes "store") refl) (more (number client.0 (omega (arith, h.0))) (more (number frame.0 (omega (arith, h.1)))
     (more (number offset (omega (arith, h.2))) (more (pairs bytes.items h.3) none))))
@@ -103,6 +115,7 @@ all_within (w ∷ words) (more first rest) = All-cons (Within 33 128) w words fi
 step_few : (s : DeviceStep) → length (step_words s) ≤ 5
 step_few (step.Fetch port slot) = omega arith
 step_few (step.Move port slot) = omega arith
+step_few (step.Clear port slot count) = omega arith
 step_few (step.Done port slot) = omega arith
 step_few (step.Finish port slot) = omega arith
 step_few (step.Lie port page offset bits) = omega arith
@@ -112,9 +125,15 @@ step_few (step.Release port) = omega arith
 step_few (step.Unplug port) = omega arith
 step_few (step.Plug port disk) = omega arith
 
+request_few : (op : Op) (r : Request) → length (request_words op r) ≤ 5
+request_few Read r = omega arith
+request_few Write r = omega arith
+request_few Trim r = omega arith
+request_few Flush r = omega arith
+
 -- no line has more words
 pub few_words : (line : Line) → length (line_words line) ≤ 6
-few_words (Submit r) = omega arith
+few_words (Submit r) = omega (arith, request_few r.op r)
 few_words (Store client frame offset bytes) = omega arith
 few_words (Load client frame offset count) = omega arith
 few_words Service = omega arith

@@ -11,9 +11,11 @@ use Rattle.std.specs.List.{All}
 use Rattle.arrayvec.specs.ArrayVec.{ArrayVec as Items}
 use Rattle.ata_types.specs.declared.request.ClientId.{ClientId}
 use Rattle.ata_types.specs.declared.request.Frame.{Frame}
+use Rattle.ata_types.specs.declared.request.Op.{Op}
+use Rattle.ata_types.specs.declared.request.Op.TheVariants.{Read, Write, Trim, Flush}
 use Rattle.script.specs.declared.line.Line.{Line}
 use Rattle.script.specs.declared.line.Line.TheVariants.{Submit, Store, Load, Service, State, Device}
-use Rattle.script.specs.Line.{IsLine, IsStep, line_words, step_words}
+use Rattle.script.specs.Line.{IsLine, IsStep, line_words, op_word, step_words}
 use Rattle.script.specs.Fields.{Word}
 
 pub record IsLie (s : DeviceStep) (port offset bits : Word) : Type 0 where
@@ -45,6 +47,7 @@ as_lie (step.Lie p Identity o b) port page offset bits h e = record {
 }
 as_lie (step.Fetch p s) port page offset bits h e = absurd (omega (arith, ap length e))
 as_lie (step.Move p s) port page offset bits h e = absurd (omega (arith, ap length e))
+as_lie (step.Clear p s n) port page offset bits h e = absurd (omega (arith, ap length e))
 as_lie (step.Done p s) port page offset bits h e = absurd (omega (arith, ap length e))
 as_lie (step.Finish p s) port page offset bits h e = absurd (omega (arith, ap length e))
 as_lie (step.Truth p) port page offset bits h e = absurd (omega (arith, ap length e))
@@ -52,6 +55,19 @@ as_lie (step.Hold p) port page offset bits h e = absurd (omega (arith, ap length
 as_lie (step.Release p) port page offset bits h e = absurd (omega (arith, ap length e))
 as_lie (step.Unplug p) port page offset bits h e = absurd (omega (arith, ap length e))
 as_lie (step.Plug p d) port page offset bits h e = absurd (omega (arith, ap length e))
+
+-- no operation's word is one of these: it has another length, or other letters
+no_store : {X : Type 0} (op : Op) → op_word op ≡ codes "store" → X
+no_store Read e = absurd (omega (arith, ap length e))
+no_store Write e = absurd (omega (arith, ap (λ w. get_or w 0 0) e))
+no_store Trim e = absurd (omega (arith, ap length e))
+no_store Flush e = absurd (omega (arith, ap (λ w. get_or w 0 0) e))
+
+no_load : {X : Type 0} (op : Op) → op_word op ≡ codes "load" → X
+no_load Read e = absurd (omega (arith, ap (λ w. get_or w 0 0) e))
+no_load Write e = absurd (omega (arith, ap length e))
+no_load Trim e = absurd (omega (arith, ap (λ w. get_or w 0 0) e))
+no_load Flush e = absurd (omega (arith, ap length e))
 
 pub record IsStore (line : Line) (client frame offset bytes : Word) : Type 0 where
   pub by : ClientId
@@ -90,7 +106,7 @@ as_store (Store c f o b) client frame offset bytes h e = record {
   bytes_are = ap (λ ws. get_or ws 4 []) e;
   line_is = refl;
 }
-as_store (Submit r) client frame offset bytes h e = absurd (omega (arith, ap length e))
+as_store (Submit r) client frame offset bytes h e = no_store r.op (ap (λ ws. get_or ws 0 []) e)
 as_store (Load c f o n) client frame offset bytes h e = absurd (omega (arith, ap (λ ws. length (get_or ws 0 [])) e))
 as_store Service client frame offset bytes h e = absurd (omega (arith, ap length e))
 as_store (State p) client frame offset bytes h e = absurd (omega (arith, ap length e))
@@ -131,7 +147,7 @@ as_load (Load c f o n) client frame offset count h e = record {
   count_is = ap (λ ws. get_or ws 4 []) e;
   line_is = refl;
 }
-as_load (Submit r) client frame offset count h e = absurd (omega (arith, ap length e))
+as_load (Submit r) client frame offset count h e = no_load r.op (ap (λ ws. get_or ws 0 []) e)
 as_load (Store c f o b) client frame offset count h e = absurd (omega (arith, ap (λ ws. length (get_or ws 0 [])) e))
 as_load Service client frame offset count h e = absurd (omega (arith, ap length e))
 as_load (State p) client frame offset count h e = absurd (omega (arith, ap length e))

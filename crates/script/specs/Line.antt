@@ -1,5 +1,5 @@
 -- How a line of a script is spelled (this project's own): each line in one way, and some values have no line.
-use Rattle.std.specs.Prelude.{ℕ, ◌<◌, ◌≤◌, ◌^◌, List, [], ◌∷◌, length, codes}
+use Rattle.std.specs.Prelude.{ℕ, ◌≡◌, ◌<◌, ◌≤◌, ◌^◌, List, [], ◌∷◌, length, codes}
 use Rattle.std.specs.List.{All, join_with_byte}
 use Rattle.std.specs.Fmt.{decimal}
 use Rattle.hex.specs.Hex.{encode_lower}
@@ -26,8 +26,15 @@ abbrev pub page_word : DiskPage → Word
 page_word Identity = codes "id"
 
 -- what stands after `read` or `write`
-abbrev pub request_words : Request → List Word
-request_words r = decimal r.client.0 ∷ decimal r.grant ∷ decimal r.first.0 ∷ decimal r.count ∷ frames_word r.frames.items ∷ []
+abbrev pub transfer_words : Request → List Word
+transfer_words r = decimal r.client.0 ∷ decimal r.grant ∷ decimal r.first.0 ∷ decimal r.count ∷ frames_word r.frames.items ∷ []
+
+-- what stands after the operation's word: of a trim no frames, and of a flush no sectors either
+abbrev pub request_words : Op → Request → List Word
+request_words Read r = transfer_words r
+request_words Write r = transfer_words r
+request_words Trim r = decimal r.client.0 ∷ decimal r.grant ∷ decimal r.first.0 ∷ decimal r.count ∷ []
+request_words Flush r = decimal r.client.0 ∷ decimal r.grant ∷ []
 
 -- a port, and a slot of it
 abbrev pub place_words : Port → Slot → List Word
@@ -37,6 +44,7 @@ place_words port slot = decimal port.0 ∷ decimal slot.0 ∷ []
 abbrev pub step_words : DeviceStep → List Word
 step_words (step.Fetch port slot) = codes "fetch" ∷ place_words port slot
 step_words (step.Move port slot) = codes "move" ∷ place_words port slot
+step_words (step.Clear port slot count) = codes "clear" ∷ decimal port.0 ∷ decimal slot.0 ∷ decimal count ∷ []
 step_words (step.Done port slot) = codes "done" ∷ place_words port slot
 step_words (step.Finish port slot) = codes "finish" ∷ place_words port slot
 step_words (step.Lie port page offset bits) =
@@ -48,7 +56,7 @@ step_words (step.Unplug port) = codes "unplug" ∷ decimal port.0 ∷ []
 step_words (step.Plug port disk) = codes "plug" ∷ decimal port.0 ∷ decimal disk.0 ∷ []
 
 abbrev pub line_words : Line → List Word
-line_words (Submit request) = op_word request.op ∷ request_words request
+line_words (Submit request) = op_word request.op ∷ request_words request.op request
 line_words (Store client frame offset bytes) =
     codes "store" ∷ decimal client.0 ∷ decimal frame.0 ∷ decimal offset ∷ encode_lower bytes.items ∷ []
 line_words (Load client frame offset count) =
@@ -61,12 +69,12 @@ line_words (Device asked) = codes "dev" ∷ step_words asked
 abbrev pub line_text : Line → List ℕ
 line_text line = join_with_byte 32 (line_words line)
 
--- the operation has lines; trims and flushes have none as yet
-abbrev pub HasLines : Op → Type 0
-HasLines Read = Unit {0}
-HasLines Write = Unit {0}
-HasLines Trim = ⊥
-HasLines Flush = ⊥
+-- the request asks for nothing that a line of its operation has no word for: of a trim there are no frames, and of a flush no sectors either
+abbrev pub IsSpelled : Op → Request → Type 0
+IsSpelled Read r = Unit {0}
+IsSpelled Write r = Unit {0}
+IsSpelled Trim r = r.frames.items ≡ []
+IsSpelled Flush r = (r.first.0 ≡ 0) × (r.count ≡ 0) × (r.frames.items ≡ [])
 
 -- the request's numbers are in their ranges
 pub record IsRequest (r : Request) : Type 0 where
@@ -85,6 +93,7 @@ IsPlace port slot = (port.0 < 4) × (slot.0 < 32)
 abbrev pub IsStep : DeviceStep → Type 0
 IsStep (step.Fetch port slot) = IsPlace port slot
 IsStep (step.Move port slot) = IsPlace port slot
+IsStep (step.Clear port slot count) = (port.0 < 4) × (slot.0 < 32) × (count < 2 ^ 32)
 IsStep (step.Done port slot) = IsPlace port slot
 IsStep (step.Finish port slot) = IsPlace port slot
 IsStep (step.Lie port page offset bits) = (port.0 < 4) × (offset < 512) × (bits < 256)
@@ -96,7 +105,7 @@ IsStep (step.Plug port disk) = (port.0 < 4) × (disk.0 < 2)
 
 -- the value has a line
 abbrev pub IsLine : Line → Type 0
-IsLine (Submit request) = HasLines request.op × IsRequest request
+IsLine (Submit request) = IsSpelled request.op request × IsRequest request
 IsLine (Store client frame offset bytes) = (client.0 < 256) × (frame.0 < 65536) × (offset < 2 ^ 32)
     × All (λ b. b < 256) bytes.items × (1 ≤ length bytes.items) × (length bytes.items ≤ 64)
 IsLine (Load client frame offset count) = (client.0 < 256) × (frame.0 < 65536) × (offset < 2 ^ 32) × (1 ≤ count) × (count ≤ 64)

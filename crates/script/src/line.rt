@@ -1,7 +1,7 @@
 // One line of a script.
 ghost use Rattle.std.specs.Prelude.{◌≡◌, ◌<◌, ◌==◌, ◌∷◌, [], codes, Some, None, IfSome, length, map};
 ghost use Rattle.std.specs.List.{slice_split};
-ghost use Rattle.script.specs.Line.{IsLine, IsRequest, IsStep, line_text, line_words, request_words, step_words};
+ghost use Rattle.script.specs.Line.{IsLine, IsRequest, IsStep, line_text, line_words, step_words, transfer_words};
 ghost use Rattle.ata_types.specs.declared.request.Op.{Op};
 ghost use Rattle.ata_types.specs.declared.request.Request.{Request};
 ghost use Rattle.adapter.specs.declared.access.DeviceStep.{DeviceStep};
@@ -57,10 +57,10 @@ fn words(text: &str) -> Option<ArrayVec<&str, MOST_WORDS>>
     Some(words)
 }
 
-/// The request that is asked, from the words after the first.
-fn request(op: Op, words: &[&str]) -> Option<Request>
-    ensures found { IfSome result (λ r. (r.op ≡ op) × IsRequest r × (request_words r ≡ map (λ w. w.now) words.now)) }
-    ensures only { (r : Request) → r.op ≡ op → IsRequest r → request_words r ≡ map (λ w. w.now) words.now → result ≡ Some r }
+/// The read or write that is asked, from the words after the first.
+fn transfer(op: Op, words: &[&str]) -> Option<Request>
+    ensures found { IfSome result (λ r. (r.op ≡ op) × IsRequest r × (transfer_words r ≡ map (λ w. w.now) words.now)) }
+    ensures only { (r : Request) → r.op ≡ op → IsRequest r → transfer_words r ≡ map (λ w. w.now) words.now → result ≡ Some r }
 {
     match words {
         [client, grant, first, count, frames] => Some(Request {
@@ -89,6 +89,17 @@ fn lie(port: &str, offset: &str, bits: &str) -> Option<DeviceStep>
     ))
 }
 
+/// The clear that the device is to do: where, and of how many sectors.
+fn clear(port: &str, slot: &str, count: &str) -> Option<DeviceStep>
+    ensures found { IfSome result (λ s. IsStep s × (step_words s ≡ codes "clear" ∷ port.now ∷ slot.now ∷ count.now ∷ [])) }
+    ensures only { (s : DeviceStep) → IsStep s → step_words s ≡ codes "clear" ∷ port.now ∷ slot.now ∷ count.now ∷ [] → result ≡ Some s }
+{
+    let port = fields::port(port)?;
+    let slot = fields::slot(slot)?;
+    let count = fields::wide(count)?;
+    Some(DeviceStep::Clear(port, slot, count))
+}
+
 /// The step that the device is to do, from the words after `dev`.
 fn step(words: &[&str]) -> Option<DeviceStep>
     ensures found { IfSome result (λ s. IsStep s × (step_words s ≡ map (λ w. w.now) words.now)) }
@@ -98,6 +109,7 @@ fn step(words: &[&str]) -> Option<DeviceStep>
         ["finish", port, slot] => DeviceStep::Finish(fields::port(port)?, fields::slot(slot)?),
         ["fetch", port, slot] => DeviceStep::Fetch(fields::port(port)?, fields::slot(slot)?),
         ["move", port, slot] => DeviceStep::Move(fields::port(port)?, fields::slot(slot)?),
+        ["clear", port, slot, count] => clear(port, slot, count)?,
         ["done", port, slot] => DeviceStep::Done(fields::port(port)?, fields::slot(slot)?),
         ["unplug", port] => DeviceStep::Unplug(fields::port(port)?),
         ["plug", port, disk] => DeviceStep::Plug(fields::port(port)?, fields::disk(disk)?),
@@ -107,6 +119,44 @@ fn step(words: &[&str]) -> Option<DeviceStep>
         ["lie", port, "id", offset, bits] => lie(port, offset, bits)?,
         _ => return None,
     })
+}
+
+/// The trim that is asked, from the words after `trim`.
+fn trim(client: &str, grant: &str, first: &str, count: &str) -> Option<Line>
+    ensures found { IfSome result (λ line. IsLine line
+        × (line_words line ≡ codes "trim" ∷ client.now ∷ grant.now ∷ first.now ∷ count.now ∷ [])) }
+    ensures only { (line : Line) → IsLine line → line_words line ≡ codes "trim" ∷ client.now ∷ grant.now ∷ first.now ∷ count.now ∷ []
+        → result ≡ Some line }
+{
+    let client = fields::client(client)?;
+    let grant = fields::number(grant, 255)? as u8;
+    let first = Sector(fields::number(first, u64::MAX)?);
+    let count = fields::wide(count)?;
+    Some(Line::Submit(Request {
+        client,
+        grant,
+        op: Op::Trim,
+        first,
+        count,
+        frames: ArrayVec::new(),
+    }))
+}
+
+/// The flush that is asked, from the words after `flush`. It names no sectors.
+fn flush(client: &str, grant: &str) -> Option<Line>
+    ensures found { IfSome result (λ line. IsLine line × (line_words line ≡ codes "flush" ∷ client.now ∷ grant.now ∷ [])) }
+    ensures only { (line : Line) → IsLine line → line_words line ≡ codes "flush" ∷ client.now ∷ grant.now ∷ [] → result ≡ Some line }
+{
+    let client = fields::client(client)?;
+    let grant = fields::number(grant, 255)? as u8;
+    Some(Line::Submit(Request {
+        client,
+        grant,
+        op: Op::Flush,
+        first: Sector(0),
+        count: 0,
+        frames: ArrayVec::new(),
+    }))
 }
 
 /// The store that is asked, from the words after `store`.
@@ -159,8 +209,16 @@ fn asked(words: &[&str]) -> Option<Line>
             [] => Some(Line::Service),
             _ => None,
         },
-        "read" => Some(Line::Submit(request(Op::Read, rest)?)),
-        "write" => Some(Line::Submit(request(Op::Write, rest)?)),
+        "read" => Some(Line::Submit(transfer(Op::Read, rest)?)),
+        "write" => Some(Line::Submit(transfer(Op::Write, rest)?)),
+        "trim" => match rest {
+            [client, grant, first, count] => trim(client, grant, first, count),
+            _ => None,
+        },
+        "flush" => match rest {
+            [client, grant] => flush(client, grant),
+            _ => None,
+        },
         "store" => match rest {
             [client, frame, offset, bytes] => store(client, frame, offset, bytes),
             _ => None,

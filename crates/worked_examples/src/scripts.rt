@@ -18,6 +18,10 @@ fn step_of(text: &[u8]) -> Option<DeviceStep> {
 const STEPS: &[(&str, Option<DeviceStep>)] = &[
     ("dev fetch 3 31", Some(DeviceStep::Fetch(Port(3), Slot(31)))),
     ("dev move 3 31", Some(DeviceStep::Move(Port(3), Slot(31)))),
+    (
+        "dev clear 3 31 4294967295",
+        Some(DeviceStep::Clear(Port(3), Slot(31), 4_294_967_295)),
+    ),
     ("dev done 3 31", Some(DeviceStep::Done(Port(3), Slot(31)))),
     (
         "dev finish 3 31",

@@ -1,0 +1,69 @@
+-- Lists of calls, on ports where nothing goes wrong (this project's own).
+use Rattle.std.specs.Prelude.{true, ◌≡◌, List, [], ◌∷◌, Contains}
+use Rattle.ata_types.specs.declared.Port.{Port}
+use Rattle.ata_types.specs.declared.PortState.TheVariants.{Ready}
+use Rattle.ata_types.specs.declared.request.Outcome.{Outcome}
+use Rattle.ata_types.specs.declared.request.Outcome.TheVariants as outcome
+use Rattle.adapter.specs.Device.{Device}
+use Rattle.adapter.specs.declared.access.DeviceStep.{DeviceStep}
+use Rattle.agreement.specs.Facts.{RunsWell}
+use Rattle.block_machine.specs.Events.{Event as Call, Moment, Service, AnswersEnded, EveryReadHolds, IsRun, WasIssued, moment_after, steps_of}
+use Rattle.block_machine.specs.Histories.{Happening, Instant, events_of, now}
+use Rattle.block_machine.specs.Ports.{SamePort}
+use Rattle.block_machine.specs.State.{Pending}
+use Rattle.block_machine.specs.Steps.{Answer, AllTouched}
+use Rattle.driver_history.specs.Claims.{GoesWellFor, IsHealthyFor}
+use Rattle.driver_history.specs.Evidence.{StaysHealthy}
+use Rattle.driver_history.specs.Histories.{Issues}
+use Rattle.driver_history.specs.Moves.{KeepsMoves}
+use Rattle.host_boot.specs.Taken.{found_of}
+use Rattle.server_history.specs.Histories.{Leads}
+use Rattle.server_history.specs.Server.{state_of}
+use Rattle.block_server.specs.Running.{AddEach}
+use Rattle.block_server.specs.View.{ServerView, server_of}
+use Rattle.block_server.specs.declared.types.Event.{Event}
+use Rattle.block_server.specs.declared.types.Said.{Said}
+
+-- each call that a history has had since an earlier part of it, after the calls before it, is of this kind
+pub data EachSince (Is : List (Happening Device DeviceStep) → Happening Device DeviceStep → Type 0) (earlier : List (Happening Device DeviceStep))
+    : List (Happening Device DeviceStep) → Type 0 where
+  none : EachSince Is earlier earlier
+  one_more : {past : List (Happening Device DeviceStep)} {h : Happening Device DeviceStep}
+      → EachSince Is earlier past → Is past h → EachSince Is earlier (h ∷ past)
+
+-- What a call is to the clients of a port that is ready and stays healthy, with no register in it. The port is what it was, with the same
+-- disk. What is answered there is answered Ok, and is a request that was issued when the call began, of which each sector was moved or cleared
+-- since its last issue, and which was ended; a service answers each that had ended when it began. And of the port's unanswered
+-- requests a submit and a service issue exactly those that are due once all else is done.
+pub record ServesClientsOf (port : Port) (old : Moment) (call : Call DeviceStep) : Type 0 where
+  pub same : SamePort old.ports call.ports port
+  pub answers : (e : Pending) (told : Outcome) → Contains call.steps (Answer e told) → e.request.port ≡ port
+      → (told ≡ outcome.Ok) × WasIssued old.machine e.request.id × (e.issued ≡ true) × AllTouched e × (e.ended ≡ true)
+  pub ended : call.ask ≡ Service → AnswersEnded old.machine call.steps port
+  pub issues : Issues call.ask call.steps (moment_after old call).machine call.ports port
+
+-- The call goes well for the port, with its engine running all the time and after it, and serves the port's clients.
+abbrev pub IsServedWell : Port → Instant Device → Happening Device DeviceStep → Type 0
+IsServedWell port old h = GoesWellFor old h port × ServesClientsOf port old.moment h.event
+
+-- In a call after these ones, moves and clears keep to their places; and each port is served well that the call is healthy for.
+pub record IsSound (first : Instant Device) (past : List (Happening Device DeviceStep)) (h : Happening Device DeviceStep) : Type 0 where
+  pub moves : KeepsMoves first.moment.machine (steps_of (events_of past)) h.event.steps (now first past).device h.device
+  pub served : (port : Port) → IsHealthyFor (now first past) h port → IsServedWell port (now first past) h
+
+-- What a list of calls is that said this, after a history that leads to the server before them. Each call adds an event with what was asked and
+-- said, and what is so longer leads to the server after it. All calls together are a run of the block machine (so replies stand in the
+-- order of port and id), each read that was answered Ok has what was left where the adapter's disks tell their sectors, and each call is
+-- sound. And a port that is ready and runs well before the list, and on which nothing goes wrong until its end (no fault, no fatal error, no
+-- disk that goes or comes), is served well by each of its calls, and is ready and runs well after it.
+pub record ServesHealthyPorts {A : Type 0} (device : A → Device) (first : Instant Device) (past : List (Happening Device DeviceStep))
+    (old new : ServerView A) (events : List Event) (said : List Said) : Type 0 where
+  pub later : List (Happening Device DeviceStep)
+  pub adds : AddEach device first past old events said later new
+  pub leads : Leads first later (server_of device new)
+  pub run : IsRun first.moment (events_of later)
+  pub reads : first.device.telling ≡ true → EveryReadHolds first.moment (events_of later)
+  pub sound : EachSince (IsSound first) [] later
+  pub healthy : (port : Port) → state_of (found_of old.ports port.0) ≡ Ready → StaysHealthy port.0 (device old.adapter) (device new.adapter)
+      → EachSince (λ before h. IsServedWell port (now first before) h) past later
+      × (state_of (found_of new.ports port.0) ≡ Ready) × RunsWell ((device new.adapter).port port.0)
