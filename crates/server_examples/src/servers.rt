@@ -101,15 +101,12 @@ fn piece<const N: usize>(memory: &[u8], place: usize) -> [u8; N] {
     piece
 }
 
-/// Compares what stands in memory for a slot once a server is made, and has issued the requests; and the accesses of a service then.
-fn check(
+/// An adapter once a server was made over it, has issued the requests, and has served, which answers nobody; and how many accesses there were before that.
+fn served(
     rt: &(impl Abort + AllocGlobal),
     text: &str,
     requests: &[Request],
-    slot: u8,
-    wanted: Slot,
-    accesses: &[Access],
-) -> Result<(), Fail> {
+) -> Result<(Watched<Model<MemStore>>, usize), Fail> {
     let config = config(rt.alloc(), text)?;
     let watched = Watched::new(rt.alloc(), model_of(rt.alloc(), &config, 356)?)?;
     let Ok(server) = Server::new(rt.alloc(), &config, watched) else {
@@ -124,6 +121,19 @@ fn check(
     let replies = server.service().len();
     let watched = server.close();
     assert_eq!(rt; (accepted, replies), (true, 0));
+    Ok((watched, before))
+}
+
+/// Compares what stands in memory for a slot once a server is made, and has issued the requests; and the accesses of a service then.
+fn check(
+    rt: &(impl Abort + AllocGlobal),
+    text: &str,
+    requests: &[Request],
+    slot: u8,
+    wanted: Slot,
+    accesses: &[Access],
+) -> Result<(), Fail> {
+    let (watched, before) = served(rt, text, requests)?;
     let low = watched.low.as_slice();
     let table = 0x1000 + 0x400 * usize::from(slot);
     let (header, fis) = (piece(low, 0x20 * usize::from(slot)), piece(low, table));
@@ -220,6 +230,26 @@ const QUEUED_WRITE: Slot = (
     NO_ENTRY,
 );
 
+/// A trim, by DATA SET MANAGEMENT with one block, which stands at 9000h, in the port's scratch frame.
+const TRIM: Slot = (
+    WRITE_HEADER,
+    [
+        0x27, 0x80, 6, 1, 0, 0, 0, 0, 0, 0, 0, 0, 1, 0, 0, 0, 0, 0, 0, 0,
+    ],
+    [0, 0x90, 0, 0, 0, 0, 0, 0, 0, 0, 0, 0, 0xff, 1, 0, 0],
+    NO_ENTRY,
+);
+
+/// A flush, by FLUSH CACHE EXT, which has no entry: behind its FIS stands still what the boot's IDENTIFY DEVICE had.
+const FLUSH: Slot = (
+    [5, 0, 0, 0, 0, 0, 0, 0, 0, 0x10, 0, 0, 0, 0, 0, 0],
+    [
+        0x27, 0x80, 0xea, 0, 0, 0, 0, 0, 0, 0, 0, 0, 0, 0, 0, 0, 0, 0, 0, 0,
+    ],
+    [0, 0x90, 0, 0, 0, 0, 0, 0, 0, 0, 0, 0, 0xff, 1, 0, 0],
+    NO_ENTRY,
+);
+
 // The boot's IDENTIFY DEVICE ended with a PIO Setup FIS, which PSS of PxIS tells (AHCI 1.3.1, 3.3.5). A service writes back what it read
 // there, and then the port's bit of IS alone (3.1.3), and reads PxSSTS; and then PxCI and PxSACT, where there is a request.
 const SERVICE: [Access; 6] = [
@@ -257,6 +287,20 @@ fn queued_commands_stand_in_memory(rt: HostRuntime) -> Result<(), Fail> {
         request(Op::Read, 100, 256, 45, 32),
     ];
     check(&rt, QUEUED, &six, 5, QUEUED_LONG_READ, &SERVICE)
+}
+
+#[test]
+fn trims_and_flushes_stand_in_memory(rt: HostRuntime) -> Result<(), Fail> {
+    let trim = [request(Op::Trim, 120, 200, 0, 0)];
+    check(&rt, QUEUED, &trim, 0, TRIM, &SERVICE)?;
+    let flush = [request(Op::Flush, 0, 0, 0, 0)];
+    check(&rt, QUEUED, &flush, 0, FLUSH, &SERVICE)?;
+    // One entry of the block names 200 sectors from 120 on; the next one is zero.
+    let (watched, _before) = served(&rt, QUEUED, &trim)?;
+    let block: [u8; 16] = piece(watched.adapter.memory(), 0x9000);
+    let wanted = [0x78, 0, 0, 0, 0, 0, 0xc8, 0, 0, 0, 0, 0, 0, 0, 0, 0];
+    assert_eq!(rt; block, wanted);
+    Ok(())
 }
 
 /// How often PxSACT and PxCI of port 0 are written for two reads, which are asked for one after the other, where the disk lies so of its page.
