@@ -401,7 +401,7 @@ fn unspelled_calls_are_answered(rt: HostRuntime) -> Result<(), Fail> {
         return Err(Fail::from("no server"));
     };
     let mut server = server;
-    let asked = server.submit(&request(Op::Trim, 100, 8, 0, 0));
+    let asked = server.submit(&request(Op::Flush, 0, 8, 0, 0));
     let past_all = server.state(Port(4));
     let at_end = server.client_store(ClientId(1), Frame(40), 4096, &[]);
     let past_end = server.client_store(ClientId(1), Frame(40), 4097, &[]);
@@ -409,7 +409,7 @@ fn unspelled_calls_are_answered(rt: HostRuntime) -> Result<(), Fail> {
     assert_eq!(rt;
         (asked, past_all, at_end, past_end),
         (
-            Err(Refusal::Rule(Rule::NoRight)),
+            Err(Refusal::Rule(Rule::BadCount)),
             PortState::Absent,
             Ok(()),
             Err(MemFault::OutsideFrame),
