@@ -8,7 +8,7 @@ use Rattle.adapter.specs.Device.{Disk, Taken, Halt, PortState, Device}
 use Rattle.adapter.specs.Memory.{changed}
 use Rattle.adapter.specs.OneCommand.{IsFreeSlot}
 use Rattle.adapter.specs.Says.{pieces}
-use Rattle.adapter.specs.Steps.{Can, IsWorking, WorksOn, admits, begun, Brings, next_sector, with_fetch, with_move, with_done, block_after, disk_after}
+use Rattle.adapter.specs.Steps.{Can, IsWorking, WorksOn, admits, begun, Brings, next_sector, with_fetch, with_move, with_clear, with_done, block_after, disk_after}
 use Rattle.adapter.specs.Steps.Step.{Fetch, Move, Done}
 use Rattle.adapter.specs.declared.command.Operation.{Operation}
 use Rattle.adapter.proofs.Absurd.{some-none, some_one, true-false}
@@ -154,7 +154,15 @@ module _ (port slot sectors : ℕ) where
       let same : u ≡ t = some_one (sym (changed_same p.taken slot (Some u)) ∙ (sym (ap (λ (x : PortState). x.taken slot) there) ∙ taken)) in
       let kind : is_queued m.t.meaning.operation ≡ true = ap (λ (x : Taken). is_queued x.meaning.operation) same ∙ queued in
       ap (λ (x : PortState). x.ci slot) there ∙ was m.t m.can.works.taken kind before
-  no_more_on since mid new was (inr (inr e)) t taken queued before = some-none taken (done_gone mid new e)
+  no_more_on since mid new was (inr (inr (inl e))) t taken queued before = some-none taken (done_gone mid new e)
+  no_more_on since mid new was (inr (inr (inr (most, c)))) t taken queued before =
+      let p : PortState = mid.port port in
+      let u : Taken = record c.t { cleared = c.t.cleared + c.count } in
+      let state : PortState = with_clear p slot c.t c.first c.count in
+      let there : new.port port ≡ state = ap (λ (d : Device). d.port port) c.effect ∙ changed_same mid.port port state in
+      let same : u ≡ t = some_one (sym (changed_same p.taken slot (Some u)) ∙ (sym (ap (λ (x : PortState). x.taken slot) there) ∙ taken)) in
+      let kind : is_queued c.t.meaning.operation ≡ true = ap (λ (x : Taken). is_queued x.meaning.operation) same ∙ queued in
+      ap (λ (x : PortState). x.ci slot) there ∙ was c.t c.can.works.taken kind before
 
   no_more_after : (n : ℕ) (since new : Device) → DoesSome (SendsEnd slot) n port slot since new → IsIssuedNoMore since new
   no_more_after zero since new same = subst (IsIssuedNoMore since) (sym same) (no_more_yet since)
@@ -318,6 +326,7 @@ has_move d port slot t bytes takes disk can =
     by transfer.ReadQueued e brings ranged = brings.0
     by transfer.WriteQueued e brings ranged = brings.0
     by transfer.Identify e brings ranged = true-false ranged (ap is_ranged e)
+    by transfer.Flush e brings ranged = true-false ranged (ap is_ranged e)
 
 -- a command that the model's port works on is one that it takes
 pub works_takes : (h : Hardware) (o : Outside) (port slot : ℕ) (t : Taken) → WorksOn ((device_of h o).port port) slot t t.meaning.operation →

@@ -9,7 +9,7 @@ use Rattle.adapter.specs.Device.{Notes, PortState, Device, Taken}
 use Rattle.adapter.specs.Memory.{changed}
 use Rattle.adapter.specs.OneCommand.{IsFreeSlot}
 use Rattle.adapter.specs.Says.{Says}
-use Rattle.adapter.specs.Steps.{Can, IsFetchable, IsWorking, IsAlone, WorksOn, begun, with_done, with_fetch, with_move}
+use Rattle.adapter.specs.Steps.{Can, IsFetchable, IsWorking, IsAlone, WorksOn, begun, with_clear, with_done, with_fetch, with_move}
 use Rattle.adapter.specs.Steps.Step.{Fetch}
 use Rattle.adapter.specs.declared.command.Operation.{Operation}
 use Rattle.adapter.specs.declared.command.Operation.TheVariants.{Identify}
@@ -24,7 +24,6 @@ use Rattle.adapter.specs.declared.access.DeviceStep.TheVariants as asked
 use Rattle.sector_store.specs.declared.store.Failures.{Failures}
 use Rattle.device_model.specs.Does.{AnswersStep, MovesSector}
 use Rattle.device_model.specs.Finishing.{AreInside, HasIdentify, HasMove, Identifies, IsCovered, MayFinish, MayIdentify}
-use Rattle.device_model.specs.Held.{none_held}
 use Rattle.device_model.specs.Modelled.{device_at}
 use Rattle.device_model.specs.Sent.{SendsEnd}
 use Rattle.device_model.specs.Slots.{IsNext}
@@ -38,9 +37,9 @@ use Rattle.device_model.specs.declared.port.Transfer.TheVariants as transfer
 use Rattle.device_model.specs.declared.steps.NextMove.{NextMove}
 use Rattle.adapter.proofs.Going.{goes_one}
 use Rattle.device_model.proofs.Finishing.{fetched_goes, next_has_move}
-use Rattle.device_model.proofs.Own.{IsOnly, own_gone}
+use Rattle.device_model.proofs.Own.{IsOnly, only_gone}
 use Rattle.device_model.proofs.Posting.{end_rest}
-use Rattle.device_model.proofs.Transfers.{alone_none, is_identify, is_taken, unranged}
+use Rattle.device_model.proofs.Transfers.{alone_none, is_identify, unranged_plain}
 use Rattle.device_model.proofs.TwoDisks.{in_kept}
 
 -- an IDENTIFY DEVICE whose pieces have addresses of 32 bits
@@ -91,22 +90,21 @@ pub has_only : (d : Device) (slot : ℕ) → HasIdentify d slot → IsOnly IsPag
 has_only d slot has = only_of IsPage d 0 slot 0 has.left has.ready (has.identifies, has.low)
 
 -- nor afterwards
-only_taken : (P : Operation → List ℕ → Type 0) → ((o : Operation) (places : List ℕ) → P o places → o ≡ Identify) → (port slot : ℕ) (did : Bool)
-    (old new : Device) → port ≡ 0 → (did ≡ true → GoesOn (SendsEnd slot) port slot old new) → (did ≡ false → new ≡ old) → IsOnly P old 0 slot →
-    (t : Taken) → (new.port port).taken slot ≡ Some t → P t.meaning.operation t.places
-only_taken P is_page port slot did old new here went same only t is =
-    let Q : ℕ → Type 0 = λ q. GoesOn (SendsEnd slot) q slot old new in
-    let R : ℕ → Type 0 = λ q. (new.port q).taken slot ≡ Some t in
-    (own_gone P is_page none_held 0 slot refl did old new (λ e. subst Q here (went e)) same only).1.taken t (subst R here is)
-
 pub page_taken : (port slot : ℕ) (did : Bool) (old new : Device) → port ≡ 0 → (did ≡ true → GoesOn (SendsEnd slot) port slot old new) → (did ≡ false → new ≡ old) →
     HasIdentify old slot → (t : Taken) → (new.port port).taken slot ≡ Some t → IsPage t.meaning.operation t.places
-page_taken port slot did old new here went same has = only_taken IsPage is_page port slot did old new here went same (has_only old slot has)
+page_taken port slot did old new here went same has t is =
+    let Q : ℕ → Type 0 = λ q. GoesOn (SendsEnd slot) q slot old new in
+    let R : ℕ → Type 0 = λ q. (new.port q).taken slot ≡ Some t in
+    (only_gone IsPage (λ o places page. ap is_queued page.0) 0 slot did old new (λ e. subst Q here (went e)) same (has_only old slot has)).taken t (subst R here is)
 
 -- ---- which steps move a sector
 
 abbrev pub IsIdentify : Operation → List ℕ → Type 0
 IsIdentify operation places = operation ≡ Identify
+
+-- a command that names no sectors
+abbrev IsUnranged : Operation → List ℕ → Type 0
+IsUnranged operation places = is_ranged operation ≡ false
 
 -- a Finish of it moves none
 pub page_moves_none : (d : Device) (slot sectors left : ℕ) → HasIdentify d slot → (may : MayFinish d 0 slot sectors left) →
@@ -150,10 +148,9 @@ finish_moves p s did old new sectors left here same some went stayed ready moves
     by : (b : Bool) → is_ranged may.t.meaning.operation ≡ b → MovesSector (asked.Finish p s) old
     by true e = (here, moves.0, left - 1, may, e)
     by false e =
-        let P : ℕ → Type 0 = λ q. IsOnly IsIdentify old q s.0 in
-        let only = subst P here (only_of IsIdentify old p.0 s.0 (old.port 0).disk.size (left - 1 + 1) may (unranged may.t.meaning.operation may.takes e)) in
-        let page = only_taken IsIdentify (λ o places is. is) p.0 s.0 did old new here went stayed only moves.1 moves.2.works.taken in
-        true-false moves.3 (ap is_ranged page)
+        let only = only_of IsUnranged old p.0 s.0 (old.port 0).disk.size (left - 1 + 1) may e in
+        let gone = only_gone IsUnranged (λ o places none. unranged_plain o none) p.0 s.0 did old new went stayed only in
+        true-false moves.3 (gone.taken moves.1 moves.2.works.taken)
 
 -- what the hardware moves next, where it is on the disk, is a sector only where a Move moves one
 pub next_moves : (h : Hardware) (o : Outside) (d : Device) (p : Port) (s : Slot) (next : NextMove) (r : TakenCommand) → p.0 ≡ 0 → s.0 < 32 →
@@ -166,15 +163,15 @@ next_moves h o d p s next r here small same is on ranged = (
   ap (λ (k : Transfer). is_ranged (operation_of k)) (sym is.transfer_is) ∙ ranged,
 )
 
--- and else a page
-pub next_page : (h : Hardware) (o : Outside) (d : Device) (p : Port) (s : Slot) (next : NextMove) (r : TakenCommand) → p.0 ≡ 0 → s.0 < 32 →
+-- and else it is none
+pub next_unranged : (h : Hardware) (o : Outside) (d : Device) (p : Port) (s : Slot) (next : NextMove) (r : TakenCommand) → p.0 ≡ 0 → s.0 < 32 →
     device_of h o ≡ d → IsNext h p.0 s.0 next r → (is_ranged (operation_of next.transfer) ≡ true → next.sector < (o.media 0).disk.size) →
-    (MovesSector (asked.Move p s) d → ⊥) → next.transfer ≡ transfer.Identify
-next_page h o d p s next r here small same is on none = by (is_ranged (operation_of next.transfer)) refl
+    (MovesSector (asked.Move p s) d → ⊥) → is_ranged (operation_of next.transfer) ≡ false
+next_unranged h o d p s next r here small same is on none = by (is_ranged (operation_of next.transfer)) refl
   where
-    by : (b : Bool) → is_ranged (operation_of next.transfer) ≡ b → next.transfer ≡ transfer.Identify
+    by : (b : Bool) → is_ranged (operation_of next.transfer) ≡ b → is_ranged (operation_of next.transfer) ≡ false
     by true e = absurd (none (next_moves h o d p s next r here small same is on e))
-    by false e = is_identify next.transfer (unranged (operation_of next.transfer) (is_taken next.transfer) e)
+    by false e = e
 
 -- the hardware's next move is of it
 pub next_identifies : (h : Hardware) (o : Outside) (d : Device) (port slot : ℕ) (next : NextMove) (r : TakenCommand) (t : Taken) → device_of h o ≡ d →
@@ -224,12 +221,16 @@ fetched_taken : (slot : ℕ) (old new : Device) (f : DoesFetch 0 slot old new) �
 fetched_taken slot old new f =
     ap (λ (g : ℕ → Option Taken). g slot) (fetched_is slot old new f) ∙ changed_same (old.port 0).taken slot (Some (begun f.meaning f.places))
 
+-- it is one that the model takes
+identify_takes : (d : Device) (slot : ℕ) (may : MayIdentify d slot) → Takes may.meaning.operation
+identify_takes d slot may = subst Takes (sym may.identifies) tt
+
 -- once it was taken, or was already, no other may be
 pub fetched_bars : (slot k : ℕ) (did : Bool) (old new : Device) → (did ≡ true → DoesFetch 0 slot old new) →
     (did ≡ false → (m : Meaning) (places : List ℕ) → Takes m.operation → Can (Fetch 0 slot m places) old → ⊥) → (did ≡ false → new ≡ old) →
     MayIdentify old slot ⊎ HasIdentify old slot → MayIdentify new k → ⊥
 fetched_bars slot k true old new went never same there = let f = went refl in taken_bars new slot k (begun f.meaning f.places) (fetched_taken slot old new f)
-fetched_bars slot k false old new went never same (inl may) = absurd (never refl may.meaning may.places (inr (inr (inl may.identifies))) may.can)
+fetched_bars slot k false old new went never same (inl may) = absurd (never refl may.meaning may.places (identify_takes old slot may) may.can)
 fetched_bars slot k false old new went never same (inr has) = by has.ready.begins
   where
     t : Taken
@@ -284,7 +285,7 @@ pub fetched_has : (slot k : ℕ) (did : Bool) (old new : Device) → (did ≡ tr
     (did ≡ false → (m : Meaning) (places : List ℕ) → Takes m.operation → Can (Fetch 0 slot m places) old → ⊥) →
     MayIdentify old slot → HasIdentify new k → HasIdentify old slot
 fetched_has slot k true old new went never may has = taken_has slot k old new (went refl) has
-fetched_has slot k false old new went never may has = absurd (never refl may.meaning may.places (inr (inr (inl may.identifies))) may.can)
+fetched_has slot k false old new went never may has = absurd (never refl may.meaning may.places (identify_takes old slot may) may.can)
 
 -- one that can be done to its end still can be once it is taken
 pub fetched_left : (slot : ℕ) (did : Bool) (old new : Device) (has : HasIdentify old slot) → (did ≡ true → DoesFetch 0 slot old new) →
@@ -359,7 +360,10 @@ one_elsewhere slot old new (inl f) k ne =
 one_elsewhere slot old new (inr (inl m)) k ne =
     let p : PortState = with_move (old.port 0) slot m.t m.bytes in
     weight_with old new p slot k (ap (λ (d : Device). d.port 0) m.effect ∙ changed_same old.port 0 p) refl (changed_other (old.port 0).taken slot _ k ne)
-one_elsewhere slot old new (inr (inr e)) k ne =
+one_elsewhere slot old new (inr (inr (inr (most, c)))) k ne =
+    let p : PortState = with_clear (old.port 0) slot c.t c.first c.count in
+    weight_with old new p slot k (ap (λ (d : Device). d.port 0) c.effect ∙ changed_same old.port 0 p) refl (changed_other (old.port 0).taken slot _ k ne)
+one_elsewhere slot old new (inr (inr (inl e))) k ne =
     let p : PortState = with_done (old.port 0) slot e.done.flag e.done.t.meaning.operation in
     weight_with old new p slot k
     (ap (λ (d : Device). d.port 0) (end_rest 0 slot e.done.flag e.done.t.meaning.operation e.mid new e.posts)

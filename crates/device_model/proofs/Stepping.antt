@@ -86,6 +86,7 @@ plugged_in h o new tape disk number name some is more =
 
 is_cause : (k : Transfer) → (cause_of k ≡ 0) ⊎ (cause_of k ≡ 1) ⊎ (cause_of k ≡ 3)
 is_cause transfer.Identify = inr (inl refl)
+is_cause transfer.Flush = inl refl
 is_cause transfer.Read = inl refl
 is_cause transfer.Write = inl refl
 is_cause transfer.ReadQueued = inr (inr refl)
@@ -184,3 +185,4 @@ may_move h o port slot next t bytes is sized small gives takes =
     by transfer.ReadQueued e = given (ap (λ (k : Transfer). is_ranged (operation_of k)) e) (ap (λ (k : Transfer). reads_memory (operation_of k)) e)
     by transfer.WriteQueued e = taken (ap (λ (k : Transfer). is_ranged (operation_of k)) e) (ap (λ (k : Transfer). reads_memory (operation_of k)) e)
     by transfer.Identify e = tt
+    by transfer.Flush e = tt

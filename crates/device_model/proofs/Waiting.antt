@@ -31,6 +31,7 @@ still_out : (s : DeviceStep) (d : Device) (w v : Which) → w ≢ v → (PutsIn 
 still_out (asked.Plug p number) d w v out never may = λ e. never (named_by w number.0 may.1 e)
 still_out (asked.Fetch p s) d w v out never may = out
 still_out (asked.Move p s) d w v out never may = out
+still_out (asked.Clear p s n) d w v out never may = out
 still_out (asked.Done p s) d w v out never may = out
 still_out (asked.Finish p s) d w v out never may = out
 still_out (asked.Lie p page offset bits) d w v out never may = out
@@ -44,7 +45,8 @@ still_empty : (s : DeviceStep) (old new : Device) (w v : Which) → w ≡ v → 
     AskedOf (Sends s) s old new → w ≡ which_after s v → (new.port 0).present ≡ false
 still_empty (asked.Fetch p s) old new w v is empty never may did same = one_keeps_present p.0 s.0 old new (inl did) ∙ empty
 still_empty (asked.Move p s) old new w v is empty never may did same = one_keeps_present p.0 s.0 old new (inr (inl did)) ∙ empty
-still_empty (asked.Done p s) old new w v is empty never may did same = one_keeps_present p.0 s.0 old new (inr (inr did)) ∙ empty
+still_empty (asked.Clear p s n) old new w v is empty never may did same = one_keeps_present p.0 s.0 old new (inr (inr (inr (n, did)))) ∙ empty
+still_empty (asked.Done p s) old new w v is empty never may did same = one_keeps_present p.0 s.0 old new (inr (inr (inl did))) ∙ empty
 still_empty (asked.Finish p s) old new w v is empty never may did same = some_keep_present (suc did.0) p.0 s.0 old new did.1 ∙ empty
 still_empty (asked.Lie p page offset bits) old new w v is empty never may did same = ap (λ (d : Device). (d.port 0).present) did ∙ empty
 still_empty (asked.Truth p) old new w v is empty never may did same = ap (λ (d : Device). (d.port 0).present) did ∙ empty
@@ -97,6 +99,7 @@ module _ {S : Type 0} (size : S → ℕ) (told : S → Option (ℕ → List ℕ)
       by (inl works) = there works.working.present
       by (inr begins) = there begins.0.working.present
   none_moves (asked.Fetch p s) m empty moves = moves
+  none_moves (asked.Clear p s n) m empty moves = moves
   none_moves (asked.Done p s) m empty moves = moves
   none_moves (asked.Lie p page offset bits) m empty moves = moves
   none_moves (asked.Truth p) m empty moves = moves
@@ -111,6 +114,7 @@ module _ {S : Type 0} (size : S → ℕ) (told : S → Option (ℕ → List ℕ)
   none_stops (asked.Move p s) was now old new empty same f = none_has old p.0 s.0 f.t empty (subst (λ (d : Device). HasMove d p.0 s.0 f.t) same f.move)
   none_stops (asked.Finish p s) was now old new empty same f = none_has old p.0 s.0 f.t empty (subst (λ (d : Device). HasMove d p.0 s.0 f.t) same f.move)
   none_stops (asked.Fetch p s) was now old new empty same f = f
+  none_stops (asked.Clear p s n) was now old new empty same f = f
   none_stops (asked.Done p s) was now old new empty same f = f
   none_stops (asked.Lie p page offset bits) was now old new empty same f = f
   none_stops (asked.Truth p) was now old new empty same f = f

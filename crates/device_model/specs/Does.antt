@@ -37,6 +37,7 @@ abbrev pub Possible : DeviceStep → Device → Type 0
 Possible (asked.Fetch p s) d =
     (p.0 < 4) × (s.0 < 32) × (meaning : Meaning) × (places : List ℕ) × Takes meaning.operation × Can (Fetch p.0 s.0 meaning places) d
 Possible (asked.Move p s) d = (s.0 < 32) × (t : Taken) × HasMove d p.0 s.0 t
+Possible (asked.Clear p s n) d = ⊥
 Possible (asked.Done p s) d = (p.0 < 4) × (s.0 < 32) × (flag : ℕ) × (t : Taken) × Can (Done p.0 s.0 flag t) d
 Possible (asked.Finish p s) d = (p.0 ≡ 0) × (s.0 < 32) × (left : ℕ) × MayFinish d p.0 s.0 (d.port 0).disk.size left
 Possible (asked.Lie p page offset bits) d = offset < 512

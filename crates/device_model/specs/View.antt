@@ -1,5 +1,5 @@
 -- The state that a model stands for.
-use Rattle.std.specs.Prelude.{ℕ, false, ◌≡◌, ◌%◌, ◌⊎◌, List, [], Option, None, option_map, unwrap_or, slice_index_or, if◌then◌else◌}
+use Rattle.std.specs.Prelude.{ℕ, false, ◌%◌, List, [], Option, None, option_map, unwrap_or, slice_index_or, if◌then◌else◌}
 use Rattle.adapter.specs.Device.{Disk, Taken, Bases, Notes, PortState}
 use Rattle.adapter.specs.Device.Halt.{NotHalted}
 use Rattle.adapter.specs.Says.{pieces}
@@ -7,7 +7,7 @@ use Rattle.adapter.specs.Access.{unacknowledged}
 use Rattle.adapter.specs.Steps.{next_sector, disk_after}
 use Rattle.hba_regs.specs.Bits.{bit}
 use Rattle.adapter.specs.declared.command.Operation.{Operation}
-use Rattle.adapter.specs.declared.command.Operation.TheVariants.{Identify, Read, ReadQueued, Write, WriteQueued}
+use Rattle.adapter.specs.declared.command.Operation.TheVariants.{Identify, Read, ReadQueued, Write, WriteQueued, Flush, Trim, ReadLog}
 use Rattle.device_model.specs.Bits.{bits_of}
 use Rattle.device_model.specs.declared.port.Addresses.{Addresses}
 use Rattle.device_model.specs.declared.port.Readings.{Readings}
@@ -45,10 +45,11 @@ notes_of r =
       acknowledged = r.acknowledged;
     }
 
--- the model takes READ DMA EXT, WRITE DMA EXT, IDENTIFY DEVICE, READ FPDMA QUEUED and WRITE FPDMA QUEUED
+-- the model takes each command but DATA SET MANAGEMENT and READ LOG EXT
 abbrev pub Takes : Operation → Type 0
-Takes operation =
-    (operation ≡ Read) ⊎ (operation ≡ Write) ⊎ (operation ≡ Identify) ⊎ (operation ≡ ReadQueued) ⊎ (operation ≡ WriteQueued)
+Takes Trim = ⊥
+Takes ReadLog = ⊥
+Takes _ = Unit {0}
 
 abbrev pub operation_of : Transfer → Operation
 operation_of transfer.Read = Read
@@ -56,6 +57,7 @@ operation_of transfer.Write = Write
 operation_of transfer.ReadQueued = ReadQueued
 operation_of transfer.WriteQueued = WriteQueued
 operation_of transfer.Identify = Identify
+operation_of transfer.Flush = Flush
 
 -- the cause in PxIS that its end sets: PSS where its data go by PIO, SDBS where it was queued, and else DHRS (AHCI 1.3.1, 3.3.5)
 abbrev pub cause_of : Transfer → ℕ

@@ -26,6 +26,8 @@ const WRITE_FPDMA_QUEUED: u8 = 0x61;
 
 const IDENTIFY_DEVICE: u8 = 0xec;
 
+const FLUSH_CACHE_EXT: u8 = 0xea;
+
 /// What a command header says: how many PRDs there are, and where the command table is.
 #[derive(Clone, Copy, Debug)]
 struct Header {
@@ -168,12 +170,17 @@ fn decode_queued(bytes: &[u8], code: u8, tag: u8) -> Option<Sectors>
     })
 }
 
-/// Whether the bytes are the FIS of IDENTIFY DEVICE, which names no sectors.
-fn is_identify(bytes: &[u8]) -> bool
+/// The sectors that the bytes name, none, if they are the FIS of a command with this code alone.
+fn decode_bare(bytes: &[u8], code: u8) -> Option<Sectors>
     requires { length bytes.now ≡ 20 }
-    ensures { IsTrue result ↔ SpellsCommand bytes.now (with_fields 0xec 0 0 0 0x00) }
+    ensures found { IfSome result (λ s. SpellsCommand bytes.now (with_fields code 0 0 0 0x00) × (s.first ≡ 0) × (s.count ≡ 0)) }
+    ensures only { (s : Sectors) → s.first ≡ 0 → s.count ≡ 0 → SpellsCommand bytes.now (with_fields code 0 0 0 0x00) → result ≡ Some s }
 {
-    bytes[0] == 0x27 && bytes[1] == 0x80 && bytes[2] == IDENTIFY_DEVICE && are_zero(bytes, 3, 20)
+    if bytes[0] == 0x27 && bytes[1] == 0x80 && bytes[2] == code && are_zero(bytes, 3, 20) {
+        Some(Sectors { first: 0, count: 0 })
+    } else {
+        None
+    }
 }
 
 /// The sectors that the bytes name, if they are the FIS of such a command in this slot; none where it names none.
@@ -190,13 +197,8 @@ fn decode_sectors(bytes: &[u8], slot: u8, transfer: Transfer) -> Option<Sectors>
         Transfer::Write => decode_range(bytes, WRITE_DMA_EXT),
         Transfer::ReadQueued => decode_queued(bytes, READ_FPDMA_QUEUED, slot),
         Transfer::WriteQueued => decode_queued(bytes, WRITE_FPDMA_QUEUED, slot),
-        Transfer::Identify => {
-            if is_identify(bytes) {
-                Some(Sectors { first: 0, count: 0 })
-            } else {
-                None
-            }
-        }
+        Transfer::Identify => decode_bare(bytes, IDENTIFY_DEVICE),
+        Transfer::Flush => decode_bare(bytes, FLUSH_CACHE_EXT),
     }
 }
 
@@ -376,6 +378,7 @@ fn transfer_coded(code: u8) -> Option<Transfer>
         READ_FPDMA_QUEUED => Some(Transfer::ReadQueued),
         WRITE_FPDMA_QUEUED => Some(Transfer::WriteQueued),
         IDENTIFY_DEVICE => Some(Transfer::Identify),
+        FLUSH_CACHE_EXT => Some(Transfer::Flush),
         _ => None,
     }
 }

@@ -378,6 +378,7 @@ impl<S: SectorStore> Model<S> {
         match *s {
             DeviceStep::Fetch(port, slot) => self.fetch(port, slot),
             DeviceStep::Move(port, slot) => slot.0 < 32 && self.move_piece(port, slot),
+            DeviceStep::Clear(..) => false,
             DeviceStep::Done(port, slot) => self.done(port, slot),
             DeviceStep::Finish(port, slot) => slot.0 < 32 && self.finish(port, slot),
             DeviceStep::Lie(port, page, offset, bits) => self.lie(port, page, offset, bits),
@@ -442,7 +443,7 @@ fn exchange<S: SectorStore>(
     ensures sector { result ≡ true → IsSector bytes.new }
     ensures gives { result ≡ true → is_ranged (operation_of next.transfer) ≡ true → reads_memory (operation_of next.transfer) ≡ false → IfSome (S.told disk.old) (λ told. bytes.new ≡ told next.sector) }
     ensures takes { result ≡ true → reads_memory (operation_of next.transfer) ≡ true → bytes.new ≡ bytes_at (bytes_of hardware.now.memory.items) next.address 512 }
-    ensures same { next.transfer ≡ Transfer.Identify → disk.new ≡ disk.old }
+    ensures same { is_ranged (operation_of next.transfer) ≡ false → disk.new ≡ disk.old }
     ensures page { result ≡ true → next.transfer ≡ Transfer.Identify → IsItsPage which (S.size disk.old) says.now bytes.new }
     ensures disk { result ≡ true → disk_over which (S.size disk.new) (S.told disk.new)
         ≡ disk_after (operation_of next.transfer) (disk_over which (S.size disk.old) (S.told disk.old)) next.sector bytes.new }
@@ -461,6 +462,11 @@ fn exchange<S: SectorStore>(
         Transfer::Identify => {
             *bytes = which.page(disk.sectors(), says.abilities);
             turn(bytes, &says.lies);
+            true
+        }
+        // It has no pieces; what one brought would be nothing.
+        Transfer::Flush => {
+            *bytes = [0; 512];
             true
         }
     }

@@ -39,7 +39,7 @@ pub struct Readings {
     pub acknowledged: bool,
 }
 
-/// The commands that the model takes: sectors that go between disk and memory, and the page of IDENTIFY DEVICE.
+/// The commands that the model takes: sectors that go between disk and memory, the page of IDENTIFY DEVICE, and one that moves nothing.
 #[derive(Clone, Copy, Debug)]
 pub enum Transfer {
     /// READ DMA EXT.
@@ -52,6 +52,8 @@ pub enum Transfer {
     WriteQueued,
     /// IDENTIFY DEVICE.
     Identify,
+    /// FLUSH CACHE EXT.
+    Flush,
 }
 
 /// The bits of PxIS that the end of a command sets (AHCI 1.3.1, 3.3.5): DHRS for a Register FIS, PSS for a PIO Setup FIS, SDBS for a Set Device Bits
@@ -73,6 +75,7 @@ impl Transfer {
             Transfer::ReadQueued => Operation::ReadQueued,
             Transfer::WriteQueued => Operation::WriteQueued,
             Transfer::Identify => Operation::Identify,
+            Transfer::Flush => Operation::Flush,
         }
     }
 
@@ -82,7 +85,7 @@ impl Transfer {
     {
         match self {
             Transfer::Write | Transfer::WriteQueued => true,
-            Transfer::Read | Transfer::ReadQueued | Transfer::Identify => false,
+            Transfer::Read | Transfer::ReadQueued | Transfer::Identify | Transfer::Flush => false,
         }
     }
 
@@ -92,7 +95,7 @@ impl Transfer {
     {
         match self {
             Transfer::ReadQueued | Transfer::WriteQueued => true,
-            Transfer::Read | Transfer::Write | Transfer::Identify => false,
+            Transfer::Read | Transfer::Write | Transfer::Identify | Transfer::Flush => false,
         }
     }
 
@@ -101,6 +104,7 @@ impl Transfer {
         ensures { result ≡ pieces_moved (operation_of self) count }
     {
         match self {
+            Transfer::Flush => 0,
             Transfer::Identify => 1,
             _ => count,
         }
@@ -113,7 +117,7 @@ impl Transfer {
         match self {
             Transfer::Identify => PSS,
             Transfer::ReadQueued | Transfer::WriteQueued => SDBS,
-            Transfer::Read | Transfer::Write => DHRS,
+            Transfer::Read | Transfer::Write | Transfer::Flush => DHRS,
         }
     }
 
@@ -122,7 +126,9 @@ impl Transfer {
         ensures { result ≡ direction_of (operation_of self) }
     {
         match self {
-            Transfer::Read | Transfer::ReadQueued | Transfer::Identify => Direction::ToMemory,
+            Transfer::Read | Transfer::ReadQueued | Transfer::Identify | Transfer::Flush => {
+                Direction::ToMemory
+            }
             Transfer::Write | Transfer::WriteQueued => Direction::FromMemory,
         }
     }

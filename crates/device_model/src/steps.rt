@@ -55,7 +55,7 @@ impl NextMove {
         ensures { IsTrue result ↔ (is_ranged (operation_of self.transfer) ≡ true → self.sector < sectors) }
     {
         match self.transfer {
-            Transfer::Identify => true,
+            Transfer::Identify | Transfer::Flush => true,
             _ => self.sector < sectors,
         }
     }
@@ -104,7 +104,7 @@ fn is_on_disk(command: &TakenCommand, pieces: u32, sectors: u64) -> bool
     ensures { IsTrue result ↔ (is_ranged (operation_of command.now.transfer) ≡ true → command.now.first + pieces ≤ sectors) }
 {
     match command.transfer {
-        Transfer::Identify => true,
+        Transfer::Identify | Transfer::Flush => true,
         _ => {
             let end = command.first.checked_add(u64::from(pieces));
             end.is_some_and(|end| end <= sectors)
@@ -144,7 +144,7 @@ fn sector_of(command: &TakenCommand) -> Option<u64>
     ensures none { result ≡ None → next_sector (taken_of command.now) < 2 ^ 64 → ⊥ }
 {
     match command.transfer {
-        Transfer::Identify => Some(0),
+        Transfer::Identify | Transfer::Flush => Some(0),
         _ => command.first.checked_add(u64::from(command.moved)),
     }
 }

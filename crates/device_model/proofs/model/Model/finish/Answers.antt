@@ -134,7 +134,7 @@ returns-then-done-clause-answers g c =
       may_finish (g.S.SectorStore.size first.disk) _ c.args.port.0 c.args.slot.0 c.sectors-sectors.result c.in-Some.field-0.left c.if-port-ne0.false c.requires sectors
           (c.in-Some.ensures.begun.ready start),
       record {
-        asked = goes_next (SendsEnd c.args.slot.0) c.args.port.0 c.args.slot.0 _ _ _ c.loop-piece.did is.did is.refused (inr (inr done));
+        asked = goes_next (SendsEnd c.args.slot.0) c.args.port.0 c.args.slot.0 _ _ _ c.loop-piece.did is.did is.refused (inr (inr (inl done)));
         ends = inr (
           is.fine,
           λ _.
