@@ -1,3 +1,5 @@
+pub mod Runs
+pub mod Cleared
 pub mod Transfers
 pub mod BitLemmas
 pub mod Bytes
@@ -8,6 +10,7 @@ pub mod EachPort
 pub mod GoingOn
 pub mod Fetches
 pub mod SlotLemmas
+pub mod Blocks
 pub mod Stepping
 pub mod NewModel
 pub mod Finishing

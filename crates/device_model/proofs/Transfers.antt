@@ -1,5 +1,5 @@
--- What the commands that the model takes have in common: they are no trims.
-use Rattle.std.proofs.Common.{ℕ, false, ◌≡◌, ◌&&◌, List, Option, None, Some, refl, ap}
+-- What the commands that the model takes have in common.
+use Rattle.std.proofs.Common.{ℕ, Bool, true, false, ◌≡◌, ◌&&◌, List, Option, None, Some, refl, ap}
 use Rattle.std.specs.Prelude.{is_some, option_map}
 use Rattle.sector_store.specs.Stores.{replaced}
 use Rattle.adapter.specs.Commands.{is_queued, is_ranged}
@@ -13,21 +13,25 @@ use Rattle.device_model.specs.View.{Takes, operation_of}
 use Rattle.device_model.specs.declared.port.Transfer.{Transfer}
 use Rattle.device_model.specs.declared.port.Transfer.TheVariants as transfer
 
-pub no_block : (k : Transfer) (bytes old : List ℕ) → block_after (operation_of k) bytes old ≡ old
-no_block transfer.Read bytes old = refl
-no_block transfer.Write bytes old = refl
-no_block transfer.ReadQueued bytes old = refl
-no_block transfer.WriteQueued bytes old = refl
-no_block transfer.Identify bytes old = refl
-no_block transfer.Flush bytes old = refl
+-- no command but a trim keeps what it moves
+pub no_block : (k : Transfer) (bytes old : List ℕ) → (k ≡ transfer.Trim → ⊥) → block_after (operation_of k) bytes old ≡ old
+no_block transfer.Read bytes old other = refl
+no_block transfer.Write bytes old other = refl
+no_block transfer.ReadQueued bytes old other = refl
+no_block transfer.WriteQueued bytes old other = refl
+no_block transfer.Identify bytes old other = refl
+no_block transfer.Flush bytes old other = refl
+no_block transfer.Trim bytes old other = absurd (other refl)
 
-pub no_trim : (k : Transfer) → operation_of k ≡ Trim → ⊥
-no_trim transfer.Read e = cc
-no_trim transfer.Write e = cc
-no_trim transfer.ReadQueued e = cc
-no_trim transfer.WriteQueued e = cc
-no_trim transfer.Identify e = cc
-no_trim transfer.Flush e = cc
+-- the command whose operation is a trim
+pub is_trim : (k : Transfer) → operation_of k ≡ Trim → k ≡ transfer.Trim
+is_trim transfer.Read e = cc
+is_trim transfer.Write e = cc
+is_trim transfer.ReadQueued e = cc
+is_trim transfer.WriteQueued e = cc
+is_trim transfer.Identify e = cc
+is_trim transfer.Flush e = cc
+is_trim transfer.Trim e = refl
 
 pub is_taken : (k : Transfer) → Takes (operation_of k)
 is_taken transfer.Read = tt
@@ -36,6 +40,7 @@ is_taken transfer.ReadQueued = tt
 is_taken transfer.WriteQueued = tt
 is_taken transfer.Identify = tt
 is_taken transfer.Flush = tt
+is_taken transfer.Trim = tt
 
 pub transfer_of : (o : Operation) → Takes o → (k : Transfer) × (o ≡ operation_of k)
 transfer_of Read takes = (transfer.Read, refl)
@@ -44,7 +49,7 @@ transfer_of ReadQueued takes = (transfer.ReadQueued, refl)
 transfer_of WriteQueued takes = (transfer.WriteQueued, refl)
 transfer_of Identify takes = (transfer.Identify, refl)
 transfer_of Flush takes = (transfer.Flush, refl)
-transfer_of Trim takes = absurd takes
+transfer_of Trim takes = (transfer.Trim, refl)
 transfer_of ReadLog takes = absurd takes
 
 -- a command that names no sectors is plain
@@ -77,6 +82,7 @@ still_tells transfer.Read disk sector bytes = refl
 still_tells transfer.ReadQueued disk sector bytes = refl
 still_tells transfer.Identify disk sector bytes = refl
 still_tells transfer.Flush disk sector bytes = refl
+still_tells transfer.Trim disk sector bytes = refl
 still_tells transfer.Write disk sector bytes = mapped_tells sector bytes disk.sectors
 still_tells transfer.WriteQueued disk sector bytes = mapped_tells sector bytes disk.sectors
 
@@ -97,3 +103,15 @@ is_identify transfer.ReadQueued e = cc
 is_identify transfer.WriteQueued e = cc
 is_identify transfer.Identify e = refl
 is_identify transfer.Flush e = cc
+is_identify transfer.Trim e = cc
+
+-- of two that are queued neither is a trim
+pub both_queued : (k l : Transfer) → is_queued (operation_of k) && is_queued (operation_of l) ≡ true → (k ≡ transfer.Trim → ⊥) × (l ≡ transfer.Trim → ⊥)
+both_queued k l both = (λ trim. true-false both (first trim), λ trim. true-false both (second (is_queued (operation_of k)) trim))
+  where
+    first : k ≡ transfer.Trim → is_queued (operation_of k) && is_queued (operation_of l) ≡ false
+    first trim = ap (λ (x : Transfer). is_queued (operation_of x) && is_queued (operation_of l)) trim
+
+    second : (b : Bool) → l ≡ transfer.Trim → b && is_queued (operation_of l) ≡ false
+    second true trim = ap (λ (x : Transfer). is_queued (operation_of x)) trim
+    second false trim = refl

@@ -20,6 +20,7 @@ use crate::fetch::{count_pieces, piece_at, read_as, read_command, read_into};
 use crate::hardware::{Hardware, put};
 use crate::port::{TakenCommand, Transfer};
 use crate::slots::{has_untaken, working_on};
+use crate::trims::{clears_of, is_finished};
 use adapter::{Done, Entry, Move, Prd};
 use ata_types::{Port, Slot};
 use std::snapshot::Snapshot;
@@ -37,6 +38,8 @@ pub struct NextMove {
 pub struct Begun {
     /// How many moves are left.
     pub left: u32,
+    /// How many clears are left then.
+    pub clears: u32,
     /// Whether it was taken just now.
     pub was_taken: bool,
 }
@@ -54,15 +57,12 @@ impl NextMove {
     pub fn is_on(self, sectors: u64) -> bool
         ensures { IsTrue result ↔ (is_ranged (operation_of self.transfer) ≡ true → self.sector < sectors) }
     {
-        match self.transfer {
-            Transfer::Identify | Transfer::Flush => true,
-            _ => self.sector < sectors,
-        }
+        !self.transfer.is_ranged() || self.sector < sectors
     }
 }
 
 /// Adds an entry to the tape; `false` says that there was no memory, which is told from then on.
-fn record(tape: &mut Vec<Entry>, starved: &mut bool, entry: Entry) -> bool
+pub fn record(tape: &mut Vec<Entry>, starved: &mut bool, entry: Entry) -> bool
     ensures added { result ≡ true → tape.new.items ≡ tape.old.items ++ entry ∷ [] }
     ensures kept { result ≡ false → tape.new.items ≡ tape.old.items }
     ensures room { vec_len tape.old < vec_capacity tape.old → result ≡ true }
@@ -103,13 +103,11 @@ fn are_inside(prds: &[Prd], size: usize) -> bool
 fn is_on_disk(command: &TakenCommand, pieces: u32, sectors: u64) -> bool
     ensures { IsTrue result ↔ (is_ranged (operation_of command.now.transfer) ≡ true → command.now.first + pieces ≤ sectors) }
 {
-    match command.transfer {
-        Transfer::Identify | Transfer::Flush => true,
-        _ => {
-            let end = command.first.checked_add(u64::from(pieces));
-            end.is_some_and(|end| end <= sectors)
-        }
+    if !command.transfer.is_ranged() {
+        return true;
     }
+    let end = command.first.checked_add(u64::from(pieces));
+    end.is_some_and(|end| end <= sectors)
 }
 
 /// How many moves are left of a command, if each of its pieces has a place in a memory of this size, and each sector that
@@ -126,7 +124,7 @@ fn left_of(command: &TakenCommand, size: usize, sectors: u64) -> Option<u32>
     pieces.checked_sub(command.moved)
 }
 
-/// Whether a command that names no sectors can be done to its end: whether each of its pieces has a place in a memory of this size, and
+/// Whether an IDENTIFY DEVICE can be done to its end: whether each of its pieces has a place in a memory of this size, and
 /// an address of 32 bits.
 fn can_end(command: &TakenCommand, size: usize) -> bool
     ensures ends { result ≡ true → (left : ℕ) × IsCovered (taken_of command.now) size 0 left × AreInside (2 ^ 32) (pieces command.now.prds) }
@@ -143,10 +141,10 @@ fn sector_of(command: &TakenCommand) -> Option<u64>
     ensures found { IfSome result (λ s. s ≡ next_sector (taken_of command.now)) }
     ensures none { result ≡ None → next_sector (taken_of command.now) < 2 ^ 64 → ⊥ }
 {
-    match command.transfer {
-        Transfer::Identify | Transfer::Flush => Some(0),
-        _ => command.first.checked_add(u64::from(command.moved)),
+    if !command.transfer.is_ranged() {
+        return Some(0);
     }
+    command.first.checked_add(u64::from(command.moved))
 }
 
 /// Puts the bytes of a move into memory, unless it takes them from there.
@@ -301,10 +299,10 @@ impl Hardware {
         });
         let _recorded = record(&mut self.tape, &mut self.starved, entry);
         put_piece(&mut self.memory, next, bytes);
-        self.ports[usize::from(port)].advance(slot);
+        self.ports[usize::from(port)].advance(slot, next.transfer, bytes);
     }
 
-    /// Ends a slot's command, all of which was moved, and sends its FIS; `false` says that there is none, or that the tape found no memory.
+    /// Ends a slot's command, of which nothing is left to move or to clear, and sends its FIS; `false` says that there is none, or that the tape found no memory.
     pub fn done(&mut self, port: u8, slot: u8) -> bool
         requires port { port < 4 }
         requires slot { slot < 32 }
@@ -316,7 +314,8 @@ impl Hardware {
         let Some(command) = working_on(&self.ports, usize::from(port), slot) else {
             return false;
         };
-        if command.moved != count_pieces(command.prds.as_slice()) {
+        let block = self.ports[usize::from(port)].taken.block(slot);
+        if !is_finished(command, block) {
             return false;
         }
         let transfer = command.transfer;
@@ -334,14 +333,14 @@ impl Hardware {
         true
     }
 
-    /// Takes the command that the bytes of a slot say, which may be taken, where each of its moves is possible on a disk of so many sectors and the
+    /// Takes the command that the bytes of a slot say, which may be taken, where each of its moves and clears is possible on a disk of so many sectors and the
     /// tape finds memory for them and the end. Want of memory is told.
     #[inline(never)]
     fn begin_said(&mut self, port: u8, slot: u8, sectors: u64) -> Option<Begun>
         requires port { port < 4 }
         requires slot { slot < 32 }
         requires may { HasUntaken (slice_index_or self.old.ports port blank) slot }
-        ensures begun { IfSome result (λ b. IsBegun port slot sectors b.left b.was_taken self.old self.new) }
+        ensures begun { IfSome result (λ b. IsBegun port slot sectors b.left b.clears b.was_taken self.old self.new) }
         ensures left { result ≡ None → IsUnbegun port slot sectors self.old self.new }
     {
         let place = usize::from(port);
@@ -354,23 +353,29 @@ impl Hardware {
             return None;
         }
         let left = left_of(&command, self.memory.len(), sectors)?;
-        if self.tape.reserve(left as usize + 1).is_err() {
+        let clears = clears_of(&command, &[], &self.memory, sectors)?;
+        if self
+            .tape
+            .reserve(left as usize + clears as usize + 1)
+            .is_err()
+        {
             self.starved = true;
             return None;
         }
         self.ports[place].take(slot, command);
         Some(Begun {
             left,
+            clears,
             was_taken: true,
         })
     }
 
-    /// Begins to do a slot's command to its end, where each move that it has left is possible on a disk of so many sectors: the tape finds memory for them
+    /// Begins to do a slot's command to its end, where each move and each clear that it has left is possible on a disk of so many sectors: the tape finds memory for them
     /// and the end, and the command is taken, unless it is already. Want of memory is told.
     pub fn begin(&mut self, port: u8, slot: u8, sectors: u64) -> Option<Begun>
         requires port { port < 4 }
         requires slot { slot < 32 }
-        ensures begun { IfSome result (λ b. IsBegun port slot sectors b.left b.was_taken self.old self.new) }
+        ensures begun { IfSome result (λ b. IsBegun port slot sectors b.left b.clears b.was_taken self.old self.new) }
         ensures left { result ≡ None → IsUnbegun port slot sectors self.old self.new }
     {
         let place = usize::from(port);
@@ -379,12 +384,19 @@ impl Hardware {
         }
         let command = working_on(&self.ports, place, slot)?;
         let left = left_of(command, self.memory.len(), sectors)?;
-        if self.tape.reserve(left as usize + 1).is_err() {
+        let block = self.ports[place].taken.block(slot);
+        let clears = clears_of(command, block, &self.memory, sectors)?;
+        if self
+            .tape
+            .reserve(left as usize + clears as usize + 1)
+            .is_err()
+        {
             self.starved = true;
             return None;
         }
         Some(Begun {
             left,
+            clears,
             was_taken: false,
         })
     }

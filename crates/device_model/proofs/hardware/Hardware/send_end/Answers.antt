@@ -36,7 +36,11 @@ returns-in-Read c = record {
       (c.encode_d2h-fis.result, subst P (rw (at_port c.args.self.now.ports c.args.port c.index-self-port-in-Read.result small) at (c.end_registers.ensures (o.media c.args.port))) c.encode_d2h-fis.ensures, c.send-in-Read.ensures.sent o) in
       elim c.in-Read.is [
         | inl read ↦ rw read (refl, sent)
-        | inr more ↦ elim more [ inl write ↦ rw write (refl, sent) | inr flush ↦ rw flush (refl, sent) ]
+        | inr more ↦
+            elim more [
+              | inl write ↦ rw write (refl, sent)
+              | inr bare ↦ elim bare [ inl flush ↦ rw flush (refl, sent) | inr trim ↦ rw trim (refl, sent) ]
+            ]
       ];
   rest = c.send-in-Read.ensures.rest;
 }
