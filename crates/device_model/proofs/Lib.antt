@@ -1,5 +1,6 @@
 pub mod Runs
 pub mod Cleared
+pub mod Trimming
 pub mod Transfers
 pub mod BitLemmas
 pub mod Bytes

@@ -109,7 +109,7 @@ from_drop (suc n) i at xs =
     let next : suc (at + i) ≡ at + suc i = omega arith in
     ap₂ (λ (x y : ℕ). x + 256 * y) (sym (get_or-drop at xs i 0)) (ap (λ (j : ℕ). little_from j n xs) next ∙ from_drop n (suc i) at xs)
 
-drop_twice : (m n : ℕ) (xs : List ℕ) → drop n (drop m xs) ≡ drop (m + n) xs
+pub drop_twice : (m n : ℕ) (xs : List ℕ) → drop n (drop m xs) ≡ drop (m + n) xs
 drop_twice zero n xs = let same : n ≡ zero + n = omega arith in ap (λ (k : ℕ). drop k xs) same
 drop_twice (suc m) n [] = drop_all n [] (omega arith) ∙ sym (drop_all (suc m + n) [] (omega arith))
 drop_twice (suc m) n (x ∷ xs) = let same : suc (m + n) ≡ suc m + n = omega arith in drop_twice m n xs ∙ ap (λ (k : ℕ). drop k (x ∷ xs)) same

@@ -10,9 +10,11 @@ use Rattle.adapter.specs.declared.command.Operation.{Operation}
 use Rattle.adapter.specs.declared.command.Operation.TheVariants.{Identify}
 use Rattle.adapter.specs.declared.command.Prd.{Prd}
 use Rattle.device_model.specs.Trims.{WillClear}
-use Rattle.device_model.specs.View.{Takes}
+use Rattle.device_model.specs.Fetched.{bytes_of}
+use Rattle.device_model.specs.View.{Takes, operation_of, taken_of}
 use Rattle.device_model.specs.Whole.{Outside, device_of}
 use Rattle.device_model.specs.declared.hardware.Hardware.{Hardware}
+use Rattle.device_model.specs.declared.port.TakenCommand.{TakenCommand}
 
 -- the tape has memory for so many more entries
 abbrev pub HasRoom : Hardware → ℕ → Type 0
@@ -88,6 +90,11 @@ Identifies d slot (Some false) = MayIdentify d slot × (HasIdentify d slot → �
 Identifies d slot None = (MayIdentify d slot → ⊥) × (HasIdentify d slot → ⊥)
 
 -- ---- a command that is to be done to its end
+
+-- so many moves, and then so many clears, are left of this command, all of them possible with this memory, and on a disk of so many sectors
+abbrev pub IsRest : TakenCommand → List ℕ → (sectors left clears : ℕ) → Type 0
+IsRest t memory sectors left clears =
+    IsCovered (taken_of t) (length memory) sectors left × WillClear (operation_of t.transfer) (bytes_of memory) (taken_of t) sectors clears
 
 -- It is begun: so many moves and clears are left of it, each possible, and there is room for them and the end; it is taken now, or was.
 pub record IsBegun (port slot sectors left clears : ℕ) (was_taken : Bool) (old new : Hardware) : Type 0 where

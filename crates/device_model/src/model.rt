@@ -337,24 +337,17 @@ impl<S: SectorStore> Model<S> {
             return false;
         }
         let sectors = self.disk.sectors();
-        let Some(
-            Begun {
-                left,
-                clears,
-                was_taken,
-            },
-        ) = self.hardware.begin(port.0, slot.0, sectors)
-        else {
+        let Some(Begun { rest, was_taken }) = self.hardware.begin(port.0, slot.0, sectors) else {
             return false;
         };
         let mut did = was_taken;
-        for _piece in 0..left {
+        for _piece in 0..rest.left {
             if !self.move_piece(port, slot) {
                 return did;
             }
             did = true;
         }
-        for _run in 0..clears {
+        for _run in 0..rest.clears {
             let most = self.hardware.count_uncleared(port.0, slot.0);
             match self.clear_run(port, slot, most) {
                 Clearing::Left => return did,
