@@ -42,7 +42,7 @@ cleared false p slot = changed_same p.ci slot false
 -- ---- a command goes on
 
 -- a port goes on to work where none of what that rests on changed
-still_works : (p new : PortState) (o : Operation) → IsWorking p o → new.cr ≡ p.cr → new.present ≡ p.present → new.fresh ≡ p.fresh → new.halt ≡ p.halt →
+pub still_works : (p new : PortState) (o : Operation) → IsWorking p o → new.cr ≡ p.cr → new.present ≡ p.present → new.fresh ≡ p.fresh → new.halt ≡ p.halt →
     new.broken ≡ p.broken → IsWorking new o
 still_works p new o w cr present fresh halt broken = record {
   running = cr ∙ w.running;

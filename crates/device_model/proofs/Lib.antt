@@ -15,6 +15,7 @@ pub mod Blocks
 pub mod Stepping
 pub mod NewModel
 pub mod Finishing
+pub mod Clears
 pub mod Ready
 pub mod Queueing
 pub mod Telling

@@ -199,3 +199,15 @@ next_on size most count t more enough =
         let rest = by n xs (suc a) (ap (λ (l : List ℕ). drop 1 l) follow) in
         let at = rest.1 in
         (rest.0, omega (arith, at))
+
+-- so many at the most
+pub span_most : (size most : ℕ) (t : Taken) → span size most t ≤ most
+span_most size most t =
+    let long = run_long (take most (uncleared t)) in
+    let taken = by most (uncleared t) in
+    omega (arith, long, taken)
+  where
+    by : (n : ℕ) (xs : List ℕ) → length (take n xs) ≤ n
+    by zero xs = omega arith
+    by (suc n) [] = omega arith
+    by (suc n) (x ∷ xs) = let rest = by n xs in omega (arith, rest)

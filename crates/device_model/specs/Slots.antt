@@ -42,6 +42,7 @@ pub record IsNextRun (h : Hardware) (port slot most sectors : ℕ) (run : Run) (
   pub can : CanClear t most sectors
   pub first_is : run.first ≡ next_uncleared (taken_of t)
   pub count_is : run.count ≡ span sectors most (taken_of t)
+  pub fits : t.cleared + run.count < 2 ^ 32
 
 -- the next piece of this command goes to or from this address, and is this sector, if it is one
 pub record IsNext (h : Hardware) (port slot : ℕ) (next : NextMove) (t : TakenCommand) : Type 0 where

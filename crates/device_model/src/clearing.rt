@@ -46,6 +46,7 @@ pub fn count_sectors(block: &[u8]) -> u32
 pub fn next_run(block: &[u8], cleared: u32, most: u32) -> Run
     requires { length block.now ≤ 512 }
     ensures count { result.count ≡ run_of (take most (drop cleared (trim_sectors block.now))) }
+    ensures few { result.count ≤ most }
     ensures first { 1 ≤ result.count → result.first ≡ slice_index (drop cleared (trim_sectors block.now)) 0 }
 {
     let mut skip = cleared;

@@ -35,7 +35,8 @@ pub fn is_finished(command: &TakenCommand, block: &[u8]) -> bool
 fn uncleared_of(command: &TakenCommand, block: &[u8]) -> u32
     requires block { block.now ≡ brought command.now.block }
     requires few { length block.now ≤ 512 }
-    ensures { result ≡ length (uncleared (taken_of command.now)) }
+    ensures count { result ≡ length (uncleared (taken_of command.now)) }
+    ensures fits { 1 ≤ result → command.now.cleared + result < 2 ^ 32 }
 {
     count_sectors(block).saturating_sub(command.cleared)
 }
@@ -94,6 +95,7 @@ fn run_of_trim(command: &TakenCommand, block: &[u8], most: u32, sectors: u64) ->
     ensures can { IfSome result (λ run. CanClear command.now most sectors) }
     ensures first { IfSome result (λ run. run.first ≡ next_uncleared (taken_of command.now)) }
     ensures count { IfSome result (λ run. run.count ≡ span sectors most (taken_of command.now)) }
+    ensures fits { IfSome result (λ run. command.now.cleared + run.count < 2 ^ 32) }
     ensures none { result ≡ None → CanClear command.now most sectors → ⊥ }
 {
     if !command.transfer.is_trim() || command.moved != count_pieces(command.prds.as_slice()) {
