@@ -1,5 +1,5 @@
 -- The one block of a port stays that of its trim, as commands are taken, go on and end.
-use Rattle.std.proofs.Common.{ℕ, ◌+◌, ◌≡◌, ◌≢◌, ◌<◌, ◌⊎◌, inl, inr, List, Option, None, Some, length, replicate, refl, sym, ◌∙◌, ap, subst, zero, suc, get_or-set_same, get_or-set_other}
+use Rattle.std.proofs.Common.{ℕ, ◌+◌, ◌≡◌, ◌≢◌, ◌<◌, ◌⊎◌, inl, inr, List, Option, None, Some, length, refl, sym, ◌∙◌, ap, subst, get_or-set_same, get_or-set_other}
 use Rattle.std.specs.Prelude.{is_some, slice_index_or, slice_set}
 use Rattle.std.specs.declared.snapshot.Snapshot.{Snapshot}
 use Rattle.std.proofs.lemmas.Bool.Decides.{eqb_tells}
@@ -9,7 +9,7 @@ use Rattle.device_model.specs.Block.{HasBlock}
 use Rattle.device_model.specs.View.{held_in}
 use Rattle.device_model.specs.declared.port.TakenCommand.{TakenCommand}
 use Rattle.device_model.specs.declared.port.Transfer.TheVariants.{Trim}
-use Rattle.device_model.proofs.SlotLemmas.{none_filled, none_held}
+use Rattle.device_model.proofs.SlotLemmas.{none_filled}
 
 -- what stands at a place of a list in which one item was set
 at_set : (items : List (Option TakenCommand)) (slot : ℕ) (new : Option TakenCommand) (k : ℕ) (t : TakenCommand) → slot < length items →

@@ -1,8 +1,8 @@
 -- A clear that a model makes, or leaves.
-use Rattle.std.proofs.Common.{ℕ, ◌≡◌, ◌<◌, ◌≤◌, ◌+◌, ◌-◌, ◌⊎◌, List, [], ◌∷◌, Option, length, drop, take, Some, refl, sym, ◌∙◌, ap, subst, inl, inr, arith}
+use Rattle.std.proofs.Common.{ℕ, ◌≡◌, ◌<◌, ◌≤◌, ◌+◌, ◌⊎◌, List, [], ◌∷◌, Option, Some, refl, sym, ◌∙◌, ap, subst, inl, inr, arith}
 use Rattle.std.specs.Prelude.{map}
 use Rattle.adapter.specs.Device.{Disk, PortState, Taken, Device}
-use Rattle.adapter.specs.Steps.{IsWorking, MayClear, WorksOn, after, clear_entry, disk_cleared, with_clear}
+use Rattle.adapter.specs.Steps.{IsWorking, MayClear, after, clear_entry, disk_cleared, with_clear}
 use Rattle.adapter.specs.Steps.Step.{Clear}
 use Rattle.adapter.specs.Trim.{consecutive}
 use Rattle.adapter.specs.declared.access.DeviceStep.TheVariants as asked
@@ -15,7 +15,7 @@ use Rattle.device_model.specs.Disks.{disk_over}
 use Rattle.device_model.specs.Does.{Did, HasCleared, NoneFails, Possible, StoreCuts}
 use Rattle.device_model.specs.Modelled.{device_at, outside_at}
 use Rattle.device_model.specs.Slots.{CanClear, IsNextRun}
-use Rattle.device_model.specs.Trims.{HasClear, next_uncleared, span, uncleared}
+use Rattle.device_model.specs.Trims.{HasClear, next_uncleared, span}
 use Rattle.device_model.specs.View.{taken_of}
 use Rattle.device_model.specs.Whole.{Outside, device_of, outside_cleared, outside_of}
 use Rattle.device_model.specs.declared.clearing.Run.{Run}

@@ -1,5 +1,5 @@
 -- An IDENTIFY DEVICE that can be done to its end, as the model does it by itself.
-use Rattle.std.proofs.Common.{ℕ, Bool, zero, suc, true, false, ◌≡◌, ◌≢◌, ◌<◌, ◌≤◌, ◌+◌, ◌-◌, ◌^◌, ◌⊎◌, ◌∙◌, List, Option, None, Some, refl, sym, ap, subst, inl, inr, arith}
+use Rattle.std.proofs.Common.{ℕ, Bool, zero, suc, true, false, ◌≡◌, ◌≢◌, ◌<◌, ◌≤◌, ◌+◌, ◌^◌, ◌⊎◌, ◌∙◌, List, Option, None, Some, refl, sym, ap, subst, inl, inr, arith}
 use Rattle.std.specs.Prelude.{◌&&◌, not, if◌then◌else◌, is_some}
 use Rattle.std.proofs.lemmas.Bool.Decides.{eqb_tells}
 use Rattle.adapter.specs.Access.{note, noted}

@@ -1,5 +1,5 @@
 -- The sectors of a block, entry by entry, and the runs that they are in.
-use Rattle.std.proofs.Common.{ℕ, Bool, true, false, zero, suc, ◌≡◌, ◌≢◌, ◌<◌, ◌≤◌, ◌+◌, ◌-◌, ◌*◌, ◌/◌, ◌⊎◌, inl, inr, List, [], ◌∷◌, ◌++◌, length, take, drop, slice_index, slice_index_or, min, refl, sym, ◌∙◌, ap, ap₂, subst, arith, All, append-nil, append_assoc, length-append, length-drop, length-take, get_or-take, get_or-drop}
+use Rattle.std.proofs.Common.{ℕ, Bool, true, false, zero, suc, ◌≡◌, ◌≢◌, ◌<◌, ◌≤◌, ◌+◌, ◌-◌, ◌*◌, ◌/◌, ◌⊎◌, inl, inr, List, [], ◌∷◌, ◌++◌, length, take, drop, slice_index, min, refl, sym, ◌∙◌, ap, ap₂, subst, arith, All, append-nil, append_assoc, length-drop, get_or-take, get_or-drop}
 use Rattle.std.specs.Prelude.{if◌then◌else◌, nat_eq}
 use Rattle.std.proofs.lemmas.Bool.{cases_lt}
 use Rattle.std.proofs.lemmas.Bool.Decides.{eqb_tells}

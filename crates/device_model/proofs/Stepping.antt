@@ -5,7 +5,7 @@ use Rattle.std.specs.Global.{Vec}
 use Rattle.adapter.specs.Commands.{Meaning, direction_of, is_ranged, reads_memory}
 use Rattle.adapter.specs.Device.{Disk, Device, IsSector}
 use Rattle.adapter.specs.Memory.{patched, bytes_at}
-use Rattle.adapter.specs.Says.{Says, pieces}
+use Rattle.adapter.specs.Says.{Says}
 use Rattle.adapter.specs.Steps.{after, IsFinished, MayBeDone, MayFetch, MayMove, Brings, with_clear, with_fetch, with_move, with_done, clear_entry, done_entry, move_of, noted_bytes, memory_after, next_place, next_sector}
 use Rattle.adapter.specs.Steps.Step.{Clear, Move, Unplug, Plug}
 use Rattle.adapter.specs.declared.command.Direction.{Direction}

@@ -1,18 +1,17 @@
 -- A trim that is to be done to its end: its block is moved, its sectors are cleared, and it ends.
-use Rattle.std.proofs.Common.{ℕ, Bool, true, false, zero, suc, ◌≡◌, ◌≢◌, ◌<◌, ◌≤◌, ◌+◌, ◌-◌, List, [], ◌∷◌, length, drop, take, slice_index, slice_index_or, All, min, refl, sym, ◌∙◌, ap, subst, inl, inr, arith, length-drop}
-use Rattle.std.specs.Prelude.{if◌then◌else◌, nat_lt}
+use Rattle.std.proofs.Common.{ℕ, Bool, zero, suc, ◌≡◌, ◌<◌, ◌≤◌, ◌+◌, ◌-◌, List, [], ◌∷◌, length, drop, take, slice_index, All, min, refl, sym, ◌∙◌, ap, subst, inl, inr, arith, length-drop}
+use Rattle.std.specs.Prelude.{if◌then◌else◌}
 use Rattle.std.proofs.lemmas.Bool.{cases_lt, le-ltb, lt-ltb}
 use Rattle.std.proofs.lemmas.List.{take_all}
-use Rattle.std.proofs.lemmas.List.Elements.{All-head}
-use Rattle.adapter.specs.Device.{Disk, Taken, Device}
+use Rattle.adapter.specs.Device.{Disk, Taken}
 use Rattle.adapter.specs.Memory.{bytes_at, patched}
 use Rattle.adapter.specs.Commands.{reads_memory}
-use Rattle.adapter.specs.Steps.{Brings, block_after, memory_after, next_place}
+use Rattle.adapter.specs.Steps.{Brings, block_after, next_place}
 use Rattle.adapter.specs.Trim.{consecutive, trim_sectors}
 use Rattle.adapter.specs.declared.command.Operation.{Operation}
 use Rattle.adapter.specs.declared.command.Operation.TheVariants.{Identify, Read, ReadQueued, Write, WriteQueued, Flush, Trim, ReadLog}
-use Rattle.device_model.specs.Trims.{HasClear, IsCleared, WillClear, block_ahead, next_uncleared, run_of, runs_of, span, uncleared}
-use Rattle.device_model.proofs.Runs.{all_behind_some, drop_twice, no_runs, one_less, run_below, run_long, run_some, some_runs, take_run}
+use Rattle.device_model.specs.Trims.{IsCleared, WillClear, block_ahead, next_uncleared, run_of, runs_of, span, uncleared}
+use Rattle.device_model.proofs.Runs.{all_behind_some, drop_twice, no_runs, one_less, run_below, run_long, some_runs, take_run}
 
 -- ---- the block that a trim is going to have
 

@@ -1,5 +1,5 @@
 -- The sectors of a trim that are left to clear, in the order of its block (ACS-3, 7.5), and how a model clears them (this project's own).
-use Rattle.std.specs.Prelude.{ℕ, zero, suc, ◌≡◌, ◌+◌, ◌-◌, ◌*◌, ◌<◌, ◌≤◌, ◌&&◌, min, List, [], ◌∷◌, length, drop, take, All, Some, if◌then◌else◌, nat_eq, nat_lt, slice_index}
+use Rattle.std.specs.Prelude.{ℕ, suc, ◌≡◌, ◌-◌, ◌<◌, ◌≤◌, min, List, [], ◌∷◌, length, drop, take, All, if◌then◌else◌, nat_eq, nat_lt, slice_index}
 use Rattle.adapter.specs.Device.{Taken, Device}
 use Rattle.adapter.specs.Memory.{bytes_at}
 use Rattle.adapter.specs.Steps.{WorksOn}

@@ -1,7 +1,7 @@
-use Rattle.std.proofs.Common.{rules, ℕ, ◌≡◌, ◌≢◌, ◌+◌, ◌*◌, ◌<◌, ◌≤◌, ◌⊎◌, inl, inr, List, length, ◌++◌, drop, arith, ap, sym}
+use Rattle.std.proofs.Common.{ℕ, ◌≡◌, ◌+◌, ◌*◌, ◌≤◌, List, length, ◌++◌, drop, arith}
 use Rattle.byteorder.specs.Endian.{little_from}
 use Rattle.adapter.specs.Trim.{consecutive, trim_sectors}
-use Rattle.device_model.proofs.Runs.{IsCounted, behind, behind_next, behind_none, counted_all, counted_more, counted_none, counted_on, counted_past, counted_skip}
+use Rattle.device_model.proofs.Runs.{behind, behind_next, behind_none, counted_all, counted_more, counted_none, counted_on, counted_past, counted_skip}
 use Rattle.device_model.proofs.clearing.count_runs.Goals as goal
 use Rattle.device_model.proofs.clearing.count_runs.Goals.{then-entry-skip, else-entry-skip+else-end-sectors+then-runs-eq0, else-entry-skip+else-end-sectors+else-runs-eq0+else-entry-next}
 

@@ -1,4 +1,4 @@
-use Rattle.std.proofs.Common.{rules, ℕ, ◌≡◌, ◌<◌, ◌≤◌, ◌+◌, ◌*◌, ◌/◌, ◌∙◌, List, length, ap, arith, length-append}
+use Rattle.std.proofs.Common.{ℕ, ◌≤◌, ◌+◌, ◌*◌, ◌∙◌, List, length, ap, arith, length-append}
 use Rattle.byteorder.specs.Endian.{little_from}
 use Rattle.adapter.specs.Trim.{consecutive}
 use Rattle.device_model.proofs.Runs.{behind, behind_next, behind_none, consecutive_length}

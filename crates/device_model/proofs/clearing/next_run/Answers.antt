@@ -1,7 +1,7 @@
-use Rattle.std.proofs.Common.{rules, ℕ, ◌≡◌, ◌+◌, ◌*◌, ◌<◌, ◌≤◌, List, length, ◌++◌, arith, sym}
+use Rattle.std.proofs.Common.{ℕ, ◌≡◌, ◌+◌, ◌*◌, ◌≤◌, List, length, ◌++◌, arith, sym}
 use Rattle.byteorder.specs.Endian.{little_from}
 use Rattle.adapter.specs.Trim.{consecutive, trim_sectors}
-use Rattle.device_model.proofs.Runs.{IsAlong, along_count, along_first, along_head, along_more, along_none, along_skip, along_stops, behind, behind_next, behind_none}
+use Rattle.device_model.proofs.Runs.{along_count, along_first, along_head, along_more, along_none, along_skip, along_stops, behind, behind_next, behind_none}
 use Rattle.device_model.proofs.clearing.next_run.Goals as goal
 use Rattle.device_model.proofs.clearing.next_run.Goals.{then-entry-skip, else-entry-skip+then-run-eq0, else-entry-skip+else-run-eq0+then-run-from}
 

@@ -1,5 +1,4 @@
 use Rattle.std.proofs.Common.{refl}
-use Rattle.adapter.specs.Commands.{IsMeaning}
 use Rattle.device_model.proofs.fetch.decode_sectors.Goals as goal
 
 pub returns-in-Identify-clause-only : goal.returns-in-Identify-clause-only

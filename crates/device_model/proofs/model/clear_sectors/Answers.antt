@@ -1,4 +1,4 @@
-use Rattle.std.proofs.Common.{ℕ, ◌≡◌, ◌+◌, ◌∙◌, List, Option, ap, refl, sym, inl}
+use Rattle.std.proofs.Common.{ℕ, ◌∙◌, ap, refl, sym, inl}
 use Rattle.adapter.specs.Device.{Disk}
 use Rattle.adapter.specs.Steps.{disk_cleared}
 use Rattle.device_model.specs.Disks.{disk_over}

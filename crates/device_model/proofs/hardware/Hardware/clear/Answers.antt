@@ -1,4 +1,4 @@
-use Rattle.std.proofs.Common.{rules, ℕ, ◌≡◌, ◌<◌, length, arith, subst, sym, slice_index_or}
+use Rattle.std.proofs.Common.{rules, ℕ, ◌<◌, length, arith, subst, sym, slice_index_or}
 use Rattle.std.specs.Vec.{vec_len, vec_capacity}
 use Rattle.device_model.specs.Slots.{HoldsAt}
 use Rattle.device_model.specs.View.{blank}

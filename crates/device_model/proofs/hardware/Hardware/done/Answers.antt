@@ -1,12 +1,10 @@
-use Rattle.std.proofs.Common.{rules, arith, inl, inr, refl, ℕ, sym, ap, subst, ◌∙◌, ◌≡◌, ◌<◌, length, slice_index_or}
+use Rattle.std.proofs.Common.{rules, arith, inl, inr, refl, ℕ, sym, subst, ◌≡◌, ◌<◌, length, slice_index_or}
 use Rattle.adapter.specs.Device.{Taken}
 use Rattle.adapter.specs.Steps.{IsFinished}
-use Rattle.adapter.proofs.Absurd.{some_one, true-false}
-use Rattle.adapter.specs.Says.{pieces}
+use Rattle.adapter.proofs.Absurd.{true-false}
 use Rattle.device_model.specs.Slots.{HoldsAt}
 use Rattle.device_model.specs.View.{blank, cause_of, taken_of}
 use Rattle.device_model.specs.declared.hardware.Hardware.{Hardware}
-use Rattle.device_model.specs.declared.port.TakenCommand.{TakenCommand}
 use Rattle.device_model.proofs.Finishing.{holds}
 use Rattle.device_model.proofs.Stepping.{may_end, port_ends}
 use Rattle.device_model.proofs.SlotLemmas.{at_port}

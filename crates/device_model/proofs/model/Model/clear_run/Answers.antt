@@ -1,9 +1,7 @@
 use Rattle.std.specs.Prelude.{map}
-use Rattle.std.proofs.Common.{true, false, ℕ, Bool, ◌≡◌, ◌≤◌, ◌<◌, ◌+◌, ◌∙◌, List, refl, sym, ap, subst, arith, inl, inr}
+use Rattle.std.proofs.Common.{true, ℕ, ◌≡◌, ◌<◌, ◌+◌, ◌∙◌, List, refl, sym, ap, subst, arith, inl, inr}
 use Rattle.adapter.proofs.Absurd.{true-false}
 use Rattle.adapter.specs.Device.{Device, Disk}
-use Rattle.adapter.specs.Steps.{after}
-use Rattle.adapter.specs.Steps.Step.{Clear}
 use Rattle.sector_store.specs.Stores.{FailsOn}
 use Rattle.device_model.specs.Disks.{disk_over, is_same}
 use Rattle.device_model.specs.Does.{FailsToClear, HasCleared, NoneFails}
@@ -181,8 +179,7 @@ whole_run g c =
     c.clear_sectors-count.new.disk run.first cleared found.0 c.requires zero c.reserve-room.ensures.same in
     let is : run.count ≡ span (g.S.SectorStore.size m.disk) c.args.most (taken_of found.0) = rw c.sectors-sectors.ensures at found.1.count_is in
     let few = c.clear_sectors-count.ensures.few in
-    let all : cleared ≡ run.count = let most = c.if-count-run.false in omega (arith, most, few) in
-    (
+    let all : cleared ≡ run.count = let most = c.if-count-run.false in omega (arith, most, few) in (
       all_cleared _ _ c.args.port.0 c.args.slot.0 c.args.most run.first cleared (taken_of found.0) has effect (rw (← size) at (all ∙ is)),
       λ which. kept_in g.S.SectorStore.failures (is_same which m.which) c.clear_sectors-count.new.disk m.disk m.other (c.clear_sectors-count.ensures.fine all),
     )

@@ -1,4 +1,4 @@
-use Rattle.std.proofs.Common.{ℕ, List, ◌≡◌, ◌≢◌, ◌∙◌, ◌+◌, Option, Some, sym, ap}
+use Rattle.std.proofs.Common.{ℕ, List, ◌≡◌, ◌∙◌, ◌+◌, Option, Some, sym, ap}
 use Rattle.adapter.specs.Device.{Taken}
 use Rattle.adapter.specs.Memory.{changed}
 use Rattle.adapter.specs.Steps.{block_after, noted_bytes}

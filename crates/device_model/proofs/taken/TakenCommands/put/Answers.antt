@@ -20,8 +20,7 @@ invariant_of-self c =
     let place : c.from-2.result ≡ c.from.result = c.from-2.ensures ∙ sym c.from.ensures in
     let beside = λ (other : ℕ) (u : TakenCommand) (ne : other ≢ c.from.result) (is : held_in items other ≡ Some u).
     c.requires.alone other u (rw c.from.ensures at ne) (ap (λ (f : List (Option TakenCommand)). held_in f other) (sym c.self.view_is) ∙ is) in
-    let bits = rw place at c.with_bit_as-self-inside.ensures in
-    (
+    let bits = rw place at c.with_bit_as-self-inside.ensures in (
       simp length-set c.self.invariant.0,
       filled_set items c.from.result (Some c.args.command) _ _ small c.self.invariant.1 bits,
       block_put items c.self.inside.block c.from.result small c.self.invariant.2 c.args.command c.requires.new beside,
