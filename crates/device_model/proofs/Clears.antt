@@ -1,5 +1,5 @@
 -- A clear that a model makes, or leaves.
-use Rattle.std.proofs.Common.{ℕ, ◌≡◌, ◌<◌, ◌≤◌, ◌+◌, ◌⊎◌, List, [], ◌∷◌, Option, Some, refl, sym, ◌∙◌, ap, subst, inl, inr, arith}
+use Rattle.std.proofs.Common.{ℕ, ◌≡◌, ◌<◌, ◌≤◌, ◌+◌, ◌⊎◌, List, [], ◌∷◌, Option, Some, length, refl, sym, ◌∙◌, ap, subst, inl, inr, arith, zero, suc, slice_index, drop, take}
 use Rattle.std.specs.Prelude.{map}
 use Rattle.adapter.specs.Device.{Disk, PortState, Taken, Device}
 use Rattle.adapter.specs.Steps.{IsWorking, MayClear, after, clear_entry, disk_cleared, with_clear}
@@ -15,7 +15,7 @@ use Rattle.device_model.specs.Disks.{disk_over}
 use Rattle.device_model.specs.Does.{Did, HasCleared, NoneFails, Possible, StoreCuts}
 use Rattle.device_model.specs.Modelled.{device_at, outside_at}
 use Rattle.device_model.specs.Slots.{CanClear, IsNextRun}
-use Rattle.device_model.specs.Trims.{HasClear, next_uncleared, span}
+use Rattle.device_model.specs.Trims.{HasClear, next_uncleared, span, uncleared}
 use Rattle.device_model.specs.View.{taken_of}
 use Rattle.device_model.specs.Whole.{Outside, device_of, outside_cleared, outside_of}
 use Rattle.device_model.specs.declared.clearing.Run.{Run}
@@ -42,6 +42,29 @@ may_clear d port slot most first count t has start few =
       sectors = span_sectors (d.port port).disk.size most count t few enough ∙ ap (λ (k : ℕ). consecutive k count) (sym start);
       inside = inr (omega (arith, few, start, below));
     }
+
+-- and where a clear may be made, sectors can be cleared
+pub can_clear : (d : Device) (port slot first count : ℕ) (t : Taken) → 1 ≤ count → MayClear d port slot t first count → HasClear d port slot count t
+can_clear d port slot first count t some can = record {
+  works = can.works;
+  trim = can.trim;
+  moved = can.moved;
+  some = some;
+  enough = by count (uncleared t) first can.sectors;
+  on_disk = elim can.inside [ inl none ↦ absurd (omega (arith, some, none)) | inr fits ↦ omega (arith, start, fits, some) ];
+}
+  where
+    start : next_uncleared t ≡ first
+    start = head (uncleared t) can.next
+      where
+        head : (xs : List ℕ) → take 1 xs ≡ first ∷ [] → slice_index xs 0 ≡ first
+        head [] same = absurd (cc same)
+        head (x ∷ xs) same = ap (λ (l : List ℕ). slice_index l 0) same
+
+    by : (n : ℕ) (xs : List ℕ) (a : ℕ) → take n xs ≡ consecutive a n → n ≤ length xs
+    by zero xs a same = omega arith
+    by (suc n) [] a same = absurd (cc same)
+    by (suc n) (x ∷ xs) a same = let rest = by n xs (suc a) (ap (λ (l : List ℕ). drop 1 l) same) in omega (arith, rest)
 
 -- one sector can be cleared, where more can
 pub has_one : (d : Device) (port slot most : ℕ) (t : Taken) → HasClear d port slot most t → HasClear d port slot 1 t
@@ -95,11 +118,11 @@ module _ (old new : Device) (port slot most first count : ℕ) (t : Taken) (has 
 -- what the hardware has found to clear can be, on port 0
 pub found_clear : (h : Hardware) (o : Outside) (d : Device) (port slot most sectors : ℕ) (run : Run) (r : TakenCommand) → port ≡ 0 → device_of h o ≡ d →
     sectors ≡ (o.media 0).disk.size → IsNextRun h port slot most sectors run r → HasClear d port slot most (taken_of r)
-found_clear h o d port slot most sectors run r zero same size is =
-    next_has_clear h o d port slot most r zero same is.holds (subst (λ (n : ℕ). CanClear r most n) size is.can)
+found_clear h o d port slot most sectors run r at_zero same size is =
+    next_has_clear h o d port slot most r at_zero same is.holds (subst (λ (n : ℕ). CanClear r most n) size is.can)
 
 module _ {S : Type 0} (size : S → ℕ) (told : S → Option (ℕ → List ℕ)) (failures : S → Option Failures) (p : Port) (slot : Slot) (most : ℕ) (m : Model S)
-    (h new : Hardware) (disk : S) (first count : ℕ) (r : TakenCommand) (small : slot.0 < 32) (zero : p.0 ≡ 0) (same : (o : Outside) → device_of h o ≡ device_of m.hardware o) where
+    (h new : Hardware) (disk : S) (first count : ℕ) (r : TakenCommand) (small : slot.0 < 32) (at_zero : p.0 ≡ 0) (same : (o : Outside) → device_of h o ≡ device_of m.hardware o) where
   abbrev old_device : Device
   old_device = device_at size told m
 
@@ -107,7 +130,7 @@ module _ {S : Type 0} (size : S → ℕ) (told : S → Option (ℕ → List ℕ)
   then_model = record m { hardware = new; disk = disk }
 
   pub size_is : (old_device.port p.0).disk.size ≡ size m.disk
-  size_is = ap (λ (q : ℕ). (old_device.port q).disk.size) zero
+  size_is = ap (λ (q : ℕ). (old_device.port q).disk.size) at_zero
 
   module _ (cleared : (o : Outside) → device_of new (outside_cleared o p.0 first count) ≡ after (Clear p.0 slot.0 (taken_of r) first count) (device_of h o))
       (zeros : disk_over m.which (size disk) (told disk) ≡ disk_cleared (disk_over m.which (size m.disk) (told m.disk)) first count) where
@@ -117,7 +140,7 @@ module _ {S : Type 0} (size : S → ℕ) (told : S → Option (ℕ → List ℕ)
         let was : List Disk = map (λ s. disk_over s.which (size s.store.value) (told s.store.value)) m.plugged.items in
         let behind : outside_of (disk_over m.which (size disk) (told disk)) (told m.other) was ≡ outside_cleared o p.0 first count =
         outside_zeros (disk_over m.which (size m.disk) (told m.disk)) (disk_over m.which (size disk) (told disk)) (told m.other) was first count zeros
-        ∙ ap (λ (q : ℕ). outside_cleared o q first count) (sym zero) in
+        ∙ ap (λ (q : ℕ). outside_cleared o q first count) (sym at_zero) in
         ap (λ (x : Outside). device_of new x) behind ∙ (cleared o ∙ ap (λ (d : Device). after (Clear p.0 slot.0 (taken_of r) first count) d) (same o))
 
     -- the sectors are cleared, as far as the store has let them be
