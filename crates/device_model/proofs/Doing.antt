@@ -1,18 +1,17 @@
 -- What a model makes of a step that it is told.
-use Rattle.std.proofs.Common.{ℕ, Bool, true, false, ◌≡◌, ◌≤◌, ◌<◌, ◌^◌, ◌∙◌, List, Option, refl, sym, ap, subst, inl, inr, arith}
+use Rattle.std.proofs.Common.{ℕ, Bool, true, false, ◌≡◌, ◌≤◌, ◌^◌, ◌∙◌, List, Option, Some, refl, sym, ap, subst, inl, inr}
 use Rattle.adapter.specs.Asked.{GoesOn}
 use Rattle.adapter.specs.declared.access.DeviceStep.TheVariants as asked
 use Rattle.ata_types.specs.declared.Port.{Port}
 use Rattle.ata_types.specs.declared.Slot.{Slot}
 use Rattle.adapter.specs.Device.{Device, Taken}
 use Rattle.adapter.specs.declared.access.DeviceStep.{DeviceStep}
-use Rattle.adapter.proofs.Going.{asked_steps}
+use Rattle.adapter.proofs.Going.{asked_steps, goes_next}
 use Rattle.adapter.proofs.Runs.{Steps-refl}
 use Rattle.adapter.specs.Steps.{Steps}
 use Rattle.sector_store.specs.declared.store.Failures.{Failures}
-use Rattle.device_model.specs.Does.{AnswersStep, Did, FailsAt, GoesOnSo, IsLeftOut, LacksMemory, MovesSector, NeedsAddresses, NoneFails, StepKeeps, Possible}
+use Rattle.device_model.specs.Does.{AnswersStep, AsksStore, Did, FailsAt, FailsToClear, GoesOnSo, IsLeftOut, LacksMemory, NeedsAddresses, NoneFails, StepKeeps, StoreStops, Possible}
 use Rattle.device_model.specs.Disks.{store_of}
-use Rattle.device_model.specs.Finishing.{HasMove, HasRoom}
 use Rattle.device_model.specs.Modelled.{device_at}
 use Rattle.device_model.specs.Paged.{GainsPages}
 use Rattle.device_model.proofs.TwoDisks.{in_kept}
@@ -127,38 +126,35 @@ module _ {S : Type 0} (size : S → ℕ) (told : S → Option (ℕ → List ℕ)
     starved_since = a.starved_since;
   }
 
-  -- A Finish came to a move that was left, for which there was room, and which was possible. So a call failed on its sector, or it has no address.
-  pub cut_short : (p : Port) (slot : Slot) (did : Bool) (old mid new : Model S) → Possible (asked.Finish p slot) (device_at size told old) →
+  -- A Finish came to a step that was left, for which there was room, and which was possible. So a call failed on its sector, or it has no address.
+  pub cut_short : (s : DeviceStep) (p : Port) (slot : Slot) (did : Bool) (old mid new : Model S) → Possible (asked.Finish p slot) (device_at size told old) →
       (did ≡ true → GoesOn (SendsEnd slot.0) p.0 slot.0 (device_at size told old) (device_at size told mid)) → (did ≡ false → device_at size told mid ≡ device_at size told old) →
-      (device_at size told mid).size ≡ (device_at size told old).size → Meanwhile size old mid →
-      (MovesSector (asked.Move p slot) (device_at size told mid) → MovesSector (asked.Finish p slot) (device_at size told old)) →
-      ((MovesSector (asked.Finish p slot) (device_at size told old) → ⊥) → (which : Which) → store_of mid which ≡ store_of old which) →
-      (did ≡ false → (which : Which) → store_of mid which ≡ store_of old which) → NoneFails failures old mid →
-      IsLeftOut size told failures (asked.Move p slot) mid new → HasRoom mid.hardware 1 → slot.0 < 32 → (t : Taken) → HasMove (device_at size told mid) p.0 slot.0 t →
+      Meanwhile size old mid → ((AsksStore (asked.Finish p slot) (device_at size told old) → ⊥) → (which : Which) → store_of mid which ≡ store_of old which) →
+      (did ≡ false → (which : Which) → store_of mid which ≡ store_of old which) → NoneFails failures old mid → IsLeftOut size told failures s mid new →
+      (StoreStops s (failures mid.disk) (failures new.disk) (device_at size told new) →
+      FailsAt p.0 slot.0 (failures mid.disk) (failures new.disk) (device_at size told new) × AsksStore (asked.Finish p slot) (device_at size told old)) →
+      ((device_at size told old).size ≤ 2 ^ 32 → NeedsAddresses s (device_at size told mid)) → Possible s (device_at size told mid) →
+      (LacksMemory s (device_at size told mid) mid.hardware mid.plugged → ⊥) → (t : Taken) → ((device_at size told mid).port p.0).taken slot.0 ≡ Some t →
       AnswersStep size told failures (asked.Finish p slot) did old new
-  cut_short p slot did old mid new may went stayed sizes meanwhile moved same untouched none step room small t move = by did went stayed untouched
+  cut_short s p slot did old mid new may went stayed meanwhile same untouched none step stops needs possible room t taken = by did went stayed untouched
     where
       fine : failures mid.disk ≡ failures old.disk
       fine = in_kept failures old mid meanwhile.which none
 
       -- where no store is another, it has no address
-      unserved : (NeedsAddresses (asked.Move p slot) (device_at size told mid) → Possible (asked.Move p slot) (device_at size told mid) →
-          LacksMemory (asked.Move p slot) (device_at size told mid) mid.hardware mid.plugged × (new.hardware.starved ≡ true)) →
-          (device_at size told old).size ≤ 2 ^ 32 → ⊥
-      unserved why small_enough = (why (omega (arith, sizes, small_enough)) (small, t, move)).0 room
+      unserved : (NeedsAddresses s (device_at size told mid) → Possible s (device_at size told mid) →
+          LacksMemory s (device_at size told mid) mid.hardware mid.plugged × (new.hardware.starved ≡ true)) → (device_at size told old).size ≤ 2 ^ 32 → ⊥
+      unserved why small_enough = room (why (needs small_enough) possible).0
 
       failed : FailsAt p.0 slot.0 (failures mid.disk) (failures new.disk) (device_at size told new) →
           FailsAt p.0 slot.0 (failures old.disk) (failures new.disk) (device_at size told new)
       failed f = subst (λ was. FailsAt p.0 slot.0 was (failures new.disk) (device_at size told new)) fine f
 
-      disks : (MovesSector (asked.Finish p slot) (device_at size told old) → ⊥) → (which : Which) → store_of new which ≡ store_of old which
-      disks never which = elim step.why [
-        | inl f ↦ absurd (never (moved (small, f.t, subst (λ (d : Device). HasMove d p.0 slot.0 f.t) step.device f.move, f.ranged)))
-        | inr left ↦ left.0 which ∙ same never which
-      ]
+      disks : (AsksStore (asked.Finish p slot) (device_at size told old) → ⊥) → (which : Which) → store_of new which ≡ store_of old which
+      disks never which = elim step.why [ inl f ↦ absurd (never (stops f).1) | inr left ↦ left.0 which ∙ same never which ]
 
       told_before : new.hardware.starved ≡ true → mid.hardware.starved ≡ true
-      told_before now = elim (step.starved_since now) [ inl before ↦ before | inr lacks ↦ absurd (lacks.1 room) ]
+      told_before now = elim (step.starved_since now) [ inl before ↦ before | inr lacks ↦ absurd (room lacks.1) ]
 
       all : Meanwhile size old new
       all = meanwhile_on old mid new meanwhile (record {
@@ -178,7 +174,7 @@ module _ {S : Type 0} (size : S → ℕ) (told : S → Option (ℕ → List ℕ)
         record {
           asked = subst (λ (d : Device). GoesOn (SendsEnd slot.0) p.0 slot.0 (device_at size told old) d) (sym step.device) (on refl);
           ends = elim step.why [
-            | inl f ↦ inl (failed f)
+            | inl f ↦ inl (failed (stops f).0)
             | inr left ↦ inr ((λ which. ap failures (left.0 which) ∙ none which), λ small_enough. absurd (unserved left.1 small_enough))
           ];
           held = all.held;
@@ -196,18 +192,43 @@ module _ {S : Type 0} (size : S → ℕ) (told : S → Option (ℕ → List ℕ)
         says = all.says;
         which = all.which;
         why = elim step.why [
-          | inl f ↦ inl (failed f)
+          | inl f ↦ inl (failed (stops f).0)
           | inr left ↦ inr (
             (λ which. left.0 which ∙ first refl which),
             λ served _.
-                let taken = ap (λ (d : Device). (d.port p.0).taken slot.0) (sym (same refl)) ∙ move.works.taken in
-                absurd (unserved left.1 (served t taken)),
+                let there = ap (λ (d : Device). (d.port p.0).taken slot.0) (sym (same refl)) ∙ taken in
+                absurd (unserved left.1 (served t there)),
           )
         ];
         keeps = all.keeps;
         starved_on = λ yes. all.starved ∙ yes;
         starved_since = λ yes. inl (sym all.starved ∙ yes);
       }
+
+  -- A Finish came to a Clear that the store cut short.
+  pub cut_inside : (p : Port) (slot : Slot) (did : Bool) (old mid new : Model S) (most : ℕ) → Possible (asked.Finish p slot) (device_at size told old) →
+      (did ≡ true → GoesOn (SendsEnd slot.0) p.0 slot.0 (device_at size told old) (device_at size told mid)) → (did ≡ false → device_at size told mid ≡ device_at size told old) →
+      Meanwhile size old mid → AsksStore (asked.Finish p slot) (device_at size told old) → NoneFails failures old mid →
+      Did size told failures (asked.Clear p slot most) mid new →
+      FailsToClear p.0 slot.0 (failures mid.disk) (failures new.disk) (device_at size told new) → AnswersStep size told failures (asked.Finish p slot) true old new
+  cut_inside p slot did old mid new most may went stayed meanwhile asks none step fails =
+      let fine : failures mid.disk ≡ failures old.disk = in_kept failures old mid meanwhile.which none in
+      let all : Meanwhile size old new =
+      meanwhile_on old mid new meanwhile
+      (record { held = step.held; says = step.says; which = step.which; pages = step.pages; keeps = step.keeps; starved = step.starved }) in (
+        may,
+        record {
+          asked = goes_next (SendsEnd slot.0) p.0 slot.0 _ _ _ did went stayed (inr (inr (inr (most, step.asked))));
+          ends = inl (inr (subst (λ was. FailsToClear p.0 slot.0 was (failures new.disk) (device_at size told new)) fine fails));
+          held = all.held;
+          says = all.says;
+          which = all.which;
+          pages = all.pages;
+          disks = λ never. absurd (never asks);
+          keeps = all.keeps;
+          starved = all.starved;
+        },
+      )
 
   -- ---- what the model does by itself
 

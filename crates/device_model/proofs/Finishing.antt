@@ -1,34 +1,38 @@
--- A read or write that may be done is taken, goes on piece by piece, and ends.
+-- A command that may be done is taken, goes on piece by piece and clear by clear, and ends.
 use Rattle.std.proofs.Common.{ℕ, Bool, true, false, zero, suc, ◌≡◌, ◌≢◌, ◌<◌, ◌≤◌, ◌+◌, ◌^◌, ◌⊎◌, ◌&&◌, List, [], ◌∷◌, ◌++◌, length, slice_index, slice_index_or, Option, None, Some, refl, sym, ◌∙◌, ap, subst, inl, inr, arith}
 use Rattle.std.specs.Prelude.{is_some, if◌then◌else◌}
 use Rattle.std.proofs.lemmas.Bool.Decides.{eqb_tells}
-use Rattle.adapter.specs.Asked.{DoesFetch, DoesMove, DoesDone, DoesOne, DoesSome, Ends, GoesOn}
+use Rattle.adapter.specs.Asked.{DoesClear, DoesFetch, DoesMove, DoesDone, DoesOne, DoesSome, Ends, GoesOn}
 use Rattle.adapter.specs.Commands.{Meaning, is_queued, is_ranged}
 use Rattle.adapter.specs.Device.{Disk, Taken, Halt, PortState, Device}
 use Rattle.adapter.specs.Memory.{changed}
 use Rattle.adapter.specs.OneCommand.{IsFreeSlot}
 use Rattle.adapter.specs.Says.{pieces}
-use Rattle.adapter.specs.Steps.{Can, IsWorking, WorksOn, admits, begun, Brings, next_sector, with_fetch, with_move, with_done, block_after, disk_after}
+use Rattle.adapter.specs.Steps.{Can, IsWorking, WorksOn, admits, begun, Brings, next_sector, with_fetch, with_move, with_clear, with_done, block_after, disk_after, disk_cleared}
 use Rattle.adapter.specs.Steps.Step.{Fetch, Move, Done}
 use Rattle.adapter.specs.declared.command.Operation.{Operation}
+use Rattle.adapter.specs.declared.command.Operation.TheVariants.{Trim}
 use Rattle.adapter.proofs.Absurd.{some-none, some_one, true-false}
 use Rattle.adapter.proofs.Changed.{fun_ext, changed_same, changed_other}
 use Rattle.adapter.proofs.SaysLemmas.{says_meaning, says_places}
-use Rattle.device_model.specs.Does.{HasEnded}
+use Rattle.device_model.specs.Does.{HasCleared, HasEnded}
 use Rattle.device_model.specs.Finishing.{HasDisk, HasMove, IsCovered, IsGoing, MayFinish}
 use Rattle.device_model.specs.Sent.{SendsEnd}
-use Rattle.device_model.specs.Slots.{HoldsAt, IsNext}
-use Rattle.device_model.specs.View.{Media, Takes, held_in, media_after, operation_of, taken_of, blank}
-use Rattle.device_model.specs.Whole.{Outside, device_of, no_media, outside_of, outside_after, outside_plugged}
+use Rattle.device_model.specs.Slots.{CanClear, HoldsAt, IsNext}
+use Rattle.device_model.specs.Trims.{HasClear, WillClear, next_uncleared, span, uncleared}
+use Rattle.device_model.specs.View.{Media, Takes, held_in, media_after, media_cleared, operation_of, taken_of, blank}
+use Rattle.device_model.specs.Whole.{Outside, device_of, no_media, outside_of, outside_after, outside_cleared, outside_plugged}
 use Rattle.device_model.specs.declared.port.PortModel.{PortModel}
 use Rattle.device_model.specs.declared.hardware.Hardware.{Hardware}
 use Rattle.device_model.specs.declared.port.TakenCommand.{TakenCommand}
 use Rattle.device_model.specs.declared.port.Transfer.{Transfer}
 use Rattle.device_model.specs.declared.port.Transfer.TheVariants as transfer
 use Rattle.device_model.specs.declared.steps.NextMove.{NextMove}
+use Rattle.device_model.proofs.Cleared.{cleared_tells}
 use Rattle.device_model.proofs.Posting.{end_rest}
+use Rattle.device_model.proofs.Trimming.{is_a_trim, moved_clears, next_below, none_left, some_uncleared, span_less}
 use Rattle.device_model.proofs.SlotLemmas.{slot_taken, taken_slot}
-use Rattle.device_model.proofs.Transfers.{is_taken, no_trim, still_tells, transfer_of}
+use Rattle.device_model.proofs.Transfers.{is_taken, is_trim, still_tells, transfer_of}
 
 cleared : (queued : Bool) (p : PortState) (slot : ℕ) →
     (if queued then (if queued then changed p.sact slot false else p.sact) slot else (if queued then p.ci else changed p.ci slot false) slot) ≡ false
@@ -38,7 +42,7 @@ cleared false p slot = changed_same p.ci slot false
 -- ---- a command goes on
 
 -- a port goes on to work where none of what that rests on changed
-still_works : (p new : PortState) (o : Operation) → IsWorking p o → new.cr ≡ p.cr → new.present ≡ p.present → new.fresh ≡ p.fresh → new.halt ≡ p.halt →
+pub still_works : (p new : PortState) (o : Operation) → IsWorking p o → new.cr ≡ p.cr → new.present ≡ p.present → new.fresh ≡ p.fresh → new.halt ≡ p.halt →
     new.broken ≡ p.broken → IsWorking new o
 still_works p new o w cr present fresh halt broken = record {
   running = cr ∙ w.running;
@@ -50,9 +54,10 @@ still_works p new o w cr present fresh halt broken = record {
 
 module _ (port slot sectors : ℕ) where
   -- it was just taken
-  just_fetched : (left : ℕ) (old new : Device) (m : Meaning) (places : List ℕ) → Takes m.operation → IsCovered (begun m places) old.size sectors left →
-      Can (Fetch port slot m places) old → DoesFetch port slot old new → IsGoing new port slot sectors left
-  just_fetched left old new m places takes covered can f =
+  just_fetched : (left clears : ℕ) (old new : Device) (m : Meaning) (places : List ℕ) → Takes m.operation → IsCovered (begun m places) old.size sectors left →
+      WillClear m.operation old.memory (begun m places) sectors clears → Can (Fetch port slot m places) old → DoesFetch port slot old new →
+      IsGoing new port slot sectors left clears
+  just_fetched left clears old new m places takes covered clearing can f =
       let p : PortState = old.port port in
       let state : PortState = with_fetch p slot f.meaning f.places in
       let meaning : f.meaning ≡ m = says_meaning old.memory p.bases.clb slot f.meaning m f.places places f.can.says can.says in
@@ -66,31 +71,34 @@ module _ (port slot sectors : ℕ) where
         t = begun m places;
         takes = takes;
         covered = subst Q (sym (ap (λ (d : Device). d.size) f.effect)) covered;
+        clearing = subst (λ (memory : ℕ → ℕ). WillClear m.operation memory (begun m places) sectors clears) (sym (ap (λ (d : Device). d.memory) f.effect)) clearing;
         works = subst P (sym there)
             (record { taken = taken; working = still_works p state m.operation can.working refl refl refl refl refl });
       }
 
   -- it is taken, or was
-  pub fetched_goes : (left : ℕ) (did : Bool) (old new : Device) → MayFinish old port slot sectors left → (did ≡ true → DoesFetch port slot old new) →
+  pub fetched_goes : (left clears : ℕ) (did : Bool) (old new : Device) → MayFinish old port slot sectors left clears → (did ≡ true → DoesFetch port slot old new) →
       (did ≡ false → new ≡ old) →
-      (did ≡ false → (m : Meaning) (places : List ℕ) → Takes m.operation → Can (Fetch port slot m places) old → ⊥) → IsGoing new port slot sectors left
-  fetched_goes left did old new ready fetched same only =
+      (did ≡ false → (m : Meaning) (places : List ℕ) → Takes m.operation → Can (Fetch port slot m places) old → ⊥) → IsGoing new port slot sectors left clears
+  fetched_goes left clears did old new ready fetched same only =
       by did refl ready.begins
     where
       by : (b : Bool) → did ≡ b → WorksOn (old.port port) slot ready.t ready.t.meaning.operation
-          ⊎ (Can (Fetch port slot ready.t.meaning ready.t.places) old × (ready.t ≡ begun ready.t.meaning ready.t.places)) → IsGoing new port slot sectors left
+          ⊎ (Can (Fetch port slot ready.t.meaning ready.t.places) old × (ready.t ≡ begun ready.t.meaning ready.t.places)) → IsGoing new port slot sectors left clears
       by true e (inl works) = some-none works.taken (fetched e).can.fetchable.free
       by true e (inr (can, is)) =
           let P : Taken → Type 0 = λ t. IsCovered t old.size sectors left in
-          just_fetched left old new ready.t.meaning ready.t.places ready.takes (subst P is ready.covered) can (fetched e)
+          let Q : Taken → Type 0 = λ t. WillClear t.meaning.operation old.memory t sectors clears in
+          just_fetched left clears old new ready.t.meaning ready.t.places ready.takes (subst P is ready.covered) (subst Q is ready.clearing) can (fetched e)
       by false e (inl works) =
-          let P : Device → Type 0 = λ d. IsGoing d port slot sectors left in
-          subst P (sym (same e)) (record { t = ready.t; takes = ready.takes; covered = ready.covered; works = works })
+          let P : Device → Type 0 = λ d. IsGoing d port slot sectors left clears in
+          subst P (sym (same e)) (record { t = ready.t; takes = ready.takes; covered = ready.covered; clearing = ready.clearing; works = works })
       by false e (inr (can, is)) = absurd (only e ready.t.meaning ready.t.places ready.takes can)
 
   -- a piece of it is moved
-  pub moved_goes : (left : ℕ) (old new : Device) → IsGoing old port slot sectors (suc left) → DoesMove port slot old new → IsGoing new port slot sectors left
-  moved_goes left old new going m =
+  pub moved_goes : (left clears : ℕ) (old new : Device) → IsGoing old port slot sectors (suc left) clears → DoesMove port slot old new →
+      IsGoing new port slot sectors left clears
+  moved_goes left clears old new going m =
       let p : PortState = old.port port in
       let t : Taken = going.t in
       let u : Taken = record m.t { moved = m.t.moved + 1; block = block_after m.t.meaning.operation m.bytes m.t.block } in
@@ -104,6 +112,9 @@ module _ (port slot sectors : ℕ) where
       record {
         t = u;
         takes = subst (λ (x : Taken). Takes x.meaning.operation) (sym same) going.takes;
+        clearing = subst (λ (memory : ℕ → ℕ). WillClear m.t.meaning.operation memory u sectors clears) (sym (ap (λ (d : Device). d.memory) m.effect))
+            (moved_clears m.t.meaning.operation p.disk old.memory m.t m.bytes sectors clears m.can.left m.can.brings
+            (subst (λ (x : Taken). WillClear x.meaning.operation old.memory x sectors clears) (sym same) going.clearing));
         covered = record {
           left_is = omega (arith, covered.left_is);
           on_disk = covered.on_disk;
@@ -114,6 +125,39 @@ module _ (port slot sectors : ℕ) where
               taken = changed_same p.taken slot (Some u);
               working = still_works p state m.t.meaning.operation m.can.works.working refl refl refl refl refl;
             });
+      }
+
+  -- a run of its sectors is cleared
+  pub cleared_goes : (clears : ℕ) (old new : Device) → sectors ≡ (old.port port).disk.size → (going : IsGoing old port slot sectors 0 (suc clears)) → (most : ℕ) →
+      most ≡ length (uncleared going.t) → (c : DoesClear port slot most old new) → HasCleared old new port slot most → IsGoing new port slot sectors 0 clears
+  cleared_goes clears old new disk going most whole c has =
+      let p : PortState = old.port port in
+      let t : Taken = going.t in
+      let u : Taken = record t { cleared = t.cleared + span sectors (length (uncleared t)) t } in
+      let state : PortState = with_clear p slot c.t c.first c.count in
+      let there : new.port port ≡ state = ap (λ (d : Device). d.port port) c.effect ∙ changed_same old.port port state in
+      let same : has.t ≡ t = some_one (sym has.was ∙ going.works.taken) in
+      let back : (old.port port).disk.size ≡ sectors = sym disk in
+      let taken : (new.port port).taken slot ≡ Some u =
+      has.is ∙ (λ i. Some (record (same i) { cleared = (same i).cleared + span (back i) (whole i) (same i) })) in
+      let size : new.size ≡ old.size = ap (λ (d : Device). d.size) c.effect in
+      let all : t.moved ≡ length t.places = omega (arith, going.covered.left_is) in
+      record {
+        t = u;
+        takes = going.takes;
+        covered = record {
+          left_is = going.covered.left_is;
+          on_disk = going.covered.on_disk;
+          inside = λ k small. omega (arith, size, going.covered.inside k small);
+        };
+        clearing = subst (λ (memory : ℕ → ℕ). WillClear t.meaning.operation memory u sectors clears) (sym (ap (λ (d : Device). d.memory) c.effect))
+            (span_less old.memory t sectors clears all going.clearing);
+        works = record {
+          taken = taken;
+          working =
+              let P : PortState → Type 0 = λ x. IsWorking x t.meaning.operation in
+              subst P (sym there) (still_works p state t.meaning.operation going.works.working refl refl refl refl refl);
+        };
       }
 
   -- and it has ended
@@ -154,7 +198,15 @@ module _ (port slot sectors : ℕ) where
       let same : u ≡ t = some_one (sym (changed_same p.taken slot (Some u)) ∙ (sym (ap (λ (x : PortState). x.taken slot) there) ∙ taken)) in
       let kind : is_queued m.t.meaning.operation ≡ true = ap (λ (x : Taken). is_queued x.meaning.operation) same ∙ queued in
       ap (λ (x : PortState). x.ci slot) there ∙ was m.t m.can.works.taken kind before
-  no_more_on since mid new was (inr (inr e)) t taken queued before = some-none taken (done_gone mid new e)
+  no_more_on since mid new was (inr (inr (inl e))) t taken queued before = some-none taken (done_gone mid new e)
+  no_more_on since mid new was (inr (inr (inr (most, c)))) t taken queued before =
+      let p : PortState = mid.port port in
+      let u : Taken = record c.t { cleared = c.t.cleared + c.count } in
+      let state : PortState = with_clear p slot c.t c.first c.count in
+      let there : new.port port ≡ state = ap (λ (d : Device). d.port port) c.effect ∙ changed_same mid.port port state in
+      let same : u ≡ t = some_one (sym (changed_same p.taken slot (Some u)) ∙ (sym (ap (λ (x : PortState). x.taken slot) there) ∙ taken)) in
+      let kind : is_queued c.t.meaning.operation ≡ true = ap (λ (x : Taken). is_queued x.meaning.operation) same ∙ queued in
+      ap (λ (x : PortState). x.ci slot) there ∙ was c.t c.can.works.taken kind before
 
   no_more_after : (n : ℕ) (since new : Device) → DoesSome (SendsEnd slot) n port slot since new → IsIssuedNoMore since new
   no_more_after zero since new same = subst (IsIssuedNoMore since) (sym same) (no_more_yet since)
@@ -182,7 +234,7 @@ module _ (port slot sectors : ℕ) where
       }
 
   -- a plain one is issued no more
-  pub done_frees : (old new : Device) (going : IsGoing old port slot sectors 0) → is_queued going.t.meaning.operation ≡ false → Ends (SendsEnd slot) port slot old new →
+  pub done_frees : (old new : Device) (going : IsGoing old port slot sectors 0 0) → is_queued going.t.meaning.operation ≡ false → Ends (SendsEnd slot) port slot old new →
       IsFreeSlot (new.port port) slot
   done_frees old new going plain e =
       let f : DoesDone port slot old e.mid = e.done in
@@ -197,13 +249,12 @@ module _ (port slot sectors : ℕ) where
       }
 
   -- when nothing is left, it may end
-  pub going_may_end : (d : Device) (going : IsGoing d port slot sectors 0) → Can (Done port slot 0 going.t) d
+  pub going_may_end : (d : Device) (going : IsGoing d port slot sectors 0 0) → Can (Done port slot 0 going.t) d
   going_may_end d going = record {
     works = going.works;
     finished = record {
       moved = omega (arith, going.covered.left_is);
-      cleared = λ trim.
-          let kind = transfer_of going.t.meaning.operation going.takes in absurd (no_trim kind.0 (sym kind.1 ∙ trim));
+      cleared = none_left going.t.meaning.operation d.memory going.t sectors (omega (arith, going.covered.left_is)) going.clearing;
     };
     shown = inl refl;
   }
@@ -318,6 +369,8 @@ has_move d port slot t bytes takes disk can =
     by transfer.ReadQueued e brings ranged = brings.0
     by transfer.WriteQueued e brings ranged = brings.0
     by transfer.Identify e brings ranged = true-false ranged (ap is_ranged e)
+    by transfer.Flush e brings ranged = true-false ranged (ap is_ranged e)
+    by transfer.Trim e brings ranged = true-false ranged (ap is_ranged e)
 
 -- a command that the model's port works on is one that it takes
 pub works_takes : (h : Hardware) (o : Outside) (port slot : ℕ) (t : Taken) → WorksOn ((device_of h o).port port) slot t t.meaning.operation →
@@ -328,9 +381,9 @@ works_takes h o port slot t works =
     subst P (sym w.2) (is_taken w.0.transfer)
 
 -- where a move is left, one is possible
-pub going_has_move : (d : Device) (port slot left : ℕ) → port ≡ 0 → (going : IsGoing d port slot (d.port port).disk.size (suc left)) →
+pub going_has_move : (d : Device) (port slot left clears : ℕ) → port ≡ 0 → (going : IsGoing d port slot (d.port port).disk.size (suc left) clears) →
     HasMove d port slot going.t
-going_has_move d port slot left at_zero going =
+going_has_move d port slot left clears at_zero going =
     let t : Taken = going.t in
     record {
       works = going.works;
@@ -342,7 +395,85 @@ going_has_move d port slot left at_zero going =
       has_disk = inl at_zero;
     }
 
--- ---- what is behind port 0 after a move
+-- where a clear is left, one is possible
+pub going_has_clear : (d : Device) (port slot clears : ℕ) → (going : IsGoing d port slot (d.port port).disk.size 0 (suc clears)) →
+    HasClear d port slot (length (uncleared going.t)) going.t
+going_has_clear d port slot clears going =
+    let t : Taken = going.t in
+    let size : ℕ = (d.port port).disk.size in
+    let all : t.moved ≡ length t.places = omega (arith, going.covered.left_is) in
+    let trim = is_a_trim d.memory t size clears all going.clearing in
+    record {
+      works = subst (λ (o : Operation). WorksOn (d.port port) slot t o) trim going.works;
+      trim = trim;
+      moved = all;
+      some = some_uncleared d.memory t size clears all going.clearing;
+      enough = omega arith;
+      on_disk = next_below d.memory t size clears all going.clearing;
+    }
+
+-- what a clear of port 0 that is possible says of the command
+pub clear_fits : (h : Hardware) (o : Outside) (d : Device) (port slot most : ℕ) (t : Taken) → port ≡ 0 → device_of h o ≡ d → HasClear d port slot most t →
+    (r : TakenCommand) × HoldsAt (slice_index_or h.ports port blank) slot r × CanClear r most (o.media 0).disk.size × (t ≡ taken_of r)
+clear_fits h o d port slot most t at_zero same clear =
+    let P : Device → Type 0 = λ x. HasClear x port slot most t in
+    let on_port : HasClear (device_of h o) port slot most t = subst P (sym same) clear in
+    let w = holds h o port slot t Trim on_port.works in
+    let Q : Taken → Type 0 = λ x. HasClear (device_of h o) port slot most x in
+    let here : HasClear (device_of h o) port slot most (taken_of w.0) = subst Q w.2 on_port in
+    let R : ℕ → Type 0 = λ q. next_uncleared (taken_of w.0) < (o.media q).disk.size in (
+      w.0,
+      w.1,
+      record { trim = is_trim w.0.transfer here.trim; moved = here.moved; some = here.some; enough = here.enough; on_disk = subst R at_zero here.on_disk },
+      w.2,
+    )
+
+-- and where the hardware finds one, it is possible
+pub next_has_clear : (h : Hardware) (o : Outside) (d : Device) (port slot most : ℕ) (r : TakenCommand) → port ≡ 0 → device_of h o ≡ d →
+    HoldsAt (slice_index_or h.ports port blank) slot r → CanClear r most (o.media 0).disk.size → HasClear d port slot most (taken_of r)
+next_has_clear h o d port slot most r at_zero same holds can =
+    let P : Device → Type 0 = λ x. HasClear x port slot most (taken_of r) in
+    let Q : ℕ → Type 0 = λ q. next_uncleared (taken_of r) < (o.media q).disk.size in
+    let trim : operation_of r.transfer ≡ Trim = ap operation_of can.trim in
+    subst P same (record {
+      works = subst (λ (x : Operation). WorksOn ((device_of h o).port port) slot (taken_of r) x) trim (holds.works (o.media port));
+      trim = trim;
+      moved = can.moved;
+      some = can.some;
+      enough = can.enough;
+      on_disk = subst Q (sym at_zero) can.on_disk;
+    })
+
+-- no port but port 0 has a disk
+pub no_clear : (h : Hardware) (disk : Disk) (other : Option (ℕ → List ℕ)) (plugged : List Disk) (port slot most : ℕ) (t : Taken) → port ≢ 0 →
+    HasClear (device_of h (outside_of disk other plugged)) port slot most t → ⊥
+no_clear h disk other plugged port slot most t ne clear =
+    let none : ((outside_of disk other plugged).media port).disk.size ≡ 0 =
+    elim (eqb_tells port 0) [ inl here ↦ absurd (ne here.1) | inr there ↦ rw there.0 refl ] in
+    let at = clear.on_disk in
+    absurd (omega (arith, at, none))
+
+-- ---- what is behind port 0 after a move, or a clear
+
+pub outside_zeros : (disk new : Disk) (other : Option (ℕ → List ℕ)) (plugged : List Disk) (first count : ℕ) → new ≡ disk_cleared disk first count →
+    outside_of new other plugged ≡ outside_cleared (outside_of disk other plugged) 0 first count
+outside_zeros disk new other plugged first count is = λ i. record { telling = tells i; media = fun_ext behind i }
+  where
+    old : Outside
+    old = outside_of disk other plugged
+
+    tells : is_some new.sectors && is_some other ≡ (is_some disk.sectors && is_some other)
+    tells = ap (λ b. b && is_some other) (ap (λ (d : Disk). is_some d.sectors) is ∙ cleared_tells disk first count)
+
+    behind : (k : ℕ) → (outside_of new other plugged).media k ≡ (outside_cleared old 0 first count).media k
+    behind k =
+        elim (eqb_tells k 0) [
+          | inl here ↦
+              rw here.1 (ap (λ (d : Disk). record { disk = d; plugged = plugged }) is ∙ sym (changed_same old.media 0 (media_cleared (old.media 0) first count)))
+          | inr there ↦
+              let was : old.media k ≡ no_media = rw there.0 refl in
+              rw there.0 (sym was ∙ sym (changed_other old.media 0 (media_cleared (old.media 0) first count) k there.1))
+        ]
 
 pub outside_moved : (disk new : Disk) (other : Option (ℕ → List ℕ)) (plugged : List Disk) (next : NextMove) (r : TakenCommand) (bytes : List ℕ) →
     next.transfer ≡ r.transfer → next.sector ≡ next_sector (taken_of r) →

@@ -4,7 +4,7 @@ use Rattle.std.proofs.lemmas.Bool.Decides.{eqb_tells}
 use Rattle.adapter.specs.Device.{PortState, Device}
 use Rattle.adapter.specs.Memory.{changed}
 use Rattle.adapter.specs.Asked.{DoesOne, DoesSome, GoesOn}
-use Rattle.adapter.specs.Steps.{MayLinkUp, with_done, with_fetch, with_link, with_move, with_port, with_reset}
+use Rattle.adapter.specs.Steps.{MayLinkUp, with_clear, with_done, with_fetch, with_link, with_move, with_port, with_reset}
 use Rattle.adapter.specs.Steps.Step.{Fall, FrFall, LinkUp}
 use Rattle.adapter.proofs.Changed.{fun_ext, changed_same, changed_other, changed_each}
 use Rattle.device_model.proofs.Own.{own_none, own_on, own_one}
@@ -139,7 +139,10 @@ one_settled port slot old new (inl f) =
 one_settled port slot old new (inr (inl m)) =
     settled_with old new port (with_move (old.port port) slot m.t m.bytes) (ap (λ (d : Device). d.hr) m.effect) (ap (λ (d : Device). d.port) m.effect)
     (same _ _ refl refl refl refl refl refl refl)
-one_settled port slot old new (inr (inr e)) =
+one_settled port slot old new (inr (inr (inr (most, c)))) =
+    settled_with old new port (with_clear (old.port port) slot c.t c.first c.count) (ap (λ (d : Device). d.hr) c.effect) (ap (λ (d : Device). d.port) c.effect)
+    (same _ _ refl refl refl refl refl refl refl)
+one_settled port slot old new (inr (inr (inl e))) =
     let rest = end_rest port slot e.done.flag e.done.t.meaning.operation e.mid new e.posts in
     settled_with old new port (with_done (old.port port) slot e.done.flag e.done.t.meaning.operation)
     (ap (λ (d : Device). d.hr) rest ∙ ap (λ (d : Device). d.hr) e.done.effect)

@@ -1,5 +1,5 @@
 -- An IDENTIFY DEVICE that can be done to its end, as the model does it by itself.
-use Rattle.std.proofs.Common.{ℕ, Bool, zero, suc, true, false, ◌≡◌, ◌≢◌, ◌<◌, ◌≤◌, ◌+◌, ◌-◌, ◌^◌, ◌⊎◌, ◌∙◌, List, Option, None, Some, refl, sym, ap, subst, inl, inr, arith}
+use Rattle.std.proofs.Common.{ℕ, Bool, zero, suc, true, false, ◌≡◌, ◌≢◌, ◌<◌, ◌≤◌, ◌+◌, ◌^◌, ◌⊎◌, ◌∙◌, List, Option, None, Some, refl, sym, ap, subst, inl, inr, arith}
 use Rattle.std.specs.Prelude.{◌&&◌, not, if◌then◌else◌, is_some}
 use Rattle.std.proofs.lemmas.Bool.Decides.{eqb_tells}
 use Rattle.adapter.specs.Access.{note, noted}
@@ -9,10 +9,10 @@ use Rattle.adapter.specs.Device.{Notes, PortState, Device, Taken}
 use Rattle.adapter.specs.Memory.{changed}
 use Rattle.adapter.specs.OneCommand.{IsFreeSlot}
 use Rattle.adapter.specs.Says.{Says}
-use Rattle.adapter.specs.Steps.{Can, IsFetchable, IsWorking, IsAlone, WorksOn, begun, with_done, with_fetch, with_move}
+use Rattle.adapter.specs.Steps.{Can, IsFetchable, IsWorking, IsAlone, WorksOn, begun, with_clear, with_done, with_fetch, with_move}
 use Rattle.adapter.specs.Steps.Step.{Fetch}
 use Rattle.adapter.specs.declared.command.Operation.{Operation}
-use Rattle.adapter.specs.declared.command.Operation.TheVariants.{Identify}
+use Rattle.adapter.specs.declared.command.Operation.TheVariants.{Identify, Trim}
 use Rattle.adapter.proofs.Absurd.{some-none, some_one, true-false}
 use Rattle.adapter.proofs.Changed.{changed_other, changed_same}
 use Rattle.adapter.proofs.SaysLemmas.{says_meaning, says_places}
@@ -22,12 +22,12 @@ use Rattle.ata_types.specs.declared.Port.{Port}
 use Rattle.ata_types.specs.declared.Slot.{Slot}
 use Rattle.adapter.specs.declared.access.DeviceStep.TheVariants as asked
 use Rattle.sector_store.specs.declared.store.Failures.{Failures}
-use Rattle.device_model.specs.Does.{AnswersStep, MovesSector}
+use Rattle.device_model.specs.Does.{AnswersStep, AsksFor, AsksStore}
 use Rattle.device_model.specs.Finishing.{AreInside, HasIdentify, HasMove, Identifies, IsCovered, MayFinish, MayIdentify}
-use Rattle.device_model.specs.Held.{none_held}
 use Rattle.device_model.specs.Modelled.{device_at}
 use Rattle.device_model.specs.Sent.{SendsEnd}
 use Rattle.device_model.specs.Slots.{IsNext}
+use Rattle.device_model.specs.Trims.{HasClear}
 use Rattle.device_model.specs.View.{Takes, operation_of, taken_of}
 use Rattle.device_model.specs.Whole.{Outside, device_of}
 use Rattle.device_model.specs.declared.hardware.Hardware.{Hardware}
@@ -38,9 +38,10 @@ use Rattle.device_model.specs.declared.port.Transfer.TheVariants as transfer
 use Rattle.device_model.specs.declared.steps.NextMove.{NextMove}
 use Rattle.adapter.proofs.Going.{goes_one}
 use Rattle.device_model.proofs.Finishing.{fetched_goes, next_has_move}
-use Rattle.device_model.proofs.Own.{IsOnly, own_gone}
+use Rattle.device_model.proofs.Own.{IsOnly, only_gone}
 use Rattle.device_model.proofs.Posting.{end_rest}
-use Rattle.device_model.proofs.Transfers.{alone_none, is_identify, is_taken, unranged}
+use Rattle.device_model.proofs.Transfers.{alone_none, is_identify, unranged_plain}
+use Rattle.device_model.proofs.Trimming.{identify_cleared, identify_clears}
 use Rattle.device_model.proofs.TwoDisks.{in_kept}
 
 -- an IDENTIFY DEVICE whose pieces have addresses of 32 bits
@@ -51,7 +52,7 @@ pub is_page : (o : Operation) (places : List ℕ) → IsPage o places → o ≡ 
 is_page o places page = page.0
 
 -- how many sectors the disk has is of no matter to it
-pub has_ready : (d : Device) (slot sectors : ℕ) (has : HasIdentify d slot) → MayFinish d 0 slot sectors has.left
+pub has_ready : (d : Device) (slot sectors : ℕ) (has : HasIdentify d slot) → MayFinish d 0 slot sectors has.left 0
 has_ready d slot sectors has = record {
   t = has.ready.t;
   takes = has.ready.takes;
@@ -60,13 +61,14 @@ has_ready d slot sectors has = record {
     on_disk = λ ranged. true-false ranged (ap is_ranged has.identifies);
     inside = has.ready.covered.inside;
   };
+  clearing = identify_clears has.ready.t.meaning.operation d.memory has.ready.t sectors has.identifies;
   begins = has.ready.begins;
 }
 
 -- whatever may be done to its end in a slot, no other command is taken there, or may be
-pub only_of : (P : Operation → List ℕ → Type 0) (d : Device) (port slot sectors left : ℕ) (may : MayFinish d port slot sectors left) →
+pub only_of : (P : Operation → List ℕ → Type 0) (d : Device) (port slot sectors left clears : ℕ) (may : MayFinish d port slot sectors left clears) →
     P may.t.meaning.operation may.t.places → IsOnly P d port slot
-only_of P d port slot sectors left may holds = by may.begins
+only_of P d port slot sectors left clears may holds = by may.begins
   where
     t : Taken
     t = may.t
@@ -88,77 +90,92 @@ only_of P d port slot sectors left may holds = by may.begins
     }
 
 pub has_only : (d : Device) (slot : ℕ) → HasIdentify d slot → IsOnly IsPage d 0 slot
-has_only d slot has = only_of IsPage d 0 slot 0 has.left has.ready (has.identifies, has.low)
+has_only d slot has = only_of IsPage d 0 slot 0 has.left 0 has.ready (has.identifies, has.low)
 
 -- nor afterwards
-only_taken : (P : Operation → List ℕ → Type 0) → ((o : Operation) (places : List ℕ) → P o places → o ≡ Identify) → (port slot : ℕ) (did : Bool)
-    (old new : Device) → port ≡ 0 → (did ≡ true → GoesOn (SendsEnd slot) port slot old new) → (did ≡ false → new ≡ old) → IsOnly P old 0 slot →
-    (t : Taken) → (new.port port).taken slot ≡ Some t → P t.meaning.operation t.places
-only_taken P is_page port slot did old new here went same only t is =
-    let Q : ℕ → Type 0 = λ q. GoesOn (SendsEnd slot) q slot old new in
-    let R : ℕ → Type 0 = λ q. (new.port q).taken slot ≡ Some t in
-    (own_gone P is_page none_held 0 slot refl did old new (λ e. subst Q here (went e)) same only).1.taken t (subst R here is)
-
 pub page_taken : (port slot : ℕ) (did : Bool) (old new : Device) → port ≡ 0 → (did ≡ true → GoesOn (SendsEnd slot) port slot old new) → (did ≡ false → new ≡ old) →
     HasIdentify old slot → (t : Taken) → (new.port port).taken slot ≡ Some t → IsPage t.meaning.operation t.places
-page_taken port slot did old new here went same has = only_taken IsPage is_page port slot did old new here went same (has_only old slot has)
+page_taken port slot did old new here went same has t is =
+    let Q : ℕ → Type 0 = λ q. GoesOn (SendsEnd slot) q slot old new in
+    let R : ℕ → Type 0 = λ q. (new.port q).taken slot ≡ Some t in
+    (only_gone IsPage (λ o places page. ap is_queued page.0) 0 slot did old new (λ e. subst Q here (went e)) same (has_only old slot has)).taken t (subst R here is)
 
--- ---- which steps move a sector
+-- ---- which steps ask the store
 
 abbrev pub IsIdentify : Operation → List ℕ → Type 0
 IsIdentify operation places = operation ≡ Identify
 
--- a Finish of it moves none
-pub page_moves_none : (d : Device) (slot sectors left : ℕ) → HasIdentify d slot → (may : MayFinish d 0 slot sectors left) →
-    is_ranged may.t.meaning.operation ≡ true → ⊥
-page_moves_none d slot sectors left has may ranged = by may.begins
+-- a command that names no sectors
+abbrev IsUnranged : Operation → List ℕ → Type 0
+IsUnranged operation places = is_ranged operation ≡ false
+
+-- a Finish of it asks for none
+pub page_asks_none : (d : Device) (slot sectors left clears : ℕ) → HasIdentify d slot → (may : MayFinish d 0 slot sectors left clears) →
+    AsksFor may.t.meaning.operation left clears → ⊥
+page_asks_none d slot sectors left clears has may asks = by asks
   where
     t : Taken
     t = may.t
 
-    by : WorksOn (d.port 0) slot t t.meaning.operation ⊎ (Can (Fetch 0 slot t.meaning t.places) d × (t ≡ begun t.meaning t.places)) → ⊥
-    by (inl works) = true-false ranged (ap is_ranged ((has_only d slot has).taken t works.taken).0)
-    by (inr begins) = true-false ranged (ap is_ranged ((has_only d slot has).fetched t.meaning t.places begins.0).0)
+    kind : WorksOn (d.port 0) slot t t.meaning.operation ⊎ (Can (Fetch 0 slot t.meaning t.places) d × (t ≡ begun t.meaning t.places)) →
+        t.meaning.operation ≡ Identify
+    kind (inl works) = ((has_only d slot has).taken t works.taken).0
+    kind (inr begins) = ((has_only d slot has).fetched t.meaning t.places begins.0).0
+
+    by : AsksFor t.meaning.operation left clears → ⊥
+    by (inl moves) = true-false moves.0 (ap is_ranged (kind may.begins))
+    by (inr some) =
+        let none = identify_cleared t.meaning.operation d.memory t sectors clears (kind may.begins) may.clearing in absurd (omega (arith, some, none))
 
 pub finish_keeps : {S : Type 0} (size : S → ℕ) (told : S → Option (ℕ → List ℕ)) (failures : S → Option Failures) (old new : Model S) (slot : ℕ) (answer : Bool) →
     AnswersStep size told failures (asked.Finish (record { 0 = 0 }) (record { 0 = slot })) answer old new → HasIdentify (device_at size told old) slot →
     new.disk ≡ old.disk
 finish_keeps size told failures old new slot true a has =
-    in_kept (λ s. s) old new a.1.which (a.1.disks (λ moves. page_moves_none (device_at size told old) slot _ _ has moves.3 moves.4))
+    in_kept (λ s. s) old new a.1.which (a.1.disks (λ asks. page_asks_none (device_at size told old) slot _ _ _ has asks.4 asks.5))
 finish_keeps size told failures old new slot false a has =
     elim a.why [
       | inl f ↦
-          let P : Device → Type 0 = λ d. HasMove d 0 slot f.t in
-          let taken = (subst P a.device f.move).works.taken in
-          true-false f.ranged (ap is_ranged ((has_only (device_at size told old) slot has).taken f.t taken).0)
+          elim f [
+            | inl moves ↦
+                let P : Device → Type 0 = λ d. HasMove d 0 slot moves.t in
+                let taken = (subst P a.device moves.move).works.taken in
+                true-false moves.ranged (ap is_ranged ((has_only (device_at size told old) slot has).taken moves.t taken).0)
+            | inr clears ↦
+                let P : Device → Type 0 = λ d. HasClear d 0 slot 1 clears.t in
+                let taken = (subst P a.device clears.clear).works.taken in
+                let no : Identify ≡ Trim = sym ((has_only (device_at size told old) slot has).taken clears.t taken).0 ∙ clears.clear.trim in
+                absurd (cc no)
+          ]
       | inr left ↦ in_kept (λ s. s) old new a.which left.0
     ]
 
--- a Move of what a Finish has begun moves one only where the Finish does
-pub finish_moves : (p : Port) (s : Slot) (did : Bool) (old new : Device) (sectors left : ℕ) → p.0 ≡ 0 → sectors ≡ (old.port 0).disk.size → 1 ≤ left →
-    (did ≡ true → GoesOn (SendsEnd s.0) p.0 s.0 old new) → (did ≡ false → new ≡ old) → MayFinish old p.0 s.0 sectors left →
-    MovesSector (asked.Move p s) new → MovesSector (asked.Finish p s) old
-finish_moves p s did old new sectors left here same some went stayed ready moves = by (is_ranged may.t.meaning.operation) refl
+-- a Move of what a Finish has begun asks for one only where the Finish does
+pub finish_moves : (p : Port) (s : Slot) (did : Bool) (old new : Device) (sectors left clears : ℕ) → p.0 ≡ 0 → sectors ≡ (old.port 0).disk.size → 1 ≤ left →
+    (did ≡ true → GoesOn (SendsEnd s.0) p.0 s.0 old new) → (did ≡ false → new ≡ old) → MayFinish old p.0 s.0 sectors left clears →
+    AsksStore (asked.Move p s) new → AsksStore (asked.Finish p s) old
+finish_moves p s did old new sectors left clears here same some went stayed ready moves = by (is_ranged may.t.meaning.operation) refl
   where
-    may : MayFinish old p.0 s.0 (old.port 0).disk.size (left - 1 + 1)
-    may =
-        let more : left ≡ left - 1 + 1 = omega (arith, some) in
-        let P : ℕ → Type 0 = λ n. MayFinish old p.0 s.0 n left in
-        let Q : ℕ → Type 0 = λ n. MayFinish old p.0 s.0 (old.port 0).disk.size n in
-        subst Q more (subst P same ready)
+    may : MayFinish old p.0 s.0 (old.port 0).disk.size left clears
+    may = let P : ℕ → Type 0 = λ n. MayFinish old p.0 s.0 n left clears in subst P same ready
 
-    by : (b : Bool) → is_ranged may.t.meaning.operation ≡ b → MovesSector (asked.Finish p s) old
-    by true e = (here, moves.0, left - 1, may, e)
+    by : (b : Bool) → is_ranged may.t.meaning.operation ≡ b → AsksStore (asked.Finish p s) old
+    by true e = (here, moves.0, left, clears, may, inl (e, some))
     by false e =
-        let P : ℕ → Type 0 = λ q. IsOnly IsIdentify old q s.0 in
-        let only = subst P here (only_of IsIdentify old p.0 s.0 (old.port 0).disk.size (left - 1 + 1) may (unranged may.t.meaning.operation may.takes e)) in
-        let page = only_taken IsIdentify (λ o places is. is) p.0 s.0 did old new here went stayed only moves.1 moves.2.works.taken in
-        true-false moves.3 (ap is_ranged page)
+        let only = only_of IsUnranged old p.0 s.0 (old.port 0).disk.size left clears may e in
+        let gone = only_gone IsUnranged (λ o places none. unranged_plain o none) p.0 s.0 did old new went stayed only in
+        true-false moves.3 (gone.taken moves.1 moves.2.works.taken)
+
+-- and so does a Finish that has a clear left
+pub finish_clears : (p : Port) (s : Slot) (old : Device) (sectors left clears : ℕ) → p.0 ≡ 0 → s.0 < 32 → sectors ≡ (old.port 0).disk.size → 1 ≤ clears →
+    MayFinish old p.0 s.0 sectors left clears → AsksStore (asked.Finish p s) old
+finish_clears p s old sectors left clears here small same some ready =
+    let P : ℕ → Type 0 = λ n. MayFinish old p.0 s.0 n left clears in
+    (here, small, left, clears, subst P same ready, inr some)
 
 -- what the hardware moves next, where it is on the disk, is a sector only where a Move moves one
 pub next_moves : (h : Hardware) (o : Outside) (d : Device) (p : Port) (s : Slot) (next : NextMove) (r : TakenCommand) → p.0 ≡ 0 → s.0 < 32 →
     device_of h o ≡ d → IsNext h p.0 s.0 next r → (is_ranged (operation_of next.transfer) ≡ true → next.sector < (o.media 0).disk.size) →
-    is_ranged (operation_of next.transfer) ≡ true → MovesSector (asked.Move p s) d
+    is_ranged (operation_of next.transfer) ≡ true → AsksStore (asked.Move p s) d
 next_moves h o d p s next r here small same is on ranged = (
   small,
   taken_of r,
@@ -166,15 +183,15 @@ next_moves h o d p s next r here small same is on ranged = (
   ap (λ (k : Transfer). is_ranged (operation_of k)) (sym is.transfer_is) ∙ ranged,
 )
 
--- and else a page
-pub next_page : (h : Hardware) (o : Outside) (d : Device) (p : Port) (s : Slot) (next : NextMove) (r : TakenCommand) → p.0 ≡ 0 → s.0 < 32 →
+-- and else it is none
+pub next_unranged : (h : Hardware) (o : Outside) (d : Device) (p : Port) (s : Slot) (next : NextMove) (r : TakenCommand) → p.0 ≡ 0 → s.0 < 32 →
     device_of h o ≡ d → IsNext h p.0 s.0 next r → (is_ranged (operation_of next.transfer) ≡ true → next.sector < (o.media 0).disk.size) →
-    (MovesSector (asked.Move p s) d → ⊥) → next.transfer ≡ transfer.Identify
-next_page h o d p s next r here small same is on none = by (is_ranged (operation_of next.transfer)) refl
+    (AsksStore (asked.Move p s) d → ⊥) → is_ranged (operation_of next.transfer) ≡ false
+next_unranged h o d p s next r here small same is on none = by (is_ranged (operation_of next.transfer)) refl
   where
-    by : (b : Bool) → is_ranged (operation_of next.transfer) ≡ b → next.transfer ≡ transfer.Identify
+    by : (b : Bool) → is_ranged (operation_of next.transfer) ≡ b → is_ranged (operation_of next.transfer) ≡ false
     by true e = absurd (none (next_moves h o d p s next r here small same is on e))
-    by false e = is_identify next.transfer (unranged (operation_of next.transfer) (is_taken next.transfer) e)
+    by false e = e
 
 -- the hardware's next move is of it
 pub next_identifies : (h : Hardware) (o : Outside) (d : Device) (port slot : ℕ) (next : NextMove) (r : TakenCommand) (t : Taken) → device_of h o ≡ d →
@@ -201,7 +218,7 @@ may_only d slot may = record {
 
 pub found_only : (d : Device) (slot : ℕ) → MayIdentify d slot ⊎ HasIdentify d slot → IsOnly IsIdentify d 0 slot
 found_only d slot (inl may) = may_only d slot may
-found_only d slot (inr has) = only_of IsIdentify d 0 slot 0 has.left has.ready has.identifies
+found_only d slot (inr has) = only_of IsIdentify d 0 slot 0 has.left 0 has.ready has.identifies
 
 -- what a look at a slot has found
 pub found_ends : (d : Device) (slot : ℕ) (ends : Bool) → not ends ≡ false → Identifies d slot (Some ends) → HasIdentify d slot
@@ -224,12 +241,16 @@ fetched_taken : (slot : ℕ) (old new : Device) (f : DoesFetch 0 slot old new) �
 fetched_taken slot old new f =
     ap (λ (g : ℕ → Option Taken). g slot) (fetched_is slot old new f) ∙ changed_same (old.port 0).taken slot (Some (begun f.meaning f.places))
 
+-- it is one that the model takes
+identify_takes : (d : Device) (slot : ℕ) (may : MayIdentify d slot) → Takes may.meaning.operation
+identify_takes d slot may = subst Takes (sym may.identifies) tt
+
 -- once it was taken, or was already, no other may be
 pub fetched_bars : (slot k : ℕ) (did : Bool) (old new : Device) → (did ≡ true → DoesFetch 0 slot old new) →
     (did ≡ false → (m : Meaning) (places : List ℕ) → Takes m.operation → Can (Fetch 0 slot m places) old → ⊥) → (did ≡ false → new ≡ old) →
     MayIdentify old slot ⊎ HasIdentify old slot → MayIdentify new k → ⊥
 fetched_bars slot k true old new went never same there = let f = went refl in taken_bars new slot k (begun f.meaning f.places) (fetched_taken slot old new f)
-fetched_bars slot k false old new went never same (inl may) = absurd (never refl may.meaning may.places (inr (inr (inl may.identifies))) may.can)
+fetched_bars slot k false old new went never same (inl may) = absurd (never refl may.meaning may.places (identify_takes old slot may) may.can)
 fetched_bars slot k false old new went never same (inr has) = by has.ready.begins
   where
     t : Taken
@@ -266,6 +287,8 @@ taken_has slot k old new f has = by has.ready.begins
                   t = begun f.meaning f.places;
                   takes = subst (λ (x : Taken). Takes x.meaning.operation) one has.ready.takes;
                   covered = subst R one (subst Q size has.ready.covered);
+                  clearing = identify_clears f.meaning.operation old.memory (begun f.meaning f.places) 0
+                      (ap (λ (x : Taken). x.meaning.operation) (sym one) ∙ has.identifies);
                   begins = inr (f.can, refl);
                 };
                 identifies = ap (λ (x : Taken). x.meaning.operation) (sym one) ∙ has.identifies;
@@ -284,18 +307,18 @@ pub fetched_has : (slot k : ℕ) (did : Bool) (old new : Device) → (did ≡ tr
     (did ≡ false → (m : Meaning) (places : List ℕ) → Takes m.operation → Can (Fetch 0 slot m places) old → ⊥) →
     MayIdentify old slot → HasIdentify new k → HasIdentify old slot
 fetched_has slot k true old new went never may has = taken_has slot k old new (went refl) has
-fetched_has slot k false old new went never may has = absurd (never refl may.meaning may.places (inr (inr (inl may.identifies))) may.can)
+fetched_has slot k false old new went never may has = absurd (never refl may.meaning may.places (identify_takes old slot may) may.can)
 
 -- one that can be done to its end still can be once it is taken
 pub fetched_left : (slot : ℕ) (did : Bool) (old new : Device) (has : HasIdentify old slot) → (did ≡ true → DoesFetch 0 slot old new) →
     (did ≡ false → new ≡ old) → (did ≡ false → (m : Meaning) (places : List ℕ) → Takes m.operation → Can (Fetch 0 slot m places) old → ⊥) →
     (now : HasIdentify new slot) × (now.left ≡ has.left)
 fetched_left slot did old new has went same never =
-    let going = fetched_goes 0 slot 0 has.left did old new has.ready went same never in
+    let going = fetched_goes 0 slot 0 has.left 0 did old new has.ready went same never in
     let page = page_taken 0 slot did old new refl (λ e. goes_one (SendsEnd slot) 0 slot old new (inl (went e))) same has going.t going.works.taken in (
       record {
         left = has.left;
-        ready = record { t = going.t; takes = going.takes; covered = going.covered; begins = inl going.works };
+        ready = record { t = going.t; takes = going.takes; covered = going.covered; clearing = going.clearing; begins = inl going.works };
         identifies = page.0;
         low = page.1;
       },
@@ -359,7 +382,10 @@ one_elsewhere slot old new (inl f) k ne =
 one_elsewhere slot old new (inr (inl m)) k ne =
     let p : PortState = with_move (old.port 0) slot m.t m.bytes in
     weight_with old new p slot k (ap (λ (d : Device). d.port 0) m.effect ∙ changed_same old.port 0 p) refl (changed_other (old.port 0).taken slot _ k ne)
-one_elsewhere slot old new (inr (inr e)) k ne =
+one_elsewhere slot old new (inr (inr (inr (most, c)))) k ne =
+    let p : PortState = with_clear (old.port 0) slot c.t c.first c.count in
+    weight_with old new p slot k (ap (λ (d : Device). d.port 0) c.effect ∙ changed_same old.port 0 p) refl (changed_other (old.port 0).taken slot _ k ne)
+one_elsewhere slot old new (inr (inr (inl e))) k ne =
     let p : PortState = with_done (old.port 0) slot e.done.flag e.done.t.meaning.operation in
     weight_with old new p slot k
     (ap (λ (d : Device). d.port 0) (end_rest 0 slot e.done.flag e.done.t.meaning.operation e.mid new e.posts)
@@ -402,7 +428,13 @@ works_noted p n slot t operation w = record { taken = w.taken; working = working
 has_noted : (d : Device) (f : ℕ → PortState) (n : Notes) (slot : ℕ) → f 0 ≡ record (d.port 0) { notes = n } → HasIdentify (record d { port = f }) slot → HasIdentify d slot
 has_noted d f n slot is has = record {
   left = has.left;
-  ready = record { t = has.ready.t; takes = has.ready.takes; covered = has.ready.covered; begins = by has.ready.begins };
+  ready = record {
+    t = has.ready.t;
+    takes = has.ready.takes;
+    covered = has.ready.covered;
+    clearing = has.ready.clearing;
+    begins = by has.ready.begins;
+  };
   identifies = has.identifies;
   low = has.low;
 }

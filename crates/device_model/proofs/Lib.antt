@@ -1,3 +1,6 @@
+pub mod Runs
+pub mod Cleared
+pub mod Trimming
 pub mod Transfers
 pub mod BitLemmas
 pub mod Bytes
@@ -8,9 +11,11 @@ pub mod EachPort
 pub mod GoingOn
 pub mod Fetches
 pub mod SlotLemmas
+pub mod Blocks
 pub mod Stepping
 pub mod NewModel
 pub mod Finishing
+pub mod Clears
 pub mod Ready
 pub mod Queueing
 pub mod Telling

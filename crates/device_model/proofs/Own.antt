@@ -8,10 +8,10 @@ use Rattle.adapter.specs.Commands.{Meaning, is_queued}
 use Rattle.adapter.specs.Device.{PortState, Device, Taken}
 use Rattle.adapter.specs.Memory.{changed}
 use Rattle.adapter.specs.declared.command.Operation.{Operation}
-use Rattle.adapter.specs.declared.command.Operation.TheVariants.{Identify}
+use Rattle.adapter.specs.declared.command.Operation.TheVariants.{Identify, Trim}
 use Rattle.adapter.proofs.Absurd.{some-none, some_one, true-false}
 use Rattle.adapter.proofs.Changed.{changed_other, changed_same}
-use Rattle.adapter.specs.Steps.{Step, Can, Steps, after, begun, block_after, with_done, with_fetch, with_move}
+use Rattle.adapter.specs.Steps.{Step, Can, Steps, after, begun, block_after, with_clear, with_done, with_fetch, with_move}
 use Rattle.adapter.proofs.Runs.{Steps-one, Steps-refl, Steps-trans}
 use Rattle.adapter.specs.Steps.Step.{Fetch, FetchFault, Move, Clear, Done, Fault, Fatal, Fall, FrFall, LinkUp, Unplug, Plug, ResetEnds, Scribble}
 use Rattle.device_model.specs.Held.{IsPortHeld, IsPortLoose}
@@ -69,7 +69,9 @@ one_keeps_present port slot old new (inl f) =
     ap (λ (d : Device). (d.port 0).present) f.effect ∙ present_with old.port port (with_fetch (old.port port) slot f.meaning f.places) refl
 one_keeps_present port slot old new (inr (inl m)) =
     ap (λ (d : Device). (d.port 0).present) m.effect ∙ present_with old.port port (with_move (old.port port) slot m.t m.bytes) refl
-one_keeps_present port slot old new (inr (inr e)) =
+one_keeps_present port slot old new (inr (inr (inr (most, c)))) =
+    ap (λ (d : Device). (d.port 0).present) c.effect ∙ present_with old.port port (with_clear (old.port port) slot c.t c.first c.count) refl
+one_keeps_present port slot old new (inr (inr (inl e))) =
     ap (λ (d : Device). (d.port 0).present) (end_rest port slot e.done.flag e.done.t.meaning.operation e.mid new e.posts)
     ∙ (ap (λ (d : Device). (d.port 0).present) e.done.effect ∙ present_with old.port port (with_done (old.port port) slot e.done.flag e.done.t.meaning.operation) refl)
 
@@ -82,8 +84,7 @@ pub record IsOnly (P : Operation → List ℕ → Type 0) (d : Device) (port slo
   pub taken : (t : Taken) → (d.port port).taken slot ≡ Some t → P t.meaning.operation t.places
   pub fetched : (m : Meaning) (places : List ℕ) → Can (Fetch port slot m places) d → P m.operation places
 
-module _ (P : Operation → List ℕ → Type 0) (is_page : (o : Operation) (places : List ℕ) → P o places → o ≡ Identify) (held : List Bool) (port slot : ℕ)
-    (loose : IsPortLoose held port) where
+module _ (P : Operation → List ℕ → Type 0) (is_plain : (o : Operation) (places : List ℕ) → P o places → is_queued o ≡ false) (port slot : ℕ) where
   -- a command stands in the slot afterwards
   only_with : (new : Device) (p : PortState) (t : Taken) → new.port port ≡ p → p.taken slot ≡ Some t → P t.meaning.operation t.places → IsOnly P new port slot
   only_with new p t there here holds =
@@ -95,47 +96,71 @@ module _ (P : Operation → List ℕ → Type 0) (is_page : (o : Operation) (pla
         fetched = λ m places can. some-none stands can.fetchable.free;
       }
 
-  own_by_one : (old new : Device) → DoesOne (SendsEnd slot) port slot old new → IsOnly P old port slot → LeadsOwn (Identifies held) old new × IsOnly P new port slot
-  own_by_one old new (inl f) only =
-      let holds = only.fetched f.meaning f.places f.can in
-      let p : PortState = with_fetch (old.port port) slot f.meaning f.places in (
-        own_one (Identifies held) (Fetch port slot f.meaning f.places) old new ((loose, is_page _ _ holds), tt) f.can f.effect,
-        only_with new p (begun f.meaning f.places) (ap (λ (d : Device). d.port port) f.effect ∙ changed_same old.port port p)
-            (changed_same (old.port port).taken slot (Some (begun f.meaning f.places))) holds,
-      )
-  own_by_one old new (inr (inl m)) only =
-      let holds = only.taken m.t m.can.works.taken in
+  only_by_one : (old new : Device) → DoesOne (SendsEnd slot) port slot old new → IsOnly P old port slot → IsOnly P new port slot
+  only_by_one old new (inl f) only =
+      let p : PortState = with_fetch (old.port port) slot f.meaning f.places in
+      only_with new p (begun f.meaning f.places) (ap (λ (d : Device). d.port port) f.effect ∙ changed_same old.port port p)
+      (changed_same (old.port port).taken slot (Some (begun f.meaning f.places))) (only.fetched f.meaning f.places f.can)
+  only_by_one old new (inr (inl m)) only =
       let p : PortState = with_move (old.port port) slot m.t m.bytes in
-      let u : Taken = record m.t { moved = m.t.moved + 1; block = block_after m.t.meaning.operation m.bytes m.t.block } in (
-        own_one (Identifies held) (Move port slot m.t m.bytes) old new ((loose, is_page _ _ holds), tt) m.can m.effect,
-        only_with new p u (ap (λ (d : Device). d.port port) m.effect ∙ changed_same old.port port p) (changed_same (old.port port).taken slot (Some u)) holds,
-      )
-  own_by_one old new (inr (inr e)) only =
+      let u : Taken = record m.t { moved = m.t.moved + 1; block = block_after m.t.meaning.operation m.bytes m.t.block } in
+      only_with new p u (ap (λ (d : Device). d.port port) m.effect ∙ changed_same old.port port p) (changed_same (old.port port).taken slot (Some u))
+      (only.taken m.t m.can.works.taken)
+  only_by_one old new (inr (inr (inl e))) only =
       let t : Taken = e.done.t in
-      let holds = only.taken t e.done.can.works.taken in
-      let identifies : t.meaning.operation ≡ Identify = is_page _ _ holds in
       let p : PortState = with_done (old.port port) slot e.done.flag t.meaning.operation in
-      let Sent : Device → Type 0 = λ d. SendsEnd slot port e.done.flag t.meaning.operation d new in
       let there : new.port port ≡ p =
       ap (λ (d : Device). d.port port) (end_rest port slot e.done.flag t.meaning.operation e.mid new e.posts)
       ∙ (ap (λ (d : Device). d.port port) e.done.effect ∙ changed_same old.port port p) in
       let none : (new.port port).taken slot ≡ None = ap (λ (x : PortState). x.taken slot) there ∙ changed_same (old.port port).taken slot None in
+      let plain = is_plain t.meaning.operation t.places (only.taken t e.done.can.works.taken) in
       let clear : (new.port port).ci slot ≡ false =
       ap (λ (x : PortState). x.ci slot) there
-      ∙ (ap (λ (b : Bool). (if b then (old.port port).ci else changed (old.port port).ci slot false) slot) (ap is_queued identifies)
-      ∙ changed_same (old.port port).ci slot false) in (
-        own_one (Identifies held) (Done port slot e.done.flag t) old new ((loose, identifies), tt) e.done.can (subst Sent e.done.effect e.posts),
-        record { taken = λ t is. some-none is none; fetched = λ m places can. true-false can.fetchable.issued clear },
-      )
+      ∙ (ap (λ (b : Bool). (if b then (old.port port).ci else changed (old.port port).ci slot false) slot) plain ∙ changed_same (old.port port).ci slot false) in
+      record { taken = λ t is. some-none is none; fetched = λ m places can. true-false can.fetchable.issued clear }
+  only_by_one old new (inr (inr (inr (most, c)))) only =
+      let p : PortState = with_clear (old.port port) slot c.t c.first c.count in
+      let u : Taken = record c.t { cleared = c.t.cleared + c.count } in
+      only_with new p u (ap (λ (d : Device). d.port port) c.effect ∙ changed_same old.port port p) (changed_same (old.port port).taken slot (Some u))
+      (only.taken c.t c.can.works.taken)
+
+  only_by_some : (n : ℕ) (old new : Device) → DoesSome (SendsEnd slot) n port slot old new → IsOnly P old port slot → IsOnly P new port slot
+  only_by_some zero old new e only = let Q : Device → Type 0 = λ d. IsOnly P d port slot in subst Q (sym e) only
+  only_by_some (suc n) old new s only = only_by_one s.0 new s.2 (only_by_some n old s.0 s.1 only)
+
+  -- a command went on, or didn't
+  pub only_gone : (did : Bool) (old new : Device) → (did ≡ true → GoesOn (SendsEnd slot) port slot old new) → (did ≡ false → new ≡ old) → IsOnly P old port slot →
+      IsOnly P new port slot
+  only_gone true old new went same only = let g = went refl in only_by_some (suc g.0) old new g.1 only
+  only_gone false old new went same only = only_by_some zero old new (same refl) only
+
+module _ (P : Operation → List ℕ → Type 0) (is_page : (o : Operation) (places : List ℕ) → P o places → o ≡ Identify) (held : List Bool) (port slot : ℕ)
+    (loose : IsPortLoose held port) where
+  page_plain : (o : Operation) (places : List ℕ) → P o places → is_queued o ≡ false
+  page_plain o places holds = ap is_queued (is_page o places holds)
+
+  own_by_one : (old new : Device) → DoesOne (SendsEnd slot) port slot old new → IsOnly P old port slot → LeadsOwn (Identifies held) old new
+  own_by_one old new (inl f) only =
+      own_one (Identifies held) (Fetch port slot f.meaning f.places) old new ((loose, is_page _ _ (only.fetched f.meaning f.places f.can)), tt) f.can f.effect
+  own_by_one old new (inr (inl m)) only =
+      own_one (Identifies held) (Move port slot m.t m.bytes) old new ((loose, is_page _ _ (only.taken m.t m.can.works.taken)), tt) m.can m.effect
+  own_by_one old new (inr (inr (inl e))) only =
+      let t : Taken = e.done.t in
+      let Sent : Device → Type 0 = λ d. SendsEnd slot port e.done.flag t.meaning.operation d new in
+      own_one (Identifies held) (Done port slot e.done.flag t) old new ((loose, is_page _ _ (only.taken t e.done.can.works.taken)), tt) e.done.can
+      (subst Sent e.done.effect e.posts)
+  own_by_one old new (inr (inr (inr (most, c)))) only =
+      let no : Identify ≡ Trim = sym (is_page _ _ (only.taken c.t c.can.works.taken)) ∙ c.can.trim in absurd (cc no)
 
   pub own_by_some : (n : ℕ) (old new : Device) → DoesSome (SendsEnd slot) n port slot old new → IsOnly P old port slot → LeadsOwn (Identifies held) old new × IsOnly P new port slot
   own_by_some zero old new e only =
       let Q : Device → Type 0 = λ d. LeadsOwn (Identifies held) old d × IsOnly P d port slot in
       subst Q (sym e) (own_none (Identifies held) old, only)
   own_by_some (suc n) old new s only =
-      let first = own_by_some n old s.0 s.1 only in
-      let last = own_by_one s.0 new s.2 first.1 in
-      (own_on (Identifies held) old s.0 new first.0 last.0, last.1)
+      let first = own_by_some n old s.0 s.1 only in (
+        own_on (Identifies held) old s.0 new first.0 (own_by_one s.0 new s.2 first.1),
+        only_by_one P page_plain port slot s.0 new s.2 first.1,
+      )
 
   -- a command went on, or didn't
   pub own_gone : (did : Bool) (old new : Device) → (did ≡ true → GoesOn (SendsEnd slot) port slot old new) → (did ≡ false → new ≡ old) → IsOnly P old port slot →

@@ -81,7 +81,8 @@ ends_may port slot old new e = record { mid = e.mid; done = e.done; posts = end_
 one_may : (port slot : ℕ) (old new : Device) → DoesOne (SendsEnd slot) port slot old new → DoesOne MayPost port slot old new
 one_may port slot old new (inl f) = inl f
 one_may port slot old new (inr (inl m)) = inr (inl m)
-one_may port slot old new (inr (inr e)) = inr (inr (ends_may port slot old new e))
+one_may port slot old new (inr (inr (inl e))) = inr (inr (inl (ends_may port slot old new e)))
+one_may port slot old new (inr (inr (inr c))) = inr (inr (inr c))
 
 some_may : (n port slot : ℕ) (old new : Device) → DoesSome (SendsEnd slot) n port slot old new → DoesSome MayPost n port slot old new
 some_may zero port slot old new e = e
@@ -90,6 +91,7 @@ some_may (suc n) port slot old new s = (s.0, some_may n port slot old s.0 s.1, o
 pub asked_may : (s : DeviceStep) (old new : Device) → AskedOf (Sends s) s old new → Asked s old new
 asked_may (asked.Fetch p slot) old new did = did
 asked_may (asked.Move p slot) old new did = did
+asked_may (asked.Clear p slot most) old new did = did
 asked_may (asked.Done p slot) old new did = ends_may p.0 slot.0 old new did
 asked_may (asked.Finish p slot) old new did = (did.0, some_may (suc did.0) p.0 slot.0 old new did.1)
 asked_may (asked.Lie p page offset bits) old new did = did

@@ -16,8 +16,9 @@ use Rattle.adapter.specs.declared.command.Operation.TheVariants.{Identify}
 use Rattle.adapter.specs.declared.command.Prd.{Prd}
 use Rattle.adapter.proofs.Absurd.{some-none, some_one}
 use Rattle.adapter.proofs.SaysLemmas.{says_meaning, says_places, cut_length, cut_index}
-use Rattle.device_model.specs.Finishing.{HasIdentify, Identifies, IsInside, AreInside, IsCovered, MayFinish, MayIdentify}
-use Rattle.device_model.specs.Fetched.{bytes_of}
+use Rattle.device_model.specs.Finishing.{HasIdentify, Identifies, IsInside, AreInside, IsCovered, IsRest, MayFinish, MayIdentify}
+use Rattle.device_model.specs.Fetched.{IsNew, bytes_of}
+use Rattle.device_model.specs.Trims.{WillClear}
 use Rattle.device_model.specs.Slots.{MayTake, HasUntaken, HoldsAt}
 use Rattle.device_model.specs.View.{Media, operation_of, port_of, taken_of, blank}
 use Rattle.device_model.specs.Whole.{Outside, device_of}
@@ -25,6 +26,8 @@ use Rattle.device_model.specs.declared.port.PortModel.{PortModel}
 use Rattle.device_model.specs.declared.port.TakenCommand.{TakenCommand}
 use Rattle.device_model.specs.declared.hardware.Hardware.{Hardware}
 use Rattle.device_model.proofs.Finishing.{holds}
+use Rattle.device_model.proofs.SlotLemmas.{new_begun}
+use Rattle.device_model.proofs.Trimming.{identify_clears}
 use Rattle.device_model.proofs.Stepping.{fetch_takes, fetch_says}
 use Rattle.device_model.specs.declared.port.Transfer.{Transfer}
 use Rattle.device_model.specs.declared.port.Transfer.TheVariants as transfer
@@ -118,7 +121,7 @@ pub may_be_taken : (p : PortModel) (slot : ℕ) (r : TakenCommand) → HasUntake
 may_be_taken p slot r may beside m =
     let w = may m (operation_of r.transfer) in record { fetchable = w.0; working = w.1; alone = beside m }
 
-module _ (h : Hardware) (o : Outside) (p port slot sectors left : ℕ) (e : p ≡ port) (ready : MayFinish (device_of h o) port slot sectors left) where
+module _ (h : Hardware) (o : Outside) (p port slot sectors left clears : ℕ) (e : p ≡ port) (ready : MayFinish (device_of h o) port slot sectors left clears) where
   abbrev state : PortModel
   state = slice_index_or h.ports p blank
 
@@ -146,89 +149,76 @@ module _ (h : Hardware) (o : Outside) (p port slot sectors left : ℕ) (e : p �
           subst P (sym e) (holds h o port slot ready.t ready.t.meaning.operation works)
       by (inr begins) = absurd (never (o.media p) ready.t.meaning.operation (fetch_takes h o p port slot ready.t.meaning ready.t.places e begins.0))
 
-module _ (h : Hardware) (p port slot sectors size : ℕ) (r : TakenCommand) (e : p ≡ port) (sized : size ≡ vec_len h.memory) where
-  memory_size : size ≡ length h.memory.items
-  memory_size = let ok = h.memory.ok.0 in omega (arith, sized, ok)
-
-  covers : (left : ℕ) → IsCovered (taken_of r) size sectors left → IsCovered (taken_of r) (length h.memory.items) sectors left
-  covers left covered =
-      let P : ℕ → Type 0 = λ n. IsCovered (taken_of r) n sectors left in
-      subst P memory_size covered
-
+module _ (h : Hardware) (p port slot sectors : ℕ) (r : TakenCommand) (e : p ≡ port) where
   -- a command that may be taken is ready
-  pub ready_to_take : (result : Option ℕ) → IfSome result (λ left. IsCovered (taken_of r) size sectors left) → r.moved ≡ 0 →
+  pub ready_to_take : (left clears : ℕ) → IsRest r h.memory.items sectors left clears → IsNew r →
       HasUntaken (slice_index_or h.ports p blank) slot → IsBeside (slice_index_or h.ports p blank) r →
       Says (bytes_of h.memory.items) (slice_index_or h.ports p blank).addresses.clb slot (taken_of r).meaning (taken_of r).places →
-      IfSome result (λ left. (o : Outside) → MayFinish (device_of h o) port slot sectors left)
-  ready_to_take None covered unmoved may beside says = tt
-  ready_to_take (Some left) covered unmoved may beside says =
-      λ (o : Outside).
-      let P : ℕ → Type 0 = λ q. MayFinish (device_of h o) q slot sectors left in
+      (o : Outside) → MayFinish (device_of h o) port slot sectors left clears
+  ready_to_take left clears rest new may beside says o =
+      let P : ℕ → Type 0 = λ q. MayFinish (device_of h o) q slot sectors left clears in
       let m = may (o.media p) (operation_of r.transfer) in
       subst P e
       (record {
         t = taken_of r;
         takes = is_taken r.transfer;
-        covered = covers left covered;
-        begins = inr (
-          record { fetchable = m.0; working = m.1; alone = beside (o.media p); says = says },
-          ap (λ n. record (begun (taken_of r).meaning (taken_of r).places) { moved = n }) unmoved,
-        );
+        covered = rest.0;
+        clearing = rest.1;
+        begins = inr (record { fetchable = m.0; working = m.1; alone = beside (o.media p); says = says }, new_begun r new);
       })
 
   -- and so is one that is taken
-  pub ready_to_go : (result : Option ℕ) → IfSome result (λ left. IsCovered (taken_of r) size sectors left) → HoldsAt (slice_index_or h.ports p blank) slot r →
-      IfSome result (λ left. (o : Outside) → MayFinish (device_of h o) port slot sectors left)
-  ready_to_go None covered holds = tt
-  ready_to_go (Some left) covered holds =
-      λ (o : Outside).
-      let P : ℕ → Type 0 = λ q. MayFinish (device_of h o) q slot sectors left in
-      subst P e (record { t = taken_of r; takes = is_taken r.transfer; covered = covers left covered; begins = inl (holds.works (o.media p)) })
+  pub ready_to_go : (left clears : ℕ) → IsRest r h.memory.items sectors left clears → HoldsAt (slice_index_or h.ports p blank) slot r →
+      (o : Outside) → MayFinish (device_of h o) port slot sectors left clears
+  ready_to_go left clears rest here o =
+      let P : ℕ → Type 0 = λ q. MayFinish (device_of h o) q slot sectors left clears in
+      subst P e (record { t = taken_of r; takes = is_taken r.transfer; covered = rest.0; clearing = rest.1; begins = inl (here.works (o.media p)) })
 
-  -- a command that is ready, as far as these are its moves
-  covers_back : (left : ℕ) (o : Outside) (ready : MayFinish (device_of h o) port slot sectors left) → ready.t ≡ taken_of r → IsCovered (taken_of r) size sectors left
-  covers_back left o ready same =
-      let P : ℕ → Type 0 = λ n. IsCovered (taken_of r) n sectors left in
+  -- a command that is ready, as far as these are its moves and clears
+  rest_back : (left clears : ℕ) (o : Outside) (ready : MayFinish (device_of h o) port slot sectors left clears) → ready.t ≡ taken_of r →
+      IsRest r h.memory.items sectors left clears
+  rest_back left clears o ready same =
       let Q : Taken → Type 0 = λ t. IsCovered t (length h.memory.items) sectors left in
-      subst P (sym memory_size) (subst Q same ready.covered)
+      let R : Taken → Type 0 = λ t. WillClear t.meaning.operation (bytes_of h.memory.items) t sectors clears in
+      (subst Q same ready.covered, subst R same ready.clearing)
 
   -- where a command may be taken, one that is ready is the one that its slot's bytes say
-  ready_is_one : HasUntaken (slice_index_or h.ports p blank) slot → r.moved ≡ 0 →
+  ready_is_one : HasUntaken (slice_index_or h.ports p blank) slot → IsNew r →
       Says (bytes_of h.memory.items) (slice_index_or h.ports p blank).addresses.clb slot (taken_of r).meaning (taken_of r).places →
-      (o : Outside) (left : ℕ) (ready : MayFinish (device_of h o) port slot sectors left) → ready.t ≡ taken_of r
-  ready_is_one may unmoved says o left ready =
+      (o : Outside) (left clears : ℕ) (ready : MayFinish (device_of h o) port slot sectors left clears) → ready.t ≡ taken_of r
+  ready_is_one may new says o left clears ready =
       let t : Taken = ready.t in
       let memory = bytes_of h.memory.items in
       let list = (slice_index_or h.ports p blank).addresses.clb in
-      let there = ready_said h o p port slot sectors left e ready may in
+      let there = ready_said h o p port slot sectors left clears e ready may in
       let meaning = says_meaning memory list slot t.meaning (taken_of r).meaning t.places (taken_of r).places there says in
       let places = says_places memory list slot t.meaning (taken_of r).meaning t.places (taken_of r).places there says in
-      (ready_fetch h o p port slot sectors left e ready may).1
-      ∙ ((λ i. begun (meaning i) (places i)) ∙ ap (λ n. record (begun (taken_of r).meaning (taken_of r).places) { moved = n }) (sym unmoved))
+      (ready_fetch h o p port slot sectors left clears e ready may).1 ∙ ((λ i. begun (meaning i) (places i)) ∙ sym (new_begun r new))
 
-  pub ready_is_said : HasUntaken (slice_index_or h.ports p blank) slot → r.moved ≡ 0 →
+  pub ready_is_said : HasUntaken (slice_index_or h.ports p blank) slot → IsNew r →
       Says (bytes_of h.memory.items) (slice_index_or h.ports p blank).addresses.clb slot (taken_of r).meaning (taken_of r).places →
-      (o : Outside) (left : ℕ) → MayFinish (device_of h o) port slot sectors left → IsCovered (taken_of r) size sectors left
-  ready_is_said may unmoved says o left ready =
-      covers_back left o ready (ready_is_one may unmoved says o left ready)
+      (o : Outside) (left clears : ℕ) → MayFinish (device_of h o) port slot sectors left clears → IsRest r h.memory.items sectors left clears
+  ready_is_said may new says o left clears ready =
+      rest_back left clears o ready (ready_is_one may new says o left clears ready)
 
   -- one that may not be taken beside those that are isn't ready
-  pub ready_beside : HasUntaken (slice_index_or h.ports p blank) slot → r.moved ≡ 0 →
+  pub ready_beside : HasUntaken (slice_index_or h.ports p blank) slot → IsNew r →
       Says (bytes_of h.memory.items) (slice_index_or h.ports p blank).addresses.clb slot (taken_of r).meaning (taken_of r).places →
-      (o : Outside) (left : ℕ) → MayFinish (device_of h o) port slot sectors left → IsAlone (port_of (slice_index_or h.ports p blank) (o.media p)) (operation_of r.transfer)
-  ready_beside may unmoved says o left ready =
-      let same = ready_is_one may unmoved says o left ready in
+      (o : Outside) (left clears : ℕ) → MayFinish (device_of h o) port slot sectors left clears →
+      IsAlone (port_of (slice_index_or h.ports p blank) (o.media p)) (operation_of r.transfer)
+  ready_beside may new says o left clears ready =
+      let same = ready_is_one may new says o left clears ready in
       let P : ℕ → Type 0 = λ q. IsAlone ((device_of h o).port q) ready.t.meaning.operation in
-      let alone = subst P (sym e) (ready_fetch h o p port slot sectors left e ready may).0.alone in
+      let alone = subst P (sym e) (ready_fetch h o p port slot sectors left clears e ready may).0.alone in
       subst (λ (t : Taken). IsAlone (port_of (slice_index_or h.ports p blank) (o.media p)) t.meaning.operation) same alone
 
   -- where it is taken, the one that its slot holds
   pub ready_is_held : HoldsAt (slice_index_or h.ports p blank) slot r → MayTakeNone (slice_index_or h.ports p blank) slot →
-      (o : Outside) (left : ℕ) → MayFinish (device_of h o) port slot sectors left → IsCovered (taken_of r) size sectors left
-  ready_is_held here never o left ready =
-      let w = ready_held h o p port slot sectors left e ready never in
+      (o : Outside) (left clears : ℕ) → MayFinish (device_of h o) port slot sectors left clears → IsRest r h.memory.items sectors left clears
+  ready_is_held here never o left clears ready =
+      let w = ready_held h o p port slot sectors left clears e ready never in
       let same : r ≡ w.0 = some_one (sym here.held ∙ w.1.held) in
-      covers_back left o ready (w.2 ∙ ap taken_of (sym same))
+      rest_back left clears o ready (w.2 ∙ ap taken_of (sym same))
 
 -- ---- IDENTIFY DEVICE
 
@@ -236,25 +226,36 @@ module _ (h : Hardware) (slot size : ℕ) (sized : size ≡ vec_len h.memory) wh
   abbrev port0 : PortModel
   port0 = slice_index_or h.ports 0 blank
 
+  memory_size : size ≡ length h.memory.items
+  memory_size = let ok = h.memory.ok.0 in omega (arith, sized, ok)
+
+  covers : (r : TakenCommand) (left : ℕ) → IsCovered (taken_of r) size 0 left → IsCovered (taken_of r) (length h.memory.items) 0 left
+  covers r left covered = let P : ℕ → Type 0 = λ n. IsCovered (taken_of r) n 0 left in subst P memory_size covered
+
+  covers_back : (r : TakenCommand) (left : ℕ) → IsCovered (taken_of r) (length h.memory.items) 0 left → IsCovered (taken_of r) size 0 left
+  covers_back r left covered = let P : ℕ → Type 0 = λ n. IsCovered (taken_of r) n 0 left in subst P (sym memory_size) covered
+
+  -- it clears nothing
+  clears : (r : TakenCommand) → r.transfer ≡ transfer.Identify → WillClear (operation_of r.transfer) (bytes_of h.memory.items) (taken_of r) 0 0
+  clears r kind = identify_clears (operation_of r.transfer) (bytes_of h.memory.items) (taken_of r) 0 (ap operation_of kind)
+
   -- a command that can be done to its end
   abbrev pub Ends : TakenCommand → Type 0
   Ends r = (left : ℕ) × IsCovered (taken_of r) size 0 left × AreInside (2 ^ 32) (pieces r.prds)
 
   -- one that may be taken
-  pub identify_said : (r : TakenCommand) → r.moved ≡ 0 → Says (bytes_of h.memory.items) port0.addresses.clb slot (taken_of r).meaning (taken_of r).places →
+  pub identify_said : (r : TakenCommand) → IsNew r → Says (bytes_of h.memory.items) port0.addresses.clb slot (taken_of r).meaning (taken_of r).places →
       r.transfer ≡ transfer.Identify → HasUntaken port0 slot → IsBeside port0 r → Ends r → (o : Outside) → HasIdentify (device_of h o) slot
-  identify_said r unmoved says kind may beside ends o =
+  identify_said r new says kind may beside ends o =
       let m = may (o.media 0) (operation_of r.transfer) in
       record {
         left = ends.0;
         ready = record {
           t = taken_of r;
           takes = is_taken r.transfer;
-          covered = covers h 0 0 slot 0 size r refl sized ends.0 ends.1;
-          begins = inr (
-            record { fetchable = m.0; working = m.1; alone = beside (o.media 0); says = says },
-            ap (λ n. record (begun (taken_of r).meaning (taken_of r).places) { moved = n }) unmoved,
-          );
+          covered = covers r ends.0 ends.1;
+          clearing = clears r kind;
+          begins = inr (record { fetchable = m.0; working = m.1; alone = beside (o.media 0); says = says }, new_begun r new);
         };
         identifies = ap operation_of kind;
         low = ends.2;
@@ -264,15 +265,15 @@ module _ (h : Hardware) (slot size : ℕ) (sized : size ≡ vec_len h.memory) wh
   pub identify_unsaid : ((m : Meaning) (places : List ℕ) → m.operation ≡ Identify → Says (bytes_of h.memory.items) port0.addresses.clb slot m places → ⊥) →
       HasUntaken port0 slot → (o : Outside) → HasIdentify (device_of h o) slot → ⊥
   identify_unsaid none may o has =
-      none has.ready.t.meaning has.ready.t.places has.identifies (ready_said h o 0 0 slot 0 has.left refl has.ready may)
+      none has.ready.t.meaning has.ready.t.places has.identifies (ready_said h o 0 0 slot 0 has.left 0 refl has.ready may)
 
   -- and where one may be taken, it is the one that is ready
-  pub identify_endless : (r : TakenCommand) → r.moved ≡ 0 → Says (bytes_of h.memory.items) port0.addresses.clb slot (taken_of r).meaning (taken_of r).places →
+  pub identify_endless : (r : TakenCommand) → IsNew r → Says (bytes_of h.memory.items) port0.addresses.clb slot (taken_of r).meaning (taken_of r).places →
       HasUntaken port0 slot → ((left : ℕ) → IsCovered (taken_of r) size 0 left → AreInside (2 ^ 32) (pieces r.prds) → ⊥) → (o : Outside) →
       HasIdentify (device_of h o) slot → ⊥
-  identify_endless r unmoved says may never o has =
-      let same = ready_is_one h 0 0 slot 0 size r refl sized may unmoved says o has.left has.ready in
-      never has.left (ready_is_said h 0 0 slot 0 size r refl sized may unmoved says o has.left has.ready)
+  identify_endless r new says may never o has =
+      let same = ready_is_one h 0 0 slot 0 r refl may new says o has.left 0 has.ready in
+      never has.left (covers_back r has.left (ready_is_said h 0 0 slot 0 r refl may new says o has.left 0 has.ready).0)
       (subst (λ (t : Taken). AreInside (2 ^ 32) t.places) same has.low)
 
   -- one that is taken
@@ -282,7 +283,8 @@ module _ (h : Hardware) (slot size : ℕ) (sized : size ≡ vec_len h.memory) wh
     ready = record {
       t = taken_of r;
       takes = is_taken r.transfer;
-      covered = covers h 0 0 slot 0 size r refl sized ends.0 ends.1;
+      covered = covers r ends.0 ends.1;
+      clearing = clears r kind;
       begins = inl (held.works (o.media 0));
     };
     identifies = ap operation_of kind;
@@ -292,9 +294,9 @@ module _ (h : Hardware) (slot size : ℕ) (sized : size ≡ vec_len h.memory) wh
   pub identify_unheld : ((r : TakenCommand) → HoldsAt port0 slot r → r.transfer ≡ transfer.Identify → Ends r → ⊥) → MayTakeNone port0 slot → (o : Outside) →
       HasIdentify (device_of h o) slot → ⊥
   identify_unheld none never o has =
-      let w = ready_held h o 0 0 slot 0 has.left refl has.ready never in
+      let w = ready_held h o 0 0 slot 0 has.left 0 refl has.ready never in
       none w.0 w.1 (is_identify w.0.transfer (sym (ap (λ (t : Taken). t.meaning.operation) w.2) ∙ has.identifies))
-      (has.left, covers_back h 0 0 slot 0 size w.0 refl sized has.left o has.ready w.2, subst (λ (t : Taken). AreInside (2 ^ 32) t.places) w.2 has.low)
+      (has.left, covers_back w.0 has.left (rest_back h 0 0 slot 0 w.0 refl has.left 0 o has.ready w.2).0, subst (λ (t : Taken). AreInside (2 ^ 32) t.places) w.2 has.low)
 
 -- what a look at a slot finds, by whether it can be done to its end
 pub finds : (d : Device) (slot : ℕ) (ends : Bool) → (ends ≡ true → HasIdentify d slot) → (ends ≡ false → MayIdentify d slot × (HasIdentify d slot → ⊥)) →
@@ -324,7 +326,7 @@ module _ (h : Hardware) (slot : ℕ) where
     meaning = has.ready.t.meaning;
     places = has.ready.t.places;
     identifies = has.identifies;
-    can = (ready_fetch h o 0 0 slot 0 has.left refl has.ready may).0;
+    can = (ready_fetch h o 0 0 slot 0 has.left 0 refl has.ready may).0;
   }
 
   -- none may be beside others that are taken

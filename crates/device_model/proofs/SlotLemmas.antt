@@ -7,6 +7,8 @@ use Rattle.adapter.specs.Device.{Taken}
 use Rattle.adapter.specs.Memory.{changed}
 use Rattle.adapter.specs.Steps.{begun}
 use Rattle.adapter.proofs.Changed.{fun_ext, changed_same, changed_other}
+use Rattle.device_model.specs.Block.{brought}
+use Rattle.device_model.specs.Fetched.{IsNew}
 use Rattle.device_model.specs.View.{held_in, slots_of, taken_of, blank}
 use Rattle.device_model.specs.declared.port.PortModel.{PortModel}
 use Rattle.device_model.specs.declared.port.TakenCommand.{TakenCommand}
@@ -70,11 +72,15 @@ filled_still items slot new bits small tell same =
       | inr there ↦ sym (changed_other bits slot (is_some new) k there.1)
     ]))
 
--- what is taken in a slot of which nothing was moved yet has just begun
-pub slots_begun : (taken : ℕ → Option TakenCommand) (slot : ℕ) (r : TakenCommand) → r.moved ≡ 0 →
+-- a command of which nothing was moved or cleared yet has just begun
+pub new_begun : (r : TakenCommand) → IsNew r → taken_of r ≡ begun (taken_of r).meaning (taken_of r).places
+new_begun r new = λ i. record (taken_of r) { moved = new.moved i; block = brought (new.block i); cleared = new.cleared i }
+
+-- what is taken in such a slot
+pub slots_begun : (taken : ℕ → Option TakenCommand) (slot : ℕ) (r : TakenCommand) → IsNew r →
     slots_of (changed taken slot (Some r)) ≡ changed (slots_of taken) slot (Some (begun (taken_of r).meaning (taken_of r).places))
-slots_begun taken slot r unmoved =
-    slots_changed taken slot (Some r) ∙ ap (λ (n : ℕ). changed (slots_of taken) slot (Some (record (taken_of r) { moved = n }))) unmoved
+slots_begun taken slot r new =
+    slots_changed taken slot (Some r) ∙ ap (λ (t : Taken). changed (slots_of taken) slot (Some t)) (new_begun r new)
 
 -- the command that is taken in a slot
 pub slot_taken : (taken : ℕ → Option TakenCommand) (t : TakenCommand) (slot : ℕ) → taken slot ≡ Some t → slots_of taken slot ≡ Some (taken_of t)

@@ -5,9 +5,9 @@ use Rattle.std.specs.Global.{Vec}
 use Rattle.adapter.specs.Commands.{Meaning, direction_of, is_ranged, reads_memory}
 use Rattle.adapter.specs.Device.{Disk, Device, IsSector}
 use Rattle.adapter.specs.Memory.{patched, bytes_at}
-use Rattle.adapter.specs.Says.{Says, pieces}
-use Rattle.adapter.specs.Steps.{after, MayBeDone, MayFetch, MayMove, Brings, with_fetch, with_move, with_done, done_entry, move_of, noted_bytes, memory_after, next_place, next_sector}
-use Rattle.adapter.specs.Steps.Step.{Move, Unplug, Plug}
+use Rattle.adapter.specs.Says.{Says}
+use Rattle.adapter.specs.Steps.{after, IsFinished, MayBeDone, MayFetch, MayMove, Brings, with_clear, with_fetch, with_move, with_done, clear_entry, done_entry, move_of, noted_bytes, memory_after, next_place, next_sector}
+use Rattle.adapter.specs.Steps.Step.{Clear, Move, Unplug, Plug}
 use Rattle.adapter.specs.declared.command.Direction.{Direction}
 use Rattle.adapter.specs.declared.command.Operation.{Operation}
 use Rattle.adapter.specs.declared.tape.Entry.{Entry}
@@ -17,8 +17,8 @@ use Rattle.adapter.specs.Asked.{DoesFetch, Ends}
 use Rattle.device_model.specs.Fetched.{bytes_of}
 use Rattle.device_model.specs.Sent.{SendsEnd}
 use Rattle.device_model.specs.Slots.{MayTake, HoldsAt, IsNext}
-use Rattle.device_model.specs.View.{Media, cause_of, media_after, operation_of, port_of, taken_of, blank}
-use Rattle.device_model.specs.Whole.{Outside, device_of, outside_after, outside_plugged}
+use Rattle.device_model.specs.View.{Media, cause_of, media_after, media_cleared, operation_of, port_of, taken_of, blank}
+use Rattle.device_model.specs.Whole.{Outside, device_of, outside_after, outside_cleared, outside_plugged}
 use Rattle.device_model.specs.declared.port.TakenCommand.{TakenCommand}
 use Rattle.device_model.specs.declared.port.Transfer.{Transfer}
 use Rattle.device_model.specs.declared.port.Transfer.TheVariants as transfer
@@ -26,7 +26,6 @@ use Rattle.device_model.specs.declared.port.PortModel.{PortModel}
 use Rattle.device_model.specs.declared.hardware.Hardware.{Hardware}
 use Rattle.device_model.specs.declared.steps.NextMove.{NextMove}
 use Rattle.device_model.proofs.Ports.{set_port, set_port_plugged, set_port_recorded, set_port_moved}
-use Rattle.device_model.proofs.Transfers.{no_trim}
 
 -- an entry of a move, by its parts
 abbrev pub moved_by : (port slot : ℕ) (operation : Operation) (sector address : ℕ) (direction : Direction) (bytes : List ℕ) → tape_move.Move
@@ -86,23 +85,25 @@ plugged_in h o new tape disk number name some is more =
 
 is_cause : (k : Transfer) → (cause_of k ≡ 0) ⊎ (cause_of k ≡ 1) ⊎ (cause_of k ≡ 3)
 is_cause transfer.Identify = inr (inl refl)
+is_cause transfer.Flush = inl refl
+is_cause transfer.Trim = inl refl
 is_cause transfer.Read = inl refl
 is_cause transfer.Write = inl refl
 is_cause transfer.ReadQueued = inr (inr refl)
 is_cause transfer.WriteQueued = inr (inr refl)
 
--- a command of which all was moved may end
+-- a command of which nothing is left may end
 pub may_end : (h : Hardware) (o : Outside) (port slot : ℕ) (t : TakenCommand) → HoldsAt (slice_index_or h.ports port blank) slot t →
-    t.moved ≡ length (pieces t.prds) → MayBeDone (device_of h o) port slot (cause_of t.transfer) (taken_of t)
+    IsFinished (taken_of t) → MayBeDone (device_of h o) port slot (cause_of t.transfer) (taken_of t)
 may_end h o port slot t holds all = record {
   works = holds.works (o.media port);
-  finished = record { moved = all; cleared = λ trim. absurd (no_trim t.transfer trim) };
+  finished = all;
   shown = is_cause t.transfer;
 }
 
 -- a command is at its end, and its FIS is sent
 pub port_ends : (h : Hardware) (o : Outside) (p port slot : ℕ) (new : PortModel) (t : TakenCommand) (tape : Vec Entry) (last : Device) → p ≡ port →
-    p < length h.ports → HoldsAt (slice_index_or h.ports p blank) slot t → t.moved ≡ length (pieces t.prds) →
+    p < length h.ports → HoldsAt (slice_index_or h.ports p blank) slot t → IsFinished (taken_of t) →
     port_of new (o.media p) ≡ with_done (port_of (slice_index_or h.ports p blank) (o.media p)) slot (cause_of t.transfer) (operation_of t.transfer) →
     tape.items ≡ h.tape.items ++ done_entry port slot (operation_of t.transfer) ∷ [] →
     SendsEnd slot p (cause_of t.transfer) (operation_of t.transfer) (device_of (record h { ports = slice_set h.ports p new; tape = tape }) o) last →
@@ -184,3 +185,20 @@ may_move h o port slot next t bytes is sized small gives takes =
     by transfer.ReadQueued e = given (ap (λ (k : Transfer). is_ranged (operation_of k)) e) (ap (λ (k : Transfer). reads_memory (operation_of k)) e)
     by transfer.WriteQueued e = taken (ap (λ (k : Transfer). is_ranged (operation_of k)) e) (ap (λ (k : Transfer). reads_memory (operation_of k)) e)
     by transfer.Identify e = tt
+    by transfer.Flush e = tt
+    by transfer.Trim e =
+        let place : next.address ≡ next_place (taken_of t) = is.address_is in rw place at (takes (ap (λ (k : Transfer). reads_memory (operation_of k)) e))
+
+-- sectors of a trim are cleared
+pub port_clears : (h : Hardware) (o : Outside) (p port slot first count : ℕ) (new : PortModel) (t : TakenCommand) (tape : Vec Entry) → p ≡ port →
+    p < length h.ports →
+    port_of new (media_cleared (o.media p) first count) ≡ with_clear (port_of (slice_index_or h.ports p blank) (o.media p)) slot (taken_of t) first count →
+    tape.items ≡ h.tape.items ++ clear_entry port slot first count ∷ [] →
+    device_of (record h { ports = slice_set h.ports p new; tape = tape }) (outside_cleared o port first count) ≡ after (Clear port slot (taken_of t) first count) (device_of h o)
+port_clears h o p port slot first count new t tape e small is more =
+    let new_tape : Vec Entry = tape in
+    let back : port ≡ p = sym e in
+    let entries : tape.items ≡ h.tape.items ++ clear_entry p slot first count ∷ [] = more ∙ (λ i. h.tape.items ++ clear_entry (back i) slot first count ∷ []) in
+    subst (λ q. device_of (record h { ports = slice_set h.ports p new; tape = new_tape }) (outside_cleared o q first count)
+    ≡ after (Clear q slot (taken_of t) first count) (device_of h o)) e
+    (set_port_plugged h o p new (media_cleared (o.media p) first count) _ tape (clear_entry p slot first count) small is entries)

@@ -1,5 +1,5 @@
--- What the commands that the model takes have in common: they are no trims.
-use Rattle.std.proofs.Common.{ℕ, false, ◌≡◌, ◌&&◌, List, Option, None, Some, refl, ap, inl, inr}
+-- What the commands that the model takes have in common.
+use Rattle.std.proofs.Common.{ℕ, Bool, true, false, ◌≡◌, ◌&&◌, List, Option, None, Some, refl, ap}
 use Rattle.std.specs.Prelude.{is_some, option_map}
 use Rattle.sector_store.specs.Stores.{replaced}
 use Rattle.adapter.specs.Commands.{is_queued, is_ranged}
@@ -7,39 +7,61 @@ use Rattle.adapter.specs.Device.{Disk, Taken, PortState}
 use Rattle.adapter.specs.Memory.{changed}
 use Rattle.adapter.specs.Steps.{IsAlone, block_after, disk_after}
 use Rattle.adapter.specs.declared.command.Operation.{Operation}
-use Rattle.adapter.specs.declared.command.Operation.TheVariants.{Identify, Trim}
+use Rattle.adapter.specs.declared.command.Operation.TheVariants.{Identify, Read, ReadQueued, Write, WriteQueued, Flush, Trim, ReadLog}
 use Rattle.adapter.proofs.Absurd.{true-false}
 use Rattle.device_model.specs.View.{Takes, operation_of}
 use Rattle.device_model.specs.declared.port.Transfer.{Transfer}
 use Rattle.device_model.specs.declared.port.Transfer.TheVariants as transfer
 
-pub no_block : (k : Transfer) (bytes old : List ℕ) → block_after (operation_of k) bytes old ≡ old
-no_block transfer.Read bytes old = refl
-no_block transfer.Write bytes old = refl
-no_block transfer.ReadQueued bytes old = refl
-no_block transfer.WriteQueued bytes old = refl
-no_block transfer.Identify bytes old = refl
+-- no command but a trim keeps what it moves
+pub no_block : (k : Transfer) (bytes old : List ℕ) → (k ≡ transfer.Trim → ⊥) → block_after (operation_of k) bytes old ≡ old
+no_block transfer.Read bytes old other = refl
+no_block transfer.Write bytes old other = refl
+no_block transfer.ReadQueued bytes old other = refl
+no_block transfer.WriteQueued bytes old other = refl
+no_block transfer.Identify bytes old other = refl
+no_block transfer.Flush bytes old other = refl
+no_block transfer.Trim bytes old other = absurd (other refl)
 
-pub no_trim : (k : Transfer) → operation_of k ≡ Trim → ⊥
-no_trim transfer.Read e = cc
-no_trim transfer.Write e = cc
-no_trim transfer.ReadQueued e = cc
-no_trim transfer.WriteQueued e = cc
-no_trim transfer.Identify e = cc
+-- the command whose operation is a trim
+pub is_trim : (k : Transfer) → operation_of k ≡ Trim → k ≡ transfer.Trim
+is_trim transfer.Read e = cc
+is_trim transfer.Write e = cc
+is_trim transfer.ReadQueued e = cc
+is_trim transfer.WriteQueued e = cc
+is_trim transfer.Identify e = cc
+is_trim transfer.Flush e = cc
+is_trim transfer.Trim e = refl
 
 pub is_taken : (k : Transfer) → Takes (operation_of k)
-is_taken transfer.Read = inl refl
-is_taken transfer.Write = inr (inl refl)
-is_taken transfer.Identify = inr (inr (inl refl))
-is_taken transfer.ReadQueued = inr (inr (inr (inl refl)))
-is_taken transfer.WriteQueued = inr (inr (inr (inr refl)))
+is_taken transfer.Read = tt
+is_taken transfer.Write = tt
+is_taken transfer.ReadQueued = tt
+is_taken transfer.WriteQueued = tt
+is_taken transfer.Identify = tt
+is_taken transfer.Flush = tt
+is_taken transfer.Trim = tt
 
 pub transfer_of : (o : Operation) → Takes o → (k : Transfer) × (o ≡ operation_of k)
-transfer_of o (inl read) = (transfer.Read, read)
-transfer_of o (inr (inl write)) = (transfer.Write, write)
-transfer_of o (inr (inr (inl identify))) = (transfer.Identify, identify)
-transfer_of o (inr (inr (inr (inl read)))) = (transfer.ReadQueued, read)
-transfer_of o (inr (inr (inr (inr write)))) = (transfer.WriteQueued, write)
+transfer_of Read takes = (transfer.Read, refl)
+transfer_of Write takes = (transfer.Write, refl)
+transfer_of ReadQueued takes = (transfer.ReadQueued, refl)
+transfer_of WriteQueued takes = (transfer.WriteQueued, refl)
+transfer_of Identify takes = (transfer.Identify, refl)
+transfer_of Flush takes = (transfer.Flush, refl)
+transfer_of Trim takes = (transfer.Trim, refl)
+transfer_of ReadLog takes = absurd takes
+
+-- a command that names no sectors is plain
+pub unranged_plain : (o : Operation) → is_ranged o ≡ false → is_queued o ≡ false
+unranged_plain Read e = refl
+unranged_plain Write e = refl
+unranged_plain ReadQueued e = cc
+unranged_plain WriteQueued e = cc
+unranged_plain Identify e = refl
+unranged_plain Flush e = refl
+unranged_plain Trim e = refl
+unranged_plain ReadLog e = refl
 
 -- where a plain one is alone, no slot is taken
 pub alone_none : (p : PortState) (o : Operation) → is_queued o ≡ false → IsAlone p o → (slot : ℕ) → p.taken slot ≡ None
@@ -59,6 +81,8 @@ pub still_tells : (k : Transfer) (disk : Disk) (sector : ℕ) (bytes : List ℕ)
 still_tells transfer.Read disk sector bytes = refl
 still_tells transfer.ReadQueued disk sector bytes = refl
 still_tells transfer.Identify disk sector bytes = refl
+still_tells transfer.Flush disk sector bytes = refl
+still_tells transfer.Trim disk sector bytes = refl
 still_tells transfer.Write disk sector bytes = mapped_tells sector bytes disk.sectors
 still_tells transfer.WriteQueued disk sector bytes = mapped_tells sector bytes disk.sectors
 
@@ -78,11 +102,16 @@ is_identify transfer.Write e = cc
 is_identify transfer.ReadQueued e = cc
 is_identify transfer.WriteQueued e = cc
 is_identify transfer.Identify e = refl
+is_identify transfer.Flush e = cc
+is_identify transfer.Trim e = cc
 
--- the one command that names no sectors
-pub unranged : (o : Operation) → Takes o → is_ranged o ≡ false → o ≡ Identify
-unranged o (inl read) e = true-false (ap is_ranged read) e
-unranged o (inr (inl write)) e = true-false (ap is_ranged write) e
-unranged o (inr (inr (inl identify))) e = identify
-unranged o (inr (inr (inr (inl read)))) e = true-false (ap is_ranged read) e
-unranged o (inr (inr (inr (inr write)))) e = true-false (ap is_ranged write) e
+-- of two that are queued neither is a trim
+pub both_queued : (k l : Transfer) → is_queued (operation_of k) && is_queued (operation_of l) ≡ true → (k ≡ transfer.Trim → ⊥) × (l ≡ transfer.Trim → ⊥)
+both_queued k l both = (λ trim. true-false both (first trim), λ trim. true-false both (second (is_queued (operation_of k)) trim))
+  where
+    first : k ≡ transfer.Trim → is_queued (operation_of k) && is_queued (operation_of l) ≡ false
+    first trim = ap (λ (x : Transfer). is_queued (operation_of x) && is_queued (operation_of l)) trim
+
+    second : (b : Bool) → l ≡ transfer.Trim → b && is_queued (operation_of l) ≡ false
+    second true trim = ap (λ (x : Transfer). is_queued (operation_of x)) trim
+    second false trim = refl

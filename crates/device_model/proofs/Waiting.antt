@@ -11,15 +11,16 @@ use Rattle.adapter.specs.declared.access.DeviceStep.{DeviceStep}
 use Rattle.adapter.specs.declared.access.DeviceStep.TheVariants as asked
 use Rattle.sector_store.specs.declared.store.Failures.{Failures}
 use Rattle.device_model.specs.Disks.{disk_number, disk_over, store_of}
-use Rattle.device_model.specs.Does.{AnswersStep, MovesSector, Possible, PutsIn, StoreStops, which_after}
+use Rattle.device_model.specs.Does.{AnswersStep, AsksStore, Possible, PutsIn, StoreStops, which_after}
 use Rattle.device_model.specs.Finishing.{HasMove}
 use Rattle.device_model.specs.Modelled.{device_at}
 use Rattle.device_model.specs.Queue.{DoesEach}
 use Rattle.device_model.specs.Sent.{Sends}
+use Rattle.device_model.specs.Trims.{HasClear}
 use Rattle.device_model.specs.declared.disks.Which.{Which}
 use Rattle.device_model.specs.declared.disks.Which.TheVariants.{Disk0, Disk1}
 use Rattle.device_model.specs.declared.model.Model.{Model}
-use Rattle.device_model.proofs.Finishing.{no_move}
+use Rattle.device_model.proofs.Finishing.{no_clear, no_move}
 use Rattle.device_model.proofs.Own.{one_keeps_present, some_keep_present}
 
 named_by : (w : Which) (number : ℕ) → number < 2 → w ≡ (if nat_eq number 0 then Disk0 else Disk1) → number ≡ disk_number w
@@ -31,6 +32,7 @@ still_out : (s : DeviceStep) (d : Device) (w v : Which) → w ≢ v → (PutsIn 
 still_out (asked.Plug p number) d w v out never may = λ e. never (named_by w number.0 may.1 e)
 still_out (asked.Fetch p s) d w v out never may = out
 still_out (asked.Move p s) d w v out never may = out
+still_out (asked.Clear p s n) d w v out never may = out
 still_out (asked.Done p s) d w v out never may = out
 still_out (asked.Finish p s) d w v out never may = out
 still_out (asked.Lie p page offset bits) d w v out never may = out
@@ -44,7 +46,8 @@ still_empty : (s : DeviceStep) (old new : Device) (w v : Which) → w ≡ v → 
     AskedOf (Sends s) s old new → w ≡ which_after s v → (new.port 0).present ≡ false
 still_empty (asked.Fetch p s) old new w v is empty never may did same = one_keeps_present p.0 s.0 old new (inl did) ∙ empty
 still_empty (asked.Move p s) old new w v is empty never may did same = one_keeps_present p.0 s.0 old new (inr (inl did)) ∙ empty
-still_empty (asked.Done p s) old new w v is empty never may did same = one_keeps_present p.0 s.0 old new (inr (inr did)) ∙ empty
+still_empty (asked.Clear p s n) old new w v is empty never may did same = one_keeps_present p.0 s.0 old new (inr (inr (inr (n, did)))) ∙ empty
+still_empty (asked.Done p s) old new w v is empty never may did same = one_keeps_present p.0 s.0 old new (inr (inr (inl did))) ∙ empty
 still_empty (asked.Finish p s) old new w v is empty never may did same = some_keep_present (suc did.0) p.0 s.0 old new did.1 ∙ empty
 still_empty (asked.Lie p page offset bits) old new w v is empty never may did same = ap (λ (d : Device). (d.port 0).present) did ∙ empty
 still_empty (asked.Truth p) old new w v is empty never may did same = ap (λ (d : Device). (d.port 0).present) did ∙ empty
@@ -76,16 +79,28 @@ module _ {S : Type 0} (size : S → ℕ) (told : S → Option (ℕ → List ℕ)
         | inr there ↦ no_move m.hardware (disk_over m.which (size m.disk) (told m.disk)) (told m.other) _ port slot t there.1 move
       ]
 
-  -- so no sector is moved
-  none_moves : (s : DeviceStep) (m : Model S) → ((device_at size told m).port 0).present ≡ false → MovesSector s (device_at size told m) → ⊥
+  -- nor a clear
+  none_clears : (m : Model S) (port slot most : ℕ) (t : Taken) → ((device_at size told m).port 0).present ≡ false → HasClear (device_at size told m) port slot most t → ⊥
+  none_clears m port slot most t empty clear =
+      elim (eqb_tells port 0) [
+        | inl here ↦
+            let P : ℕ → Type 0 = λ q. ((device_at size told m).port q).present ≡ true in
+            let present = subst P here.1 clear.works.working.present in
+            let no : true ≡ false = sym present ∙ empty in
+            cc
+        | inr there ↦ no_clear m.hardware (disk_over m.which (size m.disk) (told m.disk)) (told m.other) _ port slot most t there.1 clear
+      ]
+
+  -- so the store isn't asked
+  none_moves : (s : DeviceStep) (m : Model S) → ((device_at size told m).port 0).present ≡ false → AsksStore s (device_at size told m) → ⊥
   none_moves (asked.Move p s) m empty moves = none_has m p.0 s.0 moves.1 empty moves.2
-  none_moves (asked.Finish p s) m empty moves = by moves.3.begins
+  none_moves (asked.Finish p s) m empty moves = by moves.4.begins
     where
       d : Device
       d = device_at size told m
 
       t : Taken
-      t = moves.3.t
+      t = moves.4.t
 
       there : (d.port p.0).present ≡ true → ⊥
       there present =
@@ -97,6 +112,7 @@ module _ {S : Type 0} (size : S → ℕ) (told : S → Option (ℕ → List ℕ)
       by (inl works) = there works.working.present
       by (inr begins) = there begins.0.working.present
   none_moves (asked.Fetch p s) m empty moves = moves
+  none_moves (asked.Clear p s most) m empty moves = none_clears m p.0 s.0 most moves.1 empty moves.2
   none_moves (asked.Done p s) m empty moves = moves
   none_moves (asked.Lie p page offset bits) m empty moves = moves
   none_moves (asked.Truth p) m empty moves = moves
@@ -109,8 +125,12 @@ module _ {S : Type 0} (size : S → ℕ) (told : S → Option (ℕ → List ℕ)
   none_stops : (s : DeviceStep) (was now : Option Failures) (old new : Model S) → ((device_at size told old).port 0).present ≡ false →
       device_at size told new ≡ device_at size told old → StoreStops s was now (device_at size told new) → ⊥
   none_stops (asked.Move p s) was now old new empty same f = none_has old p.0 s.0 f.t empty (subst (λ (d : Device). HasMove d p.0 s.0 f.t) same f.move)
-  none_stops (asked.Finish p s) was now old new empty same f = none_has old p.0 s.0 f.t empty (subst (λ (d : Device). HasMove d p.0 s.0 f.t) same f.move)
+  none_stops (asked.Finish p s) was now old new empty same (inl f) = none_has old p.0 s.0 f.t empty (subst (λ (d : Device). HasMove d p.0 s.0 f.t) same f.move)
+  none_stops (asked.Finish p s) was now old new empty same (inr f) =
+      none_clears old p.0 s.0 1 f.t empty (subst (λ (d : Device). HasClear d p.0 s.0 1 f.t) same f.clear)
   none_stops (asked.Fetch p s) was now old new empty same f = f
+  none_stops (asked.Clear p s most) was now old new empty same f =
+      none_clears old p.0 s.0 1 f.t empty (subst (λ (d : Device). HasClear d p.0 s.0 1 f.t) same f.clear)
   none_stops (asked.Done p s) was now old new empty same f = f
   none_stops (asked.Lie p page offset bits) was now old new empty same f = f
   none_stops (asked.Truth p) was now old new empty same f = f

@@ -20,11 +20,14 @@ use Rattle.device_model.specs.Held.{held_after}
 use Rattle.device_model.specs.Modelled.{device_at}
 use Rattle.device_model.specs.Paged.{GainsPages, lying, no_lies}
 use Rattle.device_model.specs.Sent.{Sends}
+use Rattle.device_model.specs.Trims.{HasClear, next_uncleared, span}
 use Rattle.device_model.specs.View.{Takes}
 use Rattle.device_model.specs.declared.disks.Inserted.{Inserted}
 use Rattle.device_model.specs.declared.disks.Which.{Which}
 use Rattle.device_model.specs.declared.disks.Which.TheVariants.{Disk0, Disk1}
 use Rattle.device_model.specs.declared.hardware.Hardware.{Hardware}
+use Rattle.device_model.specs.declared.model.Clearing.{Clearing}
+use Rattle.device_model.specs.declared.model.Clearing.TheVariants.{Left}
 use Rattle.device_model.specs.declared.model.Description.{Description}
 use Rattle.device_model.specs.declared.model.Model.{Model}
 
@@ -32,13 +35,14 @@ use Rattle.device_model.specs.declared.model.Model.{Model}
 
 -- The step may be done now, memory to note it aside. There are ports 0 to 3 with slots 0 to 31, of which port 0 alone has disks; what is said of a
 -- page of any other port says nothing, and is done; a page has 512 bytes; and disks 0 and 1 can be put in, where no disk is. A Finish is possible
--- where each of its moves is.
+-- where each of its moves and clears is.
 abbrev pub Possible : DeviceStep → Device → Type 0
 Possible (asked.Fetch p s) d =
     (p.0 < 4) × (s.0 < 32) × (meaning : Meaning) × (places : List ℕ) × Takes meaning.operation × Can (Fetch p.0 s.0 meaning places) d
 Possible (asked.Move p s) d = (s.0 < 32) × (t : Taken) × HasMove d p.0 s.0 t
+Possible (asked.Clear p s most) d = (s.0 < 32) × (t : Taken) × HasClear d p.0 s.0 most t
 Possible (asked.Done p s) d = (p.0 < 4) × (s.0 < 32) × (flag : ℕ) × (t : Taken) × Can (Done p.0 s.0 flag t) d
-Possible (asked.Finish p s) d = (p.0 ≡ 0) × (s.0 < 32) × (left : ℕ) × MayFinish d p.0 s.0 (d.port 0).disk.size left
+Possible (asked.Finish p s) d = (p.0 ≡ 0) × (s.0 < 32) × (left clears : ℕ) × MayFinish d p.0 s.0 (d.port 0).disk.size left clears
 Possible (asked.Lie p page offset bits) d = offset < 512
 Possible (asked.Truth p) d = Unit {0}
 Possible (asked.Hold p) d = p.0 < 4
@@ -47,23 +51,30 @@ Possible (asked.Unplug p) d = (p.0 ≡ 0) × Can (Unplug 0) d
 Possible (asked.Plug p number) d = (p.0 ≡ 0) × (number.0 < 2) × ((d.port 0).present ≡ false)
 
 -- Without growing, the tape has no room for what the step notes there, or, for a Plug, the list of the disks that were put in has none. A Finish notes
--- each of its moves, and the end. The other steps note nothing.
+-- each of its moves and clears, and the end. The other steps note nothing.
 abbrev pub LacksMemory : {S : Type 0} → DeviceStep → Device → Hardware → Vec (Inserted S) → Type 0
 LacksMemory (asked.Move p s) d h plugged = HasRoom h 1 → ⊥
+LacksMemory (asked.Clear p s most) d h plugged = HasRoom h 1 → ⊥
 LacksMemory (asked.Done p s) d h plugged = HasRoom h 1 → ⊥
 LacksMemory (asked.Finish p s) d h plugged =
-    (left : ℕ) × MayFinish d p.0 s.0 (d.port 0).disk.size left × (HasRoom h (left + 1) → ⊥)
+    (left clears : ℕ) × MayFinish d p.0 s.0 (d.port 0).disk.size left clears × (HasRoom h (left + clears + 1) → ⊥)
 LacksMemory (asked.Unplug p) d h plugged = HasRoom h 1 → ⊥
 LacksMemory (asked.Plug p number) d h plugged = HasRoom h 1 → vec_len plugged < vec_capacity plugged → ⊥
 LacksMemory step d h plugged = ⊥
 
--- The step is possible and moves a sector of the disk that is in: a Move, or a Finish that has a move left, of a command that names sectors. No other
--- step asks a store for anything.
-abbrev pub MovesSector : DeviceStep → Device → Type 0
-MovesSector (asked.Move p s) d = (s.0 < 32) × (t : Taken) × HasMove d p.0 s.0 t × (is_ranged t.meaning.operation ≡ true)
-MovesSector (asked.Finish p s) d =
-    (p.0 ≡ 0) × (s.0 < 32) × (left : ℕ) × (may : MayFinish d p.0 s.0 (d.port 0).disk.size (left + 1)) × (is_ranged may.t.meaning.operation ≡ true)
-MovesSector step d = ⊥
+-- so many moves of sectors, or clears, are left of an operation
+abbrev pub AsksFor : Operation → (left clears : ℕ) → Type 0
+AsksFor operation left clears = ((is_ranged operation ≡ true) × (1 ≤ left)) ⊎ (1 ≤ clears)
+
+-- The step is possible and moves or clears a sector of the disk that is in: a Move, or a Finish that has a move left, of a command that names sectors; a
+-- Clear, or a Finish that has one left. No other step asks a store for anything.
+abbrev pub AsksStore : DeviceStep → Device → Type 0
+AsksStore (asked.Move p s) d = (s.0 < 32) × (t : Taken) × HasMove d p.0 s.0 t × (is_ranged t.meaning.operation ≡ true)
+AsksStore (asked.Clear p s most) d = (s.0 < 32) × (t : Taken) × HasClear d p.0 s.0 most t
+AsksStore (asked.Finish p s) d =
+    (p.0 ≡ 0) × (s.0 < 32) × (left clears : ℕ) × (may : MayFinish d p.0 s.0 (d.port 0).disk.size left clears)
+    × AsksFor may.t.meaning.operation left clears
+AsksStore step d = ⊥
 
 -- Each place of the memory has an address of 32 bits, for a step to which that matters: a Move, or a Finish of a command that is taken already.
 abbrev pub NeedsAddresses : DeviceStep → Device → Type 0
@@ -96,21 +107,31 @@ pub record StepKeeps {S : Type 0} (size : S → ℕ) (old new : Model S) : Type 
   pub queue : new.queue ≡ old.queue
   pub accesses : new.accesses ≡ old.accesses
 
--- One more call on the store of the disk that is in has failed: that of the slot's command for the sector that it moves next.
-pub record FailsAt (port slot : ℕ) (was now : Option Failures) (d : Device) : Type 0 where
+-- One more call on the store of the disk that is in has failed: that of the slot's command for the sector that it moves next, or clears next.
+pub record FailsToMove (port slot : ℕ) (was now : Option Failures) (d : Device) : Type 0 where
   pub t : Taken
   pub move : HasMove d port slot t
   pub ranged : is_ranged t.meaning.operation ≡ true
   pub fails : FailsOn (reads_memory t.meaning.operation) (next_sector t) was now
 
+pub record FailsToClear (port slot : ℕ) (was now : Option Failures) (d : Device) : Type 0 where
+  pub t : Taken
+  pub clear : HasClear d port slot 1 t
+  pub fails : FailsOn true (next_uncleared t) was now
+
+abbrev pub FailsAt : (port slot : ℕ) → (was now : Option Failures) → Device → Type 0
+FailsAt port slot was now d = FailsToMove port slot was now d ⊎ FailsToClear port slot was now d
+
 -- so the store stops a step, which is left
 abbrev pub StoreStops : DeviceStep → (was now : Option Failures) → Device → Type 0
-StoreStops (asked.Move p s) was now d = FailsAt p.0 s.0 was now d
+StoreStops (asked.Move p s) was now d = FailsToMove p.0 s.0 was now d
+StoreStops (asked.Clear p s most) was now d = FailsToClear p.0 s.0 was now d
 StoreStops (asked.Finish p s) was now d = FailsAt p.0 s.0 was now d
 StoreStops step was now d = ⊥
 
--- so it cuts a step short, which is done: a Finish, that came to this sector
+-- so it cuts a step short, which is done: a Clear or a Finish, that came to this sector
 abbrev pub StoreCuts : DeviceStep → (was now : Option Failures) → Device → Type 0
+StoreCuts (asked.Clear p s most) was now d = FailsToClear p.0 s.0 was now d
 StoreCuts (asked.Finish p s) was now d = FailsAt p.0 s.0 was now d
 StoreCuts step was now d = ⊥
 
@@ -129,14 +150,26 @@ pub record HasEnded (since d : Device) (port slot : ℕ) : Type 0 where
   pub clear : (if is_queued operation then (d.port port).sact slot else (d.port port).ci slot) ≡ false
   pub issued_no_more : is_queued operation ≡ true → ((since.port port).taken slot ≡ None) ⊎ ((since.port port).ci slot ≡ false) → (d.port port).ci slot ≡ false
 
--- a Finish ends its command
+-- So many sectors of the slot's trim at the most were cleared: of the next ones all that follow one another and are on the disk.
+pub record HasCleared (old new : Device) (port slot most : ℕ) : Type 0 where
+  pub t : Taken
+  pub was : (old.port port).taken slot ≡ Some t
+  pub is : (new.port port).taken slot ≡ Some (record t { cleared = t.cleared + span (old.port port).disk.size most t })
+
+-- what came of a clear is that some sectors are cleared
+abbrev pub has_cleared : Clearing → Bool
+has_cleared Left = false
+has_cleared _ = true
+
+-- a Finish ends its command, and a Clear clears all that can be cleared at once
 abbrev pub EndsIt : DeviceStep → Device → Device → Type 0
+EndsIt (asked.Clear p s most) old new = HasCleared old new p.0 s.0 most
 EndsIt (asked.Finish p s) old new = HasEnded old new p.0 s.0
 EndsIt step old new = Unit {0}
 
 -- A step that is done: the device did what it was asked, and sent the FIS of a command that ended. No call on a store has failed, and a Finish ended its
--- command, in a memory of at most 4 GiB; or a call failed, and the Finish came to the sector on which it did. The ports are held that are held after it;
--- the disk is in, or was last, that is after it, and each disk has the sectors that it had, but where a sector is moved; the disks say of themselves what
+-- command, in a memory of at most 4 GiB, and a Clear did all that it could; or a call failed, and the Finish, or the Clear, came to the sector on which it did. The ports are held that are held after it;
+-- the disk is in, or was last, that is after it, and each disk has the sectors that it had, but where a sector is moved or cleared; the disks say of themselves what
 -- they say after it, and each page that the tape has gained is as the one that was in said before; and that nothing was left out for want of memory is
 -- told as it was.
 pub record Did {S : Type 0} (size : S → ℕ) (told : S → Option (ℕ → List ℕ)) (failures : S → Option Failures) (s : DeviceStep) (old new : Model S) : Type 0 where
@@ -147,7 +180,7 @@ pub record Did {S : Type 0} (size : S → ℕ) (told : S → Option (ℕ → Lis
   pub says : new.says ≡ says_after s old.says
   pub which : new.which ≡ which_after s old.which
   pub pages : GainsPages size old new
-  pub disks : (MovesSector s (device_at size told old) → ⊥) → (which : Which) → store_of new which ≡ store_of old which
+  pub disks : (AsksStore s (device_at size told old) → ⊥) → (which : Which) → store_of new which ≡ store_of old which
   pub keeps : StepKeeps size old new
   pub starved : new.hardware.starved ≡ old.hardware.starved
 

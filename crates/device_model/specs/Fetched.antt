@@ -1,11 +1,18 @@
 -- What a fetch reads.
-use Rattle.std.specs.Prelude.{ℕ, ◌≡◌, List, length, All, slice_index}
+use Rattle.std.specs.Prelude.{ℕ, ◌≡◌, List, None, length, All, slice_index}
 use Rattle.adapter.specs.Says.{HasPrds, IsWhole, pieces}
 use Rattle.adapter.specs.declared.command.Prd.{Prd}
+use Rattle.device_model.specs.declared.port.TakenCommand.{TakenCommand}
 
 -- a list as a memory: zeros stand past its end
 abbrev pub bytes_of : List ℕ → ℕ → ℕ
 bytes_of bytes = λ at. slice_index bytes at
+
+-- nothing of a command was moved or cleared yet
+pub record IsNew (t : TakenCommand) : Type 0 where
+  pub moved : t.moved ≡ 0
+  pub block : t.block ≡ None
+  pub cleared : t.cleared ≡ 0
 
 abbrev pub no_prd : Prd
 no_prd = record { address = 0; bytes = 0 }

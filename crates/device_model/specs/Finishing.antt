@@ -9,9 +9,12 @@ use Rattle.adapter.specs.Steps.Step.{Fetch}
 use Rattle.adapter.specs.declared.command.Operation.{Operation}
 use Rattle.adapter.specs.declared.command.Operation.TheVariants.{Identify}
 use Rattle.adapter.specs.declared.command.Prd.{Prd}
-use Rattle.device_model.specs.View.{Takes}
+use Rattle.device_model.specs.Trims.{WillClear}
+use Rattle.device_model.specs.Fetched.{bytes_of}
+use Rattle.device_model.specs.View.{Takes, operation_of, taken_of}
 use Rattle.device_model.specs.Whole.{Outside, device_of}
 use Rattle.device_model.specs.declared.hardware.Hardware.{Hardware}
+use Rattle.device_model.specs.declared.port.TakenCommand.{TakenCommand}
 
 -- the tape has memory for so many more entries
 abbrev pub HasRoom : Hardware → ℕ → Type 0
@@ -49,24 +52,26 @@ pub record HasMove (d : Device) (port slot : ℕ) (t : Taken) : Type 0 where
   pub on_disk : is_ranged t.meaning.operation ≡ true → next_sector t < (d.port port).disk.size
   pub has_disk : HasDisk port t.meaning.operation
 
--- the port works on a command of which so many moves are left, all of them possible
-pub record IsGoing (d : Device) (port slot sectors left : ℕ) : Type 0 where
+-- the port works on a command of which so many moves, and then so many clears, are left, all of them possible
+pub record IsGoing (d : Device) (port slot sectors left clears : ℕ) : Type 0 where
   pub t : Taken
   pub takes : Takes t.meaning.operation
   pub covered : IsCovered t d.size sectors left
+  pub clearing : WillClear t.meaning.operation d.memory t sectors clears
   pub works : WorksOn (d.port port) slot t t.meaning.operation
 
 -- the same, or the command isn't taken yet, and may be
-pub record MayFinish (d : Device) (port slot sectors left : ℕ) : Type 0 where
+pub record MayFinish (d : Device) (port slot sectors left clears : ℕ) : Type 0 where
   pub t : Taken
   pub takes : Takes t.meaning.operation
   pub covered : IsCovered t d.size sectors left
+  pub clearing : WillClear t.meaning.operation d.memory t sectors clears
   pub begins : WorksOn (d.port port) slot t t.meaning.operation ⊎ (Can (Fetch port slot t.meaning t.places) d × (t ≡ begun t.meaning t.places))
 
 -- port 0 has an IDENTIFY DEVICE in this slot, taken or not, which can be done to its end; its pieces have addresses of 32 bits
 pub record HasIdentify (d : Device) (slot : ℕ) : Type 0 where
   pub left : ℕ
-  pub ready : MayFinish d 0 slot 0 left
+  pub ready : MayFinish d 0 slot 0 left 0
   pub identifies : ready.t.meaning.operation ≡ Identify
   pub low : AreInside (2 ^ 32) ready.t.places
 
@@ -86,27 +91,33 @@ Identifies d slot None = (MayIdentify d slot → ⊥) × (HasIdentify d slot →
 
 -- ---- a command that is to be done to its end
 
--- It is begun: so many moves are left of it, each possible, and there is room for them and the end; it is taken now, or was.
-pub record IsBegun (port slot sectors left : ℕ) (was_taken : Bool) (old new : Hardware) : Type 0 where
-  pub ready : (o : Outside) → MayFinish (device_of old o) port slot sectors left
-  pub going : (o : Outside) → IsGoing (device_of new o) port slot sectors left
-  pub room : HasRoom new (left + 1)
+-- so many moves, and then so many clears, are left of this command, all of them possible with this memory, and on a disk of so many sectors
+abbrev pub IsRest : TakenCommand → List ℕ → (sectors left clears : ℕ) → Type 0
+IsRest t memory sectors left clears =
+    IsCovered (taken_of t) (length memory) sectors left × WillClear (operation_of t.transfer) (bytes_of memory) (taken_of t) sectors clears
+
+-- It is begun: so many moves and clears are left of it, each possible, and there is room for them and the end; it is taken now, or was.
+pub record IsBegun (port slot sectors left clears : ℕ) (was_taken : Bool) (old new : Hardware) : Type 0 where
+  pub ready : (o : Outside) → MayFinish (device_of old o) port slot sectors left clears
+  pub going : (o : Outside) → IsGoing (device_of new o) port slot sectors left clears
+  pub room : HasRoom new (left + clears + 1)
   pub did : was_taken ≡ true → (o : Outside) → DoesFetch port slot (device_of old o) (device_of new o)
   pub same : was_taken ≡ false → (o : Outside) → device_of new o ≡ device_of old o
   pub tape : new.tape.items ≡ old.tape.items
   pub starved : new.starved ≡ old.starved
 
--- so many moves are left of it, each possible, but there is no room for them and the end, and that is told
+-- so many moves and clears are left of it, each possible, but there is no room for them and the end, and that is told
 pub record LacksRoom (port slot sectors : ℕ) (old new : Hardware) : Type 0 where
   pub left : ℕ
-  pub ready : (o : Outside) → MayFinish (device_of old o) port slot sectors left
-  pub only : (o : Outside) (n : ℕ) → MayFinish (device_of old o) port slot sectors n → n ≡ left
-  pub lacked : HasRoom old (left + 1) → ⊥
-  pub lacks : HasRoom new (left + 1) → ⊥
+  pub clears : ℕ
+  pub ready : (o : Outside) → MayFinish (device_of old o) port slot sectors left clears
+  pub only : (o : Outside) (n m : ℕ) → MayFinish (device_of old o) port slot sectors n m → (n ≡ left) × (m ≡ clears)
+  pub lacked : HasRoom old (left + clears + 1) → ⊥
+  pub lacks : HasRoom new (left + clears + 1) → ⊥
   pub same : (o : Outside) → device_of new o ≡ device_of old o
   pub told : new.starved ≡ true
 
 -- It isn't begun: there is none that can be done to its end, and nothing is another, or there is no room.
 abbrev pub IsUnbegun : (port slot sectors : ℕ) → Hardware → Hardware → Type 0
 IsUnbegun port slot sectors old new =
-    (((o : Outside) (left : ℕ) → MayFinish (device_of old o) port slot sectors left → ⊥) × (new ≡ old)) ⊎ LacksRoom port slot sectors old new
+    (((o : Outside) (left clears : ℕ) → MayFinish (device_of old o) port slot sectors left clears → ⊥) × (new ≡ old)) ⊎ LacksRoom port slot sectors old new

@@ -1,4 +1,5 @@
 pub mod Bits
+pub mod Block
 pub mod Disks
 pub mod View
 pub mod Whole
@@ -13,3 +14,4 @@ pub mod Paged
 pub mod Does
 pub mod Queue
 pub mod Tells
+pub mod Trims

@@ -9,6 +9,9 @@ use Rattle.device_model.specs.declared.port.TakenCommand.{TakenCommand}
 use Rattle.device_model.specs.declared.port.PortModel.{PortModel}
 use Rattle.device_model.specs.declared.hardware.Hardware.{Hardware}
 use Rattle.device_model.specs.declared.steps.NextMove.{NextMove}
+use Rattle.device_model.specs.declared.clearing.Run.{Run}
+use Rattle.device_model.specs.declared.port.Transfer.TheVariants.{Trim}
+use Rattle.device_model.specs.Trims.{next_uncleared, span, uncleared}
 
 -- a command of this operation in this slot may be taken, if its bytes say one
 pub record MayTake (p : PortState) (slot : ℕ) (operation : Operation) : Type 0 where
@@ -24,6 +27,22 @@ HasUntaken p slot = (m : Media) (operation : Operation) → IsFetchable (port_of
 pub record HoldsAt (p : PortModel) (slot : ℕ) (t : TakenCommand) : Type 0 where
   pub held : held_in p.taken slot ≡ Some t
   pub works : (m : Media) → WorksOn (port_of p m) slot (taken_of t) (operation_of t.transfer)
+
+-- so many of the next sectors of this command can be cleared, on a disk of so many: a trim whose block was moved, and of which as many are left, one at least
+pub record CanClear (t : TakenCommand) (most sectors : ℕ) : Type 0 where
+  pub trim : t.transfer ≡ Trim
+  pub moved : t.moved ≡ length (pieces t.prds)
+  pub some : 1 ≤ most
+  pub enough : most ≤ length (uncleared (taken_of t))
+  pub on_disk : next_uncleared (taken_of t) < sectors
+
+-- these sectors of it are cleared at once
+pub record IsNextRun (h : Hardware) (port slot most sectors : ℕ) (run : Run) (t : TakenCommand) : Type 0 where
+  pub holds : HoldsAt (slice_index_or h.ports port blank) slot t
+  pub can : CanClear t most sectors
+  pub first_is : run.first ≡ next_uncleared (taken_of t)
+  pub count_is : run.count ≡ span sectors most (taken_of t)
+  pub fits : t.cleared + run.count < 2 ^ 32
 
 -- the next piece of this command goes to or from this address, and is this sector, if it is one
 pub record IsNext (h : Hardware) (port slot : ℕ) (next : NextMove) (t : TakenCommand) : Type 0 where

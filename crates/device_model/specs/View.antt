@@ -1,14 +1,15 @@
 -- The state that a model stands for.
-use Rattle.std.specs.Prelude.{ℕ, false, ◌≡◌, ◌%◌, ◌⊎◌, List, [], Option, None, option_map, unwrap_or, slice_index_or, if◌then◌else◌}
+use Rattle.std.specs.Prelude.{ℕ, false, ◌%◌, List, [], Option, None, option_map, unwrap_or, slice_index_or, if◌then◌else◌}
 use Rattle.adapter.specs.Device.{Disk, Taken, Bases, Notes, PortState}
 use Rattle.adapter.specs.Device.Halt.{NotHalted}
 use Rattle.adapter.specs.Says.{pieces}
 use Rattle.adapter.specs.Access.{unacknowledged}
-use Rattle.adapter.specs.Steps.{next_sector, disk_after}
+use Rattle.adapter.specs.Steps.{next_sector, disk_after, disk_cleared}
 use Rattle.hba_regs.specs.Bits.{bit}
 use Rattle.adapter.specs.declared.command.Operation.{Operation}
-use Rattle.adapter.specs.declared.command.Operation.TheVariants.{Identify, Read, ReadQueued, Write, WriteQueued}
+use Rattle.adapter.specs.declared.command.Operation.TheVariants.{Identify, Read, ReadQueued, Write, WriteQueued, Flush, Trim, ReadLog}
 use Rattle.device_model.specs.Bits.{bits_of}
+use Rattle.device_model.specs.Block.{brought}
 use Rattle.device_model.specs.declared.port.Addresses.{Addresses}
 use Rattle.device_model.specs.declared.port.Readings.{Readings}
 use Rattle.device_model.specs.declared.port.TakenCommand.{TakenCommand}
@@ -45,10 +46,10 @@ notes_of r =
       acknowledged = r.acknowledged;
     }
 
--- the model takes READ DMA EXT, WRITE DMA EXT, IDENTIFY DEVICE, READ FPDMA QUEUED and WRITE FPDMA QUEUED
+-- the model takes each command but READ LOG EXT
 abbrev pub Takes : Operation → Type 0
-Takes operation =
-    (operation ≡ Read) ⊎ (operation ≡ Write) ⊎ (operation ≡ Identify) ⊎ (operation ≡ ReadQueued) ⊎ (operation ≡ WriteQueued)
+Takes ReadLog = ⊥
+Takes _ = Unit {0}
 
 abbrev pub operation_of : Transfer → Operation
 operation_of transfer.Read = Read
@@ -56,6 +57,8 @@ operation_of transfer.Write = Write
 operation_of transfer.ReadQueued = ReadQueued
 operation_of transfer.WriteQueued = WriteQueued
 operation_of transfer.Identify = Identify
+operation_of transfer.Flush = Flush
+operation_of transfer.Trim = Trim
 
 -- the cause in PxIS that its end sets: PSS where its data go by PIO, SDBS where it was queued, and else DHRS (AHCI 1.3.1, 3.3.5)
 abbrev pub cause_of : Transfer → ℕ
@@ -70,8 +73,8 @@ taken_of t =
       meaning = record { operation = operation_of t.transfer; first = t.first; count = t.count };
       places = pieces t.prds;
       moved = t.moved;
-      block = [];
-      cleared = 0;
+      block = brought t.block;
+      cleared = t.cleared;
     }
 
 -- what is in each slot, of a list of them
@@ -90,6 +93,10 @@ pub record Media : Type 0 where
 -- the same after the next piece of this command, these bytes, was moved
 abbrev pub media_after : Media → Taken → List ℕ → Media
 media_after m t bytes = record m { disk = disk_after t.meaning.operation m.disk (next_sector t) bytes }
+
+-- the same after sectors were cleared, so many from the first on
+abbrev pub media_cleared : Media → (first count : ℕ) → Media
+media_cleared m first count = record m { disk = disk_cleared m.disk first count }
 
 abbrev pub port_of : PortModel → Media → PortState
 port_of p m =

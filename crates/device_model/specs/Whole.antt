@@ -4,7 +4,7 @@ use Rattle.adapter.specs.Device.{Disk, Taken, Device}
 use Rattle.adapter.specs.Memory.{changed}
 use Rattle.hba_regs.specs.declared.reg.Reg.{Reg}
 use Rattle.hba_regs.specs.declared.reg.Reg.TheVariants.{Px}
-use Rattle.device_model.specs.View.{Media, media_after, port_of, blank}
+use Rattle.device_model.specs.View.{Media, media_after, media_cleared, port_of, blank}
 use Rattle.device_model.specs.declared.hardware.Hardware.{Hardware}
 
 -- what is outside the hardware: what is behind each port, and whether all disks tell their sectors
@@ -15,6 +15,10 @@ pub record Outside : Type 0 where
 -- the same after the next piece of a command of this port, these bytes, was moved
 abbrev pub outside_after : Outside → ℕ → Taken → List ℕ → Outside
 outside_after o port t bytes = record o { media = changed o.media port (media_after (o.media port) t bytes) }
+
+-- the same after sectors of this port's disk were cleared
+abbrev pub outside_cleared : Outside → (port first count : ℕ) → Outside
+outside_cleared o port first count = record o { media = changed o.media port (media_cleared (o.media port) first count) }
 
 abbrev pub device_of : Hardware → Outside → Device
 device_of h o =

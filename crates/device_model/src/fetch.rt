@@ -6,7 +6,7 @@ ghost use Rattle.adapter.specs.Says.{HasPrds, IsWhole, Says, pieces};
 ghost use Rattle.adapter.specs.declared.command.Command.{Command};
 ghost use Rattle.adapter.specs.Spelling.{AreZero, SpellsCommand, SpellsHeader, SpellsPrd};
 ghost use Rattle.byteorder.specs.Endian.{little_from};
-ghost use Rattle.device_model.specs.Fetched.{ArePrds, bytes_of};
+ghost use Rattle.device_model.specs.Fetched.{ArePrds, IsNew, bytes_of};
 ghost use Rattle.device_model.specs.View.{Takes, operation_of, taken_of};
 
 use crate::port::{TakenCommand, Transfer};
@@ -25,6 +25,10 @@ const READ_FPDMA_QUEUED: u8 = 0x60;
 const WRITE_FPDMA_QUEUED: u8 = 0x61;
 
 const IDENTIFY_DEVICE: u8 = 0xec;
+
+const FLUSH_CACHE_EXT: u8 = 0xea;
+
+const DATA_SET_MANAGEMENT: u8 = 0x06;
 
 /// What a command header says: how many PRDs there are, and where the command table is.
 #[derive(Clone, Copy, Debug)]
@@ -56,7 +60,7 @@ fn copy_end(memory: &[u8], at: usize, out: &mut [u8])
 }
 
 /// Copies bytes of memory.
-fn copy_bytes(memory: &[u8], at: usize, out: &mut [u8])
+pub fn copy_bytes(memory: &[u8], at: usize, out: &mut [u8])
     requires { at + length out.old < 2 ^ 64 }
     ensures { out.new ≡ bytes_at (bytes_of memory.now) at (length out.old) }
 {
@@ -168,12 +172,24 @@ fn decode_queued(bytes: &[u8], code: u8, tag: u8) -> Option<Sectors>
     })
 }
 
-/// Whether the bytes are the FIS of IDENTIFY DEVICE, which names no sectors.
-fn is_identify(bytes: &[u8]) -> bool
+/// The sectors that the bytes name, none, if they are the FIS of a command with this code, and with this number as features and as count.
+fn decode_bare(bytes: &[u8], code: u8, number: u8) -> Option<Sectors>
     requires { length bytes.now ≡ 20 }
-    ensures { IsTrue result ↔ SpellsCommand bytes.now (with_fields 0xec 0 0 0 0x00) }
+    ensures found { IfSome result (λ s. SpellsCommand bytes.now (with_fields code number number 0 0x00) × (s.first ≡ 0) × (s.count ≡ 0)) }
+    ensures only { (s : Sectors) → s.first ≡ 0 → s.count ≡ 0 → SpellsCommand bytes.now (with_fields code number number 0 0x00) → result ≡ Some s }
 {
-    bytes[0] == 0x27 && bytes[1] == 0x80 && bytes[2] == IDENTIFY_DEVICE && are_zero(bytes, 3, 20)
+    if bytes[0] == 0x27
+        && bytes[1] == 0x80
+        && bytes[2] == code
+        && bytes[3] == number
+        && are_zero(bytes, 4, 12)
+        && bytes[12] == number
+        && are_zero(bytes, 13, 20)
+    {
+        Some(Sectors { first: 0, count: 0 })
+    } else {
+        None
+    }
 }
 
 /// The sectors that the bytes name, if they are the FIS of such a command in this slot; none where it names none.
@@ -190,13 +206,9 @@ fn decode_sectors(bytes: &[u8], slot: u8, transfer: Transfer) -> Option<Sectors>
         Transfer::Write => decode_range(bytes, WRITE_DMA_EXT),
         Transfer::ReadQueued => decode_queued(bytes, READ_FPDMA_QUEUED, slot),
         Transfer::WriteQueued => decode_queued(bytes, WRITE_FPDMA_QUEUED, slot),
-        Transfer::Identify => {
-            if is_identify(bytes) {
-                Some(Sectors { first: 0, count: 0 })
-            } else {
-                None
-            }
-        }
+        Transfer::Identify => decode_bare(bytes, IDENTIFY_DEVICE, 0),
+        Transfer::Flush => decode_bare(bytes, FLUSH_CACHE_EXT, 0),
+        Transfer::Trim => decode_bare(bytes, DATA_SET_MANAGEMENT, 1),
     }
 }
 
@@ -288,6 +300,7 @@ pub fn piece_at(prds: &[Prd], number: u32) -> Option<u64>
     requires { length prds.now ≤ 128 }
     ensures found { IfSome result (λ address. (number < length (pieces prds.now)) × (address ≡ slice_index (pieces prds.now) number)) }
     ensures room { IfSome result (λ _. number + 1 < 2 ^ 32) }
+    ensures low { IfSome result (λ address. address < 2 ^ 33) }
     ensures none { result ≡ None → length (pieces prds.now) ≤ number }
 {
     let mut left = number;
@@ -314,7 +327,7 @@ fn decode_command(
     requires slot { slot < 32 }
     requires fis { fis.now ≡ bytes_at (bytes_of memory.now) (little_from 8 4 header.now) 20 }
     requires empty { command.old.prds ≡ [] }
-    ensures found { result ≡ true → (command.new.moved ≡ 0) × ((list : ℕ) → header.now ≡ bytes_at (bytes_of memory.now) (list + HEADER_BYTES * slot) HEADER_BYTES →
+    ensures found { result ≡ true → IsNew command.new × ((list : ℕ) → header.now ≡ bytes_at (bytes_of memory.now) (list + HEADER_BYTES * slot) HEADER_BYTES →
         Says (bytes_of memory.now) list slot (taken_of command.new).meaning (taken_of command.new).places) }
     ensures kind { result ≡ true → command.new.transfer ≡ transfer }
     ensures only { result ≡ false → (list : ℕ) → header.now ≡ bytes_at (bytes_of memory.now) (list + HEADER_BYTES * slot) HEADER_BYTES →
@@ -338,13 +351,15 @@ fn decode_command(
     command.first = sectors.first;
     command.count = sectors.count;
     command.moved = 0;
+    command.block = None;
+    command.cleared = 0;
     true
 }
 
 /// The command that the bytes of a slot say, if it is such a one.
 pub fn read_as(memory: &[u8], list: u32, slot: u8, transfer: Transfer) -> Option<TakenCommand>
     requires { slot < 32 }
-    ensures found { IfSome result (λ t. (t.moved ≡ 0) × Says (bytes_of memory.now) list slot (taken_of t).meaning (taken_of t).places) }
+    ensures found { IfSome result (λ t. IsNew t × Says (bytes_of memory.now) list slot (taken_of t).meaning (taken_of t).places) }
     ensures kind { IfSome result (λ t. t.transfer ≡ transfer) }
     ensures only { result ≡ None → (m : Meaning) (places : List ℕ) → m.operation ≡ operation_of transfer → Says (bytes_of memory.now) list slot m places → ⊥ }
 {
@@ -376,6 +391,8 @@ fn transfer_coded(code: u8) -> Option<Transfer>
         READ_FPDMA_QUEUED => Some(Transfer::ReadQueued),
         WRITE_FPDMA_QUEUED => Some(Transfer::WriteQueued),
         IDENTIFY_DEVICE => Some(Transfer::Identify),
+        FLUSH_CACHE_EXT => Some(Transfer::Flush),
+        DATA_SET_MANAGEMENT => Some(Transfer::Trim),
         _ => None,
     }
 }
@@ -385,7 +402,7 @@ fn transfer_coded(code: u8) -> Option<Transfer>
 pub fn read_into(memory: &[u8], list: u32, slot: u8, command: &mut TakenCommand) -> bool
     requires slot { slot < 32 }
     requires empty { command.old.prds ≡ [] }
-    ensures found { result ≡ true → (command.new.moved ≡ 0) × Says (bytes_of memory.now) list slot (taken_of command.new).meaning (taken_of command.new).places }
+    ensures found { result ≡ true → IsNew command.new × Says (bytes_of memory.now) list slot (taken_of command.new).meaning (taken_of command.new).places }
     ensures only { result ≡ false → (m : Meaning) (places : List ℕ) → Takes m.operation → Says (bytes_of memory.now) list slot m places → ⊥ }
 {
     let header = header_bytes(memory, header_place(list, slot));
@@ -399,7 +416,7 @@ pub fn read_into(memory: &[u8], list: u32, slot: u8, command: &mut TakenCommand)
 /// The command that the bytes of a slot say, if it is one that the model takes.
 pub fn read_command(memory: &[u8], list: u32, slot: u8) -> Option<TakenCommand>
     requires { slot < 32 }
-    ensures found { IfSome result (λ t. (t.moved ≡ 0) × Says (bytes_of memory.now) list slot (taken_of t).meaning (taken_of t).places) }
+    ensures found { IfSome result (λ t. IsNew t × Says (bytes_of memory.now) list slot (taken_of t).meaning (taken_of t).places) }
     ensures only { result ≡ None → (m : Meaning) (places : List ℕ) → Takes m.operation → Says (bytes_of memory.now) list slot m places → ⊥ }
 {
     let mut command = TakenCommand::room();

@@ -1,12 +1,12 @@
 // Laws of the definitions, for callers: the clause is the theorem. These functions do nothing.
-ghost use Rattle.std.specs.Prelude.{◌≡◌, ◌≢◌, ◌<◌, true, false, is_some, ℕ, Bool, List, All};
+ghost use Rattle.std.specs.Prelude.{◌≡◌, ◌≢◌, ◌<◌, ◌≤◌, true, false, is_some, ℕ, Bool, List, All};
 ghost use Rattle.ata_types.specs.declared.Port.{Port};
 ghost use Rattle.ata_types.specs.declared.Slot.{Slot};
 ghost use Rattle.adapter.specs.Commands.{Meaning, is_queued};
 ghost use Rattle.adapter.specs.Device.{Device, Taken};
 ghost use Rattle.adapter.specs.Idle.{TellsDisks};
 ghost use Rattle.adapter.specs.Steps.{Can, IsFinished, WorksOn};
-ghost use Rattle.adapter.specs.Steps.Step.{Fetch, Move};
+ghost use Rattle.adapter.specs.Steps.Step.{Clear, Fetch, Move};
 ghost use Rattle.adapter.specs.declared.access.DeviceStep.{DeviceStep};
 ghost use Rattle.adapter.specs.declared.access.DeviceStep.TheVariants as asked;
 ghost use Rattle.device_model.specs.Disks.{store_of};
@@ -33,6 +33,12 @@ pub fn disks_are_told<S: SectorStore>()
 pub fn moves_are_possible<S: SectorStore>()
     ensures { (m : Model S) (p : Port) (slot : Slot) (t : Taken) (bytes : List ℕ) → slot.0 < 32 → HasDisk p.0 t.meaning.operation →
         Can (Move p.0 slot.0 t bytes) (device_at S.size S.told m) → Possible (asked.Move p slot) (device_at S.size S.told m) }
+{}
+
+/// A clear that the device may make, of a sector at least, is possible for a model.
+pub fn clears_are_possible<S: SectorStore>()
+    ensures { (m : Model S) (p : Port) (slot : Slot) (t : Taken) (first count : ℕ) → slot.0 < 32 → 1 ≤ count →
+        Can (Clear p.0 slot.0 t first count) (device_at S.size S.told m) → Possible (asked.Clear p slot count) (device_at S.size S.told m) }
 {}
 
 /// Whatever steps are done or left, one after another, that don't put a disk in which isn't in: it stays out, with the sectors that it had. So it has

@@ -1,10 +1,11 @@
 //! A modelled AHCI adapter: registers, memory, and two disks for port 0, each over a store of sectors. Its device does what it is told,
 //! and by itself ends a reset, lets engines fall, brings the link up, and does IDENTIFY DEVICE, but not on a port that is
-//! held. For now it takes READ DMA EXT, WRITE DMA EXT, READ FPDMA QUEUED, WRITE FPDMA QUEUED and IDENTIFY
-//! DEVICE alone.
+//! held. It takes READ DMA EXT, WRITE DMA EXT, READ FPDMA QUEUED, WRITE FPDMA QUEUED, FLUSH CACHE EXT, DATA SET MANAGEMENT with TRIM and IDENTIFY
+//! DEVICE.
 #![tactic(auto)]
 
 mod bits;
+mod clearing;
 mod config;
 mod disks;
 mod fetch;
@@ -19,6 +20,7 @@ mod settling;
 mod slots;
 mod steps;
 mod taken;
+mod trims;
 
 pub use config::{ModelConfig, NoMemory};
 pub use model::Model;

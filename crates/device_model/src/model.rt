@@ -6,7 +6,7 @@ ghost use Rattle.adapter.specs.Device.{Disk, IsSector, Taken};
 ghost use Rattle.adapter.specs.Access.{Reads, Writes, Loads, Stores, written};
 ghost use Rattle.adapter.specs.Memory.{bytes_at, patched};
 ghost use Rattle.adapter.specs.Rules.{MayRead, MayWrite, IsFree, Stays};
-ghost use Rattle.adapter.specs.Steps.{Steps, disk_after, next_place};
+ghost use Rattle.adapter.specs.Steps.{Steps, disk_after, disk_cleared, next_place};
 ghost use Rattle.adapter.specs.Asked.{Asked};
 ghost use Rattle.sector_store.specs.Stores.{FailsOn};
 ghost use Rattle.device_model.specs.Fetched.{bytes_of};
@@ -16,13 +16,14 @@ ghost use Rattle.device_model.specs.Disks.{disk_over, store_of};
 ghost use Rattle.device_model.specs.Finishing.{HasIdentify, HasMove, HasRoom, MayIdentify};
 ghost use Rattle.device_model.specs.Held.{IsPortLoose};
 ghost use Rattle.device_model.specs.Paged.{IsItsPage, IsTurned};
-ghost use Rattle.device_model.specs.Does.{AnswersStep, GoesOnSo};
+ghost use Rattle.device_model.specs.Does.{AnswersStep, GoesOnSo, HasCleared, NoneFails, StoreCuts, has_cleared};
 ghost use Rattle.device_model.specs.Tells.{disks_told};
 ghost use Rattle.device_model.specs.Queue.{BeginsAccess, DoesRead, DoesThen};
 ghost use Rattle.device_model.specs.Modelled.{device_at, cap_of, IsNewModel};
 ghost use Rattle.device_model.specs.Settled.{Identifies, IsSettled, LeadsOwn, LeavesOne, NoneIsLeft};
 ghost use Rattle.device_model.specs.View.{Takes, operation_of};
 
+use crate::clearing::Run;
 use crate::config::{ModelConfig, NoMemory};
 use crate::disks::{Inserted, Which};
 use crate::hardware::{Hardware, PORTS};
@@ -38,6 +39,20 @@ use std::mem;
 use std::snapshot::Snapshot;
 
 const PAGE_BYTES: usize = 512;
+
+/// A sector that was cleared.
+const ZEROS: [u8; 512] = [0; 512];
+
+/// What came of the sectors that were to be cleared.
+#[derive(Clone, Copy, Debug)]
+enum Clearing {
+    /// None is cleared.
+    Left,
+    /// Some are: the store failed at the next one.
+    Part,
+    /// All are that could be at once.
+    Whole,
+}
 
 /// A step that is done before the access with this number.
 #[derive(Clone, Copy, Debug)]
@@ -56,7 +71,7 @@ pub struct Description {
 
 /// A modelled adapter. Port 0 has disk 0 at first, over the first store; it can be taken out, and put in again, or disk 1 in its place, over the
 /// second one. The others of ports 0 to 3 that there are have no device. Of all commands it takes READ DMA EXT, WRITE DMA EXT, READ FPDMA
-/// QUEUED, WRITE FPDMA QUEUED and IDENTIFY DEVICE alone: a step on another one answers `false`.
+/// QUEUED, WRITE FPDMA QUEUED, FLUSH CACHE EXT, DATA SET MANAGEMENT with TRIM and IDENTIFY DEVICE alone: a step on another one answers `false`.
 #[derive(Drop)]
 pub struct Model<S> {
     hardware: Hardware,
@@ -172,7 +187,7 @@ impl<S: SectorStore> Model<S> {
         self.hardware.fetch(port.0, slot.0)
     }
 
-    /// Ends a slot's command, all of which was moved.
+    /// Ends a slot's command, of which nothing is left to move or to clear.
     fn done(&mut self, port: Port, slot: Slot) -> bool
         ensures { AnswersStep S.size S.told S.failures (DeviceStep.Done port slot) result self.old self.new }
     {
@@ -262,7 +277,54 @@ impl<S: SectorStore> Model<S> {
         true
     }
 
-    /// Takes a slot's command if it isn't taken, moves all that is left of it, and ends it. The tape's memory is found first. A store
+    /// Clears the next sectors of a slot's trim, so many at the most.
+    fn clear_run(&mut self, port: Port, slot: Slot, most: u32) -> Clearing
+        requires { slot.0 < 32 }
+        ensures answers { AnswersStep S.size S.told S.failures (DeviceStep.Clear port slot most) (has_cleared result) self.old self.new }
+        ensures part { result ≡ Clearing.Part → StoreCuts (DeviceStep.Clear port slot most) (S.failures self.old.disk) (S.failures self.new.disk) (device_at S.size S.told self.new) }
+        ensures whole { result ≡ Clearing.Whole → HasCleared (device_at S.size S.told self.old) (device_at S.size S.told self.new) port.0 slot.0 most × NoneFails S.failures self.old self.new }
+        ensures left { (n : ℕ) → HasRoom self.old.hardware (n + 1) → HasRoom self.new.hardware n }
+    {
+        // No other port has a disk.
+        if port.0 != 0 {
+            return Clearing::Left;
+        }
+        // A sector that was cleared can't be taken back, so the memory of the entry is found first.
+        let room = self.hardware.reserve(1);
+        let sectors = self.disk.sectors();
+        let Some(run) = self.hardware.run_to_clear(port.0, slot.0, most, sectors) else {
+            return Clearing::Left;
+        };
+        if !room {
+            self.hardware.starved = true;
+            return Clearing::Left;
+        }
+        let count = clear_sectors(&mut self.disk, self.which, run);
+        if count == 0 {
+            return Clearing::Left;
+        }
+        let first = run.first;
+        self.hardware.clear(port.0, slot.0, Run { first, count });
+        if count < run.count {
+            Clearing::Part
+        } else {
+            Clearing::Whole
+        }
+    }
+
+    /// Clears the next sectors of a slot's trim, so many at the most: those that follow one another and are on the disk, up to the one at which the store
+    /// fails.
+    fn clear(&mut self, port: Port, slot: Slot, most: u32) -> bool
+        requires { slot.0 < 32 }
+        ensures { AnswersStep S.size S.told S.failures (DeviceStep.Clear port slot most) result self.old self.new }
+    {
+        match self.clear_run(port, slot, most) {
+            Clearing::Left => false,
+            Clearing::Part | Clearing::Whole => true,
+        }
+    }
+
+    /// Takes a slot's command if it isn't taken, moves and clears all that is left of it, and ends it. The tape's memory is found first. A store
     /// that fails cuts it short.
     fn finish(&mut self, port: Port, slot: Slot) -> bool
         requires { slot.0 < 32 }
@@ -275,15 +337,23 @@ impl<S: SectorStore> Model<S> {
             return false;
         }
         let sectors = self.disk.sectors();
-        let Some(Begun { left, was_taken }) = self.hardware.begin(port.0, slot.0, sectors) else {
+        let Some(Begun { rest, was_taken }) = self.hardware.begin(port.0, slot.0, sectors) else {
             return false;
         };
         let mut did = was_taken;
-        for _piece in 0..left {
+        for _piece in 0..rest.left {
             if !self.move_piece(port, slot) {
                 return did;
             }
             did = true;
+        }
+        for _run in 0..rest.clears {
+            let most = self.hardware.count_uncleared(port.0, slot.0);
+            match self.clear_run(port, slot, most) {
+                Clearing::Left => return did,
+                Clearing::Part => return true,
+                Clearing::Whole => did = true,
+            }
         }
         self.hardware.done(port.0, slot.0) || did
     }
@@ -378,6 +448,7 @@ impl<S: SectorStore> Model<S> {
         match *s {
             DeviceStep::Fetch(port, slot) => self.fetch(port, slot),
             DeviceStep::Move(port, slot) => slot.0 < 32 && self.move_piece(port, slot),
+            DeviceStep::Clear(port, slot, most) => slot.0 < 32 && self.clear(port, slot, most),
             DeviceStep::Done(port, slot) => self.done(port, slot),
             DeviceStep::Finish(port, slot) => slot.0 < 32 && self.finish(port, slot),
             DeviceStep::Lie(port, page, offset, bits) => self.lie(port, page, offset, bits),
@@ -427,7 +498,7 @@ fn turn(page: &mut [u8; PAGE_BYTES], bits: &[u8; PAGE_BYTES])
     }
 }
 
-/// Has a disk give the sector of a read or its page, or take a write's sector from memory; `false` says that the store
+/// Has a disk give the sector of a read or its page, or take a write's sector from memory, or a trim's block; `false` says that the store
 /// failed, and that it tells what it told.
 fn exchange<S: SectorStore>(
     disk: &mut S,
@@ -442,7 +513,7 @@ fn exchange<S: SectorStore>(
     ensures sector { result ≡ true → IsSector bytes.new }
     ensures gives { result ≡ true → is_ranged (operation_of next.transfer) ≡ true → reads_memory (operation_of next.transfer) ≡ false → IfSome (S.told disk.old) (λ told. bytes.new ≡ told next.sector) }
     ensures takes { result ≡ true → reads_memory (operation_of next.transfer) ≡ true → bytes.new ≡ bytes_at (bytes_of hardware.now.memory.items) next.address 512 }
-    ensures same { next.transfer ≡ Transfer.Identify → disk.new ≡ disk.old }
+    ensures same { is_ranged (operation_of next.transfer) ≡ false → disk.new ≡ disk.old }
     ensures page { result ≡ true → next.transfer ≡ Transfer.Identify → IsItsPage which (S.size disk.old) says.now bytes.new }
     ensures disk { result ≡ true → disk_over which (S.size disk.new) (S.told disk.new)
         ≡ disk_after (operation_of next.transfer) (disk_over which (S.size disk.old) (S.told disk.old)) next.sector bytes.new }
@@ -458,12 +529,36 @@ fn exchange<S: SectorStore>(
             hardware.load(next.address as usize, bytes);
             disk.write(next.sector, bytes)
         }
+        Transfer::Trim => {
+            hardware.load(next.address as usize, bytes);
+            true
+        }
         Transfer::Identify => {
             *bytes = which.page(disk.sectors(), says.abilities);
             turn(bytes, &says.lies);
             true
         }
+        // It has no piece that could bring anything.
+        Transfer::Flush => true,
     }
+}
+
+/// Makes these sectors of a disk zero, the first of them first, and tells how many: all of them, or those before the one at which the store failed.
+fn clear_sectors<S: SectorStore>(disk: &mut S, which: Which, run: Run) -> u32
+    requires { run.first + run.count ≤ S.size disk.old }
+    ensures few { result ≤ run.count }
+    ensures disk { disk_over which (S.size disk.new) (S.told disk.new) ≡ disk_cleared (disk_over which (S.size disk.old) (S.told disk.old)) run.first result }
+    ensures size { S.size disk.new ≡ S.size disk.old }
+    ensures none { result ≡ 0 → S.told disk.new ≡ S.told disk.old }
+    ensures fine { result ≡ run.count → S.failures disk.new ≡ S.failures disk.old }
+    ensures fails { result < run.count → FailsOn true (run.first + result) (S.failures disk.old) (S.failures disk.new) }
+{
+    for place in 0..run.count {
+        if !disk.write(run.first + u64::from(place), &ZEROS) {
+            return place;
+        }
+    }
+    run.count
 }
 
 /// CAP: how many ports there are, so many slots, and whether there are queued commands.
@@ -529,8 +624,7 @@ impl<S: SectorStore> Adapter for Model<S> {
 
 impl<S: SectorStore> Stepped for Model<S> {
     /// Beside what every such adapter says: it is done if it is possible, no call on a store fails, and there is memory to note it; and
-    /// nothing but what it asks is another. READ DMA EXT, WRITE DMA EXT, READ FPDMA QUEUED, WRITE FPDMA QUEUED and IDENTIFY DEVICE alone are
-    /// taken, port 0 alone has disks, and disks 0 and 1 alone are put in.
+    /// nothing but what it asks is another. Port 0 alone has disks, and disks 0 and 1 alone are put in.
     fn step(&mut self, s: &DeviceStep) -> bool
         ensures steps { Steps (device_at S.size S.told self.old) (device_at S.size S.told self.new) }
         ensures refused { result ≡ false → device_at S.size S.told self.new ≡ device_at S.size S.told self.old }

@@ -1,6 +1,6 @@
 // One port of the model.
-ghost use Rattle.std.specs.Prelude.{◌≡◌, [], unwrap_or, IfOk};
-ghost use Rattle.adapter.specs.Commands.{direction_of, is_queued, pieces_moved, reads_memory};
+ghost use Rattle.std.specs.Prelude.{◌≡◌, ◌↔◌, [], unwrap_or, IfOk, IsTrue};
+ghost use Rattle.adapter.specs.Commands.{direction_of, is_queued, is_ranged, pieces_moved, reads_memory};
 ghost use Rattle.adapter.specs.Idle.{IsIdlePort};
 ghost use Rattle.device_model.specs.Modelled.{IsReset};
 ghost use Rattle.device_model.specs.View.{Media, cause_of, operation_of, port_of};
@@ -9,6 +9,7 @@ use crate::prds::PrdTable;
 use crate::taken::TakenCommands;
 use adapter::{Direction, Operation};
 use std::alloc::{AllocError, Global};
+use std::snapshot::Snapshot;
 
 /// Where the driver has put the command list and the received FIS area, and which of these registers it has written.
 #[derive(Clone, Copy, Debug, Default)]
@@ -39,7 +40,8 @@ pub struct Readings {
     pub acknowledged: bool,
 }
 
-/// The commands that the model takes: sectors that go between disk and memory, and the page of IDENTIFY DEVICE.
+/// The commands that the model takes: sectors that go between disk and memory, the page of IDENTIFY DEVICE, the block of a trim,
+/// and FLUSH CACHE EXT, which moves nothing.
 #[derive(Clone, Copy, Debug)]
 pub enum Transfer {
     /// READ DMA EXT.
@@ -52,6 +54,10 @@ pub enum Transfer {
     WriteQueued,
     /// IDENTIFY DEVICE.
     Identify,
+    /// FLUSH CACHE EXT.
+    Flush,
+    /// DATA SET MANAGEMENT with TRIM.
+    Trim,
 }
 
 /// The bits of PxIS that the end of a command sets (AHCI 1.3.1, 3.3.5): DHRS for a Register FIS, PSS for a PIO Setup FIS, SDBS for a Set Device Bits
@@ -73,6 +79,8 @@ impl Transfer {
             Transfer::ReadQueued => Operation::ReadQueued,
             Transfer::WriteQueued => Operation::WriteQueued,
             Transfer::Identify => Operation::Identify,
+            Transfer::Flush => Operation::Flush,
+            Transfer::Trim => Operation::Trim,
         }
     }
 
@@ -81,8 +89,8 @@ impl Transfer {
         ensures { result ≡ reads_memory (operation_of self) }
     {
         match self {
-            Transfer::Write | Transfer::WriteQueued => true,
-            Transfer::Read | Transfer::ReadQueued | Transfer::Identify => false,
+            Transfer::Write | Transfer::WriteQueued | Transfer::Trim => true,
+            Transfer::Read | Transfer::ReadQueued | Transfer::Identify | Transfer::Flush => false,
         }
     }
 
@@ -92,7 +100,11 @@ impl Transfer {
     {
         match self {
             Transfer::ReadQueued | Transfer::WriteQueued => true,
-            Transfer::Read | Transfer::Write | Transfer::Identify => false,
+            Transfer::Read
+            | Transfer::Write
+            | Transfer::Identify
+            | Transfer::Flush
+            | Transfer::Trim => false,
         }
     }
 
@@ -101,7 +113,8 @@ impl Transfer {
         ensures { result ≡ pieces_moved (operation_of self) count }
     {
         match self {
-            Transfer::Identify => 1,
+            Transfer::Flush => 0,
+            Transfer::Identify | Transfer::Trim => 1,
             _ => count,
         }
     }
@@ -113,8 +126,25 @@ impl Transfer {
         match self {
             Transfer::Identify => PSS,
             Transfer::ReadQueued | Transfer::WriteQueued => SDBS,
-            Transfer::Read | Transfer::Write => DHRS,
+            Transfer::Read | Transfer::Write | Transfer::Flush | Transfer::Trim => DHRS,
         }
+    }
+
+    /// Whether it names sectors that it moves.
+    pub fn is_ranged(self) -> bool
+        ensures { result ≡ is_ranged (operation_of self) }
+    {
+        match self {
+            Transfer::Read | Transfer::Write | Transfer::ReadQueued | Transfer::WriteQueued => true,
+            Transfer::Identify | Transfer::Flush | Transfer::Trim => false,
+        }
+    }
+
+    /// Whether it clears the sectors of a block that it moves.
+    pub fn is_trim(self) -> bool
+        ensures { IsTrue result ↔ (self ≡ Transfer.Trim) }
+    {
+        matches!(self, Transfer::Trim)
     }
 
     /// Where the bytes of its moves go.
@@ -122,14 +152,16 @@ impl Transfer {
         ensures { result ≡ direction_of (operation_of self) }
     {
         match self {
-            Transfer::Read | Transfer::ReadQueued | Transfer::Identify => Direction::ToMemory,
-            Transfer::Write | Transfer::WriteQueued => Direction::FromMemory,
+            Transfer::Read | Transfer::ReadQueued | Transfer::Identify | Transfer::Flush => {
+                Direction::ToMemory
+            }
+            Transfer::Write | Transfer::WriteQueued | Transfer::Trim => Direction::FromMemory,
         }
     }
 }
 
 /// A command that the device has taken.
-#[derive(Debug, Drop)]
+#[derive(Drop)]
 pub struct TakenCommand {
     pub transfer: Transfer,
     pub first: u64,
@@ -138,6 +170,10 @@ pub struct TakenCommand {
     pub prds: PrdTable,
     /// In pieces of 512 bytes.
     pub moved: u32,
+    /// The block that a trim has brought, for proofs alone: the port has its bytes.
+    pub block: Option<Snapshot<[u8; 512]>>,
+    /// How many of the block's sectors were cleared.
+    pub cleared: u32,
 }
 
 impl TakenCommand {
@@ -151,12 +187,14 @@ impl TakenCommand {
             count: 0,
             prds: PrdTable::new(),
             moved: 0,
+            block: None,
+            cleared: 0,
         }
     }
 }
 
 /// The registers of a port, and what stands behind them.
-#[derive(Debug, Drop)]
+#[derive(Drop)]
 pub struct PortModel {
     pub addresses: Addresses,
     pub st: bool,

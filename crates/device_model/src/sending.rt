@@ -130,7 +130,7 @@ impl Hardware {
                 let fis = encode_set_device_bits(&self.ports[port].ended_tag(slot));
                 self.send(port, DEVICE_BITS, &fis);
             }
-            Transfer::Read | Transfer::Write => {
+            Transfer::Read | Transfer::Write | Transfer::Flush | Transfer::Trim => {
                 let fis = encode_d2h(&self.ports[port].end_registers());
                 self.send(port, REGISTERS, &fis);
             }

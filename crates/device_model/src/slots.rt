@@ -1,12 +1,14 @@
 // The slots of a port: which command is taken, and how it goes on.
 ghost use Rattle.std.specs.Prelude.{◌≡◌, ◌<◌, ◌^◌, ◌+◌, ℕ, None, Some, true, false, slice_index_or, IfSome, List};
-ghost use Rattle.adapter.specs.Steps.{IsAlone, with_fetch, with_move, with_done};
+ghost use Rattle.adapter.specs.Steps.{IsAlone, with_clear, with_done, with_fetch, with_move};
 ghost use Rattle.adapter.specs.declared.command.Operation.{Operation};
+ghost use Rattle.device_model.specs.Fetched.{IsNew};
 ghost use Rattle.device_model.specs.Slots.{MayTake, HasUntaken, HoldsAt};
-ghost use Rattle.device_model.specs.View.{Media, cause_of, held_in, media_after, operation_of, port_of, taken_of, blank};
+ghost use Rattle.device_model.specs.View.{Media, cause_of, held_in, media_after, media_cleared, operation_of, port_of, taken_of, blank};
 ghost use Rattle.device_model.specs.declared.port.TakenCommand.{TakenCommand};
 
 use crate::bits::with_bit_as;
+use crate::clearing::Run;
 use crate::port::{PortModel, TakenCommand, Transfer};
 use hba_regs::is_set;
 
@@ -14,7 +16,8 @@ impl PortModel {
     /// A command is taken in a slot: a queued one leaves PxCI, and a plain one sets BSY.
     pub fn take(&mut self, slot: u8, command: TakenCommand)
         requires slot { slot < 32 }
-        requires unmoved { command.moved ≡ 0 }
+        requires new { IsNew command }
+        requires alone { (m : Media) → IsAlone (port_of self.old m) (operation_of command.transfer) }
         ensures { (m : Media) → port_of self.new m ≡ with_fetch (port_of self.old m) slot (taken_of command).meaning (taken_of command).places }
     {
         let queued = command.transfer.is_queued();
@@ -26,14 +29,28 @@ impl PortModel {
         }
     }
 
-    /// A piece of a slot's command was moved.
-    pub fn advance(&mut self, slot: u8)
+    /// A piece of a slot's command was moved, these bytes.
+    pub fn advance(&mut self, slot: u8, transfer: Transfer, bytes: &[u8; 512])
         requires slot { slot < 32 }
-        requires room { IfSome (held_in self.old.taken slot) (λ t. t.moved + 1 < 2 ^ 32) }
-        ensures { (m : Media) (t : TakenCommand) (bytes : List ℕ) → held_in self.old.taken slot ≡ Some t →
-            port_of self.new (media_after m (taken_of t) bytes) ≡ with_move (port_of self.old m) slot (taken_of t) bytes }
+        requires held { (t : TakenCommand) × (held_in self.old.taken slot ≡ Some t) × (t.transfer ≡ transfer) × (t.moved + 1 < 2 ^ 32) }
+        ensures { (m : Media) (t : TakenCommand) → held_in self.old.taken slot ≡ Some t →
+            port_of self.new (media_after m (taken_of t) bytes.now) ≡ with_move (port_of self.old m) slot (taken_of t) bytes.now }
     {
-        self.taken.add_moved(slot);
+        if transfer.is_trim() {
+            self.taken.add_block(slot, bytes);
+        } else {
+            self.taken.add_moved(slot);
+        }
+    }
+
+    /// Sectors of a slot's trim were cleared.
+    pub fn clear(&mut self, slot: u8, run: Run)
+        requires slot { slot < 32 }
+        requires room { IfSome (held_in self.old.taken slot) (λ t. t.cleared + run.count < 2 ^ 32) }
+        ensures { (m : Media) (t : TakenCommand) → held_in self.old.taken slot ≡ Some t →
+            port_of self.new (media_cleared m run.first run.count) ≡ with_clear (port_of self.old m) slot (taken_of t) run.first run.count }
+    {
+        self.taken.add_cleared(slot, run.count);
     }
 
     /// The command of a slot ends without error: a queued one leaves PxSACT, and a plain one PxCI.

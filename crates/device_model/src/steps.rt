@@ -5,11 +5,12 @@ ghost use Rattle.adapter.specs.Commands.{Meaning, is_ranged, reads_memory};
 ghost use Rattle.adapter.specs.Device.{Disk, Taken};
 ghost use Rattle.adapter.specs.Memory.{patched};
 ghost use Rattle.adapter.specs.Says.{pieces};
-ghost use Rattle.adapter.specs.Steps.{Can, after, next_sector};
+ghost use Rattle.adapter.specs.Steps.{Can, IsFinished, after, next_sector};
 ghost use Rattle.adapter.specs.Steps.Step.{Fetch as FetchStep, Move as MoveStep, Done as DoneStep, Unplug as UnplugStep, Plug as PlugStep};
 ghost use Rattle.adapter.specs.Asked.{DoesFetch, Ends};
+ghost use Rattle.device_model.specs.Block.{brought};
 ghost use Rattle.device_model.specs.Fetched.{bytes_of};
-ghost use Rattle.device_model.specs.Finishing.{HasRoom, Identifies, IsInside, AreInside, IsBegun, IsCovered, IsPassed, IsUnbegun};
+ghost use Rattle.device_model.specs.Finishing.{HasRoom, Identifies, IsInside, AreInside, IsBegun, IsCovered, IsPassed, IsRest, IsUnbegun};
 ghost use Rattle.device_model.specs.Sent.{SendsEnd};
 ghost use Rattle.device_model.specs.Slots.{HoldsAt, IsNext, HasUntaken};
 ghost use Rattle.device_model.specs.View.{Takes, operation_of, taken_of, blank};
@@ -20,6 +21,7 @@ use crate::fetch::{count_pieces, piece_at, read_as, read_command, read_into};
 use crate::hardware::{Hardware, put};
 use crate::port::{TakenCommand, Transfer};
 use crate::slots::{has_untaken, working_on};
+use crate::trims::{clears_of, is_finished};
 use adapter::{Done, Entry, Move, Prd};
 use ata_types::{Port, Slot};
 use std::snapshot::Snapshot;
@@ -32,11 +34,17 @@ pub struct NextMove {
     pub address: u32,
 }
 
+/// What is left of a command, but for its end: so many moves, and then so many clears.
+#[derive(Clone, Copy, Debug)]
+pub struct Rest {
+    pub left: u32,
+    pub clears: u32,
+}
+
 /// A command that is to be done to its end.
 #[derive(Clone, Copy, Debug)]
 pub struct Begun {
-    /// How many moves are left.
-    pub left: u32,
+    pub rest: Rest,
     /// Whether it was taken just now.
     pub was_taken: bool,
 }
@@ -54,15 +62,12 @@ impl NextMove {
     pub fn is_on(self, sectors: u64) -> bool
         ensures { IsTrue result ↔ (is_ranged (operation_of self.transfer) ≡ true → self.sector < sectors) }
     {
-        match self.transfer {
-            Transfer::Identify => true,
-            _ => self.sector < sectors,
-        }
+        !self.transfer.is_ranged() || self.sector < sectors
     }
 }
 
 /// Adds an entry to the tape; `false` says that there was no memory, which is told from then on.
-fn record(tape: &mut Vec<Entry>, starved: &mut bool, entry: Entry) -> bool
+pub fn record(tape: &mut Vec<Entry>, starved: &mut bool, entry: Entry) -> bool
     ensures added { result ≡ true → tape.new.items ≡ tape.old.items ++ entry ∷ [] }
     ensures kept { result ≡ false → tape.new.items ≡ tape.old.items }
     ensures room { vec_len tape.old < vec_capacity tape.old → result ≡ true }
@@ -103,13 +108,11 @@ fn are_inside(prds: &[Prd], size: usize) -> bool
 fn is_on_disk(command: &TakenCommand, pieces: u32, sectors: u64) -> bool
     ensures { IsTrue result ↔ (is_ranged (operation_of command.now.transfer) ≡ true → command.now.first + pieces ≤ sectors) }
 {
-    match command.transfer {
-        Transfer::Identify => true,
-        _ => {
-            let end = command.first.checked_add(u64::from(pieces));
-            end.is_some_and(|end| end <= sectors)
-        }
+    if !command.transfer.is_ranged() {
+        return true;
     }
+    let end = command.first.checked_add(u64::from(pieces));
+    end.is_some_and(|end| end <= sectors)
 }
 
 /// How many moves are left of a command, if each of its pieces has a place in a memory of this size, and each sector that
@@ -126,7 +129,27 @@ fn left_of(command: &TakenCommand, size: usize, sectors: u64) -> Option<u32>
     pieces.checked_sub(command.moved)
 }
 
-/// Whether a command that names no sectors can be done to its end: whether each of its pieces has a place in a memory of this size, and
+/// What is left of a command, whose block is this, if each of its moves has a place in the memory, and each sector that it moves or clears is one of so many.
+fn rest_of(command: &TakenCommand, block: &[u8], memory: &[u8], sectors: u64) -> Option<Rest>
+    requires block { block.now ≡ brought command.now.block }
+    requires few { length block.now ≤ 512 }
+    ensures rest { IfSome result (λ rest. IsRest command.now memory.now sectors rest.left rest.clears) }
+    ensures only { (left clears : ℕ) → IsRest command.now memory.now sectors left clears → result ≡ Some (record { left = left; clears = clears }) }
+{
+    Some(Rest {
+        left: left_of(command, memory.len(), sectors)?,
+        clears: clears_of(command, block, memory, sectors)?,
+    })
+}
+
+/// How many entries the tape has of it: one of each move and each clear, and one of the end.
+fn entries_of(rest: Rest) -> usize
+    ensures { result ≡ rest.left + rest.clears + 1 }
+{
+    rest.left as usize + rest.clears as usize + 1
+}
+
+/// Whether an IDENTIFY DEVICE can be done to its end: whether each of its pieces has a place in a memory of this size, and
 /// an address of 32 bits.
 fn can_end(command: &TakenCommand, size: usize) -> bool
     ensures ends { result ≡ true → (left : ℕ) × IsCovered (taken_of command.now) size 0 left × AreInside (2 ^ 32) (pieces command.now.prds) }
@@ -143,10 +166,10 @@ fn sector_of(command: &TakenCommand) -> Option<u64>
     ensures found { IfSome result (λ s. s ≡ next_sector (taken_of command.now)) }
     ensures none { result ≡ None → next_sector (taken_of command.now) < 2 ^ 64 → ⊥ }
 {
-    match command.transfer {
-        Transfer::Identify => Some(0),
-        _ => command.first.checked_add(u64::from(command.moved)),
+    if !command.transfer.is_ranged() {
+        return Some(0);
     }
+    command.first.checked_add(u64::from(command.moved))
 }
 
 /// Puts the bytes of a move into memory, unless it takes them from there.
@@ -301,10 +324,40 @@ impl Hardware {
         });
         let _recorded = record(&mut self.tape, &mut self.starved, entry);
         put_piece(&mut self.memory, next, bytes);
-        self.ports[usize::from(port)].advance(slot);
+        self.ports[usize::from(port)].advance(slot, next.transfer, bytes);
     }
 
-    /// Ends a slot's command, all of which was moved, and sends its FIS; `false` says that there is none, or that the tape found no memory.
+    /// What the slot's command is, where nothing is left of it to move or to clear.
+    fn finished_at(&self, port: u8, slot: u8) -> Option<Transfer>
+        requires port { port < 4 }
+        requires slot { slot < 32 }
+        ensures found { IfSome result (λ transfer. (t : TakenCommand) × HoldsAt (slice_index_or self.now.ports port blank) slot t × IsFinished (taken_of t)
+            × (transfer ≡ t.transfer)) }
+        ensures none { result ≡ None → (t : TakenCommand) → HoldsAt (slice_index_or self.now.ports port blank) slot t → IsFinished (taken_of t) → ⊥ }
+    {
+        let command = working_on(&self.ports, usize::from(port), slot)?;
+        if is_finished(command, self.ports[usize::from(port)].taken.block(slot)) {
+            Some(command.transfer)
+        } else {
+            None
+        }
+    }
+
+    /// What is left of a slot's command that is taken, if each move and each clear is possible on a disk of so many sectors.
+    fn rest_at(&self, port: u8, slot: u8, sectors: u64) -> Option<Rest>
+        requires port { port < 4 }
+        requires slot { slot < 32 }
+        ensures found { IfSome result (λ rest. (t : TakenCommand) × HoldsAt (slice_index_or self.now.ports port blank) slot t
+            × IsRest t self.now.memory.items sectors rest.left rest.clears) }
+        ensures only { (t : TakenCommand) (left clears : ℕ) → HoldsAt (slice_index_or self.now.ports port blank) slot t →
+            IsRest t self.now.memory.items sectors left clears → result ≡ Some (record { left = left; clears = clears }) }
+    {
+        let command = working_on(&self.ports, usize::from(port), slot)?;
+        let block = self.ports[usize::from(port)].taken.block(slot);
+        rest_of(command, block, &self.memory, sectors)
+    }
+
+    /// Ends a slot's command, of which nothing is left to move or to clear, and sends its FIS; `false` says that there is none, or that the tape found no memory.
     pub fn done(&mut self, port: u8, slot: u8) -> bool
         requires port { port < 4 }
         requires slot { slot < 32 }
@@ -313,13 +366,9 @@ impl Hardware {
         ensures left { result ≡ false → (o : Outside) → IsPassed self.old self.new ((flag : ℕ) × (t : Taken) × Can (DoneStep port slot flag t) (device_of self.old o)) }
         ensures fed { result ≡ true → self.new.starved ≡ self.old.starved }
     {
-        let Some(command) = working_on(&self.ports, usize::from(port), slot) else {
+        let Some(transfer) = self.finished_at(port, slot) else {
             return false;
         };
-        if command.moved != count_pieces(command.prds.as_slice()) {
-            return false;
-        }
-        let transfer = command.transfer;
         let entry = Entry::Done(Done {
             port: Port(port),
             slot: Slot(slot),
@@ -334,14 +383,14 @@ impl Hardware {
         true
     }
 
-    /// Takes the command that the bytes of a slot say, which may be taken, where each of its moves is possible on a disk of so many sectors and the
+    /// Takes the command that the bytes of a slot say, which may be taken, where each of its moves and clears is possible on a disk of so many sectors and the
     /// tape finds memory for them and the end. Want of memory is told.
     #[inline(never)]
     fn begin_said(&mut self, port: u8, slot: u8, sectors: u64) -> Option<Begun>
         requires port { port < 4 }
         requires slot { slot < 32 }
         requires may { HasUntaken (slice_index_or self.old.ports port blank) slot }
-        ensures begun { IfSome result (λ b. IsBegun port slot sectors b.left b.was_taken self.old self.new) }
+        ensures begun { IfSome result (λ b. IsBegun port slot sectors b.rest.left b.rest.clears b.was_taken self.old self.new) }
         ensures left { result ≡ None → IsUnbegun port slot sectors self.old self.new }
     {
         let place = usize::from(port);
@@ -353,38 +402,37 @@ impl Hardware {
         if !self.ports[place].is_alone(command.transfer) {
             return None;
         }
-        let left = left_of(&command, self.memory.len(), sectors)?;
-        if self.tape.reserve(left as usize + 1).is_err() {
+        let rest = rest_of(&command, &[], &self.memory, sectors)?;
+        if self.tape.reserve(entries_of(rest)).is_err() {
             self.starved = true;
             return None;
         }
         self.ports[place].take(slot, command);
         Some(Begun {
-            left,
+            rest,
             was_taken: true,
         })
     }
 
-    /// Begins to do a slot's command to its end, where each move that it has left is possible on a disk of so many sectors: the tape finds memory for them
+    /// Begins to do a slot's command to its end, where each move and each clear that it has left is possible on a disk of so many sectors: the tape finds memory for them
     /// and the end, and the command is taken, unless it is already. Want of memory is told.
     pub fn begin(&mut self, port: u8, slot: u8, sectors: u64) -> Option<Begun>
         requires port { port < 4 }
         requires slot { slot < 32 }
-        ensures begun { IfSome result (λ b. IsBegun port slot sectors b.left b.was_taken self.old self.new) }
+        ensures begun { IfSome result (λ b. IsBegun port slot sectors b.rest.left b.rest.clears b.was_taken self.old self.new) }
         ensures left { result ≡ None → IsUnbegun port slot sectors self.old self.new }
     {
         let place = usize::from(port);
         if has_untaken(&self.ports, place, slot) {
             return self.begin_said(port, slot, sectors);
         }
-        let command = working_on(&self.ports, place, slot)?;
-        let left = left_of(command, self.memory.len(), sectors)?;
-        if self.tape.reserve(left as usize + 1).is_err() {
+        let rest = self.rest_at(port, slot, sectors)?;
+        if self.tape.reserve(entries_of(rest)).is_err() {
             self.starved = true;
             return None;
         }
         Some(Begun {
-            left,
+            rest,
             was_taken: false,
         })
     }

@@ -1,36 +1,43 @@
 // The commands that a port has taken.
-ghost use Rattle.std.specs.Prelude.{◌≡◌, ◌<◌, ◌+◌, ◌^◌, ◌↔◌, ℕ, IsTrue, IfOk, IfSome, None, Some, is_some, true, length};
+ghost use Rattle.std.specs.Prelude.{◌≡◌, ◌≢◌, ◌<◌, ◌≤◌, ◌+◌, ◌^◌, ◌↔◌, ℕ, IsTrue, IfOk, IfSome, None, Some, is_some, true, length};
 ghost use Rattle.adapter.specs.Commands.{is_queued};
 ghost use Rattle.adapter.specs.Memory.{changed};
+ghost use Rattle.adapter.specs.Steps.{noted_bytes};
+ghost use Rattle.device_model.specs.Block.{brought};
 ghost use Rattle.device_model.specs.View.{held_in, operation_of};
 ghost use Rattle.device_model.specs.declared.port.TakenCommand.{TakenCommand};
 
 use crate::bits::with_bit_as;
-use crate::port::TakenCommand;
+use crate::port::{TakenCommand, Transfer};
 use std::alloc::{AllocError, Global};
 use std::marker::Model;
+use std::snapshot::Snapshot;
 
 /// How many slots a command list has at the most (AHCI 1.3.1, 4.2.2).
 const SLOTS: usize = 32;
 
 /// The commands that a port has taken, each in its slot. Their memory is found once, as they are made.
-#[derive(Debug, Drop)]
+#[derive(Drop)]
 pub struct TakenCommands {
     slots: Vec<Option<TakenCommand>>,
     /// In which slots a command is, by their bits: so that it is told at once whether one is.
     filled: u32,
+    /// The block of the one trim that is taken, where it was moved.
+    block: [u8; 512],
 }
 
 impl Model for TakenCommands {
     ghost use Rattle.std.specs.Prelude.{◌≡◌, List, Option, None, is_some, length, slice_index_or};
     ghost use Rattle.device_model.specs.Bits.{bits_of};
+    ghost use Rattle.device_model.specs.Block.{HasBlock};
     ghost use Rattle.device_model.specs.declared.port.TakenCommand.{TakenCommand};
 
     ghost Value = { List (Option TakenCommand) };
 
     ghost view = { λ s. s.slots.items };
 
-    ghost invariant = { λ s. (length s.slots.items ≡ 32) × (bits_of s.filled ≡ (λ slot. is_some (slice_index_or s.slots.items slot None))) };
+    ghost invariant = { λ s. (length s.slots.items ≡ 32) × (bits_of s.filled ≡ (λ slot. is_some (slice_index_or s.slots.items slot None)))
+        × HasBlock s.slots.items s.block };
 }
 
 impl TakenCommands {
@@ -42,7 +49,11 @@ impl TakenCommands {
         for _slot in 0..SLOTS {
             slots.push(None)?;
         }
-        Ok(TakenCommands { slots, filled: 0 })
+        Ok(TakenCommands {
+            slots,
+            filled: 0,
+            block: [0; 512],
+        })
     }
 
     /// The command that is taken in a slot.
@@ -54,9 +65,12 @@ impl TakenCommands {
         self.slots[usize::from(slot)].as_ref()
     }
 
-    /// A command is taken in a slot.
+    /// A command is taken in a slot, of which nothing was moved yet; a trim alone.
     pub fn put(&mut self, slot: u8, command: TakenCommand)
-        requires { slot < 32 }
+        requires slot { slot < 32 }
+        requires new { command.block ≡ None }
+        requires alone { (other : ℕ) (u : TakenCommand) → other ≢ slot → held_in self.old other ≡ Some u →
+            (command.transfer ≡ Transfer.Trim → ⊥) × (u.transfer ≡ Transfer.Trim → ⊥) }
         ensures { held_in self.new ≡ changed (held_in self.old) slot (Some command) }
     {
         self.slots[usize::from(slot)] = Some(command);
@@ -70,6 +84,38 @@ impl TakenCommands {
         ensures { (t : TakenCommand) → held_in self.old slot ≡ Some t → held_in self.new ≡ changed (held_in self.old) slot (Some (record t { moved = t.moved + 1 })) }
     {
         count_move(&mut self.slots[usize::from(slot)]);
+    }
+
+    /// The block of a slot's trim was moved.
+    pub fn add_block(&mut self, slot: u8, bytes: &[u8; 512])
+        requires slot { slot < 32 }
+        requires trim { (t : TakenCommand) × (held_in self.old slot ≡ Some t) × (t.transfer ≡ Transfer.Trim) × (t.moved + 1 < 2 ^ 32) }
+        ensures { (t : TakenCommand) → held_in self.old slot ≡ Some t →
+            held_in self.new ≡ changed (held_in self.old) slot (Some (record t { moved = t.moved + 1; block = Some (noted_bytes bytes.now) })) }
+    {
+        self.block = *bytes;
+        bring_block(&mut self.slots[usize::from(slot)], bytes);
+    }
+
+    /// So many more sectors of a slot's trim were cleared.
+    pub fn add_cleared(&mut self, slot: u8, count: u32)
+        requires slot { slot < 32 }
+        requires room { IfSome (held_in self.old slot) (λ t. t.cleared + count < 2 ^ 32) }
+        ensures { (t : TakenCommand) → held_in self.old slot ≡ Some t → held_in self.new ≡ changed (held_in self.old) slot (Some (record t { cleared = t.cleared + count })) }
+    {
+        count_clear(&mut self.slots[usize::from(slot)], count);
+    }
+
+    /// The block that a slot's command has brought; none where it hasn't.
+    pub fn block(&self, slot: u8) -> &[u8]
+        requires { slot < 32 }
+        ensures block { (t : TakenCommand) → held_in self.now slot ≡ Some t → result.now ≡ brought t.block }
+        ensures few { length result.now ≤ 512 }
+    {
+        match &self.slots[usize::from(slot)] {
+            Some(command) if command.block.is_some() => &self.block,
+            _ => &[],
+        }
     }
 
     /// A slot's command is taken no more. A function of its own, since its caller's frame would have room for a command else; `clear` too.
@@ -116,6 +162,29 @@ fn count_move(taken: &mut Option<TakenCommand>)
 {
     if let Some(command) = taken {
         command.moved += 1;
+    }
+}
+
+/// The block of a trim was moved.
+fn bring_block(taken: &mut Option<TakenCommand>, bytes: &[u8; 512])
+    requires { IfSome taken.old (λ t. t.moved + 1 < 2 ^ 32) }
+    ensures counted { (t : TakenCommand) → taken.old ≡ Some t → taken.new ≡ Some (record t { moved = t.moved + 1; block = Some (noted_bytes bytes.now) }) }
+    ensures stays { is_some taken.new ≡ is_some taken.old }
+{
+    if let Some(command) = taken {
+        command.moved += 1;
+        command.block = Some(Snapshot::of(bytes));
+    }
+}
+
+/// So many more sectors of a trim were cleared.
+fn count_clear(taken: &mut Option<TakenCommand>, count: u32)
+    requires { IfSome taken.old (λ t. t.cleared + count < 2 ^ 32) }
+    ensures counted { (t : TakenCommand) → taken.old ≡ Some t → taken.new ≡ Some (record t { cleared = t.cleared + count }) }
+    ensures stays { is_some taken.new ≡ is_some taken.old }
+{
+    if let Some(command) = taken {
+        command.cleared += count;
     }
 }
 

@@ -22,3 +22,9 @@ returns-in-Write-clause-disk g c = λ done.
       | inl plain ↦ rw plain (λ i. disk_over c.args.which (c.write.ensures.size i) (told i))
       | inr queued ↦ rw queued (λ i. disk_over c.args.which (c.write.ensures.size i) (told i))
     ]
+
+pub returns-in-Trim-clause-takes : goal.returns-in-Trim-clause-takes
+returns-in-Trim-clause-takes g c = λ _ _.
+    let memory : ℕ → ℕ = bytes_of c.args.hardware.now.memory.items in
+    let nothing : Outside = record { telling = true; media = λ _. no_media } in
+    c.load-in-Trim.ensures.shows nothing ∙ ap (λ n. bytes_at memory c.args.next.address n) c.load-in-Trim.array_long

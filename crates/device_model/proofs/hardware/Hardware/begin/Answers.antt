@@ -1,12 +1,13 @@
-use Rattle.std.proofs.Common.{rules, ℕ, ◌≡◌, ◌<◌, ◌≤◌, ◌+◌, ◌∙◌, List, false, Some, inl, inr, refl, sym, ap, subst, arith, slice_index_or}
+use Rattle.std.proofs.Common.{rules, ℕ, ◌≡◌, ◌<◌, ◌≤◌, ◌+◌, ◌∙◌, List, false, inl, inr, refl, sym, ap, subst, arith, slice_index_or}
 use Rattle.std.specs.Vec.{vec_len, vec_capacity}
 use Rattle.adapter.specs.declared.tape.Entry.{Entry}
 use Rattle.adapter.proofs.Absurd.{some-none, some_one, true-false}
 use Rattle.device_model.specs.Finishing.{MayFinish}
-use Rattle.device_model.specs.Slots.{HasUntaken}
+use Rattle.device_model.specs.Slots.{HasUntaken, HoldsAt}
 use Rattle.device_model.specs.View.{blank}
 use Rattle.device_model.specs.Whole.{Outside, device_of}
 use Rattle.device_model.specs.declared.hardware.Hardware.{Hardware}
+use Rattle.device_model.specs.declared.steps.Rest.{Rest}
 use Rattle.device_model.proofs.Finishing.{fetched_goes}
 use Rattle.device_model.proofs.Ready.{ready_held, ready_to_go, ready_is_held}
 use Rattle.device_model.proofs.Stepping.{fetch_takes}
@@ -17,42 +18,40 @@ begin_said-requires-clause-may c =
     let P : ℕ → Type 0 = λ q. HasUntaken (slice_index_or c.args.self.now.ports q blank) c.args.slot in
     subst P c.from-place.ensures (c.has_untaken.ensures.may c.if-has_untaken.true)
 
-pub returns-in_err-command-clause-left : goal.returns-in_err-command-clause-left
-returns-in_err-command-clause-left c = λ _.
+pub returns-in_err-rest-clause-left : goal.returns-in_err-rest-clause-left
+returns-in_err-rest-clause-left c = λ _.
     inl (
-      λ o left ready.
-          let w = ready_held c.args.self.now o c.from-place.result c.args.port c.args.slot c.args.sectors left c.from-place.ensures ready
+      λ o left clears ready.
+          let w = ready_held c.args.self.now o c.from-place.result c.args.port c.args.slot c.args.sectors left clears c.from-place.ensures ready
           (c.has_untaken.ensures.only c.if-has_untaken.false) in
-          c.working_on.ensures.none c.in_err-command.was w.0 w.1,
-      refl,
-    )
-
-pub returns-in_err-left-clause-left : goal.returns-in_err-left-clause-left
-returns-in_err-left-clause-left c = λ _.
-    inl (
-      λ o left ready.
-          let covered = ready_is_held c.args.self.now c.from-place.result c.args.port c.args.slot c.args.sectors c.len.result c.in_ok-command.command.now
-          c.from-place.ensures c.len.ensures c.in_ok-command.ensures.found (c.has_untaken.ensures.only c.if-has_untaken.false) o left ready in
-          some-none (c.left_of.ensures.only left covered) c.in_err-left.was,
+          let P : ℕ → Type 0 = λ q. HoldsAt (slice_index_or c.args.self.now.ports q blank) c.args.slot w.0 in
+          let rest = ready_is_held c.args.self.now c.from-place.result c.args.port c.args.slot c.args.sectors w.0 c.from-place.ensures w.1
+          (c.has_untaken.ensures.only c.if-has_untaken.false) o left clears ready in
+          some-none (c.rest_at.ensures.only w.0 left clears (subst P c.from-place.ensures w.1) rest) c.in_err-rest.was,
       refl,
     )
 
 pub returns-then-is_err-clause-left : goal.returns-then-is_err-clause-left
 returns-then-is_err-clause-left c = λ _.
     let h = c.args.self.now in
-    let left = c.in_ok-left.left in
-    let over : vec_capacity h.tape < vec_len h.tape + (left + 1) = search rules in
-    let still : vec_capacity c.reserve.new.self < vec_len c.reserve.new.self + (left + 1) = search rules in
+    let rest = c.in_ok-rest.rest in
+    let found = c.in_ok-rest.ensures.found in
+    let P : ℕ → Type 0 = λ q. HoldsAt (slice_index_or h.ports q blank) c.args.slot found.0 in
+    let held = subst P (sym c.from-place.ensures) found.1 in
+    let over : vec_capacity h.tape < vec_len h.tape + c.entries_of.result = search rules in
+    let still : vec_capacity c.reserve.new.self < vec_len c.reserve.new.self + c.entries_of.result = search rules in
+    let entries = c.entries_of.ensures in
     inr (record {
-      left = left;
-      ready = ready_to_go h c.from-place.result c.args.port c.args.slot c.args.sectors c.len.result c.in_ok-command.command.now c.from-place.ensures
-          c.len.ensures (Some left) c.in_ok-left.ensures.covered c.in_ok-command.ensures.found;
-      only = λ o n ready.
-          some_one (sym (c.left_of.ensures.only n
-          (ready_is_held h c.from-place.result c.args.port c.args.slot c.args.sectors c.len.result c.in_ok-command.command.now c.from-place.ensures
-          c.len.ensures c.in_ok-command.ensures.found (c.has_untaken.ensures.only c.if-has_untaken.false) o n ready)) ∙ c.in_ok-left.was);
-      lacked = λ room. absurd (omega (arith, over, room));
-      lacks = λ room. absurd (omega (arith, still, room));
+      left = rest.left;
+      clears = rest.clears;
+      ready = ready_to_go h c.from-place.result c.args.port c.args.slot c.args.sectors found.0 c.from-place.ensures rest.left rest.clears found.2 held;
+      only = λ o n m ready.
+          let one = some_one (sym (c.rest_at.ensures.only found.0 n m found.1
+          (ready_is_held h c.from-place.result c.args.port c.args.slot c.args.sectors found.0 c.from-place.ensures held
+          (c.has_untaken.ensures.only c.if-has_untaken.false) o n m ready)) ∙ c.in_ok-rest.was) in
+          (ap (λ (x : Rest). x.left) one, ap (λ (x : Rest). x.clears) one);
+      lacked = λ room. absurd (omega (arith, over, room, entries));
+      lacks = λ room. absurd (omega (arith, still, room, entries));
       same = λ o. ap (λ (items : List Entry). record (device_of h o) { tape = items }) c.reserve.ensures.items;
       told = refl;
     })
@@ -60,23 +59,26 @@ returns-then-is_err-clause-left c = λ _.
 pub returns-clause-begun : goal.returns-clause-begun
 returns-clause-begun c =
     let h = c.args.self.now in
-    let left = c.in_ok-left.left in
+    let rest = c.in_ok-rest.rest in
+    let found = c.in_ok-rest.ensures.found in
+    let P : ℕ → Type 0 = λ q. HoldsAt (slice_index_or h.ports q blank) c.args.slot found.0 in
+    let held = subst P (sym c.from-place.ensures) found.1 in
     let new : Hardware = record h { tape = c.reserve.new.self } in
-    let room : vec_len c.reserve.new.self + (left + 1) ≤ vec_capacity c.reserve.new.self = search rules in
-    let kept : (o : Outside) → device_of new o ≡ device_of h o = λ o. ap (λ (items : List Entry). record (device_of h o) { tape = items }) c.reserve.ensures.items in
-    let ready : (o : Outside) → MayFinish (device_of h o) c.args.port c.args.slot c.args.sectors left =
-    ready_to_go h c.from-place.result c.args.port c.args.slot c.args.sectors c.len.result c.in_ok-command.command.now c.from-place.ensures
-    c.len.ensures (Some left) c.in_ok-left.ensures.covered c.in_ok-command.ensures.found in
+    let room : vec_len c.reserve.new.self + c.entries_of.result ≤ vec_capacity c.reserve.new.self = search rules in
+    let entries = c.entries_of.ensures in
+    let ready : (o : Outside) → MayFinish (device_of h o) c.args.port c.args.slot c.args.sectors rest.left rest.clears =
+    ready_to_go h c.from-place.result c.args.port c.args.slot c.args.sectors found.0 c.from-place.ensures rest.left rest.clears found.2 held in
+    let same : (o : Outside) → device_of new o ≡ device_of h o = λ o. ap (λ (items : List Entry). record (device_of h o) { tape = items }) c.reserve.ensures.items in
     record {
       ready = ready;
       going = λ o.
-          fetched_goes c.args.port c.args.slot c.args.sectors left false (device_of h o) (device_of new o) (ready o) (λ never. true-false never refl) (λ _. kept o)
-          (λ _ m places takes may.
+          fetched_goes c.args.port c.args.slot c.args.sectors rest.left rest.clears false (device_of h o) (device_of new o) (ready o) (λ never. true-false never refl) (λ _. same o)
+          (λ _ m places _ can.
           c.has_untaken.ensures.only c.if-has_untaken.false (o.media c.from-place.result) m.operation
-          (fetch_takes h o c.from-place.result c.args.port c.args.slot m places c.from-place.ensures may));
-      room = room;
+          (fetch_takes h o c.from-place.result c.args.port c.args.slot m places c.from-place.ensures can));
+      room = omega (arith, room, entries);
       did = λ never. true-false never refl;
-      same = λ _ o. kept o;
+      same = λ _ o. same o;
       tape = c.reserve.ensures.items;
       starved = refl;
     }

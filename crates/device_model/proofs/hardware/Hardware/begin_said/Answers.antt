@@ -1,4 +1,4 @@
-use Rattle.std.proofs.Common.{rules, ℕ, ◌≡◌, ◌<◌, ◌≤◌, ◌+◌, ◌∙◌, List, true, Some, inl, inr, refl, sym, ap, subst, arith, length, slice_index_or, slice_set}
+use Rattle.std.proofs.Common.{rules, ℕ, ◌≡◌, ◌<◌, ◌≤◌, ◌+◌, ◌∙◌, List, true, inl, inr, refl, sym, ap, subst, arith, length, slice_index_or, slice_set}
 use Rattle.std.specs.Vec.{vec_len, vec_capacity}
 use Rattle.adapter.specs.Asked.{DoesFetch}
 use Rattle.adapter.specs.Device.{Device}
@@ -9,59 +9,70 @@ use Rattle.device_model.specs.Slots.{HasUntaken}
 use Rattle.device_model.specs.View.{blank}
 use Rattle.device_model.specs.Whole.{Outside, device_of}
 use Rattle.device_model.specs.declared.hardware.Hardware.{Hardware}
+use Rattle.device_model.specs.declared.steps.Rest.{Rest}
 use Rattle.device_model.proofs.Finishing.{fetched_goes}
 use Rattle.device_model.proofs.Ready.{may_be_taken, ready_beside, ready_said, ready_to_take, ready_is_said}
 use Rattle.device_model.proofs.Stepping.{port_takes}
 use Rattle.device_model.proofs.SlotLemmas.{at_port}
 use Rattle.device_model.proofs.hardware.Hardware.begin_said.Goals as goal
 
+pub take-requires-clause-alone : goal.take-requires-clause-alone
+take-requires-clause-alone c = λ m.
+    let ports = c.args.self.now.ports in
+    let small : c.from-place.result < length ports = search rules in
+    rw (at_port ports c.from-place.result c.index-self-place-3.result small)
+    (rw (at_port ports c.from-place.result c.index-self-place-2.result small) at (c.is_alone.ensures.alone c.if-not-is_alone.false m))
+
 pub returns-then-not-read_into-clause-left : goal.returns-then-not-read_into-clause-left
 returns-then-not-read_into-clause-left c = λ _.
     inl (
-      λ o left ready.
+      λ o left clears ready.
           let P : ℕ → Type 0 = λ q. HasUntaken (slice_index_or c.args.self.now.ports q blank) c.args.slot in
           let may = subst P (sym c.from-place.ensures) c.requires.may in
-          let says = ready_said c.args.self.now o c.from-place.result c.args.port c.args.slot c.args.sectors left c.from-place.ensures ready may in
+          let says = ready_said c.args.self.now o c.from-place.result c.args.port c.args.slot c.args.sectors left clears c.from-place.ensures ready may in
           let small : c.from-place.result < length c.args.self.now.ports = search rules in
           (rw (at_port c.args.self.now.ports c.from-place.result c.index-self-place.result small) at (c.read_into.ensures.only c.if-not-read_into.true ready.t.meaning ready.t.places ready.takes))
           (rw (← c.deref.ensures.value) at says),
       refl,
     )
 
-pub returns-in_err-left-clause-left : goal.returns-in_err-left-clause-left
-returns-in_err-left-clause-left c = λ _.
+pub returns-in_err-rest-clause-left : goal.returns-in_err-rest-clause-left
+returns-in_err-rest-clause-left c = λ _.
     inl (
-      λ o left ready.
+      λ o left clears ready.
           let P : ℕ → Type 0 = λ q. HasUntaken (slice_index_or c.args.self.now.ports q blank) c.args.slot in
           let may = subst P (sym c.from-place.ensures) c.requires.may in
           let small : c.from-place.result < length c.args.self.now.ports = search rules in
-          let covered = ready_is_said c.args.self.now c.from-place.result c.args.port c.args.slot c.args.sectors c.len.result c.read_into.new.command
-          c.from-place.ensures c.len.ensures may (c.read_into.ensures.found c.if-not-read_into.false).0 (rw (at_port c.args.self.now.ports c.from-place.result c.index-self-place.result small) at (rw c.deref.ensures.value at (c.read_into.ensures.found c.if-not-read_into.false).1)) o left ready in
-          some-none (c.left_of.ensures.only left covered) c.in_err-left.was,
+          let said = c.read_into.ensures.found c.if-not-read_into.false in
+          let rest = ready_is_said c.args.self.now c.from-place.result c.args.port c.args.slot c.args.sectors c.read_into.new.command
+          c.from-place.ensures may said.0 (rw (at_port c.args.self.now.ports c.from-place.result c.index-self-place.result small) at (rw c.deref.ensures.value at said.1)) o left clears ready in
+          some-none ((rw c.deref-2.ensures.value at (c.rest_of.ensures.only left clears)) rest) c.in_err-rest.was,
       refl,
     )
 
 pub returns-then-is_err-clause-left : goal.returns-then-is_err-clause-left
 returns-then-is_err-clause-left c = λ _.
     let h = c.args.self.now in
-    let left = c.in_ok-left.left in
+    let rest = c.in_ok-rest.rest in
     let P : ℕ → Type 0 = λ q. HasUntaken (slice_index_or h.ports q blank) c.args.slot in
     let may = subst P (sym c.from-place.ensures) c.requires.may in
     let small : c.from-place.result < length c.args.self.now.ports = search rules in
-    let says = rw (at_port c.args.self.now.ports c.from-place.result c.index-self-place.result small) at (rw c.deref.ensures.value at (c.read_into.ensures.found c.if-not-read_into.false).1) in
-    let over : vec_capacity h.tape < vec_len h.tape + (left + 1) = search rules in
-    let still : vec_capacity c.reserve.new.self < vec_len c.reserve.new.self + (left + 1) = search rules in
-    let lacked : vec_len h.tape + (left + 1) ≤ vec_capacity h.tape → ⊥ = λ room. absurd (omega (arith, over, room)) in
+    let said = c.read_into.ensures.found c.if-not-read_into.false in
+    let says = rw (at_port c.args.self.now.ports c.from-place.result c.index-self-place.result small) at (rw c.deref.ensures.value at said.1) in
+    let over : vec_capacity h.tape < vec_len h.tape + c.entries_of.result = search rules in
+    let still : vec_capacity c.reserve.new.self < vec_len c.reserve.new.self + c.entries_of.result = search rules in
+    let entries = c.entries_of.ensures in
     inr (record {
-      left = left;
-      ready = ready_to_take h c.from-place.result c.args.port c.args.slot c.args.sectors c.len.result c.read_into.new.command c.from-place.ensures c.len.ensures
-          (Some left) c.in_ok-left.ensures.covered (c.read_into.ensures.found c.if-not-read_into.false).0 may (rw (at_port c.args.self.now.ports c.from-place.result c.index-self-place-2.result small) at (c.is_alone.ensures.alone c.if-not-is_alone.false)) says;
-      only = λ o n ready.
-          some_one (sym (c.left_of.ensures.only n
-          (ready_is_said h c.from-place.result c.args.port c.args.slot c.args.sectors c.len.result c.read_into.new.command c.from-place.ensures c.len.ensures
-          may (c.read_into.ensures.found c.if-not-read_into.false).0 says o n ready)) ∙ c.in_ok-left.was);
-      lacked = lacked;
-      lacks = λ room. absurd (omega (arith, still, room));
+      left = rest.left;
+      clears = rest.clears;
+      ready = ready_to_take h c.from-place.result c.args.port c.args.slot c.args.sectors c.read_into.new.command c.from-place.ensures rest.left rest.clears
+          (rw c.deref-2.ensures.value at c.in_ok-rest.ensures.rest) said.0 may (rw (at_port c.args.self.now.ports c.from-place.result c.index-self-place-2.result small) at (c.is_alone.ensures.alone c.if-not-is_alone.false)) says;
+      only = λ o n m ready.
+          let one = some_one (sym ((rw c.deref-2.ensures.value at (c.rest_of.ensures.only n m))
+          (ready_is_said h c.from-place.result c.args.port c.args.slot c.args.sectors c.read_into.new.command c.from-place.ensures may said.0 says o n m ready)) ∙ c.in_ok-rest.was) in
+          (ap (λ (x : Rest). x.left) one, ap (λ (x : Rest). x.clears) one);
+      lacked = λ room. absurd (omega (arith, over, room, entries));
+      lacks = λ room. absurd (omega (arith, still, room, entries));
       same = λ o. ap (λ (items : List Entry). record (device_of h o) { tape = items }) c.reserve.ensures.items;
       told = refl;
     })
@@ -69,19 +80,22 @@ returns-then-is_err-clause-left c = λ _.
 pub returns-clause-begun : goal.returns-clause-begun
 returns-clause-begun c =
     let h = c.args.self.now in
-    let left = c.in_ok-left.left in
+    let rest = c.in_ok-rest.rest in
     let held : Hardware = record h { tape = c.reserve.new.self } in
     let P : ℕ → Type 0 = λ q. HasUntaken (slice_index_or h.ports q blank) c.args.slot in
     let may = subst P (sym c.from-place.ensures) c.requires.may in
     let small : c.from-place.result < length h.ports = search rules in
-    let says = rw (at_port h.ports c.from-place.result c.index-self-place.result small) at (rw c.deref.ensures.value at (c.read_into.ensures.found c.if-not-read_into.false).1) in
-    let room : vec_len c.reserve.new.self + (left + 1) ≤ vec_capacity c.reserve.new.self = search rules in
+    let said = c.read_into.ensures.found c.if-not-read_into.false in
+    let says = rw (at_port h.ports c.from-place.result c.index-self-place.result small) at (rw c.deref.ensures.value at said.1) in
+    let alone = rw (at_port c.args.self.now.ports c.from-place.result c.index-self-place-2.result small) at (c.is_alone.ensures.alone c.if-not-is_alone.false) in
+    let room : vec_len c.reserve.new.self + c.entries_of.result ≤ vec_capacity c.reserve.new.self = search rules in
+    let entries = c.entries_of.ensures in
     let kept : (o : Outside) → device_of held o ≡ device_of h o = λ o. ap (λ (items : List Entry). record (device_of h o) { tape = items }) c.reserve.ensures.items in
-    let ready : (o : Outside) → MayFinish (device_of h o) c.args.port c.args.slot c.args.sectors left =
-    ready_to_take h c.from-place.result c.args.port c.args.slot c.args.sectors c.len.result c.read_into.new.command c.from-place.ensures c.len.ensures
-    (Some left) c.in_ok-left.ensures.covered (c.read_into.ensures.found c.if-not-read_into.false).0 may (rw (at_port c.args.self.now.ports c.from-place.result c.index-self-place-2.result small) at (c.is_alone.ensures.alone c.if-not-is_alone.false)) says in
+    let ready : (o : Outside) → MayFinish (device_of h o) c.args.port c.args.slot c.args.sectors rest.left rest.clears =
+    ready_to_take h c.from-place.result c.args.port c.args.slot c.args.sectors c.read_into.new.command c.from-place.ensures rest.left rest.clears
+    (rw c.deref-2.ensures.value at c.in_ok-rest.ensures.rest) said.0 may alone says in
     let new : Hardware = record held { ports = slice_set h.ports c.from-place.result c.take.new.self } in
-    let taken = may_be_taken (slice_index_or h.ports c.from-place.result blank) c.args.slot c.read_into.new.command may (rw (at_port c.args.self.now.ports c.from-place.result c.index-self-place-2.result small) at (c.is_alone.ensures.alone c.if-not-is_alone.false)) in
+    let taken = may_be_taken (slice_index_or h.ports c.from-place.result blank) c.args.slot c.read_into.new.command may alone in
     let did : (o : Outside) → DoesFetch c.args.port c.args.slot (device_of h o) (device_of new o) = λ o.
     let Q : Device → Type 0 = λ d. DoesFetch c.args.port c.args.slot d (device_of new o) in
     subst Q (kept o)
@@ -89,8 +103,10 @@ returns-clause-begun c =
     (taken (o.media c.from-place.result)) says (rw (at_port c.args.self.now.ports c.from-place.result c.index-self-place-3.result small) at (c.take.ensures (o.media c.from-place.result)))) in
     record {
       ready = ready;
-      going = λ o. fetched_goes c.args.port c.args.slot c.args.sectors left true (device_of h o) (device_of new o) (ready o) (λ _. did o) (λ never. true-false refl never) (λ never. true-false refl never);
-      room = room;
+      going = λ o.
+          fetched_goes c.args.port c.args.slot c.args.sectors rest.left rest.clears true (device_of h o) (device_of new o) (ready o) (λ _. did o) (λ never. true-false refl never)
+          (λ never. true-false refl never);
+      room = omega (arith, room, entries);
       did = λ _ o. did o;
       same = λ never. true-false refl never;
       tape = c.reserve.ensures.items;
@@ -101,12 +117,13 @@ returns-clause-begun c =
 pub returns-then-not-is_alone-clause-left : goal.returns-then-not-is_alone-clause-left
 returns-then-not-is_alone-clause-left c = λ _.
     inl (
-      λ o left ready.
+      λ o left clears ready.
           let P : ℕ → Type 0 = λ q. HasUntaken (slice_index_or c.args.self.now.ports q blank) c.args.slot in
           let may = subst P (sym c.from-place.ensures) c.requires.may in
           let small : c.from-place.result < length c.args.self.now.ports = search rules in
+          let said = c.read_into.ensures.found c.if-not-read_into.false in
           (rw (at_port c.args.self.now.ports c.from-place.result c.index-self-place-2.result small) at (c.is_alone.ensures.only c.if-not-is_alone.true (o.media c.from-place.result)))
-          (ready_beside c.args.self.now c.from-place.result c.args.port c.args.slot c.args.sectors _ c.read_into.new.command c.from-place.ensures refl may
-          (c.read_into.ensures.found c.if-not-read_into.false).0 (rw (at_port c.args.self.now.ports c.from-place.result c.index-self-place.result small) at (rw c.deref.ensures.value at (c.read_into.ensures.found c.if-not-read_into.false).1)) o left ready),
+          (ready_beside c.args.self.now c.from-place.result c.args.port c.args.slot c.args.sectors c.read_into.new.command c.from-place.ensures may
+          said.0 (rw (at_port c.args.self.now.ports c.from-place.result c.index-self-place.result small) at (rw c.deref.ensures.value at said.1)) o left clears ready),
       refl,
     )

@@ -10,6 +10,13 @@ use Rattle.device_model.proofs.Ready.{may_be_taken}
 use Rattle.device_model.proofs.SlotLemmas.{at_port}
 use Rattle.device_model.proofs.hardware.Hardware.fetch_said.Goals as goal
 
+pub take-requires-clause-alone : goal.take-requires-clause-alone
+take-requires-clause-alone c = λ m.
+    let ports = c.args.self.now.ports in
+    let small : c.from-place.result < length ports = search rules in
+    rw (at_port ports c.from-place.result c.index-self-place-3.result small)
+    (rw (at_port ports c.from-place.result c.index-self-place-2.result small) at (c.is_alone.ensures.alone c.if-not-is_alone.false m))
+
 pub returns-clause-did : goal.returns-clause-did
 returns-clause-did c = λ _ o.
     let h = c.args.self.now in

@@ -27,7 +27,7 @@ returns-clause-moved c = λ o.
       t,
       next,
       port_moves h o c.from.result c.args.port c.args.slot c.args.next _ t c.record-recorded.new.tape (with_items h.memory c.put_piece.new.memory) bytes
-          c.operation.result c.direction.result c.from.ensures small next ((rw (at_port h.ports c.from.result c.index-self-from.result small) at (c.advance.ensures (o.media c.from.result) t bytes)) held)
+          c.operation.result c.direction.result c.from.ensures small next ((rw (at_port h.ports c.from.result c.index-self-from.result small) at (c.advance.ensures (o.media c.from.result) t)) held)
           c.operation.ensures c.direction.ensures noted (ap length same ∙ size)
           (ap (λ (l : List ℕ). bytes_of l) same ∙ rw c.deref_mut.ensures.value at c.put_piece.ensures.put),
     )

@@ -25,8 +25,8 @@ returns-then-is_alone c = λ o.
     ))
 
 -- another command is taken
-pub returns-else-is_alone : goal.returns-else-is_alone
-returns-else-is_alone c = λ o.
+pub returns : goal.returns
+returns c = λ o.
     let h = c.args.self.now in
     let some : 0 < length c.args.self.now.ports = search rules in
     let never = identify_crowded h c.args.slot transfer.Identify refl (rw (at_port h.ports 0 c.index-self-0-2.result some) at (c.is_alone.ensures.only c.if-is_alone.false)) o in

@@ -34,7 +34,14 @@ returns-in-Read c = record {
       let d : Device = device_of c.args.self.now o in
       let sent : SendsRegisters c.args.port (end_of (d.port c.args.port)) d (device_of c.send-in-Read.new.self o) =
       (c.encode_d2h-fis.result, subst P (rw (at_port c.args.self.now.ports c.args.port c.index-self-port-in-Read.result small) at (c.end_registers.ensures (o.media c.args.port))) c.encode_d2h-fis.ensures, c.send-in-Read.ensures.sent o) in
-      elim c.in-Read.is [ inl read ↦ rw read (refl, sent) | inr write ↦ rw write (refl, sent) ];
+      elim c.in-Read.is [
+        | inl read ↦ rw read (refl, sent)
+        | inr more ↦
+            elim more [
+              | inl write ↦ rw write (refl, sent)
+              | inr bare ↦ elim bare [ inl flush ↦ rw flush (refl, sent) | inr trim ↦ rw trim (refl, sent) ]
+            ]
+      ];
   rest = c.send-in-Read.ensures.rest;
 }
 

@@ -2,7 +2,7 @@ use Rattle.std.proofs.Common.{◌≡◌, ◌+◌, ◌-◌, true, false}
 use Rattle.adapter.specs.Asked.{GoesOn}
 use Rattle.adapter.specs.declared.access.DeviceStep.TheVariants as asked
 use Rattle.device_model.specs.Disks.{store_of}
-use Rattle.device_model.specs.Does.{MovesSector, NoneFails}
+use Rattle.device_model.specs.Does.{AsksStore, NoneFails}
 use Rattle.device_model.specs.Finishing.{HasRoom, IsGoing}
 use Rattle.device_model.specs.Modelled.{device_at}
 use Rattle.device_model.specs.Sent.{SendsEnd}
@@ -18,9 +18,25 @@ invariant-loop-piece g l = record {
       device_at g.S.SectorStore.size g.S.SectorStore.told l.self ≡ device_at g.S.SectorStore.size g.S.SectorStore.told l.fn.self;
   size : (device_at g.S.SectorStore.size g.S.SectorStore.told l.self).size ≡ (device_at g.S.SectorStore.size g.S.SectorStore.told l.fn.self).size;
   disk : g.S.SectorStore.size l.self.disk ≡ l.sectors;
-  room : HasRoom l.self.hardware (l.left - l._piece + 1);
-  going : IsGoing (device_at g.S.SectorStore.size g.S.SectorStore.told l.self) l.port.0 l.slot.0 l.sectors (l.left - l._piece);
-  disks : (MovesSector (asked.Finish l.port l.slot) (device_at g.S.SectorStore.size g.S.SectorStore.told l.fn.self) → ⊥) → (which : Which) →
+  room : HasRoom l.self.hardware (l.rest.left - l._piece + l.rest.clears + 1);
+  going : IsGoing (device_at g.S.SectorStore.size g.S.SectorStore.told l.self) l.port.0 l.slot.0 l.sectors (l.rest.left - l._piece) l.rest.clears;
+  disks : (AsksStore (asked.Finish l.port l.slot) (device_at g.S.SectorStore.size g.S.SectorStore.told l.fn.self) → ⊥) → (which : Which) →
+      store_of l.self which ≡ store_of l.fn.self which;
+  untouched : l.did ≡ false → (which : Which) → store_of l.self which ≡ store_of l.fn.self which;
+  fine : NoneFails g.S.SectorStore.failures l.fn.self l.self;
+  meanwhile : Meanwhile g.S.SectorStore.size l.fn.self l.self;
+}
+
+abbrev pub invariant-loop-run : goal.invariant-loop-run
+invariant-loop-run g l = record {
+  did : l.did ≡ true → GoesOn (SendsEnd l.slot.0) l.port.0 l.slot.0
+      (device_at g.S.SectorStore.size g.S.SectorStore.told l.fn.self) (device_at g.S.SectorStore.size g.S.SectorStore.told l.self);
+  refused : l.did ≡ false →
+      device_at g.S.SectorStore.size g.S.SectorStore.told l.self ≡ device_at g.S.SectorStore.size g.S.SectorStore.told l.fn.self;
+  disk : g.S.SectorStore.size l.self.disk ≡ l.sectors;
+  room : HasRoom l.self.hardware (l._run-end - l._run + 1);
+  going : IsGoing (device_at g.S.SectorStore.size g.S.SectorStore.told l.self) l.port.0 l.slot.0 l.sectors 0 (l._run-end - l._run);
+  disks : (AsksStore (asked.Finish l.port l.slot) (device_at g.S.SectorStore.size g.S.SectorStore.told l.fn.self) → ⊥) → (which : Which) →
       store_of l.self which ≡ store_of l.fn.self which;
   untouched : l.did ≡ false → (which : Which) → store_of l.self which ≡ store_of l.fn.self which;
   fine : NoneFails g.S.SectorStore.failures l.fn.self l.self;

@@ -21,7 +21,7 @@ use Rattle.device_model.specs.declared.port.TakenCommand.{TakenCommand}
 use Rattle.device_model.proofs.TwoDisks.{both_kept, keeps_with, kept_in}
 use Rattle.device_model.proofs.Doing.{left_same}
 use Rattle.device_model.proofs.Finishing.{move_fits, no_move, next_has_move, next_on_disk, outside_moved, sector_small}
-use Rattle.device_model.proofs.Identifying.{next_identifies, next_page}
+use Rattle.device_model.proofs.Identifying.{next_identifies, next_unranged}
 use Rattle.device_model.proofs.Stepping.{may_move}
 use Rattle.device_model.proofs.Telling.{gains_moved}
 use Rattle.device_model.proofs.model.Model.move_piece.Given.{Over}
@@ -211,7 +211,7 @@ returns-clause-answers g c =
         disks = λ none.
             both_kept m (record m { hardware = c.move_bytes.new.self; disk = c.exchange.new.disk }) refl
             (c.exchange.ensures.same
-            (next_page c.reserve-room.new.self o _ c.args.port c.args.slot c.in-Some.next c.in-Some.ensures.found.0 c.if-port-ne0.false c.requires
+            (next_unranged c.reserve-room.new.self o _ c.args.port c.args.slot c.in-Some.next c.in-Some.ensures.found.0 c.if-port-ne0.false c.requires
             (c.reserve-room.ensures.same o) c.in-Some.ensures.found.1 on none)) keeps.out;
         keeps = keeps;
         starved = c.move_bytes.ensures.starved ∙ c.reserve-room.ensures.starved;

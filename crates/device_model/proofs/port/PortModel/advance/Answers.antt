@@ -1,19 +1,46 @@
-use Rattle.std.proofs.Common.{ℕ, List, [], ◌≡◌, ◌∙◌, ◌+◌, Option, Some, sym, ap}
+use Rattle.std.proofs.Common.{ℕ, List, ◌≡◌, ◌∙◌, ◌+◌, Option, Some, sym, ap}
 use Rattle.adapter.specs.Device.{Taken}
 use Rattle.adapter.specs.Memory.{changed}
-use Rattle.device_model.specs.View.{held_in, media_after, port_of, slots_of, taken_of}
+use Rattle.adapter.specs.Steps.{block_after, noted_bytes}
+use Rattle.adapter.proofs.Absurd.{some_one, true-false}
+use Rattle.device_model.specs.Block.{brought}
+use Rattle.device_model.specs.View.{held_in, media_after, operation_of, port_of, slots_of, taken_of}
 use Rattle.device_model.specs.declared.port.TakenCommand.{TakenCommand}
+use Rattle.device_model.specs.declared.port.Transfer.{Transfer}
+use Rattle.device_model.specs.declared.port.Transfer.TheVariants.{Trim}
 use Rattle.device_model.proofs.SlotLemmas.{slots_changed}
 use Rattle.device_model.proofs.Transfers.{no_block}
 use Rattle.device_model.proofs.port.PortModel.advance.Goals as goal
 
-pub returns : goal.returns
-returns c = λ m t bytes held.
+-- the command is of this transfer
+same_kind : (o : Option TakenCommand) (u t : TakenCommand) (k : Transfer) → o ≡ Some u → u.transfer ≡ k → o ≡ Some t → t.transfer ≡ k
+same_kind o u t k there kind here = ap (λ (x : TakenCommand). x.transfer) (some_one (sym here ∙ there)) ∙ kind
+
+-- a trim keeps its block
+pub returns-then-is_trim : goal.returns-then-is_trim
+returns-then-is_trim c = λ m t held.
     let was : ℕ → Option TakenCommand = held_in c.args.self.now.taken in
     let slot : ℕ = c.args.slot in
-    let slots : slots_of (held_in c.add_moved.new.self) ≡ changed (slots_of was) slot (Some (record (taken_of t) { moved = t.moved + 1 })) =
-    ap slots_of (c.add_moved.ensures t held) ∙ slots_changed was slot (Some (record t { moved = t.moved + 1 })) in
+    let bytes : List ℕ = c.args.bytes.now in
+    let u : TakenCommand = record t { moved = t.moved + 1; block = Some (noted_bytes bytes) } in
+    let kind : t.transfer ≡ Trim =
+    same_kind (was slot) c.requires.held.0 t c.args.transfer c.requires.held.1 c.requires.held.2 held ∙ c.is_trim.ensures.0 c.if-is_trim.true in
+    let kept : block_after (operation_of t.transfer) bytes (brought t.block) ≡ bytes = ap (λ (k : Transfer). block_after (operation_of k) bytes (brought t.block)) kind in
     ap (λ (f : ℕ → Option Taken). record (port_of c.args.self.now (media_after m (taken_of t) bytes)) { taken = f })
-    (slots
+    (ap slots_of (c.add_block.ensures t held)
+    ∙ (slots_changed was slot (Some u)
+    ∙ ap (λ (b : List ℕ). changed (slots_of was) slot (Some (record (taken_of t) { moved = t.moved + 1; block = b }))) (sym kept)))
+
+-- no other command has one
+pub returns-else-is_trim : goal.returns-else-is_trim
+returns-else-is_trim c = λ m t held.
+    let was : ℕ → Option TakenCommand = held_in c.args.self.now.taken in
+    let slot : ℕ = c.args.slot in
+    let bytes : List ℕ = c.args.bytes.now in
+    let kind = same_kind (was slot) c.requires.held.0 t c.args.transfer c.requires.held.1 c.requires.held.2 held in
+    let other : t.transfer ≡ Trim → ⊥ = λ (trim : t.transfer ≡ Trim). true-false (c.is_trim.ensures.1 (sym kind ∙ trim)) c.if-is_trim.false in
+    ap (λ (f : ℕ → Option Taken). record (port_of c.args.self.now (media_after m (taken_of t) bytes)) { taken = f })
+    (ap slots_of (c.add_moved.ensures t held)
+    ∙ (slots_changed was slot (Some (record t { moved = t.moved + 1 }))
     ∙ ap (λ (b : List ℕ). changed (slots_of was) slot (Some (record (taken_of t) { moved = t.moved + 1; block = b })))
-    (sym (no_block t.transfer bytes [])))
+    (sym (no_block t.transfer bytes (brought t.block) other))))

@@ -3,6 +3,7 @@ use Rattle.std.proofs.lemmas.List.{get_or_default, length-set}
 use Rattle.std.specs.Prelude.{is_some}
 use Rattle.adapter.specs.Memory.{changed}
 use Rattle.device_model.specs.View.{held_in}
+use Rattle.device_model.proofs.Blocks.{moved_block}
 use Rattle.device_model.proofs.SlotLemmas.{filled_still, set_slot}
 use Rattle.device_model.proofs.taken.TakenCommands.add_moved.Goals as goal
 
@@ -21,4 +22,6 @@ invariant_of-self c =
     let there = c.index_mut.ensures.value ∙ get_or_default items c.from.result c.index_mut.result.now None small in (
       simp length-set c.self.invariant.0,
       filled_still items c.from.result c.count_move.new.taken _ small c.self.invariant.1 (c.count_move.ensures.stays ∙ ap is_some there),
+      moved_block items c.self.inside.block c.from.result c.count_move.new.taken small c.self.invariant.2 (λ t held. c.count_move.ensures.counted t (there ∙ held))
+          (c.count_move.ensures.stays ∙ ap is_some there),
     )

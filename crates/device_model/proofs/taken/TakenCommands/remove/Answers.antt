@@ -2,6 +2,7 @@ use Rattle.std.proofs.Common.{rules, ◌≡◌, ◌<◌, ◌∙◌, None, length
 use Rattle.std.proofs.lemmas.List.{length-set}
 use Rattle.adapter.specs.Memory.{changed}
 use Rattle.device_model.specs.View.{held_in}
+use Rattle.device_model.proofs.Blocks.{block_removed}
 use Rattle.device_model.proofs.SlotLemmas.{filled_set, set_slot}
 use Rattle.device_model.proofs.taken.TakenCommands.remove.Goals as goal
 
@@ -16,5 +17,8 @@ invariant_of-self c =
     let items = c.self.inside.slots.items in
     let small : c.from.result < length items = search rules in
     let place : c.from-2.result ≡ c.from.result = c.from-2.ensures ∙ sym c.from.ensures in
-    let bits = rw place at c.with_bit_as-self-inside.ensures in
-    (simp length-set c.self.invariant.0, filled_set items c.from.result None _ _ small c.self.invariant.1 bits)
+    let bits = rw place at c.with_bit_as-self-inside.ensures in (
+      simp length-set c.self.invariant.0,
+      filled_set items c.from.result None _ _ small c.self.invariant.1 bits,
+      block_removed items c.self.inside.block c.from.result small c.self.invariant.2,
+    )

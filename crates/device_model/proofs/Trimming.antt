@@ -1,0 +1,212 @@
+-- A trim that is to be done to its end: its block is moved, its sectors are cleared, and it ends.
+use Rattle.std.proofs.Common.{ℕ, Bool, zero, suc, ◌≡◌, ◌<◌, ◌≤◌, ◌+◌, ◌-◌, List, [], ◌∷◌, length, drop, take, slice_index, All, min, refl, sym, ◌∙◌, ap, subst, inl, inr, arith, length-drop}
+use Rattle.std.specs.Prelude.{if◌then◌else◌}
+use Rattle.std.proofs.lemmas.Bool.{cases_lt, le-ltb, lt-ltb}
+use Rattle.std.proofs.lemmas.List.{take_all}
+use Rattle.adapter.specs.Device.{Disk, Taken}
+use Rattle.adapter.specs.Memory.{bytes_at, patched}
+use Rattle.adapter.specs.Commands.{reads_memory}
+use Rattle.adapter.specs.Steps.{Brings, block_after, next_place}
+use Rattle.adapter.specs.Trim.{consecutive, trim_sectors}
+use Rattle.adapter.specs.declared.command.Operation.{Operation}
+use Rattle.adapter.specs.declared.command.Operation.TheVariants.{Identify, Read, ReadQueued, Write, WriteQueued, Flush, Trim, ReadLog}
+use Rattle.device_model.specs.Trims.{IsCleared, WillClear, block_ahead, next_uncleared, run_of, runs_of, span, uncleared}
+use Rattle.device_model.proofs.Runs.{all_behind_some, drop_twice, no_runs, one_less, run_below, run_long, some_runs, take_run}
+
+-- ---- the block that a trim is going to have
+
+-- the one that it has, once all is moved
+pub ahead_moved : (memory : ℕ → ℕ) (t : Taken) → t.moved ≡ length t.places → block_ahead memory t ≡ t.block
+ahead_moved memory t all =
+    ap (λ (b : Bool). if b then bytes_at memory (slice_index t.places (length t.places - 1)) 512 else t.block)
+    (le-ltb t.moved (length t.places) (omega (arith, all)))
+
+ahead_unmoved : (memory : ℕ → ℕ) (t : Taken) → t.moved < length t.places → block_ahead memory t ≡ bytes_at memory (slice_index t.places (length t.places - 1)) 512
+ahead_unmoved memory t left =
+    ap (λ (b : Bool). if b then bytes_at memory (slice_index t.places (length t.places - 1)) 512 else t.block) (lt-ltb t.moved (length t.places) left)
+
+-- no move changes which one it is
+moved_ahead : (memory : ℕ → ℕ) (t : Taken) (bytes : List ℕ) → t.moved < length t.places → bytes ≡ bytes_at memory (next_place t) 512 →
+    block_ahead memory (record t { moved = t.moved + 1; block = bytes }) ≡ block_ahead memory t
+moved_ahead memory t bytes left brings =
+    let u : Taken = record t { moved = t.moved + 1; block = bytes } in
+    elim (cases_lt (t.moved + 1) (length t.places)) [
+      | inl more ↦ ahead_unmoved memory u more ∙ sym (ahead_unmoved memory t left)
+      | inr all ↦
+          let last : t.moved ≡ length t.places - 1 = omega (arith, left, all) in
+          ahead_moved memory u (omega (arith, left, all))
+          ∙ (brings ∙ (ap (λ (k : ℕ). bytes_at memory (slice_index t.places k) 512) last ∙ sym (ahead_unmoved memory t left)))
+    ]
+
+-- ---- what a command is going to clear
+
+-- IDENTIFY DEVICE clears nothing
+pub identify_clears : (o : Operation) (memory : ℕ → ℕ) (t : Taken) (sectors : ℕ) → o ≡ Identify → WillClear o memory t sectors 0
+identify_clears o memory t sectors is = subst (λ (x : Operation). WillClear x memory t sectors 0) (sym is) refl
+
+pub identify_cleared : (o : Operation) (memory : ℕ → ℕ) (t : Taken) (sectors clears : ℕ) → o ≡ Identify → WillClear o memory t sectors clears → clears ≡ 0
+identify_cleared o memory t sectors clears is will = let there : WillClear Identify memory t sectors clears = subst (λ (x : Operation). WillClear x memory t sectors clears) is will in there
+
+-- a move changes none of that
+pub moved_clears : (o : Operation) (disk : Disk) (memory : ℕ → ℕ) (t : Taken) (bytes : List ℕ) (sectors clears : ℕ) → t.moved < length t.places →
+    Brings disk memory t o bytes → WillClear o memory t sectors clears →
+    WillClear o (if reads_memory o then memory else patched memory (next_place t) bytes) (record t { moved = t.moved + 1; block = block_after o bytes t.block }) sectors clears
+moved_clears Trim disk memory t bytes sectors clears left brings will =
+    subst (λ (b : List ℕ). IsCleared b t.cleared sectors clears) (sym (moved_ahead memory t bytes left brings)) will
+moved_clears Identify disk memory t bytes sectors clears left brings will = will
+moved_clears Read disk memory t bytes sectors clears left brings will = will
+moved_clears Write disk memory t bytes sectors clears left brings will = will
+moved_clears ReadQueued disk memory t bytes sectors clears left brings will = will
+moved_clears WriteQueued disk memory t bytes sectors clears left brings will = will
+moved_clears Flush disk memory t bytes sectors clears left brings will = will
+moved_clears ReadLog disk memory t bytes sectors clears left brings will = will
+
+-- what is going to be cleared is a trim's
+clears_trim : (o : Operation) (memory : ℕ → ℕ) (t : Taken) (sectors clears : ℕ) → WillClear o memory t sectors (suc clears) → o ≡ Trim
+clears_trim Trim memory t sectors clears will = refl
+clears_trim Identify memory t sectors clears will = absurd (omega (arith, will))
+clears_trim Read memory t sectors clears will = absurd (omega (arith, will))
+clears_trim Write memory t sectors clears will = absurd (omega (arith, will))
+clears_trim ReadQueued memory t sectors clears will = absurd (omega (arith, will))
+clears_trim WriteQueued memory t sectors clears will = absurd (omega (arith, will))
+clears_trim Flush memory t sectors clears will = absurd (omega (arith, will))
+clears_trim ReadLog memory t sectors clears will = absurd (omega (arith, will))
+
+-- where nothing is left to clear, all is cleared
+pub none_left : (o : Operation) (memory : ℕ → ℕ) (t : Taken) (sectors : ℕ) → t.moved ≡ length t.places → WillClear o memory t sectors 0 → o ≡ Trim →
+    t.cleared ≡ length (trim_sectors t.block)
+none_left o memory t sectors all will trim =
+    let there : WillClear Trim memory t sectors 0 = subst (λ (x : Operation). WillClear x memory t sectors 0) trim will in
+    let is : IsCleared t.block t.cleared sectors 0 = subst (λ (b : List ℕ). IsCleared b t.cleared sectors 0) (ahead_moved memory t all) there in
+    let none = ap length (no_runs (uncleared t) (sym is.runs)) in
+    let size = length-drop t.cleared (trim_sectors t.block) in
+    let within = is.within in
+    omega (arith, none, size, within)
+
+module _ (memory : ℕ → ℕ) (t : Taken) (sectors clears : ℕ) (all : t.moved ≡ length t.places) (will : WillClear t.meaning.operation memory t sectors (suc clears)) where
+  pub is_a_trim : t.meaning.operation ≡ Trim
+  is_a_trim = clears_trim t.meaning.operation memory t sectors clears will
+
+  is_cleared : IsCleared t.block t.cleared sectors (suc clears)
+  is_cleared =
+      let there : WillClear Trim memory t sectors (suc clears) = subst (λ (x : Operation). WillClear x memory t sectors (suc clears)) is_a_trim will in
+      subst (λ (b : List ℕ). IsCleared b t.cleared sectors (suc clears)) (ahead_moved memory t all) there
+
+  pub some_uncleared : 1 ≤ length (uncleared t)
+  some_uncleared = some_runs (uncleared t) clears (sym is_cleared.runs)
+
+  pub next_below : next_uncleared t < sectors
+  next_below = is_cleared.on_disk 0 0 (let some = some_uncleared in omega (arith, some))
+
+  -- the whole run is cleared at once
+  span_whole : span sectors (length (uncleared t)) t ≡ run_of (uncleared t)
+  span_whole =
+      let whole : take (length (uncleared t)) (uncleared t) ≡ uncleared t = take_all (length (uncleared t)) (uncleared t) (omega arith) in
+      let end = run_below sectors (uncleared t) some_uncleared is_cleared.on_disk in
+      let below = next_below in
+      ap (λ (l : List ℕ). min (run_of l) (sectors - next_uncleared t)) whole ∙ omega (arith, end, below)
+
+  -- and one run less is left
+  pub span_less : WillClear t.meaning.operation memory (record t { cleared = t.cleared + span sectors (length (uncleared t)) t }) sectors clears
+  span_less =
+      let n : ℕ = run_of (uncleared t) in
+      let u : Taken = record t { cleared = t.cleared + span sectors (length (uncleared t)) t } in
+      let xs : List ℕ = trim_sectors t.block in
+      let same : t.cleared + span sectors (length (uncleared t)) t ≡ t.cleared + n = ap (λ (k : ℕ). t.cleared + k) span_whole in
+      let rest : drop n (drop t.cleared xs) ≡ drop (t.cleared + n) xs = drop_twice t.cleared n xs in
+      let size = length-drop t.cleared xs in
+      let long = run_long (uncleared t) in
+      let some = some_uncleared in
+      let done : IsCleared t.block (t.cleared + n) sectors clears =
+      record {
+        within = omega (arith, size, long, some);
+        runs = sym (ap runs_of (sym rest) ∙ one_less (uncleared t) clears (sym is_cleared.runs));
+        on_disk = subst (λ (l : List ℕ). All (λ sector. sector < sectors) l) rest (all_behind_some sectors n (uncleared t) is_cleared.on_disk);
+      } in
+      let there : WillClear Trim memory u sectors clears =
+      subst (λ (b : List ℕ). IsCleared b u.cleared sectors clears) (sym (ahead_moved memory u all))
+      (subst (λ (k : ℕ). IsCleared t.block k sectors clears) (sym same) done) in
+      subst (λ (o : Operation). WillClear o memory u sectors clears) (sym is_a_trim) there
+
+-- ---- clearing
+
+-- of the sectors that can be cleared at once each number follow one another, and are on the disk
+pub span_sectors : (size most count : ℕ) (t : Taken) → count ≤ span size most t → most ≤ length (uncleared t) →
+    take count (uncleared t) ≡ consecutive (next_uncleared t) count
+span_sectors size most count t few enough =
+    let run = run_long (take most (uncleared t)) in
+    let fits : count ≤ run_of (take most (uncleared t)) = omega (arith, few) in
+    let size_is = take_length most (uncleared t) enough in
+    let part : take count (take most (uncleared t)) ≡ take count (uncleared t) = take_twice count most (uncleared t) (omega (arith, fits, run, size_is)) in
+    let all = take_run (take most (uncleared t)) count fits in
+    sym part ∙ (all ∙ start count most (uncleared t) (omega (arith, fits, run, size_is)))
+  where
+    take_length : (n : ℕ) (xs : List ℕ) → n ≤ length xs → length (take n xs) ≡ n
+    take_length zero xs small = refl
+    take_length (suc n) [] small = absurd (omega (arith, small))
+    take_length (suc n) (x ∷ xs) small = ap suc (take_length n xs (omega (arith, small)))
+
+    take_twice : (n m : ℕ) (xs : List ℕ) → n ≤ m → take n (take m xs) ≡ take n xs
+    take_twice zero m xs small = refl
+    take_twice (suc n) zero xs small = absurd (omega (arith, small))
+    take_twice (suc n) (suc m) [] small = refl
+    take_twice (suc n) (suc m) (x ∷ xs) small = ap (λ (l : List ℕ). x ∷ l) (take_twice n m xs (omega (arith, small)))
+
+    start : (n m : ℕ) (xs : List ℕ) → n ≤ m → consecutive (slice_index (take m xs) 0) n ≡ consecutive (slice_index xs 0) n
+    start zero m xs small = refl
+    start (suc n) zero xs small = absurd (omega (arith, small))
+    start (suc n) (suc m) [] small = refl
+    start (suc n) (suc m) (x ∷ xs) small = refl
+
+-- the next one, where one is left
+pub next_one : (t : Taken) → 1 ≤ length (uncleared t) → take 1 (uncleared t) ≡ next_uncleared t ∷ []
+next_one t some = by (uncleared t) some
+  where
+    by : (xs : List ℕ) → 1 ≤ length xs → take 1 xs ≡ slice_index xs 0 ∷ []
+    by [] none = absurd (omega (arith, none))
+    by (x ∷ xs) some = refl
+
+pub span_some : (size most : ℕ) (t : Taken) → 1 ≤ most → most ≤ length (uncleared t) → next_uncleared t < size → 1 ≤ span size most t
+span_some size most t some enough below =
+    let one = by most (uncleared t) some enough in
+    omega (arith, one, below)
+  where
+    by : (n : ℕ) (xs : List ℕ) → 1 ≤ n → n ≤ length xs → 1 ≤ run_of (take n xs)
+    by zero xs some small = absurd (omega (arith, some))
+    by (suc n) [] some small = absurd (omega (arith, small))
+    by (suc n) (x ∷ xs) some small = omega arith
+
+-- what is left behind so many
+pub uncleared_on : (t : Taken) (count : ℕ) → uncleared (record t { cleared = t.cleared + count }) ≡ drop count (uncleared t)
+uncleared_on t count = sym (drop_twice t.cleared count (trim_sectors t.block))
+
+-- the next one behind so many that were cleared at once, of more that could be
+pub next_on : (size most count : ℕ) (t : Taken) → count < span size most t → most ≤ length (uncleared t) →
+    (1 ≤ length (uncleared (record t { cleared = t.cleared + count }))) × (next_uncleared (record t { cleared = t.cleared + count }) ≡ next_uncleared t + count)
+next_on size most count t more enough =
+    let follow = span_sectors size most (suc count) t (omega (arith, more)) enough in
+    let here = by count (uncleared t) (next_uncleared t) follow in
+    let rest = uncleared_on t count in (
+      subst (λ (l : List ℕ). 1 ≤ length l) (sym rest) here.0,
+      ap (λ (l : List ℕ). slice_index l 0) rest ∙ here.1,
+    )
+  where
+    by : (n : ℕ) (xs : List ℕ) (a : ℕ) → take (suc n) xs ≡ consecutive a (suc n) → (1 ≤ length (drop n xs)) × (slice_index (drop n xs) 0 ≡ a + n)
+    by n [] a follow = absurd (cc follow)
+    by zero (x ∷ xs) a follow = let same : x ≡ a = ap (λ (l : List ℕ). slice_index l 0) follow in (omega arith, omega (arith, same))
+    by (suc n) (x ∷ xs) a follow =
+        let rest = by n xs (suc a) (ap (λ (l : List ℕ). drop 1 l) follow) in
+        let at = rest.1 in
+        (rest.0, omega (arith, at))
+
+-- so many at the most
+pub span_most : (size most : ℕ) (t : Taken) → span size most t ≤ most
+span_most size most t =
+    let long = run_long (take most (uncleared t)) in
+    let taken = by most (uncleared t) in
+    omega (arith, long, taken)
+  where
+    by : (n : ℕ) (xs : List ℕ) → length (take n xs) ≤ n
+    by zero xs = omega arith
+    by (suc n) [] = omega arith
+    by (suc n) (x ∷ xs) = let rest = by n xs in omega (arith, rest)

@@ -1,0 +1,69 @@
+-- The sectors of a trim that are left to clear, in the order of its block (ACS-3, 7.5), and how a model clears them (this project's own).
+use Rattle.std.specs.Prelude.{ℕ, suc, ◌≡◌, ◌-◌, ◌<◌, ◌≤◌, min, List, [], ◌∷◌, length, drop, take, All, if◌then◌else◌, nat_eq, nat_lt, slice_index}
+use Rattle.adapter.specs.Device.{Taken, Device}
+use Rattle.adapter.specs.Memory.{bytes_at}
+use Rattle.adapter.specs.Steps.{WorksOn}
+use Rattle.adapter.specs.Trim.{trim_sectors}
+use Rattle.adapter.specs.declared.command.Operation.{Operation}
+use Rattle.adapter.specs.declared.command.Operation.TheVariants.{Trim}
+
+-- ---- runs of sectors that follow one another
+
+-- how many of these follow one another, from this one on
+abbrev pub run_from : ℕ → List ℕ → ℕ
+run_from next [] = 0
+run_from next (sector ∷ rest) = if nat_eq sector next then suc (run_from (suc next) rest) else 0
+
+-- and from the first on, whichever it is
+abbrev pub run_of : List ℕ → ℕ
+run_of [] = 0
+run_of (sector ∷ rest) = suc (run_from (suc sector) rest)
+
+-- in how many runs these are, each as long as can be: where a run before them ends at this one, which may go on
+abbrev pub runs_from : ℕ → List ℕ → ℕ
+runs_from next [] = 0
+runs_from next (sector ∷ rest) = if nat_eq sector next then runs_from (suc sector) rest else suc (runs_from (suc sector) rest)
+
+-- and where there is none before them
+abbrev pub runs_of : List ℕ → ℕ
+runs_of [] = 0
+runs_of (sector ∷ rest) = suc (runs_from (suc sector) rest)
+
+-- ---- what is left to clear
+
+-- the sectors of the block that aren't cleared yet
+abbrev pub uncleared : Taken → List ℕ
+uncleared t = drop t.cleared (trim_sectors t.block)
+
+abbrev pub next_uncleared : Taken → ℕ
+next_uncleared t = slice_index (uncleared t) 0
+
+-- How many of the next so many sectors are cleared at once: those that follow one another, from the next one on, and are on a disk of this size.
+abbrev pub span : (size most : ℕ) → Taken → ℕ
+span size most t = min (run_of (take most (uncleared t))) (size - next_uncleared t)
+
+-- The port works on this trim, whose block was moved; so many sectors are left to clear, one at least; and the next one is on the disk.
+pub record HasClear (d : Device) (port slot most : ℕ) (t : Taken) : Type 0 where
+  pub works : WorksOn (d.port port) slot t Trim
+  pub trim : t.meaning.operation ≡ Trim
+  pub moved : t.moved ≡ length t.places
+  pub some : 1 ≤ most
+  pub enough : most ≤ length (uncleared t)
+  pub on_disk : next_uncleared t < (d.port port).disk.size
+
+-- ---- what a trim is going to clear
+
+-- the block that it has, or the one that its last move is going to bring
+abbrev pub block_ahead : (ℕ → ℕ) → Taken → List ℕ
+block_ahead memory t = if nat_lt t.moved (length t.places) then bytes_at memory (slice_index t.places (length t.places - 1)) 512 else t.block
+
+-- so many runs are left to clear of this block, and each sector is one of so many
+pub record IsCleared (block : List ℕ) (cleared sectors clears : ℕ) : Type 0 where
+  pub within : cleared ≤ length (trim_sectors block)
+  pub runs : clears ≡ runs_of (drop cleared (trim_sectors block))
+  pub on_disk : All (λ sector. sector < sectors) (drop cleared (trim_sectors block))
+
+-- so many clears are left of a command: one of each run of a trim, and of another command none
+abbrev pub WillClear : Operation → (ℕ → ℕ) → Taken → (sectors clears : ℕ) → Type 0
+WillClear Trim memory t sectors clears = IsCleared (block_ahead memory t) t.cleared sectors clears
+WillClear _ memory t sectors clears = clears ≡ 0

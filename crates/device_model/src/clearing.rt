@@ -1,0 +1,98 @@
+// What the block of a trim means, as the device reads it (ACS-3, 7.5).
+ghost use Rattle.std.specs.Prelude.{◌≡◌, ◌+◌, ◌*◌, ◌^◌, ◌<◌, ◌≤◌, ℕ, None, All, IfSome, length, take, drop, slice_index};
+ghost use Rattle.byteorder.specs.Endian.{little_from};
+ghost use Rattle.adapter.specs.Trim.{trim_sectors};
+ghost use Rattle.device_model.specs.Trims.{run_of, runs_of};
+
+use byteorder::{ByteOrder, LittleEndian};
+
+/// Bytes of an entry: six of its first sector, and two of how many it names.
+const ENTRY_BYTES: usize = 8;
+
+/// Sectors that follow one another.
+#[derive(Clone, Copy, Debug)]
+pub struct Run {
+    pub first: u64,
+    pub count: u32,
+}
+
+/// The sectors of the entry at this place of a block.
+fn entry_at(block: &[u8], place: usize) -> Run
+    requires { 8 * place + 8 ≤ length block.now }
+    ensures first { result.first ≡ little_from (8 * place) 6 block.now }
+    ensures count { result.count ≡ little_from (8 * place + 6) 2 block.now }
+    ensures range { (result.first < 2 ^ 48) × (result.count < 2 ^ 16) }
+{
+    let at = ENTRY_BYTES * place;
+    Run {
+        first: LittleEndian::read_u48(&block[at..]),
+        count: u32::from(LittleEndian::read_u16(&block[at + 6..])),
+    }
+}
+
+/// How many sectors a block names.
+pub fn count_sectors(block: &[u8]) -> u32
+    requires { length block.now ≤ 512 }
+    ensures { result ≡ length (trim_sectors block.now) }
+{
+    let mut count = 0;
+    for place in 0..block.len() / ENTRY_BYTES {
+        count += entry_at(block, place).count;
+    }
+    count
+}
+
+/// The sectors of a block behind so many, as far as they follow one another, and so many at the most.
+pub fn next_run(block: &[u8], cleared: u32, most: u32) -> Run
+    requires { length block.now ≤ 512 }
+    ensures count { result.count ≡ run_of (take most (drop cleared (trim_sectors block.now))) }
+    ensures few { result.count ≤ most }
+    ensures first { 1 ≤ result.count → result.first ≡ slice_index (drop cleared (trim_sectors block.now)) 0 }
+{
+    let mut skip = cleared;
+    let mut run = Run { first: 0, count: 0 };
+    for place in 0..block.len() / ENTRY_BYTES {
+        let entry = entry_at(block, place);
+        if entry.count <= skip {
+            skip -= entry.count;
+        } else if run.count == 0 {
+            run.first = entry.first + u64::from(skip);
+            run.count = (entry.count - skip).min(most);
+            skip = 0;
+        } else if run.first + u64::from(run.count) == entry.first {
+            run.count += entry.count.min(most - run.count);
+        } else {
+            return run;
+        }
+    }
+    run
+}
+
+/// In how many runs the sectors of a block behind so many are, if each is one of so many sectors.
+pub fn count_runs(block: &[u8], cleared: u32, sectors: u64) -> Option<u32>
+    requires { length block.now ≤ 512 }
+    ensures runs { IfSome result (λ runs. runs ≡ runs_of (drop cleared (trim_sectors block.now))) }
+    ensures on_disk { IfSome result (λ _. All (λ sector. sector < sectors) (drop cleared (trim_sectors block.now))) }
+    ensures only { result ≡ None → All (λ sector. sector < sectors) (drop cleared (trim_sectors block.now)) → ⊥ }
+{
+    let mut skip = cleared;
+    let mut runs = 0;
+    let mut next = 0;
+    for place in 0..block.len() / ENTRY_BYTES {
+        let entry = entry_at(block, place);
+        if entry.count <= skip {
+            skip -= entry.count;
+        } else {
+            let end = entry.first + u64::from(entry.count);
+            if end > sectors {
+                return None;
+            }
+            if runs == 0 || entry.first != next {
+                runs += 1;
+            }
+            next = end;
+            skip = 0;
+        }
+    }
+    Some(runs)
+}

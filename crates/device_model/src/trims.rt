@@ -1,0 +1,165 @@
+// Trims: what is left to clear of one, and that it is cleared.
+ghost use Rattle.std.specs.Prelude.{◌≡◌, ◌↔◌, ◌+◌, ◌-◌, ◌^◌, ◌<◌, ◌≤◌, ℕ, IsTrue, IfSome, None, length, min, slice_index_or, take};
+ghost use Rattle.adapter.specs.Says.{pieces};
+ghost use Rattle.adapter.specs.Steps.{IsFinished, after};
+ghost use Rattle.adapter.specs.Steps.Step.{Clear as ClearStep};
+ghost use Rattle.device_model.specs.Block.{brought};
+ghost use Rattle.device_model.specs.Fetched.{bytes_of};
+ghost use Rattle.device_model.specs.Finishing.{HasRoom};
+ghost use Rattle.device_model.specs.Slots.{CanClear, HoldsAt, IsNextRun};
+ghost use Rattle.device_model.specs.Trims.{IsCleared, WillClear, block_ahead, next_uncleared, run_of, span, uncleared};
+ghost use Rattle.device_model.specs.View.{blank, operation_of, taken_of};
+ghost use Rattle.device_model.specs.Whole.{Outside, device_of, outside_cleared};
+ghost use Rattle.device_model.specs.declared.port.TakenCommand.{TakenCommand};
+
+use crate::clearing::{Run, count_runs, count_sectors, next_run};
+use crate::fetch::{copy_bytes, count_pieces, piece_at};
+use crate::hardware::Hardware;
+use crate::port::TakenCommand;
+use crate::slots::working_on;
+use crate::steps::record;
+use adapter::{Clear, Entry};
+use ata_types::{Port, Slot};
+
+/// Whether nothing of a command is left to move or to clear, whose block is this.
+pub fn is_finished(command: &TakenCommand, block: &[u8]) -> bool
+    requires block { block.now ≡ brought command.now.block }
+    requires few { length block.now ≤ 512 }
+    ensures { IsTrue result ↔ IsFinished (taken_of command.now) }
+{
+    command.moved == count_pieces(command.prds.as_slice())
+        && (!command.transfer.is_trim() || command.cleared == count_sectors(block))
+}
+
+/// How many sectors of a trim are left to clear.
+fn uncleared_of(command: &TakenCommand, block: &[u8]) -> u32
+    requires block { block.now ≡ brought command.now.block }
+    requires few { length block.now ≤ 512 }
+    ensures count { result ≡ length (uncleared (taken_of command.now)) }
+    ensures fits { 1 ≤ result → command.now.cleared + result < 2 ^ 32 }
+{
+    count_sectors(block).saturating_sub(command.cleared)
+}
+
+/// How many clears a block brings, of which so many sectors were cleared, if each that is left is one of so many.
+fn clears_of_block(block: &[u8], cleared: u32, sectors: u64) -> Option<u32>
+    requires { length block.now ≤ 512 }
+    ensures found { IfSome result (λ clears. IsCleared block.now cleared sectors clears) }
+    ensures only { (clears : ℕ) → IsCleared block.now cleared sectors clears → result ≡ Some clears }
+{
+    if count_sectors(block) < cleared {
+        return None;
+    }
+    count_runs(block, cleared, sectors)
+}
+
+/// How many clears a trim is going to make, as `clears_of` says. The block that it is going to move is looked at where it is. It is entered for trims alone, since its
+/// frame has room for a block.
+#[inline(never)]
+fn clears_of_trim(command: &TakenCommand, block: &[u8], memory: &[u8], sectors: u64) -> Option<u32>
+    requires block { block.now ≡ brought command.now.block }
+    requires few { length block.now ≤ 512 }
+    ensures found { IfSome result (λ clears. IsCleared (block_ahead (bytes_of memory.now) (taken_of command.now)) command.now.cleared sectors clears) }
+    ensures only { (clears : ℕ) → IsCleared (block_ahead (bytes_of memory.now) (taken_of command.now)) command.now.cleared sectors clears → result ≡ Some clears }
+{
+    let prds = command.prds.as_slice();
+    let pieces = count_pieces(prds);
+    if command.moved >= pieces {
+        return clears_of_block(block, command.cleared, sectors);
+    }
+    let place = piece_at(prds, pieces - 1)?;
+    let mut bytes = [0; 512];
+    copy_bytes(memory, place as usize, &mut bytes);
+    clears_of_block(&bytes, command.cleared, sectors)
+}
+
+/// How many clears are left of a command, whose block is this, if each of their sectors is one of so many; none but of a trim.
+pub fn clears_of(command: &TakenCommand, block: &[u8], memory: &[u8], sectors: u64) -> Option<u32>
+    requires block { block.now ≡ brought command.now.block }
+    requires few { length block.now ≤ 512 }
+    ensures found { IfSome result (λ clears. WillClear (operation_of command.now.transfer) (bytes_of memory.now) (taken_of command.now) sectors clears) }
+    ensures only { (clears : ℕ) → WillClear (operation_of command.now.transfer) (bytes_of memory.now) (taken_of command.now) sectors clears → result ≡ Some clears }
+{
+    if command.transfer.is_trim() {
+        clears_of_trim(command, block, memory, sectors)
+    } else {
+        Some(0)
+    }
+}
+
+/// The sectors of a trim, whose block is this, that are cleared at once: of its next so many those that follow one another, and are on a disk of so many
+/// sectors. `None` where there is none, and where fewer than so many are left.
+fn run_of_trim(command: &TakenCommand, block: &[u8], most: u32, sectors: u64) -> Option<Run>
+    requires block { block.now ≡ brought command.now.block }
+    requires few { length block.now ≤ 512 }
+    ensures can { IfSome result (λ run. CanClear command.now most sectors) }
+    ensures first { IfSome result (λ run. run.first ≡ next_uncleared (taken_of command.now)) }
+    ensures count { IfSome result (λ run. run.count ≡ span sectors most (taken_of command.now)) }
+    ensures fits { IfSome result (λ run. command.now.cleared + run.count < 2 ^ 32) }
+    ensures none { result ≡ None → CanClear command.now most sectors → ⊥ }
+{
+    if !command.transfer.is_trim() || command.moved != count_pieces(command.prds.as_slice()) {
+        return None;
+    }
+    if most == 0 || most > uncleared_of(command, block) {
+        return None;
+    }
+    let run = next_run(block, command.cleared, most);
+    if run.first >= sectors {
+        return None;
+    }
+    let room = sectors - run.first;
+    Some(Run {
+        first: run.first,
+        count: u64::from(run.count).min(room) as u32,
+    })
+}
+
+impl Hardware {
+    /// How many sectors are left to clear of a slot's trim.
+    pub fn count_uncleared(&self, port: u8, slot: u8) -> u32
+        requires port { port < 4 }
+        requires slot { slot < 32 }
+        ensures { (t : TakenCommand) → HoldsAt (slice_index_or self.now.ports port blank) slot t → result ≡ length (uncleared (taken_of t)) }
+    {
+        match working_on(&self.ports, usize::from(port), slot) {
+            Some(command) => {
+                uncleared_of(command, self.ports[usize::from(port)].taken.block(slot))
+            }
+            None => 0,
+        }
+    }
+
+    /// What a slot's trim clears next, of so many sectors, on a disk of so many.
+    pub fn run_to_clear(&self, port: u8, slot: u8, most: u32, sectors: u64) -> Option<Run>
+        requires port { port < 4 }
+        requires slot { slot < 32 }
+        ensures found { IfSome result (λ run. (t : TakenCommand) × IsNextRun self.now port slot most sectors run t) }
+        ensures none { result ≡ None → (t : TakenCommand) → HoldsAt (slice_index_or self.now.ports port blank) slot t → CanClear t most sectors → ⊥ }
+    {
+        let command = working_on(&self.ports, usize::from(port), slot)?;
+        let block = self.ports[usize::from(port)].taken.block(slot);
+        run_of_trim(command, block, most, sectors)
+    }
+
+    /// Sectors of a slot's trim were cleared: that is noted on the tape.
+    pub fn clear(&mut self, port: u8, slot: u8, run: Run)
+        requires port { port < 4 }
+        requires slot { slot < 32 }
+        requires held { (t : TakenCommand) × HoldsAt (slice_index_or self.old.ports port blank) slot t × (t.cleared + run.count < 2 ^ 32) }
+        requires room { HasRoom self.old 1 }
+        ensures cleared { (o : Outside) (t : TakenCommand) → HoldsAt (slice_index_or self.old.ports port blank) slot t →
+            device_of self.new (outside_cleared o port run.first run.count) ≡ after (ClearStep port slot (taken_of t) run.first run.count) (device_of self.old o) }
+        ensures left { (n : ℕ) → HasRoom self.old (n + 1) → HasRoom self.new n }
+        ensures starved { self.new.starved ≡ self.old.starved }
+    {
+        let entry = Entry::Clear(Clear {
+            port: Port(port),
+            slot: Slot(slot),
+            first: run.first,
+            count: run.count,
+        });
+        let _recorded = record(&mut self.tape, &mut self.starved, entry);
+        self.ports[usize::from(port)].clear(slot, run);
+    }
+}
