@@ -24,11 +24,12 @@ pub record DoesMove (port slot : ℕ) (old new : Device) : Type 0 where
   pub can : Can (Move port slot t bytes) old
   pub effect : new ≡ after (Move port slot t bytes) old
 
--- so many sectors at the most of the slot's trim were cleared, the next ones of its block
+-- so many sectors at the most of the slot's trim were cleared, and one at least: the next ones of its block
 pub record DoesClear (port slot most : ℕ) (old new : Device) : Type 0 where
   pub t : Taken
   pub first : ℕ
   pub count : ℕ
+  pub some : 1 ≤ count
   pub few : count ≤ most
   pub can : Can (Clear port slot t first count) old
   pub effect : new ≡ after (Clear port slot t first count) old

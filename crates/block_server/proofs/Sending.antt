@@ -32,7 +32,7 @@ use Rattle.request_queue.specs.declared.Entry.{Entry}
 use Rattle.server_history.specs.Served.{IssuesOne, task_of, use_for}
 use Rattle.server_history.specs.Server.{Server, IsKept, is_served, mode_in, no_slots, slots_at, state_of, with_slot}
 use Rattle.slots.specs.Uses.{Uses as PortSlots, IsLowestFree, IsTaken, with_use}
-use Rattle.ncq.specs.Tasks.{IssuesTask, RunsItsList, addresses_of, meaning_of}
+use Rattle.ncq.specs.Tasks.{HasBlockOf, IssuesTask, RunsItsList, addresses_of, meaning_of}
 
 -- ---- what a request of the book is
 
@@ -54,7 +54,7 @@ module _ (rows : List GrantRow) (table : Table) (e : Held) (configured : All IsR
   goes : (queued : Bool) → queued ≡ not (is_plain mode e.entry.op) → (op : Op) → e.entry.op ≡ op → MayGoIn op (record { op = e.entry.op; range = e.entry.range; queued = queued }) e.frames slot
   goes queued kind Read same = record { transfers = inl same; some = (counted Read same).0; few = (counted Read same).1; first = is.first (not_flush Read (λ e. cc) same); number = enough Read same }
   goes queued kind Write same = record { transfers = inr same; some = (counted Write same).0; few = (counted Write same).1; first = is.first (not_flush Write (λ e. cc) same); number = enough Write same }
-  goes queued kind Trim same = (head (ap (is_plain mode) same), kind ∙ ap (λ (o : Op). not (is_plain mode o)) same, (counted Trim same).1, below (not_flush Trim (λ e. cc) same))
+  goes queued kind Trim same = (head (ap (is_plain mode) same), kind ∙ ap (λ (o : Op). not (is_plain mode o)) same, (counted Trim same).0, (counted Trim same).1, below (not_flush Trim (λ e. cc) same))
   goes queued kind Flush same = (head (ap (is_plain mode) same), kind ∙ ap (λ (o : Op). not (is_plain mode o)) same)
 
   -- it may go in the slot, wherever its entry and its frames are told
@@ -176,9 +176,9 @@ module _ (s : Server) (device : Device) (book : List Held) (slots : PortSlots) (
 
     -- it was issued
     pub sent : (slot : ℕ) → slot < 32 → IsLowestFree slots slot → (new : Device) → IssuesTask port slot (task_of mode e) e.frames device new
-        → IsStored new port.0 slot (meaning_of (task_of mode e)) (addresses_of port.0 e.entry.op e.entry.range.count e.frames) → (later : List Held) → later ≡ map (at id issue) book
+        → IsStored new port.0 slot (meaning_of (task_of mode e)) (addresses_of port.0 e.entry.op e.entry.range.count e.frames) → HasBlockOf e.entry.op e.entry.range port.0 new.memory → (later : List Held) → later ≡ map (at id issue) book
         → (used : PortSlots) → used ≡ with_use slots slot (Some (record { id = id; queued = not (is_plain mode e.entry.op) })) → IssuesOne port id s (with_part s new later used port)
-    sent slot small lowest new issues stored later later_is used used_is = record {
+    sent slot small lowest new issues stored block later later_is used used_is = record {
       request = e;
       here = here;
       id_is = turn.2;
@@ -190,6 +190,7 @@ module _ (s : Server) (device : Device) (book : List Held) (slots : PortSlots) (
       issues = subst (λ (m : Mode). IssuesTask port slot (task_of m e) e.frames s.device new) (sym l.mode_is)
           (subst (λ (d : Device). IssuesTask port slot (task_of mode e) e.frames d new) (sym l.device_is) issues);
       stored = subst (λ (m : Mode). IsStored new port.0 slot (meaning_of (task_of m e)) (addresses_of port.0 e.entry.op e.entry.range.count e.frames)) (sym l.mode_is) stored;
+      block = block;
       server = λ i. record s { device = new; slots = set_to i; book = (later_is ∙ ap (map (at id issue)) (sym l.book_is)) i };
     }
       where

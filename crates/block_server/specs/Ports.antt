@@ -63,10 +63,10 @@ pub record AnswersAll (port : Port) (done : ℕ) (before after : List Reply) (ol
 
 -- ---- tasks
 
--- A task of this operation may be issued in the slot: a transfer has its frames; a trim names at most 4,194,240 sectors, each below 2^48 (64 entries of
--- 65,535 in its block); and what is plain alone is so, in slot 0.
+-- A task of this operation may be issued in the slot: a transfer has its frames; a trim names 1 to 4,194,240 sectors, each below 2^48 (64 entries of
+-- 65,535 in its block); and a trim and a flush aren't queued, and go in slot 0.
 abbrev pub MayGoIn : Op → Task → List Frame → ℕ → Type 0
 MayGoIn Read r frames slot = IsFit r frames
 MayGoIn Write r frames slot = IsFit r frames
-MayGoIn Trim r frames slot = (slot ≡ 0) × (r.queued ≡ false) × (r.range.count ≤ 4194240) × (r.range.first.0 + r.range.count ≤ 2 ^ 48)
+MayGoIn Trim r frames slot = (slot ≡ 0) × (r.queued ≡ false) × (1 ≤ r.range.count) × (r.range.count ≤ 4194240) × (r.range.first.0 + r.range.count ≤ 2 ^ 48)
 MayGoIn Flush r frames slot = (slot ≡ 0) × (r.queued ≡ false)

@@ -6,7 +6,7 @@ ghost use Rattle.agreement.specs.Readying.{IsStored};
 ghost use Rattle.block_machine.specs.Due.{IsDue, due_of};
 ghost use Rattle.block_server.specs.Ports.{Lends, MayGoIn, with_part};
 ghost use Rattle.command_table.specs.Written.{IsUnused};
-ghost use Rattle.ncq.specs.Tasks.{IssuesTask, RunsItsList, addresses_of, meaning_of};
+ghost use Rattle.ncq.specs.Tasks.{HasBlockOf, IssuesTask, RunsItsList, addresses_of, meaning_of};
 ghost use Rattle.request_queue.specs.Entries.{Held, asks, asks_of};
 ghost use Rattle.server_history.specs.Served.{IssuesAll, IssuesOne};
 ghost use Rattle.server_history.specs.Server.{Server};
@@ -37,6 +37,7 @@ fn issue_task<A: Adapter>(adapter: &mut A, port: Port, slot: Slot, task: &Task, 
     requires may { MayGoIn task.now.op task.now frames.now slot.0 }
     ensures issues { IssuesTask port slot.0 task.now frames.now (A.device adapter.old) (A.device adapter.new) }
     ensures stored { IsStored (A.device adapter.new) port.0 slot.0 (meaning_of task.now) (addresses_of port.0 task.now.op task.now.range.count frames.now) }
+    ensures block { HasBlockOf task.now.op task.now.range port.0 (A.device adapter.new).memory }
 {
     match task.op {
         Op::Read => issue(adapter, port, slot, task, frames),

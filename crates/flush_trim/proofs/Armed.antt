@@ -49,6 +49,7 @@ module _ (port : Port) (range : Range) (frames : List Frame) (own : ℕ) (old mi
     agreed = agreed;
     may = may;
     kind = refl;
+    head = λ trim. refl;
     mid = mid;
     mid_on = mid_on;
     stores = stores;
@@ -68,6 +69,7 @@ module _ (port : Port) (range : Range) (frames : List Frame) (own : ℕ) (old mi
     agreed = agreed;
     may = may;
     kind = refl;
+    head = λ trim. refl;
     mid = mid;
     mid_on = mid_on;
     stores = stores;

@@ -13,7 +13,7 @@ ghost use Rattle.adapter.specs.declared.command.Operation.TheVariants as operati
 ghost use Rattle.agreement.specs.Driven.{AgreesWith};
 ghost use Rattle.agreement.specs.Readying.{IsStored};
 ghost use Rattle.command_table.specs.Written.{IsUnused};
-ghost use Rattle.ncq.specs.Tasks.{IssuesTask, RunsItsList, addresses_of, meaning_of};
+ghost use Rattle.ncq.specs.Tasks.{HasBlockOf, IssuesTask, RunsItsList, addresses_of, meaning_of};
 ghost use Rattle.flush_trim.specs.Block.{IsCut, entry_first, entry_length, first_of, length_of};
 ghost use Rattle.flush_trim.specs.Tasks.{flush_of, trim_of};
 
@@ -122,7 +122,8 @@ pub fn issue_flush<A: Adapter>(adapter: &mut A, port: Port)
 {
     writing_issues();
     write_table(adapter, port, SLOT, &flush_command(), &[]);
-    adapter.write(Reg::Px(port, PortReg::Ci), bit_of(SLOT));
+    let own = bit_of(SLOT);
+    adapter.write(Reg::Px(port, PortReg::Ci), own);
 }
 
 /// Has the disk of a port that runs forget these sectors (DATA SET MANAGEMENT with TRIM), by slot 0, which is unused: 4,194,240 of them at most, each
@@ -138,6 +139,7 @@ pub fn issue_trim<A: Adapter>(adapter: &mut A, port: Port, range: &Range)
     ensures on { IsOn (A.device adapter.new) }
     ensures issues { (frames : List Frame) → IssuesTask port 0 (trim_of range.now) frames (A.device adapter.old) (A.device adapter.new) }
     ensures stored { (frames : List Frame) → IsStored (A.device adapter.new) port.0 0 (meaning_of (trim_of range.now)) (addresses_of port.0 Trim range.now.count frames) }
+    ensures block { HasBlockOf Trim range.now port.0 (A.device adapter.new).memory }
     ensures set { ((A.device adapter.new).port port.0).ci 0 ≡ true }
 {
     writing_issues();

@@ -20,22 +20,23 @@ use Rattle.adapter.specs.Device.{Bases, PortState, Device}
 use Rattle.adapter.specs.Memory.{changed}
 use Rattle.adapter.specs.Rules.{IsOn, HasPort, MayWrite, Stays}
 use Rattle.adapter.specs.Steps.{Steps}
+use Rattle.adapter.specs.declared.command.Operation.{Operation}
 use Rattle.block_machine.specs.Due.{is_plain}
 use Rattle.block_machine.specs.Events.{AllDevices, AllMay}
 use Rattle.block_machine.specs.Histories.{IsReached, AddsSteps}
 use Rattle.block_machine.specs.Left.{after}
-use Rattle.block_machine.specs.State.{Pending, Machine}
+use Rattle.block_machine.specs.State.{Accepted, Pending, Machine}
 use Rattle.block_machine.specs.Steps.{Step, Issue, May}
 use Rattle.block_machine.specs.declared.due.Mode.{Mode}
 use Rattle.agreement.specs.Acts.{Act, InSlots, IsDone, AreDone, Comes, at, accesses_of, steps_of}
 use Rattle.agreement.specs.Agrees.{Agrees, port_at}
 use Rattle.agreement.specs.Driven.{AnyAccess, AreDevices, IsBitOf, IsDrivenBy, IsFollowed, IsOf, LeavesPort, NoneWrites}
-use Rattle.agreement.specs.Driver.{Known, Knows, ByDevice, Goes, EndsWith, IsPrepared, MissesTable, serving}
+use Rattle.agreement.specs.Driver.{Known, Knows, ByDevice, Goes, EndsWith, IsPrepared, LeavesFree, MissesTable, serving}
 use Rattle.agreement.specs.Follows.{Follows}
 use Rattle.agreement.specs.Links.{SameAdapter, SparesRegister}
 use Rattle.agreement.specs.Places.{list_of}
 use Rattle.agreement.specs.Readying.{IsStored, IsReadied}
-use Rattle.agreement.specs.Slots.{Use, Free, Armed, Serves, Uses, put, Means, HasBlock, Told, IsArmed, IsServed}
+use Rattle.agreement.specs.Slots.{Use, Free, Armed, Own, Serves, Uses, put, Means, HasBlock, Told, IsArmed, IsServed}
 use Rattle.agreement.specs.Started.{ClearsNoStart}
 use Rattle.command_table.specs.Written.{IsStoreWithBlock, IsUnused}
 use Rattle.ncq.specs.Issuing.{IsArmedFor, IsIssued}
@@ -167,6 +168,9 @@ pub record Laws : Type 0 where
       → Means port slot e.request c places → is_queued c.operation ≡ not (is_plain mode e.request.asked.op)
       → HasBlock e.request.asked.op d.memory port e.request → bit v slot ≡ true → ((k : ℕ) → k ≢ slot → bit v k ≡ false) → IsPrepared uses m d port slot mode e v
   pub follows : (uses : Uses) (m : Machine) (old new : Device) → IsReached m → Agrees uses m old → Steps old new → Follows uses m old new
+  pub leaves : (uses : Uses) (m : Machine) (old new : Device) → IsReached m → Agrees uses m old → old.hr ≡ false → (r : Reg) (v : ℕ) → Writes r v old new → LeavesFree uses old new
+  pub block : (uses : Uses) (old new : Device) → LeavesFree uses old new → (port : ℕ) (r : Accepted) → port < 4 → ((o : Operation) → uses port 0 ≡ Own o → ⊥) → HasBlock r.asked.op old.memory port r
+      → HasBlock r.asked.op new.memory port r
   pub put_here : (uses : Uses) (port slot : ℕ) (u : Use) → put uses port slot u port slot ≡ u
   pub put_others : (uses : Uses) (port slot : ℕ) (u : Use) (other_port other_slot : ℕ) → (other_port ≡ port → other_slot ≡ slot → ⊥)
       → put uses port slot u other_port other_slot ≡ uses other_port other_slot
@@ -470,6 +474,37 @@ module _ (laws : Laws) where
           laws.stays (with_armed r.queued port slot s0).uses (after b.agreed.2.machine (steps_of x.reaches.acts)) port slot (meaning_of r) (addresses_of port.0 r.op r.range.count frames)
           (Writing (Px port Ci) own) armed new x.reached x.goes.knows.agrees on_armed.no_reset (λ v e. absurd cc) (λ e. absurd cc) (λ at bytes e. absurd cc) call x.readied.stored
 
+      -- a trim's block stands still: no command of the driver's own is in slot 0
+      block_by : (op : Op) → r.op ≡ op → HasBlockOf op r.range port.0 armed.memory → HasBlockOf op r.range port.0 new.memory
+      block_by Read is block = tt
+      block_by Write is block = tt
+      block_by Flush is block = tt
+      block_by Trim is block = laws.block uses armed new leaves port.0 its b.there.0 not_own block
+        where
+          uses : Uses
+          uses = (with_armed r.queued port slot s0).uses
+
+          leaves : LeavesFree uses armed new
+          leaves =
+              laws.leaves uses (after b.agreed.2.machine (steps_of known_stage.reaches.acts)) armed new known_stage.reached known_stage.goes.knows.agrees on_armed.no_reset (Px port Ci) own call
+
+          its : Accepted
+          its = record {
+            id = record { 0 = 0 };
+            port = port;
+            asked = record { client = record { 0 = 0 }; grant = 0; op = Trim; first = r.range.first; count = r.range.count; frames = record { items = [] } };
+            held = λ k place. 0;
+          }
+
+          plain : r.queued ≡ false
+          plain = sym b.kind ∙ ap (λ (o : Op). is_queued (operation_of r.queued o)) is
+
+          free : uses port.0 0 ≡ Free
+          free = ap (λ (q : Bool). (with_armed q port slot s0).uses port.0 0) plain ∙ (ap (s0.uses port.0) (sym (b.head is)) ∙ b.agreed.1)
+
+          not_own : (o : Operation) → uses port.0 0 ≡ Own o → ⊥
+          not_own o own_is = let z : Free ≡ Own o = sym free ∙ own_is in cc
+
       -- the armed slot's bit of PxSACT goes as ST does
       active : r.queued ≡ true → (new.port port.0).sact slot ≡ true
       active queued =
@@ -493,6 +528,7 @@ module _ (laws : Laws) where
           comes = λ mode e is. comes mode e is;
         };
         stored = stored_then;
+        block = block_by r.op refl block_armed;
         set = set;
         active = active;
       }

@@ -56,6 +56,9 @@ pub stored_for : (port slot : ℕ) (old new : Device) (op : Op) → IsTransfer o
     IsFollowed (IsStoreFor op port slot) (IsUnused port slot) old new
 stored_for port slot old new op is followed = of_transfer (λ op. IsFollowed (IsStoreFor op port slot) (IsUnused port slot) old new) followed followed op is
 
+pub never_trim : (slot : ℕ) (op : Op) → IsTransfer op → op ≡ Trim → slot ≡ 0
+never_trim slot = of_transfer (λ op. op ≡ Trim → slot ≡ 0) (λ (h : Read ≡ Trim). absurd cc) (λ (h : Write ≡ Trim). absurd cc)
+
 -- a transfer has no block
 pub no_block : (range : Range) (port : ℕ) (memory : ℕ → ℕ) (op : Op) → IsTransfer op → HasBlockOf op range port memory
 no_block range port memory = of_transfer (λ op. HasBlockOf op range port memory) tt tt

@@ -2,6 +2,7 @@
 use Rattle.std.specs.Prelude.{ℕ, true, ◌≡◌, ◌<◌, ◌≤◌, ◌/◌, ◌%◌, List}
 use Rattle.ata_types.specs.declared.Port.{Port}
 use Rattle.ata_types.specs.declared.request.Frame.{Frame}
+use Rattle.ata_types.specs.declared.request.Op.TheVariants.{Trim}
 use Rattle.adapter.specs.Commands.{is_queued}
 use Rattle.adapter.specs.Device.{Device}
 use Rattle.adapter.specs.Rules.{IsOn, HasPort}
@@ -13,8 +14,8 @@ use Rattle.command_table.specs.Written.{IsUnused}
 use Rattle.ncq.specs.Tasks.{Arms, HasBlockOf, IsStoreFor, IssuesTask, RunsItsList, addresses_of, meaning_of}
 use Rattle.ncq.specs.declared.Task.{Task}
 
--- A task's command might be issued in the slot, queued if the task is; what it needs was stored: header and table, which say it, and a trim's block,
--- which names its sectors; and the slot's bit of PxSACT was set for a queued command.
+-- A task's command might be issued in the slot, queued if the task is, and a trim's in slot 0; what it needs was stored: header and table, which say
+-- it, and a trim's block, which names its sectors; and the slot's bit of PxSACT was set for a queued command.
 pub record IsArmedFor (port : Port) (slot : ℕ) (r : Task) (frames : List Frame) (own : ℕ) (old armed : Device) : Type 0 where
   pub on : IsOn old
   pub there : HasPort old port.0
@@ -23,6 +24,7 @@ pub record IsArmedFor (port : Port) (slot : ℕ) (r : Task) (frames : List Frame
   pub agreed : AgreesWith (IsUnused port.0 slot) old
   pub may : RunsItsList port.0 old
   pub kind : is_queued (meaning_of r).operation ≡ r.queued
+  pub head : r.op ≡ Trim → slot ≡ 0
   pub mid : Device
   pub mid_on : IsOn mid
   pub stores : IsFollowed (IsStoreFor r.op port.0 slot) (IsUnused port.0 slot) old mid
@@ -36,5 +38,6 @@ pub record IsIssued (port : Port) (slot : ℕ) (r : Task) (frames : List Frame) 
   pub on : IsOn new
   pub issues : IssuesTask port slot r frames old new
   pub stored : IsStored new port.0 slot (meaning_of r) (addresses_of port.0 r.op r.range.count frames)
+  pub block : HasBlockOf r.op r.range port.0 new.memory
   pub set : (new.port port.0).ci slot ≡ true
   pub active : r.queued ≡ true → (new.port port.0).sact slot ≡ true

@@ -26,8 +26,9 @@ use adapter::laws::{a_first_read_exists, saying_is_one};
 use agreement::acts::{acts_are_done, acts_compose, acts_give};
 use agreement::facts::adapter_stays;
 use agreement::laws::{
-    a_prepared_read_agrees, arming_is_followed, device_is_followed, due_stays, going_composes,
-    histories_go_on, issuing_is_followed, putting_is_of_one_slot,
+    a_prepared_read_agrees, arming_is_followed, device_is_followed, due_stays, free_slots_are_left,
+    going_composes, histories_go_on, issuing_is_followed, putting_is_of_one_slot,
+    what_is_told_is_left,
 };
 use agreement::readying::{readied_is_issued, readied_stays};
 use agreement::stretches::other_ports_are_left;
@@ -52,6 +53,7 @@ pub fn writing_issues()
     arming_is_followed();
     device_is_followed();
     due_stays();
+    free_slots_are_left();
     going_composes();
     histories_go_on();
     issuing_is_followed();
@@ -59,6 +61,7 @@ pub fn writing_issues()
     putting_is_of_one_slot();
     readied_is_issued();
     readied_stays();
+    what_is_told_is_left();
 }
 
 /// Issuing a task is a part of a call, in the one form of all. From a machine that agrees with the slot free, and on which a request that is

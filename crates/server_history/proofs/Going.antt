@@ -31,7 +31,7 @@ use Rattle.server_history.specs.Histories.{Leads, Stands}
 use Rattle.request_queue.specs.Entries.{Held, IsAccepted, IsInOrder}
 use Rattle.request_queue.specs.Machine.{IsBook, IsEntry, range_of}
 use Rattle.slots.specs.Uses.{Uses as PortSlots}
-use Rattle.server_history.specs.Server.{HasCommand, IsAlone, HasSlots, Server, IsKept, IsMachineOf, IsPortOf, mode_found, mode_in, none_parked, ports_of, state_of, used_for}
+use Rattle.server_history.specs.Server.{HasCommand, StandsAlone, HasSlots, Server, IsKept, IsMachineOf, IsPortOf, mode_found, mode_in, none_parked, ports_of, state_of, used_for}
 use Rattle.slots.specs.declared.Use.{Use as SlotUse}
 use Rattle.block_machine.specs.Due.{is_plain}
 use Rattle.server_history.proofs.Standing.{holds_with, slots}
@@ -95,7 +95,7 @@ pub kept_then : (s : Server) (device : Device) (table : Table) (slots : List Por
     → ((port : ℕ) → port < 4 → IsPortOf s.wanted s.ports port device) → table.owners ≡ s.table.owners → length slots ≡ 4 → ((port : ℕ) → port < 4 → HasSlots s.ports s.modes slots port)
     → ((port : Port) (slot : ℕ) (used : SlotUse) (e : Held) → used_for slots port.0 slot ≡ Some used → Contains book e → e.entry.id ≡ used.id → used.queued ≡ not (is_plain (mode_in s port) e.entry.op))
     → ((port slot : ℕ) (used : SlotUse) → used_for slots port slot ≡ Some used → HasCommand used.queued device port slot)
-    → ((port slot : ℕ) (used : SlotUse) → used_for slots port slot ≡ Some used → used.queued ≡ false → IsAlone slots port slot)
+    → ((port slot : ℕ) (used : SlotUse) → used_for slots port slot ≡ Some used → used.queued ≡ false → StandsAlone slots port slot)
     → All (IsAccepted s.grants table) book → IsInOrder book → All (λ e. e.entry.id.0 ≤ last) book → All (λ e. state_of (found_of s.ports e.entry.port.0) ≡ ReadyState) book → (m : Machine) → IsReached m
     → IsMachineOf (record s { device = device; table = table; slots = slots; book = book; last = last }) m
     → IsKept (record s { device = device; table = table; slots = slots; book = book; last = last })

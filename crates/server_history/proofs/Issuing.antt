@@ -35,7 +35,7 @@ use Rattle.request_queue.specs.Entries.{asks}
 use Rattle.slots.specs.Uses.{IsLowestFree}
 use Rattle.slots.specs.declared.Use.{Use as SlotUse}
 use Rattle.server_history.specs.Served.{IssuesOne, task_of, use_for}
-use Rattle.server_history.specs.Server.{HasCommand, IsAlone, Server, IsKept, IsMachineOf, IsPortOf, IsUsedAs, mode_at, mode_in, none_parked, slots_at, state_of, usable_of, used_for, with_slot}
+use Rattle.server_history.specs.Server.{HasCommand, StandsAlone, Server, IsKept, IsMachineOf, IsPortOf, IsUsedAs, mode_at, mode_in, none_parked, slots_at, state_of, usable_of, used_for, with_slot}
 use Rattle.server_history.specs.Below.{LawsBelow}
 use Rattle.server_history.proofs.Asks.{asked_alike, same_book}
 use Rattle.server_history.proofs.Changed.{all_changed}
@@ -310,7 +310,7 @@ module _ (laws : LawsBelow) (s new : Server) (port : Port) (id : RequestId) (k :
       plain_of : u.queued ≡ false → is_plain mode x.request.entry.op ≡ true
       plain_of its = not_false (is_plain mode x.request.entry.op) (sym (k.kinds port n u x.request used x.there x.id_is) ∙ its)
 
-  alone_then : (q n : ℕ) (used : SlotUse) → used_for (with_slot s.slots port.0 slot its_use) q n ≡ Some used → used.queued ≡ false → IsAlone (with_slot s.slots port.0 slot its_use) q n
+  alone_then : (q n : ℕ) (used : SlotUse) → used_for (with_slot s.slots port.0 slot its_use) q n ≡ Some used → used.queued ≡ false → StandsAlone (with_slot s.slots port.0 slot its_use) q n
   alone_then q n used is plain = ⊎_elim
       (λ (its : (q ≡ port.0) × (n ≡ slot)).
       let its_plain : is_plain mode e.entry.op ≡ true = not_false (is_plain mode e.entry.op) (ap (λ (u : SlotUse). u.queued) (its_there q n used its.0 its.1 is) ∙ plain) in

@@ -21,7 +21,7 @@ use Rattle.request_queue.specs.Entries.{Held, IsAccepted}
 use Rattle.request_queue.specs.Machine.{IsEntry}
 use Rattle.slots.specs.declared.Use.{Use as SlotUse}
 use Rattle.server_history.specs.Below.{LawsBelow}
-use Rattle.server_history.specs.Server.{IsAlone, Server, IsKept, IsMachineOf, mode_in, state_of, used_for}
+use Rattle.server_history.specs.Server.{StandsAlone, Server, IsKept, IsMachineOf, mode_in, state_of, used_for}
 use Rattle.server_history.proofs.Slots.{HasSlot, IsServedBy, issued_has, not_true, queued_op, served_request, serves_used}
 use Rattle.server_history.proofs.Zips.{at_right}
 
@@ -79,7 +79,7 @@ module _ (laws : LawsBelow) (s : Server) (k : IsKept s) (m : Machine) (is : IsMa
         h : HasSlot s (port_at port) says.pending.request.id
         h = issued_has s m (port_at port) is k ready says.pending booked.0 (ap (λ (n : ℕ). port_at n) says.port_is) booked.1
 
-        a : IsAlone s.slots port slot
+        a : StandsAlone s.slots port slot
         a = k.alone port slot used its plain
 
         by : (h.slot ≡ 0) ⊎ (h.slot ≢ 0) → h.used.id ≡ used.id

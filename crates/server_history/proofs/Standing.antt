@@ -27,7 +27,7 @@ use Rattle.identify.specs.declared.wanted.Wanted.{Wanted}
 use Rattle.request_queue.specs.Entries.{Held}
 use Rattle.request_queue.specs.Machine.{IsEntry}
 use Rattle.slots.specs.declared.Use.{Use as SlotUse}
-use Rattle.server_history.specs.Server.{IsAlone, Server, IsKept, IsMachineOf, IsUsedAs, is_served, mode_at, mode_found, mode_in, none_parked, ports_of, sectors_of, serial_of, state_of, trims_of, usable_of, use_of, used_for}
+use Rattle.server_history.specs.Server.{StandsAlone, Server, IsKept, IsMachineOf, IsUsedAs, is_served, mode_at, mode_found, mode_in, none_parked, ports_of, sectors_of, serial_of, state_of, trims_of, usable_of, use_of, used_for}
 use Rattle.server_history.proofs.Slots.{free_unused, its_mode, of_ready, ready_use, usable_ready, used_as, used_serves}
 use Rattle.server_history.proofs.Zips.{at_right}
 
@@ -109,7 +109,7 @@ module _ (s : Server) (k : IsKept s) (m : Machine) (reached : IsReached m) (is :
           x : (u : SlotUse) × (used_for s.slots port.0 slot ≡ Some u) × ((h : Held) × Contains s.book h × IsEntry h e × (h.entry.id ≡ u.id))
           x = serving slot e serves
 
-          a : IsAlone s.slots port.0 slot
+          a : StandsAlone s.slots port.0 slot
           a = k.alone port.0 slot x.0 x.1 (kind_is slot e serves x.0 x.1 ∙ ap not plain)
 
       requests : HasRequests slots instant port mode

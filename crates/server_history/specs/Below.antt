@@ -89,7 +89,7 @@ pub record LawsBelow : Type 0 where
       → IsStored old port.0 slot c places → IsStored new port.0 slot c places
   -- accesses that serve ports
   pub looks : Laws
-  -- a transfer is issued
+  -- a task is issued
   pub issuing_ends : (port : Port) (slot : ℕ) (r : Task) (frames : List Frame) (mode : Mode) (e : Pending) (old new : Device) (s : InSlots) (m : Machine)
       → IssuesTask port slot r frames old new → IsTaskOf port slot r frames mode e → IsReached m → Knows m (at_slots s old) → MayServe port slot mode e s m
       → EndsWith (at_slots s old) m (Issue mode e) (at_slots (with_serving port slot e.request.id s) new)

@@ -27,7 +27,7 @@ use Rattle.host_boot.specs.declared.Found.TheVariants.{Ready}
 use Rattle.adapter.specs.Access.{Access}
 use Rattle.hba_regs.specs.Bits.{bit}
 use Rattle.ncq.specs.Masks.{ReadsDone}
-use Rattle.ncq.specs.Tasks.{IsIssuing, IssuesTask, addresses_of, meaning_of}
+use Rattle.ncq.specs.Tasks.{HasBlockOf, IsIssuing, IssuesTask, addresses_of, meaning_of}
 use Rattle.agreement.specs.Readying.{IsStored}
 use Rattle.ncq.specs.declared.Task.{Task}
 use Rattle.request_queue.specs.Entries.{Held, IsEarlier, asks, asks_of, at, due_ids, issue, without}
@@ -98,7 +98,7 @@ task_of mode e = record { op = e.entry.op; range = e.entry.range; queued = not (
 abbrev pub use_for : Mode → Held → SlotUse
 use_for mode e = record { id = e.entry.id; queued = (task_of mode e).queued }
 
--- A due request of the port was issued in the lowest slot that was free.
+-- A due request of the port was issued in the lowest slot that was free: the slot's bytes say it, and a trim's block names its sectors.
 pub record IssuesOne (port : Port) (id : RequestId) (old new : Server) : Type 0 where
   pub request : Held
   pub here : Contains old.book request
@@ -110,6 +110,7 @@ pub record IssuesOne (port : Port) (id : RequestId) (old new : Server) : Type 0 
   pub lowest : IsLowestFree (slots_at old.slots port.0) slot
   pub issues : IssuesTask port slot (task_of (mode_in old port) request) request.frames old.device new.device
   pub stored : IsStored new.device port.0 slot (meaning_of (task_of (mode_in old port) request)) (addresses_of port.0 request.entry.op request.entry.range.count request.frames)
+  pub block : HasBlockOf request.entry.op request.entry.range port.0 new.device.memory
   pub server : new ≡ record old {
     device = new.device;
     slots = with_slot old.slots port.0 slot (Some (use_for (mode_in old port) request));

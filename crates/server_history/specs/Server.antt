@@ -199,8 +199,8 @@ pub record HasCommand (queued : Bool) (d : Device) (port slot : ℕ) : Type 0 wh
   pub kind : is_queued command.operation ≡ queued
 
 -- the slot is slot 0, and no other one of the port is used
-abbrev pub IsAlone : List PortSlots → ℕ → ℕ → Type 0
-IsAlone slots port slot = (slot ≡ 0) × ((other : ℕ) → other ≢ 0 → used_for slots port other ≡ None)
+abbrev pub StandsAlone : List PortSlots → ℕ → ℕ → Type 0
+StandsAlone slots port slot = (slot ≡ 0) × ((other : ℕ) → other ≢ 0 → used_for slots port other ≡ None)
 
 -- What holds of a server at each moment of a call. The adapter is on and has the memory of the driver and of the clients, and each port that is
 -- served; each port is as it was found, and runs if that was ready; the four ports take commands as adapter and disk can, and use the slots that
@@ -217,7 +217,7 @@ pub record IsKept (s : Server) : Type 0 where
   pub kinds : (port : Port) (slot : ℕ) (used : SlotUse) (e : Held) → used_for s.slots port.0 slot ≡ Some used → Contains s.book e → e.entry.id ≡ used.id
       → used.queued ≡ not (is_plain (mode_in s port) e.entry.op)
   pub commands : (port slot : ℕ) (used : SlotUse) → used_for s.slots port slot ≡ Some used → HasCommand used.queued s.device port slot
-  pub alone : (port slot : ℕ) (used : SlotUse) → used_for s.slots port slot ≡ Some used → used.queued ≡ false → IsAlone s.slots port slot
+  pub alone : (port slot : ℕ) (used : SlotUse) → used_for s.slots port slot ≡ Some used → used.queued ≡ false → StandsAlone s.slots port slot
   pub rows : All IsRow s.grants
   pub owners : OwnsClientFrames s.table s.device.size
   pub accepted : All (IsAccepted s.grants s.table) s.book

@@ -15,7 +15,7 @@ write-requires g c =
     let q = c.requires in
     let table = c.write_table.ensures in
     (c.writing_issues.ensures c.args.port 0 (flush_of nowhere) [] _ _ _
-    (armed_flush c.args.port nowhere [] _ _ _ q.on q.there q.agreed q.may table.on c.bit_of.ensures table.followed (table.says flush [] (flush_table _ c.flush_command.ensures)))).0
+    (armed_flush c.args.port nowhere [] _ _ _ q.on q.there q.agreed q.may table.on c.bit_of-own.ensures table.followed (table.says flush [] (flush_table _ c.flush_command.ensures)))).0
 
 pub returns : goal.returns
 returns g c =
@@ -23,7 +23,7 @@ returns g c =
     let table = c.write_table.ensures in
     let issued : (range : Range) (frames : List Frame) → IsIssued c.args.port 0 (flush_of range) frames (g.A.Adapter.device c.args.adapter.now) (g.A.Adapter.device c.write.new.self) = λ range frames.
     (c.writing_issues.ensures c.args.port 0 (flush_of range) frames _ _ _
-    (armed_flush c.args.port range frames _ _ _ q.on q.there q.agreed q.may table.on c.bit_of.ensures table.followed (table.says flush [] (flush_table _ c.flush_command.ensures)))).1 _
+    (armed_flush c.args.port range frames _ _ _ q.on q.there q.agreed q.may table.on c.bit_of-own.ensures table.followed (table.says flush [] (flush_table _ c.flush_command.ensures)))).1 _
     c.write.ensures in
     record {
       on = (issued nowhere []).on;

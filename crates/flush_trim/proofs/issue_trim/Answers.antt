@@ -26,5 +26,6 @@ returns g c =
       on = (issued []).on;
       issues = λ frames. (issued frames).issues;
       stored = λ frames. (issued frames).stored;
+      block = (issued []).block;
       set = (issued []).set;
     }

@@ -5,7 +5,7 @@ use Rattle.command_table.specs.Places.{places_of}
 use Rattle.command_table.specs.Written.{IsTableFor}
 use Rattle.std.specs.Prelude.{List}
 use Rattle.ncq.specs.Tasks.{addresses_of, meaning_of}
-use Rattle.ncq.proofs.Telling.{kind_of, no_block, stored_for, table_says}
+use Rattle.ncq.proofs.Telling.{kind_of, never_trim, no_block, stored_for, table_says}
 use Rattle.ncq.proofs.prepare.Goals as goal
 
 pub arm-requires-clause-there : goal.arm-requires-clause-there
@@ -34,6 +34,7 @@ returns g c =
       agreed = q.agreed;
       may = q.may;
       kind = kind_of transfer.queued transfer.op q.fits.transfers;
+      head = never_trim slot transfer.op q.fits.transfers;
       mid = g.A.Adapter.device c.write_table.new.adapter;
       mid_on = c.write_table.ensures.on;
       stores = stored_for port slot _ _ transfer.op q.fits.transfers c.write_table.ensures.followed;

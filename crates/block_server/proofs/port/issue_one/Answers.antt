@@ -1,7 +1,7 @@
 use Rattle.std.proofs.Common.{List, Some, not, ap, ◌∙◌, subst}
 use Rattle.agreement.specs.Readying.{IsStored}
 use Rattle.ata_types.specs.declared.request.Frame.{Frame}
-use Rattle.ncq.specs.Tasks.{IssuesTask, addresses_of, meaning_of}
+use Rattle.ncq.specs.Tasks.{HasBlockOf, IssuesTask, addresses_of, meaning_of}
 use Rattle.block_machine.specs.Due.{is_plain}
 use Rattle.request_queue.specs.declared.Entry.{Entry}
 use Rattle.ncq.specs.declared.Task.{Task}
@@ -46,8 +46,9 @@ returns g c = record {
       let T : Task → Type 0 = λ t. IssuesTask port slot t e.frames (device c.args.adapter.now) (device c.issue_task.new.adapter) in
       let FS : List Frame → Type 0 = λ frames. IsStored (device c.issue_task.new.adapter) port.0 slot (meaning_of task) (addresses_of port.0 task.op task.range.count frames) in
       let TS : Task → Type 0 = λ t. IsStored (device c.issue_task.new.adapter) port.0 slot (meaning_of t) (addresses_of port.0 t.op t.range.count e.frames) in
+      let B : Task → Type 0 = λ t. HasBlockOf t.op t.range port.0 (device c.issue_task.new.adapter).memory in
       sending.sent s (device c.args.adapter.now) c.args.book.now c.args.slots.now port c.args.mode l c.args.id c.requires.due
       slot small c.in-Some.ensures.lowest (device c.issue_task.new.adapter)
-      (subst T task_is (subst F lent_is c.issue_task.ensures.issues)) (subst TS task_is (subst FS lent_is c.issue_task.ensures.stored)) c.issue.new.self c.issue.ensures
+      (subst T task_is (subst F lent_is c.issue_task.ensures.issues)) (subst TS task_is (subst FS lent_is c.issue_task.ensures.stored)) (subst B task_is c.issue_task.ensures.block) c.issue.new.self c.issue.ensures
       c.take.new.self (c.in-Some.ensures.taken ∙ ap (λ (t : Task). with_use c.args.slots.now slot (Some (record { id = c.args.id; queued = t.queued }))) task_is);
 }

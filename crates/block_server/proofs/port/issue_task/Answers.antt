@@ -2,10 +2,10 @@ use Rattle.std.proofs.Common.{ℕ, ◌≡◌, false, List, sym, subst}
 use Rattle.ata_types.specs.declared.Port.{Port}
 use Rattle.ata_types.specs.declared.request.Frame.{Frame}
 use Rattle.ata_types.specs.declared.request.Op.{Op}
-use Rattle.ata_types.specs.declared.request.Op.TheVariants.{Trim, Flush}
+use Rattle.ata_types.specs.declared.request.Op.TheVariants.{Read, Write, Trim, Flush}
 use Rattle.adapter.specs.Device.{Device}
 use Rattle.agreement.specs.Readying.{IsStored}
-use Rattle.ncq.specs.Tasks.{IssuesTask, addresses_of, meaning_of}
+use Rattle.ncq.specs.Tasks.{HasBlockOf, IssuesTask, addresses_of, meaning_of}
 use Rattle.ncq.specs.declared.Task.{Task}
 use Rattle.block_server.specs.Ports.{MayGoIn}
 use Rattle.block_server.proofs.port.issue_task.Goals as goal
@@ -43,3 +43,19 @@ pub returns-in-Flush-clause-stored : goal.returns-in-Flush-clause-stored
 returns-in-Flush-clause-stored g c =
     let m = may_as Flush c.args.task.now c.args.frames.now c.args.slot.0 c.in-Flush.is c.requires.may in
     as_told c.args.port c.args.slot.0 c.args.task.now Flush c.in-Flush.is m.0 m.1 (StoresIt c.args.port c.args.frames.now _) (c.issue_flush.ensures.stored c.args.task.now.range c.args.frames.now)
+
+-- the block of a task of this operation, if it has one
+block_of : (port : Port) (new : Device) (op : Op) (task : Task) → task.op ≡ op → HasBlockOf op task.range port.0 new.memory → HasBlockOf task.op task.range port.0 new.memory
+block_of port new op task is block = subst (λ (o : Op). HasBlockOf o task.range port.0 new.memory) (sym is) block
+
+pub returns-in-Trim-clause-block : goal.returns-in-Trim-clause-block
+returns-in-Trim-clause-block g c = block_of c.args.port _ Trim c.args.task.now c.in-Trim.is c.issue_trim.ensures.block
+
+pub returns-in-Flush-clause-block : goal.returns-in-Flush-clause-block
+returns-in-Flush-clause-block g c = block_of c.args.port _ Flush c.args.task.now c.in-Flush.is tt
+
+pub returns-in-Read-clause-block : goal.returns-in-Read-clause-block
+returns-in-Read-clause-block g c = block_of c.args.port _ Read c.args.task.now c.in-Read.is tt
+
+pub returns-in-Write-clause-block : goal.returns-in-Write-clause-block
+returns-in-Write-clause-block g c = block_of c.args.port _ Write c.args.task.now c.in-Write.is tt

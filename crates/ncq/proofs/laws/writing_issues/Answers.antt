@@ -24,6 +24,8 @@ returns c = leads (record {
   permitted = c.readied_is_issued.ensures.permitted;
   prepared = c.readied_is_issued.ensures.prepared;
   follows = c.device_is_followed.ensures;
+  leaves = c.free_slots_are_left.ensures.writes;
+  block = c.what_is_told_is_left.ensures.block;
   put_here = c.putting_is_of_one_slot.ensures.here;
   put_others = c.putting_is_of_one_slot.ensures.others;
 })
