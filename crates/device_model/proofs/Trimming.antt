@@ -166,15 +166,14 @@ next_one t some = by (uncleared t) some
     by [] none = absurd (omega (arith, none))
     by (x ∷ xs) some = refl
 
+-- of some sectors, and some of them, one at least is in the first run
+pub run_one : (n : ℕ) (xs : List ℕ) → 1 ≤ n → n ≤ length xs → 1 ≤ run_of (take n xs)
+run_one zero xs some small = absurd (omega (arith, some))
+run_one (suc n) [] some small = absurd (omega (arith, small))
+run_one (suc n) (x ∷ xs) some small = omega arith
+
 pub span_some : (size most : ℕ) (t : Taken) → 1 ≤ most → most ≤ length (uncleared t) → next_uncleared t < size → 1 ≤ span size most t
-span_some size most t some enough below =
-    let one = by most (uncleared t) some enough in
-    omega (arith, one, below)
-  where
-    by : (n : ℕ) (xs : List ℕ) → 1 ≤ n → n ≤ length xs → 1 ≤ run_of (take n xs)
-    by zero xs some small = absurd (omega (arith, some))
-    by (suc n) [] some small = absurd (omega (arith, small))
-    by (suc n) (x ∷ xs) some small = omega arith
+span_some size most t some enough below = let one = run_one most (uncleared t) some enough in omega (arith, one, below)
 
 -- what is left behind so many
 pub uncleared_on : (t : Taken) (count : ℕ) → uncleared (record t { cleared = t.cleared + count }) ≡ drop count (uncleared t)

@@ -47,6 +47,7 @@ pub fn next_run(block: &[u8], cleared: u32, most: u32) -> Run
     requires { length block.now ≤ 512 }
     ensures count { result.count ≡ run_of (take most (drop cleared (trim_sectors block.now))) }
     ensures few { result.count ≤ most }
+    ensures fits { 1 ≤ result.count → cleared + result.count < 2 ^ 32 }
     ensures first { 1 ≤ result.count → result.first ≡ slice_index (drop cleared (trim_sectors block.now)) 0 }
 {
     let mut skip = cleared;

@@ -35,8 +35,7 @@ pub fn is_finished(command: &TakenCommand, block: &[u8]) -> bool
 fn uncleared_of(command: &TakenCommand, block: &[u8]) -> u32
     requires block { block.now ≡ brought command.now.block }
     requires few { length block.now ≤ 512 }
-    ensures count { result ≡ length (uncleared (taken_of command.now)) }
-    ensures fits { 1 ≤ result → command.now.cleared + result < 2 ^ 32 }
+    ensures { result ≡ length (uncleared (taken_of command.now)) }
 {
     count_sectors(block).saturating_sub(command.cleared)
 }
@@ -101,11 +100,12 @@ fn run_of_trim(command: &TakenCommand, block: &[u8], most: u32, sectors: u64) ->
     if !command.transfer.is_trim() || command.moved != count_pieces(command.prds.as_slice()) {
         return None;
     }
-    if most == 0 || most > uncleared_of(command, block) {
+    let run = next_run(block, command.cleared, most);
+    if run.count == 0 || run.first >= sectors {
         return None;
     }
-    let run = next_run(block, command.cleared, most);
-    if run.first >= sectors {
+    // Where as many follow one another, as many are left.
+    if run.count < most && uncleared_of(command, block) < most {
         return None;
     }
     let room = sectors - run.first;

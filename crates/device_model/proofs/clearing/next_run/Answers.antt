@@ -6,7 +6,7 @@ use Rattle.device_model.proofs.clearing.next_run.Goals as goal
 use Rattle.device_model.proofs.clearing.next_run.Goals.{then-entry-skip, else-entry-skip+then-run-eq0, else-entry-skip+else-run-eq0+then-run-from}
 
 pub loop-place-init : goal.loop-place-init
-loop-place-init c = record { along = along_none (trim_sectors c.args.block.now) c.args.cleared c.args.most; low = omega arith }
+loop-place-init c = record { along = along_none (trim_sectors c.args.block.now) c.args.cleared c.args.most; low = omega arith; fits = omega arith }
 
 -- the sectors from this entry on are its own, and then the others
 here : (block : List ℕ) (place f n : ℕ) → 8 * place + 8 ≤ length block → f ≡ little_from (8 * place) 6 block → n ≡ little_from (8 * place + 6) 2 block →
@@ -22,6 +22,7 @@ loop-place-preserved c =
     let is = here block place entry.first entry.count small c.entry_at-entry.ensures.first c.entry_at-entry.ensures.count in
     let sectors = trim_sectors block in
     let low = c.loop-place.invariant.low in
+    let fits = c.loop-place.invariant.fits in
     let first_low = c.entry_at-entry.ensures.range.0 in
     let count_low = c.entry_at-entry.ensures.range.1 in
     elim c.if-entry-skip.branch [
@@ -30,6 +31,7 @@ loop-place-preserved c =
           (record {
             along = along_skip sectors c.args.cleared c.args.most _ _ c.loop-place.skip _ _ entry.first entry.count is c.loop-place.invariant.along w.if-entry-skip.true;
             low = low;
+            fits = let past = w.if-entry-skip.true in omega (arith, fits, past, count_low);
           })
       | else-entry-skip+then-run-eq0 w ↦
           let inside = w.if-entry-skip.false in
@@ -38,6 +40,7 @@ loop-place-preserved c =
             along = along_first sectors c.args.cleared c.args.most _ _ c.loop-place.skip _ _ entry.first entry.count is c.loop-place.invariant.along inside
                 w.if-run-eq0.true;
             low = omega (arith, first_low, count_low, inside, w.from.ensures);
+            fits = let none = w.if-run-eq0.true in omega (arith, fits, none, inside, count_low);
           })
       | else-entry-skip+else-run-eq0+then-run-from w ↦
           let some = w.if-run-eq0.false in
@@ -46,6 +49,7 @@ loop-place-preserved c =
             along = along_more sectors c.args.cleared c.args.most _ _ c.loop-place.skip _ _ entry.first entry.count is c.loop-place.invariant.along
                 (omega (arith, some)) (let same = w.if-run-from.true in omega (arith, same, w.from-else-run-eq0.ensures));
             low = low;
+            fits = omega (arith, fits, count_low);
           })
     ]
 
@@ -74,3 +78,17 @@ returns-clause-count c =
 pub returns-clause-first : goal.returns-clause-first
 returns-clause-first c = λ some.
     along_head (trim_sectors c.args.block.now) c.args.cleared c.args.most _ c.loop-place.skip _ _ c.loop-place.invariant.along some
+
+-- no more than the entries name
+pub returns-else-run-from-clause-fits : goal.returns-else-run-from-clause-fits
+returns-else-run-from-clause-fits c = λ some.
+    let none = c.loop-place.invariant.along.started some in
+    let fits = c.loop-place.invariant.fits in
+    omega (arith, fits, none, c.requires, c.loop-place-test.true)
+
+pub returns-clause-fits : goal.returns-clause-fits
+returns-clause-fits c = λ some.
+    let none = c.loop-place.invariant.along.started some in
+    let fits = c.loop-place.invariant.fits in
+    let places = c.loop-place.auto.place-end in
+    omega (arith, fits, none, c.requires, places)
