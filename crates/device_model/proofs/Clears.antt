@@ -144,15 +144,15 @@ module _ {S : Type 0} (size : S → ℕ) (told : S → Option (ℕ → List ℕ)
         ap (λ (x : Outside). device_of new x) behind ∙ (cleared o ∙ ap (λ (d : Device). after (Clear p.0 slot.0 (taken_of r) first count) d) (same o))
 
     -- the sectors are cleared, as far as the store has let them be
-    pub did_clear : HasClear old_device p.0 slot.0 most (taken_of r) → first ≡ next_uncleared (taken_of r) → count ≤ span (size m.disk) most (taken_of r) → count ≤ most →
+    pub did_clear : HasClear old_device p.0 slot.0 most (taken_of r) → first ≡ next_uncleared (taken_of r) → 1 ≤ count → count ≤ span (size m.disk) most (taken_of r) → count ≤ most →
         size disk ≡ size m.disk → new.starved ≡ m.hardware.starved →
         (StoreCuts (asked.Clear p slot most) (failures m.disk) (failures disk) (device_at size told then_model)
         ⊎ (NoneFails failures m then_model × HasCleared old_device (device_at size told then_model) p.0 slot.0 most)) →
         Possible (asked.Clear p slot most) old_device × Did size told failures (asked.Clear p slot most) m then_model
-    did_clear has start few fewer sectors starved ends = (
+    did_clear has start some few fewer sectors starved ends = (
       (small, taken_of r, has),
       record {
-        asked = record { t = taken_of r; first = first; count = count; few = fewer; can = may_clear old_device p.0 slot.0 most first count (taken_of r) has start fits; effect = clear_effect };
+        asked = record { t = taken_of r; first = first; count = count; some = some; few = fewer; can = may_clear old_device p.0 slot.0 most first count (taken_of r) has start fits; effect = clear_effect };
         ends = elim ends [ inl cut ↦ inl cut | inr whole ↦ inr (whole.0, λ _. whole.1) ];
         held = refl;
         says = refl;

@@ -45,8 +45,8 @@ returns-in-Flush-clause-stored g c =
     as_told c.args.port c.args.slot.0 c.args.task.now Flush c.in-Flush.is m.0 m.1 (StoresIt c.args.port c.args.frames.now _) (c.issue_flush.ensures.stored c.args.task.now.range c.args.frames.now)
 
 -- the block of a task of this operation, if it has one
-block_of : (port : Port) (new : Device) (op : Op) (task : Task) → task.op ≡ op → HasBlockOf op task.range port.0 new.memory → HasBlockOf task.op task.range port.0 new.memory
-block_of port new op task is block = subst (λ (o : Op). HasBlockOf o task.range port.0 new.memory) (sym is) block
+block_of : (port : Port) (memory : ℕ → ℕ) (op : Op) (task : Task) → task.op ≡ op → HasBlockOf op task.range port.0 memory → HasBlockOf task.op task.range port.0 memory
+block_of port memory op task is block = subst (λ (o : Op). HasBlockOf o task.range port.0 memory) (sym is) block
 
 pub returns-in-Trim-clause-block : goal.returns-in-Trim-clause-block
 returns-in-Trim-clause-block g c = block_of c.args.port _ Trim c.args.task.now c.in-Trim.is c.issue_trim.ensures.block

@@ -154,7 +154,7 @@ returns-then-count-run-clause-answers g c =
     let whole = span_most (g.S.SectorStore.size m.disk) c.args.most (taken_of found.0) in
     did_clear g.S.SectorStore.size g.S.SectorStore.told g.S.SectorStore.failures c.args.port c.args.slot c.args.most m c.reserve-room.new.self c.clear.new.self
     c.clear_sectors-count.new.disk run.first cleared found.0 c.requires zero c.reserve-room.ensures.same (λ x. c.clear.ensures.cleared x found.0 found.1.holds)
-    c.clear_sectors-count.ensures.disk has found.1.first_is (omega (arith, few, is)) (omega (arith, few, is, whole)) c.clear_sectors-count.ensures.size
+    c.clear_sectors-count.ensures.disk has found.1.first_is (let some = c.if-count-eq0.false in omega (arith, some)) (omega (arith, few, is)) (omega (arith, few, is, whole)) c.clear_sectors-count.ensures.size
     (c.clear.ensures.starved ∙ c.reserve-room.ensures.starved) (inl (cut g c))
 
 -- all are cleared
@@ -203,7 +203,7 @@ returns-else-count-run-clause-answers g c =
     let ends = whole_run g c in
     did_clear g.S.SectorStore.size g.S.SectorStore.told g.S.SectorStore.failures c.args.port c.args.slot c.args.most m c.reserve-room.new.self c.clear.new.self
     c.clear_sectors-count.new.disk run.first cleared found.0 c.requires zero c.reserve-room.ensures.same (λ x. c.clear.ensures.cleared x found.0 found.1.holds)
-    c.clear_sectors-count.ensures.disk has found.1.first_is (omega (arith, few, is)) (omega (arith, few, is, whole)) c.clear_sectors-count.ensures.size
+    c.clear_sectors-count.ensures.disk has found.1.first_is (let some = c.if-count-eq0.false in omega (arith, some)) (omega (arith, few, is)) (omega (arith, few, is, whole)) c.clear_sectors-count.ensures.size
     (c.clear.ensures.starved ∙ c.reserve-room.ensures.starved) (inr (ends.1, ends.0))
 
 -- ---- memory that is left
