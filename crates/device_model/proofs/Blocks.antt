@@ -4,7 +4,7 @@ use Rattle.std.specs.Prelude.{is_some, slice_index_or, slice_set}
 use Rattle.std.specs.declared.snapshot.Snapshot.{Snapshot}
 use Rattle.std.proofs.lemmas.Bool.Decides.{eqb_tells}
 use Rattle.adapter.specs.Steps.{noted_bytes}
-use Rattle.adapter.proofs.Absurd.{some-none, some_one}
+use Rattle.device_model.proofs.Absurd.{some-none, some_one}
 use Rattle.device_model.specs.Block.{HasBlock}
 use Rattle.device_model.specs.View.{held_in}
 use Rattle.device_model.specs.declared.port.TakenCommand.{TakenCommand}

@@ -7,7 +7,7 @@ use Rattle.std.proofs.lemmas.List.{get_or_append_left, get_or-append_right, get_
 use Rattle.std.proofs.lemmas.Grind.{common_steps, get_or_default_zero}
 use Rattle.adapter.specs.Memory.{patched, bytes_at}
 use Rattle.adapter.specs.Device.{Device}
-use Rattle.adapter.proofs.Changed.{fun_ext}
+use Rattle.device_model.proofs.Absurd.{fun_ext}
 
 pub bytes_at-list : (xs : List ℕ) (at n : ℕ) → at + n ≤ length xs → bytes_at (λ a. slice_index xs a) at n ≡ take n (drop at xs)
 unfolding bytes_at

@@ -6,7 +6,7 @@ use Rattle.std.proofs.lemmas.Bool.Decides.{eqb_tells, leb_tells}
 use Rattle.sector_store.specs.Stores.{replaced}
 use Rattle.adapter.specs.Device.{Disk}
 use Rattle.adapter.specs.Steps.{disk_cleared}
-use Rattle.adapter.proofs.Changed.{fun_ext}
+use Rattle.device_model.proofs.Absurd.{fun_ext}
 
 abbrev zeros : List ℕ
 zeros = replicate 512 0

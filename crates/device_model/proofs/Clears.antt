@@ -7,7 +7,6 @@ use Rattle.adapter.specs.Steps.Step.{Clear}
 use Rattle.adapter.specs.Trim.{consecutive}
 use Rattle.adapter.specs.declared.access.DeviceStep.TheVariants as asked
 use Rattle.adapter.specs.declared.command.Operation.TheVariants.{Trim}
-use Rattle.adapter.proofs.Changed.{changed_same}
 use Rattle.ata_types.specs.declared.Port.{Port}
 use Rattle.ata_types.specs.declared.Slot.{Slot}
 use Rattle.sector_store.specs.declared.store.Failures.{Failures}
@@ -22,7 +21,7 @@ use Rattle.device_model.specs.declared.clearing.Run.{Run}
 use Rattle.device_model.specs.declared.hardware.Hardware.{Hardware}
 use Rattle.device_model.specs.declared.model.Model.{Model}
 use Rattle.device_model.specs.declared.port.TakenCommand.{TakenCommand}
-use Rattle.device_model.proofs.Finishing.{next_has_clear, outside_zeros, still_works}
+use Rattle.device_model.proofs.Finishing.{here_after, taken_after, next_has_clear, outside_zeros, still_works}
 use Rattle.device_model.proofs.Telling.{gains_one}
 use Rattle.device_model.proofs.Trimming.{next_on, next_one, span_sectors}
 use Rattle.device_model.proofs.TwoDisks.{keeps_with}
@@ -79,10 +78,10 @@ module _ (old new : Device) (port slot most first count : ℕ) (t : Taken) (has 
   then = record t { cleared = t.cleared + count }
 
   cleared_port : new.port port ≡ with_clear (old.port port) slot t first count
-  cleared_port = ap (λ (d : Device). d.port port) effect ∙ changed_same old.port port (with_clear (old.port port) slot t first count)
+  cleared_port = ap (λ (d : Device). d.port port) effect ∙ here_after old port (with_clear (old.port port) slot t first count)
 
   cleared_taken : (new.port port).taken slot ≡ Some then
-  cleared_taken = ap (λ (p : PortState). p.taken slot) cleared_port ∙ changed_same (old.port port).taken slot (Some then)
+  cleared_taken = ap (λ (p : PortState). p.taken slot) cleared_port ∙ taken_after (old.port port) slot (Some then)
 
   -- all that could be is cleared
   pub all_cleared : count ≡ span (old.port port).disk.size most t → HasCleared old new port slot most

@@ -12,7 +12,7 @@ use Rattle.adapter.specs.Steps.{Can, IsWorking, WorksOn, admits, begun, Brings, 
 use Rattle.adapter.specs.Steps.Step.{Fetch, Move, Done}
 use Rattle.adapter.specs.declared.command.Operation.{Operation}
 use Rattle.adapter.specs.declared.command.Operation.TheVariants.{Trim}
-use Rattle.adapter.proofs.Absurd.{some-none, some_one, true-false}
+use Rattle.device_model.proofs.Absurd.{some-none, some_one, true-false}
 use Rattle.adapter.proofs.Changed.{fun_ext, changed_same, changed_other}
 use Rattle.adapter.proofs.SaysLemmas.{says_meaning, says_places}
 use Rattle.device_model.specs.Does.{HasCleared, HasEnded}
@@ -40,6 +40,13 @@ cleared true p slot = changed_same p.sact slot false
 cleared false p slot = changed_same p.ci slot false
 
 -- ---- a command goes on
+
+-- a port that was changed, and a slot of one
+pub here_after : (d : Device) (port : ℕ) (p : PortState) → changed d.port port p port ≡ p
+here_after d port p = changed_same d.port port p
+
+pub taken_after : (p : PortState) (slot : ℕ) (t : Option Taken) → changed p.taken slot t slot ≡ t
+taken_after p slot t = changed_same p.taken slot t
 
 -- a port goes on to work where none of what that rests on changed
 pub still_works : (p new : PortState) (o : Operation) → IsWorking p o → new.cr ≡ p.cr → new.present ≡ p.present → new.fresh ≡ p.fresh → new.halt ≡ p.halt →

@@ -13,7 +13,7 @@ use Rattle.adapter.specs.Steps.{Can, IsFetchable, IsWorking, IsAlone, WorksOn, b
 use Rattle.adapter.specs.Steps.Step.{Fetch}
 use Rattle.adapter.specs.declared.command.Operation.{Operation}
 use Rattle.adapter.specs.declared.command.Operation.TheVariants.{Identify, Trim}
-use Rattle.adapter.proofs.Absurd.{some-none, some_one, true-false}
+use Rattle.device_model.proofs.Absurd.{some-none, some_one, true-false}
 use Rattle.adapter.proofs.Changed.{changed_other, changed_same}
 use Rattle.adapter.proofs.SaysLemmas.{says_meaning, says_places}
 use Rattle.hba_regs.specs.declared.reg.Reg.{Reg}

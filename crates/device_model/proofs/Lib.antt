@@ -1,3 +1,4 @@
+pub mod Absurd
 pub mod Runs
 pub mod Cleared
 pub mod Trimming

@@ -9,7 +9,7 @@ use Rattle.adapter.specs.Device.{PortState, Device, Taken}
 use Rattle.adapter.specs.Memory.{changed}
 use Rattle.adapter.specs.declared.command.Operation.{Operation}
 use Rattle.adapter.specs.declared.command.Operation.TheVariants.{Identify, Trim}
-use Rattle.adapter.proofs.Absurd.{some-none, some_one, true-false}
+use Rattle.device_model.proofs.Absurd.{some-none, some_one, true-false}
 use Rattle.adapter.proofs.Changed.{changed_other, changed_same}
 use Rattle.adapter.specs.Steps.{Step, Can, Steps, after, begun, block_after, with_clear, with_done, with_fetch, with_move}
 use Rattle.adapter.proofs.Runs.{Steps-one, Steps-refl, Steps-trans}

@@ -14,7 +14,7 @@ use Rattle.adapter.specs.Steps.Step.{Fetch}
 use Rattle.adapter.specs.declared.command.Operation.{Operation}
 use Rattle.adapter.specs.declared.command.Operation.TheVariants.{Identify}
 use Rattle.adapter.specs.declared.command.Prd.{Prd}
-use Rattle.adapter.proofs.Absurd.{some-none, some_one}
+use Rattle.device_model.proofs.Absurd.{some-none, some_one}
 use Rattle.adapter.proofs.SaysLemmas.{says_meaning, says_places, cut_length, cut_index}
 use Rattle.device_model.specs.Finishing.{HasIdentify, Identifies, IsInside, AreInside, IsCovered, IsRest, MayFinish, MayIdentify}
 use Rattle.device_model.specs.Fetched.{IsNew, bytes_of}

@@ -7,7 +7,7 @@ use Rattle.adapter.specs.Steps.{Can, IsAlone, IsFetchable, IsWorking, WorksOn, b
 use Rattle.adapter.specs.Steps.Step.{Fetch}
 use Rattle.adapter.specs.Says.{Says}
 use Rattle.adapter.specs.declared.command.Operation.{Operation}
-use Rattle.adapter.proofs.Absurd.{some_one}
+use Rattle.device_model.proofs.Absurd.{some_one}
 use Rattle.adapter.proofs.Changed.{changed_same, changed_other, changed_each}
 use Rattle.adapter.proofs.SaysLemmas.{says_meaning}
 use Rattle.device_model.specs.Sent.{SendsEnd}

@@ -10,7 +10,7 @@ use Rattle.adapter.specs.Steps.{Brings, block_after, next_place}
 use Rattle.adapter.specs.Trim.{consecutive, trim_sectors}
 use Rattle.adapter.specs.declared.command.Operation.{Operation}
 use Rattle.adapter.specs.declared.command.Operation.TheVariants.{Identify, Read, ReadQueued, Write, WriteQueued, Flush, Trim, ReadLog}
-use Rattle.device_model.specs.Trims.{IsCleared, WillClear, block_ahead, next_uncleared, run_of, runs_of, span, uncleared}
+use Rattle.device_model.specs.Trims.{HasRuns, WillClear, block_ahead, next_uncleared, run_of, runs_of, span, uncleared}
 use Rattle.device_model.proofs.Runs.{all_behind_some, drop_twice, no_runs, one_less, run_below, run_long, some_runs, take_run}
 
 -- ---- the block that a trim is going to have
@@ -52,7 +52,7 @@ pub moved_clears : (o : Operation) (disk : Disk) (memory : ℕ → ℕ) (t : Tak
     Brings disk memory t o bytes → WillClear o memory t sectors clears →
     WillClear o (if reads_memory o then memory else patched memory (next_place t) bytes) (record t { moved = t.moved + 1; block = block_after o bytes t.block }) sectors clears
 moved_clears Trim disk memory t bytes sectors clears left brings will =
-    subst (λ (b : List ℕ). IsCleared b t.cleared sectors clears) (sym (moved_ahead memory t bytes left brings)) will
+    subst (λ (b : List ℕ). HasRuns b t.cleared sectors clears) (sym (moved_ahead memory t bytes left brings)) will
 moved_clears Identify disk memory t bytes sectors clears left brings will = will
 moved_clears Read disk memory t bytes sectors clears left brings will = will
 moved_clears Write disk memory t bytes sectors clears left brings will = will
@@ -77,7 +77,7 @@ pub none_left : (o : Operation) (memory : ℕ → ℕ) (t : Taken) (sectors : �
     t.cleared ≡ length (trim_sectors t.block)
 none_left o memory t sectors all will trim =
     let there : WillClear Trim memory t sectors 0 = subst (λ (x : Operation). WillClear x memory t sectors 0) trim will in
-    let is : IsCleared t.block t.cleared sectors 0 = subst (λ (b : List ℕ). IsCleared b t.cleared sectors 0) (ahead_moved memory t all) there in
+    let is : HasRuns t.block t.cleared sectors 0 = subst (λ (b : List ℕ). HasRuns b t.cleared sectors 0) (ahead_moved memory t all) there in
     let none = ap length (no_runs (uncleared t) (sym is.runs)) in
     let size = length-drop t.cleared (trim_sectors t.block) in
     let within = is.within in
@@ -87,10 +87,10 @@ module _ (memory : ℕ → ℕ) (t : Taken) (sectors clears : ℕ) (all : t.move
   pub is_a_trim : t.meaning.operation ≡ Trim
   is_a_trim = clears_trim t.meaning.operation memory t sectors clears will
 
-  is_cleared : IsCleared t.block t.cleared sectors (suc clears)
+  is_cleared : HasRuns t.block t.cleared sectors (suc clears)
   is_cleared =
       let there : WillClear Trim memory t sectors (suc clears) = subst (λ (x : Operation). WillClear x memory t sectors (suc clears)) is_a_trim will in
-      subst (λ (b : List ℕ). IsCleared b t.cleared sectors (suc clears)) (ahead_moved memory t all) there
+      subst (λ (b : List ℕ). HasRuns b t.cleared sectors (suc clears)) (ahead_moved memory t all) there
 
   pub some_uncleared : 1 ≤ length (uncleared t)
   some_uncleared = some_runs (uncleared t) clears (sym is_cleared.runs)
@@ -117,15 +117,15 @@ module _ (memory : ℕ → ℕ) (t : Taken) (sectors clears : ℕ) (all : t.move
       let size = length-drop t.cleared xs in
       let long = run_long (uncleared t) in
       let some = some_uncleared in
-      let done : IsCleared t.block (t.cleared + n) sectors clears =
+      let done : HasRuns t.block (t.cleared + n) sectors clears =
       record {
         within = omega (arith, size, long, some);
         runs = sym (ap runs_of (sym rest) ∙ one_less (uncleared t) clears (sym is_cleared.runs));
         on_disk = subst (λ (l : List ℕ). All (λ sector. sector < sectors) l) rest (all_behind_some sectors n (uncleared t) is_cleared.on_disk);
       } in
       let there : WillClear Trim memory u sectors clears =
-      subst (λ (b : List ℕ). IsCleared b u.cleared sectors clears) (sym (ahead_moved memory u all))
-      (subst (λ (k : ℕ). IsCleared t.block k sectors clears) (sym same) done) in
+      subst (λ (b : List ℕ). HasRuns b u.cleared sectors clears) (sym (ahead_moved memory u all))
+      (subst (λ (k : ℕ). HasRuns t.block k sectors clears) (sym same) done) in
       subst (λ (o : Operation). WillClear o memory u sectors clears) (sym is_a_trim) there
 
 -- ---- clearing

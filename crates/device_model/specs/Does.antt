@@ -107,18 +107,20 @@ pub record StepKeeps {S : Type 0} (size : S → ℕ) (old new : Model S) : Type 
   pub queue : new.queue ≡ old.queue
   pub accesses : new.accesses ≡ old.accesses
 
--- One more call on the store of the disk that is in has failed: that of the slot's command for the sector that it moves next, or clears next.
+-- One more call on the store of the disk that is in has failed: that of the slot's command for the sector that it moves next;
 pub record FailsToMove (port slot : ℕ) (was now : Option Failures) (d : Device) : Type 0 where
   pub t : Taken
   pub move : HasMove d port slot t
   pub ranged : is_ranged t.meaning.operation ≡ true
   pub fails : FailsOn (reads_memory t.meaning.operation) (next_sector t) was now
 
+-- or for the one that it clears next.
 pub record FailsToClear (port slot : ℕ) (was now : Option Failures) (d : Device) : Type 0 where
   pub t : Taken
   pub clear : HasClear d port slot 1 t
   pub fails : FailsOn true (next_uncleared t) was now
 
+-- for the one or the other
 abbrev pub FailsAt : (port slot : ℕ) → (was now : Option Failures) → Device → Type 0
 FailsAt port slot was now d = FailsToMove port slot was now d ⊎ FailsToClear port slot was now d
 
@@ -167,11 +169,11 @@ EndsIt (asked.Clear p s most) old new = HasCleared old new p.0 s.0 most
 EndsIt (asked.Finish p s) old new = HasEnded old new p.0 s.0
 EndsIt step old new = Unit {0}
 
--- A step that is done: the device did what it was asked, and sent the FIS of a command that ended. No call on a store has failed, and a Finish ended its
--- command, in a memory of at most 4 GiB, and a Clear did all that it could; or a call failed, and the Finish, or the Clear, came to the sector on which it did. The ports are held that are held after it;
--- the disk is in, or was last, that is after it, and each disk has the sectors that it had, but where a sector is moved or cleared; the disks say of themselves what
--- they say after it, and each page that the tape has gained is as the one that was in said before; and that nothing was left out for want of memory is
--- told as it was.
+-- A step that is done: the device did what it was asked, and sent the FIS of a command that ended. No call on a store has failed, and a Clear did all
+-- that it could at once, and a Finish ended its command, in a memory of at most 4 GiB; or a call failed, and the Clear or the Finish came to the sector on
+-- which it did. The ports are held that are held after it; the disk is in, or was last, that is after it, and each disk has the sectors that it had, but
+-- where a sector is moved or cleared; the disks say of themselves what they say after it, and each page that the tape has gained is as the one that was in
+-- said before; and that nothing was left out for want of memory is told as it was.
 pub record Did {S : Type 0} (size : S → ℕ) (told : S → Option (ℕ → List ℕ)) (failures : S → Option Failures) (s : DeviceStep) (old new : Model S) : Type 0 where
   pub asked : AskedOf (Sends s) s (device_at size told old) (device_at size told new)
   pub ends : StoreCuts s (failures old.disk) (failures new.disk) (device_at size told new)

@@ -58,12 +58,12 @@ abbrev pub block_ahead : (ℕ → ℕ) → Taken → List ℕ
 block_ahead memory t = if nat_lt t.moved (length t.places) then bytes_at memory (slice_index t.places (length t.places - 1)) 512 else t.block
 
 -- so many runs are left to clear of this block, and each sector is one of so many
-pub record IsCleared (block : List ℕ) (cleared sectors clears : ℕ) : Type 0 where
+pub record HasRuns (block : List ℕ) (cleared sectors clears : ℕ) : Type 0 where
   pub within : cleared ≤ length (trim_sectors block)
   pub runs : clears ≡ runs_of (drop cleared (trim_sectors block))
   pub on_disk : All (λ sector. sector < sectors) (drop cleared (trim_sectors block))
 
 -- so many clears are left of a command: one of each run of a trim, and of another command none
 abbrev pub WillClear : Operation → (ℕ → ℕ) → Taken → (sectors clears : ℕ) → Type 0
-WillClear Trim memory t sectors clears = IsCleared (block_ahead memory t) t.cleared sectors clears
+WillClear Trim memory t sectors clears = HasRuns (block_ahead memory t) t.cleared sectors clears
 WillClear _ memory t sectors clears = clears ≡ 0

@@ -538,12 +538,14 @@ fn exchange<S: SectorStore>(
             turn(bytes, &says.lies);
             true
         }
-        // It has no piece that could bring anything.
+        // A flush has no piece that could bring anything.
         Transfer::Flush => true,
     }
 }
 
-/// Makes these sectors of a disk zero, the first of them first, and tells how many: all of them, or those before the one at which the store failed.
+/// Makes these sectors of a disk zero, the first of them first, and tells how many: all of them, or those before the one at which the store failed. It is
+/// entered for clears alone, since its frame may have room for a sector.
+#[inline(never)]
 fn clear_sectors<S: SectorStore>(disk: &mut S, which: Which, run: Run) -> u32
     requires { run.first + run.count ≤ S.size disk.old }
     ensures few { result ≤ run.count }

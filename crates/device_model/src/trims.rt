@@ -7,7 +7,7 @@ ghost use Rattle.device_model.specs.Block.{brought};
 ghost use Rattle.device_model.specs.Fetched.{bytes_of};
 ghost use Rattle.device_model.specs.Finishing.{HasRoom};
 ghost use Rattle.device_model.specs.Slots.{CanClear, HoldsAt, IsNextRun};
-ghost use Rattle.device_model.specs.Trims.{IsCleared, WillClear, block_ahead, next_uncleared, run_of, span, uncleared};
+ghost use Rattle.device_model.specs.Trims.{HasRuns, WillClear, block_ahead, next_uncleared, run_of, span, uncleared};
 ghost use Rattle.device_model.specs.View.{blank, operation_of, taken_of};
 ghost use Rattle.device_model.specs.Whole.{Outside, device_of, outside_cleared};
 ghost use Rattle.device_model.specs.declared.port.TakenCommand.{TakenCommand};
@@ -43,8 +43,8 @@ fn uncleared_of(command: &TakenCommand, block: &[u8]) -> u32
 /// How many clears a block brings, of which so many sectors were cleared, if each that is left is one of so many.
 fn clears_of_block(block: &[u8], cleared: u32, sectors: u64) -> Option<u32>
     requires { length block.now ≤ 512 }
-    ensures found { IfSome result (λ clears. IsCleared block.now cleared sectors clears) }
-    ensures only { (clears : ℕ) → IsCleared block.now cleared sectors clears → result ≡ Some clears }
+    ensures found { IfSome result (λ clears. HasRuns block.now cleared sectors clears) }
+    ensures only { (clears : ℕ) → HasRuns block.now cleared sectors clears → result ≡ Some clears }
 {
     if count_sectors(block) < cleared {
         return None;
@@ -58,8 +58,8 @@ fn clears_of_block(block: &[u8], cleared: u32, sectors: u64) -> Option<u32>
 fn clears_of_trim(command: &TakenCommand, block: &[u8], memory: &[u8], sectors: u64) -> Option<u32>
     requires block { block.now ≡ brought command.now.block }
     requires few { length block.now ≤ 512 }
-    ensures found { IfSome result (λ clears. IsCleared (block_ahead (bytes_of memory.now) (taken_of command.now)) command.now.cleared sectors clears) }
-    ensures only { (clears : ℕ) → IsCleared (block_ahead (bytes_of memory.now) (taken_of command.now)) command.now.cleared sectors clears → result ≡ Some clears }
+    ensures found { IfSome result (λ clears. HasRuns (block_ahead (bytes_of memory.now) (taken_of command.now)) command.now.cleared sectors clears) }
+    ensures only { (clears : ℕ) → HasRuns (block_ahead (bytes_of memory.now) (taken_of command.now)) command.now.cleared sectors clears → result ≡ Some clears }
 {
     let prds = command.prds.as_slice();
     let pieces = count_pieces(prds);

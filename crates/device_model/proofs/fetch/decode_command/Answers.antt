@@ -3,7 +3,7 @@ use Rattle.byteorder.specs.Endian.{little_from}
 use Rattle.adapter.specs.Commands.{pieces_moved}
 use Rattle.adapter.specs.Memory.{bytes_at}
 use Rattle.adapter.specs.Says.{pieces, HasPrds}
-use Rattle.adapter.proofs.Absurd.{some-none, some_one}
+use Rattle.device_model.proofs.Absurd.{some-none, some_one}
 use Rattle.device_model.specs.Fetched.{bytes_of}
 use Rattle.device_model.specs.declared.fetch.Header.{Header}
 use Rattle.device_model.specs.declared.fetch.Sectors.{Sectors}

@@ -2,7 +2,7 @@ use Rattle.std.proofs.Common.{◌≡◌, ◌∙◌, ap, sym, Some}
 use Rattle.byteorder.specs.Endian.{little_from}
 use Rattle.adapter.specs.Commands.{command_of}
 use Rattle.adapter.specs.declared.command.Operation.{Operation}
-use Rattle.adapter.proofs.Absurd.{some-none}
+use Rattle.device_model.proofs.Absurd.{some-none}
 use Rattle.device_model.specs.View.{operation_of}
 use Rattle.device_model.proofs.Transfers.{transfer_of}
 use Rattle.device_model.proofs.fetch.read_into.Goals as goal

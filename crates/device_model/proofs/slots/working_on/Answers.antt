@@ -1,5 +1,5 @@
 use Rattle.std.proofs.Common.{rules, ◌<◌, length}
-use Rattle.adapter.proofs.Absurd.{true-false}
+use Rattle.device_model.proofs.Absurd.{true-false}
 use Rattle.device_model.specs.Whole.{no_media}
 use Rattle.device_model.proofs.SlotLemmas.{at_port}
 use Rattle.device_model.proofs.slots.working_on.Goals as goal

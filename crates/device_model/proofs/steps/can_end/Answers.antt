@@ -1,4 +1,4 @@
-use Rattle.adapter.proofs.Absurd.{some-none}
+use Rattle.device_model.proofs.Absurd.{some-none}
 use Rattle.device_model.proofs.steps.can_end.Goals as goal
 
 pub returns-in-None-clause-only : goal.returns-in-None-clause-only

@@ -1,5 +1,5 @@
 use Rattle.std.proofs.Common.{ℕ, ◌≤◌, ◌+◌, ◌∙◌, ap, List, length, slice_index, arith}
-use Rattle.adapter.proofs.Changed.{fun_ext}
+use Rattle.device_model.proofs.Absurd.{fun_ext}
 use Rattle.device_model.proofs.Bytes.{put_reads}
 use Rattle.device_model.proofs.steps.put_piece.Goals as goal
 

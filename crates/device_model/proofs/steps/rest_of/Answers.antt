@@ -1,4 +1,4 @@
-use Rattle.adapter.proofs.Absurd.{some-none}
+use Rattle.device_model.proofs.Absurd.{some-none}
 use Rattle.device_model.proofs.steps.rest_of.Goals as goal
 
 pub returns-in_err-left_of-clause-only : goal.returns-in_err-left_of-clause-only

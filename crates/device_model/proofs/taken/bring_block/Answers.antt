@@ -1,6 +1,6 @@
 use Rattle.std.proofs.Common.{◌≡◌, ◌+◌, ◌∙◌, Some, sym}
 use Rattle.adapter.specs.Steps.{noted_bytes}
-use Rattle.adapter.proofs.Absurd.{some_one}
+use Rattle.device_model.proofs.Absurd.{some_one}
 use Rattle.device_model.proofs.taken.bring_block.Goals as goal
 
 pub returns-in-Some-clause-counted : goal.returns-in-Some-clause-counted

@@ -1,7 +1,7 @@
 use Rattle.std.proofs.Common.{rules, ℕ, ◌≡◌, ◌<◌, ◌≤◌, ◌+◌, ◌∙◌, List, false, inl, inr, refl, sym, ap, subst, arith, slice_index_or}
 use Rattle.std.specs.Vec.{vec_len, vec_capacity}
 use Rattle.adapter.specs.declared.tape.Entry.{Entry}
-use Rattle.adapter.proofs.Absurd.{some-none, some_one, true-false}
+use Rattle.device_model.proofs.Absurd.{some-none, some_one, true-false}
 use Rattle.device_model.specs.Finishing.{MayFinish}
 use Rattle.device_model.specs.Slots.{HasUntaken, HoldsAt}
 use Rattle.device_model.specs.View.{blank}

@@ -3,7 +3,7 @@ use Rattle.std.specs.Vec.{vec_len, vec_capacity}
 use Rattle.adapter.specs.Asked.{DoesFetch}
 use Rattle.adapter.specs.Device.{Device}
 use Rattle.adapter.specs.declared.tape.Entry.{Entry}
-use Rattle.adapter.proofs.Absurd.{some-none, some_one, true-false}
+use Rattle.device_model.proofs.Absurd.{some-none, some_one, true-false}
 use Rattle.device_model.specs.Finishing.{MayFinish}
 use Rattle.device_model.specs.Slots.{HasUntaken}
 use Rattle.device_model.specs.View.{blank}

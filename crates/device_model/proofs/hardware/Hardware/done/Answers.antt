@@ -1,7 +1,7 @@
 use Rattle.std.proofs.Common.{rules, arith, inl, inr, refl, ℕ, sym, subst, ◌≡◌, ◌<◌, length, slice_index_or}
 use Rattle.adapter.specs.Device.{Taken}
 use Rattle.adapter.specs.Steps.{IsFinished}
-use Rattle.adapter.proofs.Absurd.{true-false}
+use Rattle.device_model.proofs.Absurd.{true-false}
 use Rattle.device_model.specs.Slots.{HoldsAt}
 use Rattle.device_model.specs.View.{blank, cause_of, taken_of}
 use Rattle.device_model.specs.declared.hardware.Hardware.{Hardware}

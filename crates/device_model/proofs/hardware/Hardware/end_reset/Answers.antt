@@ -1,5 +1,5 @@
 use Rattle.std.proofs.Common.{false}
-use Rattle.adapter.proofs.Changed.{fun_ext}
+use Rattle.device_model.proofs.Absurd.{fun_ext}
 use Rattle.device_model.specs.Whole.{device_of}
 use Rattle.device_model.proofs.hardware.Hardware.end_reset.Goals as goal
 

@@ -2,7 +2,7 @@ use Rattle.std.proofs.Common.{Bool, true, false, ◌≡◌, ◌∙◌, refl, sym
 use Rattle.std.specs.Prelude.{not}
 use Rattle.std.specs.Cmp.{booleans_Decides}
 use Rattle.std.proofs.lemmas.Slice.Eq.{slice_eq-Decides}
-use Rattle.adapter.proofs.Absurd.{true-false}
+use Rattle.device_model.proofs.Absurd.{true-false}
 use Rattle.device_model.specs.Held.{all_held}
 use Rattle.device_model.proofs.hardware.Hardware.end_reset_unless_held.Goals as goal
 use Rattle.device_model.proofs.hardware.Hardware.end_reset_unless_held.Goals.{else-self-via-then-self+else-ne, else-self-via-else-self}

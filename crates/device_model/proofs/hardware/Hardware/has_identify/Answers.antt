@@ -1,5 +1,5 @@
 use Rattle.std.proofs.Common.{Bool, Option, ◌≡◌, ◌∙◌, refl, sym, ap, subst}
-use Rattle.adapter.proofs.Absurd.{some_one}
+use Rattle.device_model.proofs.Absurd.{some_one}
 use Rattle.device_model.specs.Finishing.{Identifies}
 use Rattle.device_model.specs.Whole.{device_of}
 use Rattle.device_model.specs.declared.port.TakenCommand.{TakenCommand}

@@ -1,5 +1,5 @@
 use Rattle.std.proofs.Common.{rules, arith, ◌<◌, length, inl, inr, refl}
-use Rattle.adapter.proofs.Absurd.{true-false}
+use Rattle.device_model.proofs.Absurd.{true-false}
 use Rattle.device_model.proofs.Stepping.{plugged_in}
 use Rattle.device_model.proofs.SlotLemmas.{at_port}
 use Rattle.device_model.proofs.hardware.Hardware.plug.Goals as goal

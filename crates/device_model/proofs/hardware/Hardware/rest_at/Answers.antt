@@ -1,5 +1,5 @@
 use Rattle.std.proofs.Common.{ℕ, ◌≡◌, ◌∙◌, subst, sym, slice_index_or}
-use Rattle.adapter.proofs.Absurd.{some_one}
+use Rattle.device_model.proofs.Absurd.{some_one}
 use Rattle.device_model.specs.Finishing.{IsRest}
 use Rattle.device_model.specs.Slots.{HoldsAt}
 use Rattle.device_model.specs.View.{blank}

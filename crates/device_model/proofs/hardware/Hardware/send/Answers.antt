@@ -2,7 +2,7 @@ use Rattle.std.proofs.Common.{true, ap, rules, ℕ, ◌≡◌, ◌<◌, ◌≤�
 use Rattle.std.proofs.lemmas.Grind.{get_or_default_zero}
 use Rattle.std.specs.Vec.{with_items}
 use Rattle.std.proofs.lemmas.List.{with_items_is}
-use Rattle.adapter.proofs.Absurd.{true-false}
+use Rattle.device_model.proofs.Absurd.{true-false}
 use Rattle.device_model.specs.View.{blank}
 use Rattle.device_model.specs.Whole.{device_of}
 use Rattle.device_model.specs.declared.port.PortModel.{PortModel}

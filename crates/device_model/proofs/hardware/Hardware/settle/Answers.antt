@@ -3,7 +3,7 @@ use Rattle.std.proofs.lemmas.Bool.{cases_lt}
 use Rattle.std.proofs.lemmas.Bool.Decides.{eqb_tells}
 use Rattle.std.proofs.lemmas.List.{get_or_past}
 use Rattle.adapter.specs.Device.{PortState}
-use Rattle.adapter.proofs.Absurd.{true-false}
+use Rattle.device_model.proofs.Absurd.{true-false}
 use Rattle.device_model.proofs.Own.{own_none, own_on}
 use Rattle.device_model.specs.Settled.{Settles, IsSettledPort}
 use Rattle.device_model.specs.View.{port_of, blank}

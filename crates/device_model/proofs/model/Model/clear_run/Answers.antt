@@ -1,6 +1,6 @@
 use Rattle.std.specs.Prelude.{map}
 use Rattle.std.proofs.Common.{true, ℕ, ◌≡◌, ◌<◌, ◌+◌, ◌∙◌, List, refl, sym, ap, subst, arith, inl, inr}
-use Rattle.adapter.proofs.Absurd.{true-false}
+use Rattle.device_model.proofs.Absurd.{true-false}
 use Rattle.adapter.specs.Device.{Device, Disk}
 use Rattle.sector_store.specs.Stores.{FailsOn}
 use Rattle.device_model.specs.Disks.{disk_over, is_same}

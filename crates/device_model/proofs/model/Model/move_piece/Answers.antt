@@ -1,6 +1,6 @@
 use Rattle.std.specs.Prelude.{map}
 use Rattle.std.proofs.Common.{Bool, refl, ◌++◌, ℕ, true, false, ◌≡◌, ◌≤◌, ◌∙◌, ◌+◌, ◌^◌, ◌∷◌, [], List, length, sym, ap, subst, arith, inl, inr}
-use Rattle.adapter.proofs.Absurd.{some_one, true-false}
+use Rattle.device_model.proofs.Absurd.{some_one, true-false}
 use Rattle.adapter.specs.Asked.{DoesMove}
 use Rattle.adapter.specs.Commands.{is_ranged, reads_memory}
 use Rattle.adapter.specs.Device.{Device, Disk}

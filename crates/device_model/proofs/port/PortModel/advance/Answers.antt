@@ -2,7 +2,7 @@ use Rattle.std.proofs.Common.{ℕ, List, ◌≡◌, ◌∙◌, ◌+◌, Option, 
 use Rattle.adapter.specs.Device.{Taken}
 use Rattle.adapter.specs.Memory.{changed}
 use Rattle.adapter.specs.Steps.{block_after, noted_bytes}
-use Rattle.adapter.proofs.Absurd.{some_one, true-false}
+use Rattle.device_model.proofs.Absurd.{some_one, true-false}
 use Rattle.device_model.specs.Block.{brought}
 use Rattle.device_model.specs.View.{held_in, media_after, operation_of, port_of, slots_of, taken_of}
 use Rattle.device_model.specs.declared.port.TakenCommand.{TakenCommand}

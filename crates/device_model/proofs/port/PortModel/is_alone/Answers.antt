@@ -1,6 +1,6 @@
 use Rattle.std.proofs.Common.{Bool, true, false, ◌≡◌, ◌∙◌, ◌&&◌, sym, ap}
 use Rattle.adapter.specs.Commands.{is_queued}
-use Rattle.adapter.proofs.Absurd.{true-false}
+use Rattle.device_model.proofs.Absurd.{true-false}
 use Rattle.device_model.specs.View.{held_in, operation_of, port_of, taken_of}
 use Rattle.device_model.proofs.SlotLemmas.{none_slot, slot_taken}
 use Rattle.device_model.proofs.Transfers.{alone_none}

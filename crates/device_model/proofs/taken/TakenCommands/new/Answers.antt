@@ -1,6 +1,6 @@
 use Rattle.std.proofs.Common.{rules, ℕ, Option, None, ◌≡◌, ◌∙◌, ap, length, sym}
 use Rattle.std.specs.Prelude.{is_some}
-use Rattle.adapter.proofs.Changed.{fun_ext}
+use Rattle.device_model.proofs.Absurd.{fun_ext}
 use Rattle.device_model.specs.View.{held_in}
 use Rattle.device_model.specs.declared.port.TakenCommand.{TakenCommand}
 use Rattle.device_model.proofs.NewModel.{zero_bit}
