@@ -1,4 +1,4 @@
-use Rattle.std.proofs.Common.{List, Some, not, ap, ◌∙◌, subst}
+use Rattle.std.proofs.Common.{List, Some, not, ap, ◌∙◌, subst, rules}
 use Rattle.agreement.specs.Readying.{IsStored}
 use Rattle.ata_types.specs.declared.request.Frame.{Frame}
 use Rattle.command_table.specs.Places.{places_of}
@@ -47,3 +47,6 @@ returns g c = record {
       (subst T transfer_is (subst F lent_is c.issue.ensures.issues)) (subst TS transfer_is (subst FS lent_is c.issue.ensures.stored)) c.issue-2.new.self c.issue-2.ensures
       c.take.new.self (c.in-Some.ensures.taken ∙ ap (λ (t : Transfer). with_use c.args.slots.now slot (Some (record { id = c.args.id; queued = t.queued }))) transfer_is);
 }
+
+pub issue-requires-clause-agreed : goal.issue-requires-clause-agreed
+issue-requires-clause-agreed g c = search rules
