@@ -49,7 +49,9 @@ fn fill(rt: &impl Abort, book: &mut Book, table: &mut FrameTable)
 
 /// Of a port's requests, by which of 32 it is, those that are due where so many slots are usable for queued commands: the first of all but each
 /// second of four, which is a read of what the first writes.
-fn is_due(turn: usize, usable: usize) -> bool {
+fn is_due(turn: usize, usable: usize) -> bool
+    requires { turn < 32 }
+{
     turn % 4 != 1 && turn - (turn + 2) / 4 < usable
 }
 
