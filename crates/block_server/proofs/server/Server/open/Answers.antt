@@ -1,4 +1,4 @@
-use Rattle.std.proofs.Common.{arith, rules}
+use Rattle.std.proofs.Common.{rules}
 use Rattle.block_server.proofs.server.Server.open.Goals as goal
 
 pub returns-then-is_some-clause-err : goal.returns-then-is_some-clause-err
