@@ -13,6 +13,8 @@ mod frame_information_structures;
 #[cfg(test)]
 mod frame_loans;
 #[cfg(test)]
+mod full_books;
+#[cfg(test)]
 mod ranges;
 #[cfg(test)]
 mod registers;

@@ -1,4 +1,4 @@
-use Rattle.std.proofs.Common.{inl}
+use Rattle.std.proofs.Common.{inl, rules}
 use Rattle.port_control.specs.Engines.{FailsToStopReceiving, StopsReceiving}
 use Rattle.port_control.proofs.Using.{falls_then, same_adapter, usable_after}
 use Rattle.port_control.proofs.receive.Goals as goal
@@ -52,3 +52,6 @@ returns-clause-on g c =
     let first = usable_after c.laws_hold.ensures Commanding c.args.stopped.port _ _ (record { on = c.requires.on; there = c.requires.there; agreed = c.requires.agreed }) (c.stop_receiving.ensures.stops c.if-not-stop_receiving.false).followed in
     let second = usable_after c.laws_hold.ensures Placing c.args.stopped.port _ _ first c.place.ensures.followed in
     (usable_after c.laws_hold.ensures Commanding c.args.stopped.port _ _ second c.start_receiving.ensures.followed).on
+
+pub returns-then-not-stop_receiving-clause-fault : goal.returns-then-not-stop_receiving-clause-fault
+returns-then-not-stop_receiving-clause-fault g c = search rules

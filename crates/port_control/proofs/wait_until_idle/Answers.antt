@@ -1,4 +1,4 @@
-use Rattle.std.proofs.Common.{ℕ, ◌≡◌, sym, ◌∙◌, subst, arith}
+use Rattle.std.proofs.Common.{ℕ, ◌≡◌, sym, ◌∙◌, subst, arith, rules}
 use Rattle.hba_regs.specs.declared.reg.PortReg.TheVariants.{Tfd}
 use Rattle.port_control.proofs.Looking.{busy_followed, busy_saw, busy_waits, busy_quiet, idle_seen, busy_still, without_none}
 use Rattle.port_control.specs.Ports.{ShowsIdle, ReadsWithout}
@@ -41,3 +41,9 @@ returns-then-not-is_occupied-clause-quiet g c = λ awaited unflagged. busy_quiet
 
 pub loop-reading-preserved : goal.loop-reading-preserved
 loop-reading-preserved g c = busy_still c.laws_hold.ensures _ _ _ _ _ _ c.loop-reading.invariant c.read.ensures (omega arith) (sym c.is_occupied.ensures ∙ c.if-not-is_occupied.false)
+
+pub returns-clause-busy : goal.returns-clause-busy
+returns-clause-busy g c = search rules
+
+pub returns-clause-quiet : goal.returns-clause-quiet
+returns-clause-quiet g c = search rules

@@ -1,4 +1,4 @@
-use Rattle.std.proofs.Common.{sym, subst, ◌<◌, ◌∙◌, List, length}
+use Rattle.std.proofs.Common.{sym, subst, ◌<◌, ◌∙◌, List, length, rules}
 use Rattle.request_queue.specs.Entries.{Held}
 use Rattle.block_server.proofs.Finishing as finishing
 use Rattle.block_server.proofs.answering.answer_one.Goals as goal
@@ -18,3 +18,6 @@ pub returns-clause-fewer : goal.returns-clause-fewer
 returns-clause-fewer c =
     subst (λ (b : List Held). length b < length c.args.book.now) (sym c.answer-loan.ensures.rest)
     (finishing.shorter c.in-Some.used.id c.args.book.now (record { entry = c.answer-loan.result.0; frames = c.answer-loan.result.1.frames }) c.answer-loan.ensures.entry c.answer-loan.ensures.id.0)
+
+pub returns-clause-freed : goal.returns-clause-freed
+returns-clause-freed c = search rules

@@ -1,4 +1,4 @@
-use Rattle.std.proofs.Common.{◌≡◌, ◌+◌, ◌≤◌, suc, List, [], ◌∷◌, drop, get_or, length, refl, sym, ap, ◌∙◌, subst, arith}
+use Rattle.std.proofs.Common.{◌≡◌, ◌+◌, ◌≤◌, suc, List, [], ◌∷◌, drop, get_or, length, refl, sym, ap, ◌∙◌, subst, arith, rules}
 use Rattle.std.proofs.lemmas.List.{drop_all, drop_more, length-map}
 use Rattle.ata_types.specs.declared.request.RequestId.{RequestId}
 use Rattle.block_machine.specs.Due.{AreDueInTurn}
@@ -91,3 +91,6 @@ returns-clause-issues g c = λ s l.
     let M : Mode → Type 0 = λ mode. IssuesEach port (due_ids mode port (asks_of s.book)) s p in
     subst M (sym l.mode_is) (subst (λ (xs : List RequestId). IssuesEach port xs s p) (c.issuable-due.ensures ∙ ap (λ (b : List Held). due_ids c.args.mode port (asks_of b)) (sym l.book_is))
     (c.loop-place.invariant.rest s p l (subst (λ (xs : List RequestId). IssuesEach port xs p p) (sym none) refl)))
+
+pub returns-clause-none : goal.returns-clause-none
+returns-clause-none g c = search rules

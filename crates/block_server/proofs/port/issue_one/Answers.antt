@@ -1,4 +1,4 @@
-use Rattle.std.proofs.Common.{List, Some, not, ap, ◌∙◌, subst}
+use Rattle.std.proofs.Common.{List, Some, not, ap, ◌∙◌, subst, rules}
 use Rattle.agreement.specs.Readying.{IsStored}
 use Rattle.ata_types.specs.declared.request.Frame.{Frame}
 use Rattle.ncq.specs.Tasks.{HasBlockOf, IssuesTask, addresses_of, meaning_of}
@@ -52,3 +52,6 @@ returns g c = record {
       (subst T task_is (subst F lent_is c.issue_task.ensures.issues)) (subst TS task_is (subst FS lent_is c.issue_task.ensures.stored)) (subst B task_is c.issue_task.ensures.block) c.issue.new.self c.issue.ensures
       c.take.new.self (c.in-Some.ensures.taken ∙ ap (λ (t : Task). with_use c.args.slots.now slot (Some (record { id = c.args.id; queued = t.queued }))) task_is);
 }
+
+pub issue-requires-clause-agreed : goal.issue-requires-clause-agreed
+issue-requires-clause-agreed g c = search rules

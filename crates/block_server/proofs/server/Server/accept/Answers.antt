@@ -1,4 +1,4 @@
-use Rattle.std.proofs.Common.{ℕ, ◌≡◌, ◌+◌, List, Ok, refl, sym, ap, ◌∙◌, [], subst, arith, slice_index_or, slice_set}
+use Rattle.std.proofs.Common.{ℕ, ◌≡◌, ◌+◌, List, Ok, refl, sym, ap, ◌∙◌, [], subst, arith, slice_index_or, slice_set, rules}
 use Rattle.ata_types.specs.declared.request.Frame.{Frame}
 use Rattle.block_machine.specs.Events.{Submit, Submitted}
 use Rattle.block_machine.specs.Due.{due_of}
@@ -94,3 +94,6 @@ pub returns-clause-adds : goal.returns-clause-adds
 returns-clause-adds g c =
     subst (λ (v : ServerView g.row.A.Denot). Adds (server_of g.A.Adapter.device v) (server_of g.A.Adapter.device (after g c)) (Submit c.args.r.now) (Submitted (Ok (record { 0 = c.self.inside.last + 1 })))) c.self.view_is
     (c.acceptances_add.ensures (server_of g.A.Adapter.device (seen c.self.inside)) (server_of g.A.Adapter.device (after g c)) c.args.port c.args.r.now (record { 0 = c.self.inside.last + 1 }) c.self.invariant (subst (λ (v : ServerView g.row.A.Denot). IsAcceptable (situation_of (server_of g.A.Adapter.device v)) c.args.r.now) (sym c.self.view_is) c.requires.acceptable) (sent g c))
+
+pub accept-requires-clause-fresh : goal.accept-requires-clause-fresh
+accept-requires-clause-fresh g c = search rules

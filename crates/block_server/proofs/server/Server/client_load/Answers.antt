@@ -1,4 +1,4 @@
-use Rattle.std.proofs.Common.{ℕ, length, Ok, Err, sym, ap, ◌∙◌, subst}
+use Rattle.std.proofs.Common.{ℕ, length, Ok, Err, sym, ap, ◌∙◌, subst, rules}
 use Rattle.std.proofs.lemmas.Result.{err_from_is_err_and}
 use Rattle.adapter.specs.Access.{Loads}
 use Rattle.adapter.specs.Rules.{IsFree, Stays}
@@ -47,3 +47,6 @@ returns-clause-adds g c =
     subst P c.self.view_is (c.client_bytes_add.ensures.load (server_of device s) (device c.load.new.self) c.args.client c.args.frame c.args.offset (length c.args.out.now) c.load.new.out c.self.invariant c.load.auto.out
     (subst Q (sym c.self.view_is) c.in_ok-address.ensures.ok.0)
     (subst (λ (at : ℕ). Loads at c.load.new.out (device s.adapter) (device c.load.new.self)) c.in_ok-address.ensures.ok.1 c.load.ensures))
+
+pub returns-clause-loads : goal.returns-clause-loads
+returns-clause-loads g c = search rules

@@ -1,4 +1,4 @@
-use Rattle.std.proofs.Common.{subst}
+use Rattle.std.proofs.Common.{subst, rules}
 use Rattle.block_machine.specs.Events.{Device as Told, Stepped}
 use Rattle.block_server.specs.Seen.{seen}
 use Rattle.block_server.specs.View.{ServerView, server_of}
@@ -20,3 +20,6 @@ returns-clause-adds g c =
     subst P c.self.view_is
     (step_adds c.device_steps_add.ensures.done c.device_steps_add.ensures.refused (server_of device s) (device c.step.new.self) c.args.step.now c.step.result c.self.invariant c.step.ensures.asked c.step.ensures.steps
     c.step.ensures.refused)
+
+pub returns-clause-steps : goal.returns-clause-steps
+returns-clause-steps g c = search rules

@@ -1,5 +1,4 @@
 use Rattle.std.proofs.Common.{rules, ◌*◌, ◌≤◌, List, refl, sym, subst, arith}
-use Rattle.std.proofs.lemmas.Grind.{common_steps}
 use Rattle.std.specs.List.{AllPairs}
 use Rattle.ata_types.specs.declared.grant.GrantRow.{GrantRow}
 use Rattle.block_machine.specs.Rules.{DifferInName}
@@ -58,4 +57,4 @@ returns-clause-made g c =
     }
 
 pub returns-in-Err-clause-refused : goal.returns-in-Err-clause-refused
-returns-in-Err-clause-refused g c = grind (arith, common_steps)
+returns-in-Err-clause-refused g c = search rules

@@ -1,5 +1,4 @@
-use Rattle.std.proofs.Common.{◌<◌, ◌++◌, ◌∷◌, List, sym, ◌∙◌, ap, subst, [], append_assoc, length, take, arith}
-use Rattle.std.proofs.lemmas.Grind.{common_steps}
+use Rattle.std.proofs.Common.{◌<◌, ◌++◌, ◌∷◌, List, sym, ◌∙◌, ap, subst, [], append_assoc, length, take, arith, rules}
 use Rattle.std.proofs.lemmas.List.{append-nil, take_more}
 use Rattle.block_server.specs.Running.{Answered, Ran}
 use Rattle.block_server.specs.declared.types.Event.{Event}
@@ -35,4 +34,4 @@ loop-at-preserved g c =
     }
 
 pub returns-then-is_err-clause-ample : goal.returns-then-is_err-clause-ample
-returns-then-is_err-clause-ample g c = grind (arith, common_steps)
+returns-then-is_err-clause-ample g c = search rules
