@@ -53,5 +53,5 @@ returns g c = record {
       c.take.new.self (c.in-Some.ensures.taken ∙ ap (λ (t : Task). with_use c.args.slots.now slot (Some (record { id = c.args.id; queued = t.queued }))) task_is);
 }
 
-pub issue-requires-clause-agreed : goal.issue-requires-clause-agreed
-issue-requires-clause-agreed g c = search rules
+pub issue_task-requires-clause-agreed : goal.issue_task-requires-clause-agreed
+issue_task-requires-clause-agreed g c = search rules
