@@ -45,7 +45,7 @@ UNFOLDS = re.compile(r"^.*\bunfold(?:ing)?\b.*$", re.M)
 # The files of a function's own proof.
 OWN = ("Answers.antt", "Invariants.antt", "Proof.antt")
 # As many edits stand in one try at the most: a text that can't be read spoils it for all.
-MOST = 60
+MOST = 80
 # Whether each try is told, with the time that it took: for finding what is dear.
 SHOWS_TRIES = "--tries" in sys.argv
 # Whether what an earlier run found is taken over.
