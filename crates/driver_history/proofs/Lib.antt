@@ -7,3 +7,4 @@ pub mod Leaving
 pub mod Resting
 pub mod Standing
 pub mod Healthy
+pub mod Parting

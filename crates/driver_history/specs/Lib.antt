@@ -1,5 +1,7 @@
 pub mod Trace
 pub mod Evidence
+pub mod Parts
+pub mod Laws
 pub mod Holds
 pub mod Guard
 pub mod Histories

@@ -8,23 +8,28 @@ ghost use Rattle.ata_types.specs.declared.request.Outcome.{Outcome};
 ghost use Rattle.ata_types.specs.declared.request.Outcome.TheVariants as outcome;
 ghost use Rattle.ata_types.specs.declared.request.RequestId.{RequestId};
 ghost use Rattle.adapter.specs.Device.{Device};
-ghost use Rattle.adapter.specs.Rules.{Stays};
+ghost use Rattle.adapter.specs.Rules.{IsOn, Stays};
 ghost use Rattle.adapter.specs.declared.access.DeviceStep.{DeviceStep};
+ghost use Rattle.adapter.specs.declared.command.Operation.TheVariants.{ReadLog};
+ghost use Rattle.adapter.specs.declared.tape.Fault.{Fault};
+ghost use Rattle.agreement.specs.Driven.{SendsNone};
 ghost use Rattle.agreement.specs.Facts.{IsStill, RunsWell};
 ghost use Rattle.agreement.specs.Links.{PlugsNone};
 ghost use Rattle.agreement.specs.Slots.{ServesRequest};
-ghost use Rattle.block_machine.specs.Events.{steps_of, Service, Tick, Reset, IsHung, IsRun, EveryReadHolds, NoneKeepsIssue};
+ghost use Rattle.block_machine.specs.Events.{Ask, Moment, Said, steps_of, Service, Tick, Reset, IsHung, IsRun, EveryReadHolds, NoneKeepsIssue};
 ghost use Rattle.block_machine.specs.Histories.{Instant, Happening, events_of, now};
-ghost use Rattle.block_machine.specs.Ports.{AreFit, SameDisk};
+ghost use Rattle.block_machine.specs.Ports.{AreFit, Evidence, Ports, SameDisk, SamePort};
 ghost use Rattle.block_machine.specs.State.{Pending};
 ghost use Rattle.block_machine.specs.Steps.{Answer};
 ghost use Rattle.identify.specs.declared.wanted.Wanted.{Wanted};
 ghost use Rattle.driver_history.specs.Claims.{AnswerRests, GoesWellFor, IsHealthyFor, IsSpared};
-ghost use Rattle.driver_history.specs.Evidence.{ShowsChange, StaysHealthy};
+ghost use Rattle.driver_history.specs.Evidence.{BringsLog, HasFailed, IsEvidencedOf, ShowsChange, StaysHealthy};
 ghost use Rattle.driver_history.specs.Histories.{IsHistory, Issues};
 ghost use Rattle.driver_history.specs.Holds.{HoldsAt};
 ghost use Rattle.driver_history.specs.Moves.{KeepsMoves};
+ghost use Rattle.driver_history.specs.Parts.{HasTurnIn, NamesAlike, all_of};
 
+use super::lawful::laws_hold;
 use agreement::facts::{frames_are_still, healthy_stays};
 use agreement::laws::disks_are_told;
 use port_boot::laws::a_port_runs_on;
@@ -159,3 +164,21 @@ pub fn due_are_issued()
         (port : Port) → IsHistory wanted first (h ∷ past)
         → Issues h.event.ask h.event.steps (now first (h ∷ past)).moment.machine h.event.ports port }
 {}
+
+/// What stands behind a port's evidence in its own turn of a call stands behind it in the whole call, where the turn's and the call's evidence name the
+/// port in the same lists, no link of the port is due when the call begins, and but for the turn the call's accesses are of other ports. So it is with a
+/// fault that stood on the tape before the port was stopped, and with the last page of the log that its disk sent, where it sends none after the turn.
+pub fn a_turns_evidence_is_the_calls()
+    ensures evidence { (port : Port) (old : Instant Device) (begun : Moment) (ended ports : Ports) (new : Device) (turn call : Evidence)
+        (ask : Ask DeviceStep) (said : Said) → IsOn old.device → (old.device.port port.0).link_due ≡ false
+        → (t : HasTurnIn port old.device new) → IsOn t.end → SamePort old.moment.ports begun.ports port → SamePort ended ports port
+        → NamesAlike port turn call
+        → IsEvidencedOf ask said t.turn (record { device = t.start; moment = begun }) ended t.end turn port
+        → IsEvidencedOf ask said (all_of t) old ports new call port }
+    ensures failed { (port : Port) (old new : Device) (fault : Fault) → IsOn old → (t : HasTurnIn port old new)
+        → HasFailed port t.turn t.start t.end fault → HasFailed port (all_of t) old new fault }
+    ensures brings { (port : Port) (old new : Device) (page : List ℕ) → IsOn old → (t : HasTurnIn port old new)
+        → SendsNone port.0 ReadLog t.end new → BringsLog port t.start t.end page → BringsLog port old new page }
+{
+    laws_hold();
+}

@@ -2,4 +2,5 @@
 //! and what ties the device to the block machine, call by call. It has definitions and laws, and no program code.
 #![tactic(auto)]
 
+mod lawful;
 pub mod laws;

@@ -1,0 +1,354 @@
+-- What stands behind a port's evidence in its own turn stands behind it in the whole call.
+use Rattle.std.proofs.Common.{ℕ, ◌≡◌, ◌≢◌, ◌⊎◌, ◌≤◌, ◌++◌, true, false, List, [], ◌∷◌, refl, sym, ap, ◌∙◌, subst, inl, inr, ⊎_elim, append_assoc, arith, drop}
+use Rattle.std.specs.List.{All, Contains}
+use Rattle.std.proofs.lemmas.Bool.{cases_Bool, cases_eq, false≢true}
+use Rattle.std.proofs.lemmas.List.Elements.{All-append, All-cons, All-head, All-nil, All-tail, All-weaker, Contains-append_left, Contains-append_right}
+use Rattle.ata_types.specs.declared.Port.{Port}
+use Rattle.ata_types.specs.declared.PortState.TheVariants.{Ready}
+use Rattle.hba_regs.specs.declared.reg.Reg.{Reg}
+use Rattle.hba_regs.specs.declared.reg.Reg.TheVariants.{Ghc, Px}
+use Rattle.hba_regs.specs.declared.reg.PortReg.{PortReg}
+use Rattle.hba_regs.specs.declared.reg.PortReg.TheVariants.{Cmd, Sctl}
+use Rattle.adapter.specs.Access.{Access, Does, DoesAll}
+use Rattle.adapter.specs.Device.{PortState, Device}
+use Rattle.adapter.specs.Rules.{IsOn}
+use Rattle.adapter.specs.declared.access.DeviceStep.{DeviceStep}
+use Rattle.adapter.specs.declared.tape.Entry.{Entry}
+use Rattle.adapter.specs.declared.tape.Entry.TheVariants as entry
+use Rattle.adapter.specs.declared.tape.Fault as tape_fault
+use Rattle.adapter.specs.declared.command.Operation.TheVariants.{ReadLog}
+use Rattle.agreement.specs.Driven.{IsDrivenBy, IsOf, Grows, LeavesPort, SendsNone}
+use Rattle.agreement.specs.Slots.{IsMove}
+use Rattle.agreement.specs.Errors.{ChangesByDisks, ChangesByErrors, IsFatalOf, NoneComes, NoneFails, NoneFatal}
+use Rattle.agreement.specs.Facts.{IsFaultOf}
+use Rattle.agreement.specs.Links.{ComesUp, IsPlugging, LeavesLink, PlugsNone, SameLink, SparesRegister}
+use Rattle.block_machine.specs.Events.{Ask, Moment, Said}
+use Rattle.block_machine.specs.Histories.{Instant}
+use Rattle.block_machine.specs.Ports.{Ports, SamePort, SameDisk, Evidence, IsInterrupted}
+use Rattle.port_control.specs.Engines.{Falls, Sticks, Stops}
+use Rattle.driver_history.specs.Evidence.{BringsLog, Gains, HasFailed, HasErrors, HasFatalErrors, IsEvidencedOf, IsGone, IsLost, ShowsChange, ShowsFailure, ShowsFatal, ShowsLoss}
+use Rattle.driver_history.specs.Laws.{Laws}
+use Rattle.driver_history.specs.Parts.{HasTurnIn, IsOfOther, NamesAlike, all_of}
+use Rattle.driver_history.specs.Trace.{LeavesCommand, LeavesEngine}
+
+-- ---- entries of a kind, or none
+
+-- the tape gained one of these, or none
+GainsOrNone : (Is : Entry → Type 0) (old new : Device) → Type 0
+GainsOrNone Is old new = Gains Is old new ⊎ ((gained : List Entry) × (new.tape ≡ old.tape ++ gained) × All (λ e. Is e → ⊥) gained)
+
+one_or_none : (Is : Entry → Type 0) → ((e : Entry) → Is e ⊎ (Is e → ⊥)) → (gained : List Entry) → ((e : Entry) × Contains gained e × Is e) ⊎ All (λ e. Is e → ⊥) gained
+one_or_none Is decides [] = inr (All-nil (λ e. Is e → ⊥))
+one_or_none Is decides (e ∷ gained) = ⊎_elim
+    (λ is. inl (e, Contains-append_left (e ∷ []) gained e (0, omega arith, refl), is))
+    (λ none. ⊎_elim
+    (λ found. inl (found.0, Contains-append_right (e ∷ []) gained found.0 found.1, found.2))
+    (λ others. inr (All-cons (λ x. Is x → ⊥) e gained none others))
+    (one_or_none Is decides gained))
+    (decides e)
+
+gains_or_none : (Is : Entry → Type 0) → ((e : Entry) → Is e ⊎ (Is e → ⊥)) → (old new : Device) → Grows old new → GainsOrNone Is old new
+unfolding GainsOrNone
+gains_or_none Is decides old new grows = ⊎_elim
+    (λ found. inl (record { gained = grows.0; tape = grows.1; entry = found.0; here = found.1; is = found.2 }))
+    (λ none. inr (grows.0, grows.1, none))
+    (one_or_none Is decides grows.0)
+
+is_plugging : (port : ℕ) (e : Entry) → IsPlugging port e ⊎ (IsPlugging port e → ⊥)
+is_plugging port (entry.Unplug at) = cases_eq at.0 port
+is_plugging port (entry.Plug at name) = cases_eq at.0 port
+is_plugging port (entry.Move x) = inr (λ is. is)
+is_plugging port (entry.Clear x) = inr (λ is. is)
+is_plugging port (entry.Done x) = inr (λ is. is)
+is_plugging port (entry.Fault x) = inr (λ is. is)
+is_plugging port (entry.Fatal x) = inr (λ is. is)
+
+is_fault : (port : ℕ) (e : Entry) → IsFaultOf port e ⊎ (IsFaultOf port e → ⊥)
+is_fault port (entry.Fault x) = cases_eq x.port.0 port
+is_fault port (entry.Unplug at) = inr (λ is. is)
+is_fault port (entry.Plug at name) = inr (λ is. is)
+is_fault port (entry.Move x) = inr (λ is. is)
+is_fault port (entry.Clear x) = inr (λ is. is)
+is_fault port (entry.Done x) = inr (λ is. is)
+is_fault port (entry.Fatal x) = inr (λ is. is)
+
+is_fatal : (port : ℕ) (e : Entry) → IsFatalOf port e ⊎ (IsFatalOf port e → ⊥)
+is_fatal port (entry.Fatal at) = cases_eq at.0 port
+is_fatal port (entry.Unplug at) = inr (λ is. is)
+is_fatal port (entry.Plug at name) = inr (λ is. is)
+is_fatal port (entry.Move x) = inr (λ is. is)
+is_fatal port (entry.Clear x) = inr (λ is. is)
+is_fatal port (entry.Done x) = inr (λ is. is)
+is_fatal port (entry.Fault x) = inr (λ is. is)
+
+-- what a part of a call gained, the call did
+gains_within : (Is : Entry → Type 0) (old start end new : Device) → Grows old start → Grows end new → Gains Is start end → Gains Is old new
+gains_within Is old start end new first last g = record {
+  gained = first.0 ++ (g.gained ++ last.0);
+  tape = last.1 ∙ ap (λ (tape : List Entry). tape ++ last.0) (g.tape ∙ ap (λ (tape : List Entry). tape ++ g.gained) first.1)
+      ∙ append_assoc (old.tape ++ first.0) g.gained last.0 ∙ append_assoc old.tape first.0 (g.gained ++ last.0);
+  entry = g.entry;
+  here = Contains-append_right first.0 (g.gained ++ last.0) g.entry (Contains-append_left g.gained last.0 g.entry g.here);
+  is = g.is;
+}
+
+-- ---- accesses of other ports
+
+module _ (laws : Laws) (port : Port) where
+  -- What is left of the port by accesses of others: the adapter is on; the port is left to its device; and its errors rise by errors alone.
+  record IsLeft (old new : Device) : Type 0 where
+    on : IsOn new
+    leaves : LeavesPort (old.port port.0) (new.port port.0)
+    grows : Grows old new
+    errors : ChangesByErrors port.0 old new
+    undue : (old.port port.0).link_due ≡ false → (new.port port.0).link_due ≡ false
+    disks : (old.port port.0).link_due ≡ false → ChangesByDisks port.0 old new
+    shows : (old.port port.0).link_due ≡ false → PlugsNone port.0 old new → (new.port port.0).ssts_det ≡ (old.port port.0).ssts_det
+
+  errors_none : (d : Device) → ChangesByErrors port.0 d d
+  errors_none d = record { fatal = λ none place low high is. is; fault = λ none is. is }
+
+  errors_more : (old mid new : Device) → Grows old mid → Grows mid new → ChangesByErrors port.0 old mid → ChangesByErrors port.0 mid new → ChangesByErrors port.0 old new
+  errors_more old mid new first last a b = record {
+    fatal = λ none place low high is.
+        let parts = laws.fatal_parts port.0 old mid new first.0 last.0 first.1 last.1 none in
+        b.fatal parts.1 place low high (a.fatal parts.0 place low high is);
+    fault = λ none is.
+        let parts = laws.fails_parts port.0 old mid new first.0 last.0 first.1 last.1 none in
+        b.fault parts.1 (a.fault parts.0 is);
+  }
+
+  one_left : (access : Access) (old new : Device) → IsOn old → IsOfOther port access → Does access old new → IsLeft old new
+  one_left access old new on (other, apart, of) does =
+      let driven : IsDrivenBy (IsOf other) old new = record { accesses = access ∷ []; all = (new, does, refl); only = All-cons (IsOf other) access [] of (All-nil (IsOf other)) } in
+      record {
+        on = laws.on other old new on driven;
+        leaves = laws.left other port.0 old new apart on driven;
+        grows = laws.grows_access access old new does;
+        errors = laws.errors port access old new does;
+        undue = λ undue. laws.undue port access old new on.no_reset undue (laws.spares other port Sctl apart access of) does;
+        disks = λ undue. laws.disks port access old new on.no_reset undue does;
+        shows = λ undue none. ⊎_elim
+            (λ (same : SameLink (old.port port.0) (new.port port.0)). same.det)
+            (λ (up : ComesUp (old.port port.0) (new.port port.0)). absurd (false≢true (sym undue ∙ up.due)))
+            (laws.link port access old new on.no_reset (laws.spares other port Sctl apart access of) does none);
+      }
+
+  others_leave : (accesses : List Access) (old new : Device) → IsOn old → DoesAll accesses old new → All (IsOfOther port) accesses → IsLeft old new
+  others_leave [] old new on same of = subst (IsLeft old) (sym same) (record {
+    on = on;
+    leaves = laws.left_none (old.port port.0);
+    grows = laws.grows_none old;
+    errors = errors_none old;
+    undue = λ undue. undue;
+    disks = λ undue. laws.disks_none port.0 old;
+    shows = λ undue none. refl;
+  })
+  others_leave (access ∷ accesses) old new on (mid, does, rest) of =
+      let a = one_left access old mid on (All-head (IsOfOther port) access accesses of) does in
+      let b = others_leave accesses mid new a.on rest (All-tail (IsOfOther port) access accesses of) in
+      record {
+        on = b.on;
+        leaves = laws.left_more (old.port port.0) (mid.port port.0) (new.port port.0) a.leaves b.leaves;
+        grows = laws.grows_more old mid new a.grows b.grows;
+        errors = errors_more old mid new a.grows b.grows a.errors b.errors;
+        undue = λ undue. b.undue (a.undue undue);
+        disks = λ undue. laws.disks_more port.0 old mid new a.grows b.grows (a.disks undue) (b.disks (a.undue undue));
+        shows = λ undue none.
+            let parts = laws.plugs_parts port.0 old mid new a.grows.0 b.grows.0 a.grows.1 b.grows.1 none in
+            b.shows (a.undue undue) parts.1 ∙ a.shows undue parts.0;
+      }
+
+  -- they write neither PxCMD nor PxSCTL of it
+  others_leave_engine : (accesses : List Access) → All (IsOfOther port) accesses → All (LeavesEngine port) accesses
+  others_leave_engine accesses of =
+      All-weaker (IsOfOther port) (LeavesEngine port) (λ access x. (laws.spares x.0 port Cmd x.1 access x.2, laws.spares x.0 port Sctl x.1 access x.2)) accesses of
+
+  -- the tape gains over accesses
+  grows_over : (accesses : List Access) (old new : Device) → DoesAll accesses old new → Grows old new
+  grows_over [] old new same = subst (Grows old) (sym same) (laws.grows_none old)
+  grows_over (access ∷ accesses) old new (mid, does, rest) = laws.grows_more old mid new (laws.grows_access access old mid does) (grows_over accesses mid new rest)
+
+  -- ---- a turn in a call
+
+  module _ (old : Instant Device) (begun : Moment) (ended ports : Ports) (new : Device) (turn call : Evidence) (ask : Ask DeviceStep) (said : Said)
+      (on : IsOn old.device) (linked : (old.device.port port.0).link_due ≡ false) (t : HasTurnIn port old.device new) (on_then : IsOn t.end)
+      (was : SamePort old.moment.ports begun.ports port) (stays : SamePort ended ports port) (alike : NamesAlike port turn call)
+      (its : IsEvidencedOf ask said t.turn (record { device = t.start; moment = begun }) ended t.end turn port) where
+    first : IsLeft old.device t.start
+    first = others_leave t.before old.device t.start on t.first t.others
+
+    last : IsLeft t.end new
+    last = others_leave t.later t.end new on_then t.last t.others_later
+
+    since : Grows t.start new
+    since = laws.grows_more t.start t.end new (grows_over t.turn t.start t.end t.then) last.grows
+
+    -- what the turn gained, and what was gained before it, the call gained
+    within : (Is : Entry → Type 0) → Gains Is t.start t.end → Gains Is old.device new
+    within Is = gains_within Is old.device t.start t.end new first.grows last.grows
+
+    before : (Is : Entry → Type 0) → Gains Is old.device t.start → Gains Is old.device new
+    before Is = gains_within Is old.device old.device t.start new (laws.grows_none old.device) since
+
+    -- a disk went or came before the turn, or none did
+    plugged : Gains (IsPlugging port.0) old.device t.start ⊎ PlugsNone port.0 old.device t.start
+    unfolding GainsOrNone
+    plugged = ⊎_elim (λ g. inl g) (λ none. inr (record { gained = none.0; tape = none.1; none = none.2 })) (gains_or_none (IsPlugging port.0) (is_plugging port.0) old.device t.start first.grows)
+
+    Plugs : Type 0
+    Plugs = Gains (IsPlugging port.0) old.device new
+
+    -- what the port shows when its turn begins, it showed when the call began, or the call gained what it tells of
+    changes : ShowsChange (t.start.port port.0) → ShowsChange (old.device.port port.0) ⊎ Gains (IsPlugging port.0) old.device new
+    changes shown = ⊎_elim (λ g. inr (before (IsPlugging port.0) g)) (λ none. inl (⊎_elim (n none) (x none) shown)) plugged
+      where
+        n : PlugsNone port.0 old.device t.start → (t.start.port port.0).serr_n ≡ true → ShowsChange (old.device.port port.0)
+        n none is = ⊎_elim (λ set. inl set) (λ clear. absurd (false≢true (sym ((first.disks linked).serr_n none clear) ∙ is))) (cases_Bool (old.device.port port.0).serr_n)
+
+        x : PlugsNone port.0 old.device t.start → (t.start.port port.0).serr_x ≡ true → ShowsChange (old.device.port port.0)
+        x none is = ⊎_elim (λ set. inr set) (λ clear. absurd (false≢true (sym ((first.disks linked).serr_x (laws.plugs_come port.0 old.device t.start none) clear) ∙ is)))
+            (cases_Bool (old.device.port port.0).serr_x)
+
+    missing : (t.start.port port.0).ssts_det ≢ 3 → ((old.device.port port.0).ssts_det ≢ 3) ⊎ Gains (IsPlugging port.0) old.device new
+    missing gone = ⊎_elim (λ g. inr (before (IsPlugging port.0) g)) (λ none. inl (λ there. gone (first.shows linked none ∙ there))) plugged
+
+    fatal : ShowsFatal (t.start.port port.0) → ShowsFatal (old.device.port port.0) ⊎ Gains (IsFatalOf port.0) old.device new
+    unfolding GainsOrNone
+    fatal shown = ⊎_elim
+        (λ g. inr (before (IsFatalOf port.0) g))
+        (λ none. inl (record {
+          place = shown.place;
+          from = shown.from;
+          to = shown.to;
+          set = ⊎_elim (λ set. set)
+              (λ clear. absurd (false≢true (sym (first.errors.fatal (record { gained = none.0; tape = none.1; none = none.2 }) shown.place shown.from shown.to clear) ∙ shown.set)))
+              (cases_Bool ((old.device.port port.0).is shown.place));
+        }))
+        (gains_or_none (IsFatalOf port.0) (is_fatal port.0) old.device t.start first.grows)
+
+    failed : (t.start.port port.0).is 30 ≡ true → ((old.device.port port.0).is 30 ≡ true) ⊎ Gains (IsFaultOf port.0) old.device new
+    unfolding GainsOrNone
+    failed shown = ⊎_elim
+        (λ g. inr (before (IsFaultOf port.0) g))
+        (λ none. inl (⊎_elim (λ set. set)
+        (λ clear. absurd (false≢true (sym (first.errors.fault (record { gained = none.0; tape = none.1; none = none.2 }) clear) ∙ shown)))
+        (cases_Bool ((old.device.port port.0).is 30))))
+        (gains_or_none (IsFaultOf port.0) (is_fault port.0) old.device t.start first.grows)
+
+    -- what it showed when the call began it shows when its turn begins
+    kept_change : ShowsChange (old.device.port port.0) → ShowsChange (t.start.port port.0)
+    kept_change shown = ⊎_elim (λ n. inl (first.leaves.controls.serr_n n)) (λ x. inr (first.leaves.controls.serr_x x)) shown
+
+    kept_fatal : ShowsFatal (old.device.port port.0) → ShowsFatal (t.start.port port.0)
+    kept_fatal shown = record { place = shown.place; from = shown.from; to = shown.to; set = first.leaves.controls.is shown.place shown.set }
+
+    kept_failure : ShowsFailure (old.device.port port.0) → ShowsFailure (t.start.port port.0)
+    kept_failure shown = ⊎_elim (λ f. inl (kept_fatal f)) (λ f. inr (first.leaves.controls.is 30 f)) shown
+
+    -- ready then, ready now
+    ready : old.moment.ports.state port ≡ Ready → begun.ports.state port ≡ Ready
+    ready is = was.1 ∙ is
+
+    ready_then : begun.ports.state port ≡ Ready → old.moment.ports.state port ≡ Ready
+    ready_then is = sym was.1 ∙ is
+
+    lost : IsLost port (record { device = t.start; moment = begun }) ended t.end → IsLost port old ports new
+    lost (inl shown) = ⊎_elim (λ change. inl change) (λ g. inr (inr (inl g))) (changes shown)
+    lost (inr (inl gone)) = ⊎_elim (λ out. inr (inl out)) (λ g. inr (inr (inl g))) (missing gone)
+    lost (inr (inr (inl g))) = inr (inr (inl (within (IsPlugging port.0) g)))
+    lost (inr (inr (inr end))) = inr (inr (inr (
+      (λ dead. end.0 (sym stays.1 ∙ dead)),
+      (λ is same. end.1 (sym stays.1 ∙ is) (sym stays.2 ∙ same.0 ∙ sym was.2, sym stays.3 ∙ same.1 ∙ sym was.3)),
+    )))
+
+    gone_only : IsGone port (record { device = t.start; moment = begun }) t.end → IsGone port old new
+    gone_only (is, inl shown) = (ready_then is, ⊎_elim (λ change. inl change) (λ g. inr (inr g)) (changes shown))
+    gone_only (is, inr (inl gone)) = (ready_then is, ⊎_elim (λ out. inr (inl out)) (λ g. inr (inr g)) (missing gone))
+    gone_only (is, inr (inr g)) = (ready_then is, inr (inr (within (IsPlugging port.0) g)))
+
+    gone_all : ShowsLoss port old.device new → ShowsLoss port t.start t.end
+    gone_all (inl change) = inl (kept_change change)
+    gone_all (inr (out, none)) =
+        let a = laws.comes_parts port.0 old.device t.start new first.grows.0 since.0 first.grows.1 since.1 none in
+        let middle = grows_over t.turn t.start t.end t.then in
+        let b = laws.comes_parts port.0 t.start t.end new middle.0 last.grows.0 middle.1 last.grows.1 a.1 in
+        inr ((λ there. out ((first.disks linked).det a.0 there).0), b.0)
+
+    errors : HasErrors port (record { device = t.start; moment = begun }) t.end → HasErrors port old new
+    errors (is, inl (inl shown)) = (ready_then is, ⊎_elim (λ f. inl (inl f)) (λ g. inr (inr g)) (fatal shown))
+    errors (is, inl (inr shown)) = (ready_then is, ⊎_elim (λ f. inl (inr f)) (λ g. inr (inl g)) (failed shown))
+    errors (is, inr (inl g)) = (ready_then is, inr (inl (within (IsFaultOf port.0) g)))
+    errors (is, inr (inr g)) = (ready_then is, inr (inr (within (IsFatalOf port.0) g)))
+
+    fatal_errors : HasFatalErrors port (record { device = t.start; moment = begun }) t.end → HasFatalErrors port old new
+    fatal_errors (is, inl shown) = (ready_then is, ⊎_elim (λ f. inl f) (λ g. inr g) (fatal shown))
+    fatal_errors (is, inr g) = (ready_then is, inr (within (IsFatalOf port.0) g))
+
+    pub evidence_is_the_calls : IsEvidencedOf ask said (all_of t) old ports new call port
+    evidence_is_the_calls = record {
+      lost = λ named. lost (its.lost (alike.lost.1 named));
+      gone_all = λ is loss. alike.gone.0 (its.gone_all (ready is) (gone_all loss));
+      gone_only = λ named. gone_only (its.gone_only (alike.gone.1 named));
+      failed_all = λ is failure. alike.failed.0 (its.failed_all (ready is) (kept_failure failure));
+      failed_only = λ named. errors (its.failed_only (alike.failed.1 named));
+      fatal_all = λ is shown. alike.fatal.0 (its.fatal_all (ready is) (kept_fatal shown));
+      fatal_only = λ named. fatal_errors (its.fatal_only (alike.fatal.1 named));
+      stopped_all = ⊎_elim
+          (λ left. inl (All-append (LeavesEngine port) t.before (t.turn ++ t.later) (others_leave_engine t.before t.others)
+          (All-append (LeavesEngine port) t.turn t.later left (others_leave_engine t.later t.others_later))))
+          (λ (i : IsInterrupted turn port). inr (⊎_elim (λ a. inl (alike.stopped.0 a)) (λ b. inr (alike.stuck.0 b)) i))
+          its.stopped_all;
+      stopped_only = λ named. ⊎_elim
+          (λ stops. inl (laws.falls_since t.before (t.turn ++ t.later) 0 15 port (laws.falls_then t.turn t.later 0 15 port stops)))
+          (λ reset. inr (reset.0, sym was.0 ∙ reset.1))
+          (its.stopped_only (alike.stopped.1 named));
+      stuck_only = λ named. ⊎_elim
+          (λ sticks. inl (
+            laws.sticks_since t.before (t.turn ++ t.later) port (laws.sticks_then t.turn t.later port sticks.0),
+            ap (λ n. n.engine_count) last.leaves.notes ∙ sticks.1,
+          ))
+          (λ reset. inr (reset.0, sym was.0 ∙ reset.1))
+          (its.stuck_only (alike.stuck.1 named));
+    }
+
+  -- ---- a fault that is told
+
+  module _ (old new : Device) (on : IsOn old) (t : HasTurnIn port old new) where
+    ahead : IsLeft old t.start
+    ahead = others_leave t.before old t.start on t.first t.others
+
+    -- a fault on the tape at a moment of the turn before the port was stopped stands there before it was stopped in the call
+    pub failed_in_call : (fault : tape_fault.Fault) → HasFailed port t.turn t.start t.end fault → HasFailed port (all_of t) old new fault
+    failed_in_call fault f = record {
+      at = f.at;
+      running = record {
+        early = t.before ++ f.running.early;
+        late = f.running.late ++ t.later;
+        here = ap (λ (turn : List Access). t.before ++ (turn ++ t.later)) f.running.here
+            ∙ ap (λ (rest : List Access). t.before ++ rest) (append_assoc f.running.early f.running.late t.later)
+            ∙ sym (append_assoc t.before f.running.early (f.running.late ++ t.later));
+        running = All-append (LeavesCommand port) t.before f.running.early
+            (All-weaker (LeavesEngine port) (LeavesCommand port) (λ access leaves. leaves.0) t.before (others_leave_engine t.before t.others)) f.running.running;
+        first = laws.does_append t.before f.running.early old t.start f.at t.first f.running.first;
+        rest = laws.does_append f.running.late t.later f.at t.end new f.running.rest t.last;
+      };
+      here = subst (λ (n : ℕ). Contains (drop n f.at.tape) (entry.Fault fault)) (ap (λ n. n.st_set_at) ahead.leaves.notes) f.here;
+      port_is = f.port_is;
+    }
+
+    -- the last page of the log that the turn brought is the call's last
+    pub brought_in_call : (page : List ℕ) → SendsNone port.0 ReadLog t.end new → BringsLog port t.start t.end page → BringsLog port old new page
+    brought_in_call page (later, tape, none) b = record {
+      gained = ahead.grows.0 ++ (b.gained ++ later);
+      tape = tape ∙ ap (λ (xs : List Entry). xs ++ later) (b.tape ∙ ap (λ (xs : List Entry). xs ++ b.gained) ahead.grows.1)
+          ∙ append_assoc (old.tape ++ ahead.grows.0) b.gained later ∙ append_assoc old.tape ahead.grows.0 (b.gained ++ later);
+      before = ahead.grows.0 ++ b.before;
+      move = b.move;
+      later = b.later ++ later;
+      here = ap (λ (xs : List Entry). ahead.grows.0 ++ (xs ++ later)) b.here ∙ ap (λ (xs : List Entry). ahead.grows.0 ++ xs) (append_assoc b.before (entry.Move b.move ∷ b.later) later)
+          ∙ sym (append_assoc ahead.grows.0 b.before (entry.Move b.move ∷ (b.later ++ later)));
+      is_move = b.is_move;
+      last = All-append (λ e. IsMove port.0 ReadLog e → ⊥) b.later later b.last none;
+      bytes = b.bytes;
+    }

@@ -1,0 +1,29 @@
+use Rattle.driver_history.proofs.lawful.laws_hold.Goals as goal
+
+pub returns : goal.returns
+returns c = record {
+  left = c.other_ports_are_left.ensures.left;
+  left_none = c.other_ports_are_left.ensures.none;
+  left_more = c.other_ports_are_left.ensures.more;
+  spares = c.other_ports_are_left.ensures.spares;
+  on = c.other_ports_are_left.ensures.on;
+  grows_none = c.tapes_grow.ensures.none;
+  grows_access = c.tapes_grow.ensures.access;
+  grows_more = c.tapes_grow.ensures.more;
+  disks = c.errors_rise_by_disks.ensures.access;
+  disks_none = c.errors_rise_by_disks.ensures.none;
+  disks_more = c.errors_rise_by_disks.ensures.more;
+  undue = c.errors_rise_by_disks.ensures.due_access;
+  errors = c.cleared_stays.ensures.causes_access;
+  fatal_parts = c.fatal_errors_compose.ensures.parts;
+  fails_parts = c.faults_compose.ensures.parts;
+  comes_parts = c.coming_composes.ensures.parts;
+  plugs_parts = c.plugging_composes.ensures.parts;
+  plugs_come = c.coming_composes.ensures.plugs;
+  link = c.link_stays.ensures.access;
+  falls_then = c.what_is_told_of_engines_stays.ensures.falls_then;
+  falls_since = c.what_is_told_of_engines_stays.ensures.falls_since;
+  sticks_then = c.what_is_told_of_engines_stays.ensures.sticks_then;
+  sticks_since = c.what_is_told_of_engines_stays.ensures.sticks_since;
+  does_append = c.accesses_compose.ensures.all;
+}

@@ -1,0 +1,37 @@
+-- A port's turn in a call, between accesses that leave the port to its device (this project's own).
+use Rattle.std.specs.Prelude.{◌≢◌, ◌↔◌, ◌++◌, List, All, Contains}
+use Rattle.ata_types.specs.declared.Port.{Port}
+use Rattle.adapter.specs.Access.{Access, DoesAll}
+use Rattle.adapter.specs.Device.{Device}
+use Rattle.agreement.specs.Driven.{IsOf}
+use Rattle.block_machine.specs.Ports.{Evidence}
+
+-- the access is of another port: of ports' registers it touches that one's alone, and of IS that one's bit
+abbrev pub IsOfOther : Port → Access → Type 0
+IsOfOther port access = (other : Port) × (port.0 ≢ other.0) × IsOf other access
+
+-- A call's accesses are those before the port's turn, those of the turn, and those after it. But for the turn's, they are of other ports.
+pub record HasTurnIn (port : Port) (old new : Device) : Type 0 where
+  pub before : List Access
+  pub turn : List Access
+  pub later : List Access
+  pub start : Device
+  pub end : Device
+  pub first : DoesAll before old start
+  pub then : DoesAll turn start end
+  pub last : DoesAll later end new
+  pub others : All (IsOfOther port) before
+  pub others_later : All (IsOfOther port) later
+
+-- all its accesses
+abbrev pub all_of : {port : Port} {old new : Device} → HasTurnIn port old new → List Access
+all_of t = t.before ++ (t.turn ++ t.later)
+
+-- both name the port in the same lists
+pub record NamesAlike (port : Port) (one other : Evidence) : Type 0 where
+  pub lost : Contains one.lost port ↔ Contains other.lost port
+  pub gone : Contains one.gone port ↔ Contains other.gone port
+  pub failed : Contains one.failed port ↔ Contains other.failed port
+  pub fatal : Contains one.fatal port ↔ Contains other.fatal port
+  pub stopped : Contains one.stopped port ↔ Contains other.stopped port
+  pub stuck : Contains one.stuck port ↔ Contains other.stuck port
