@@ -1,48 +1,36 @@
--- Steps of a port's turn: which requests they leave, and which they issue.
-use Rattle.std.proofs.Common.{◌≡◌, ◌==◌, true, List, [], ◌∷◌, ◌++◌, append_assoc, refl, sym, ap, ◌∙◌, subst, ⊎_elim, eqb-true}
-use Rattle.std.specs.List.{Contains, list_any}
+-- Steps of a port's turn: which requests they leave, which they issue, and what they leave of other ports.
+use Rattle.std.proofs.Common.{eq-eqb, ◌≡◌, ◌≢◌, ◌==◌, true, List, [], ◌∷◌, map, refl, sym, ap, ◌∙◌, subst, inl, inr, ⊎_elim, eqb-true}
+use Rattle.std.specs.List.{All, Contains, list_any}
 use Rattle.std.proofs.lemmas.Bool.{false≢true, or_cases}
+use Rattle.std.proofs.lemmas.List.Elements.{All-head, All-tail}
 use Rattle.ata_types.specs.declared.Port.{Port}
-use Rattle.ata_types.specs.declared.request.Outcome.TheVariants.{Ok}
-use Rattle.ata_types.specs.declared.request.Reply.{Reply}
+use Rattle.ata_types.specs.declared.request.Outcome.{Outcome}
 use Rattle.ata_types.specs.declared.request.RequestId.{RequestId}
 use Rattle.agreement.specs.Spares.{SparesBook}
-use Rattle.agreement.proofs.Sparing.{found_before, steps_spare}
-use Rattle.block_machine.specs.declared.due.Mode.{Mode}
-use Rattle.block_machine.specs.Events.{AllDevices, AllMay, IsDevices, IsIssuedIn, issues_it}
+use Rattle.agreement.proofs.Deciding.{without_into}
+use Rattle.agreement.proofs.Sparing.{found_before, found_later, steps_spare}
+use Rattle.block_machine.specs.Events.{AllMay, IsDevices, IsIssuedIn, handles, issues_it}
+use Rattle.block_machine.specs.Histories.{IsReached}
 use Rattle.block_machine.specs.Left.{after}
 use Rattle.block_machine.specs.State.{Machine, Pending}
-use Rattle.block_machine.specs.Steps.{Step, Answer, Issue, after_step, at, issue}
-use Rattle.block_machine.proofs.Members.{at_cases, map_in, without_in}
-use Rattle.server_history.specs.Served.{AnswersBy, IssuesOnly, answers_in}
+use Rattle.block_machine.specs.Steps.{Step, Again, Answer, Issue, after_step, at, issue, requeued, without}
+use Rattle.block_machine.proofs.HistoryLemmas.{reached_more}
+use Rattle.block_machine.proofs.Members.{at_cases, contains_cases, contains_none, into_map, map_in, without_in}
+use Rattle.block_machine.proofs.Standing.{standing}
+use Rattle.server_history.specs.Turns.{IsOfTurn}
+use Rattle.server_history.proofs.Devices.{not_handled}
 
--- each is the device's, or answers a request, or issues one of the port
-abbrev pub TurnSteps : Port → List Step → Type 0
-TurnSteps port [] = Unit {0}
-TurnSteps port (Issue mode e ∷ steps) = (e.request.port ≡ port) × TurnSteps port steps
-TurnSteps port (Answer e o ∷ steps) = TurnSteps port steps
-TurnSteps port (step ∷ steps) = IsDevices step × TurnSteps port steps
+-- the same request, issued as it was; and where it had ended, it has
+pub record IsSame (old new : Pending) : Type 0 where
+  pub request : new.request ≡ old.request
+  pub issued : new.issued ≡ old.issued
+  pub ended : old.ended ≡ true → new.ended ≡ true
 
-devices_turn : (port : Port) (steps : List Step) → AllDevices steps → TurnSteps port steps
-devices_turn port [] all = tt
-devices_turn port (Issue mode e ∷ steps) all = absurd all.1
-devices_turn port (Answer e o ∷ steps) all = absurd all.1
-devices_turn port (step ∷ steps) all = (all.1, devices_turn port steps all.0)
+pub same_as : (e : Pending) → IsSame e e
+same_as e = record { request = refl; issued = refl; ended = λ is. is }
 
-issues_turn : (mode : Mode) (port : Port) (late early : List Step) → IssuesOnly mode port late → TurnSteps port early → TurnSteps port (late ++ early)
-issues_turn mode port [] early only turn = turn
-issues_turn mode port (Issue its e ∷ late) early only turn = (only.1, issues_turn mode port late early only.2 turn)
-issues_turn mode port (Answer e o ∷ late) early only turn = absurd only.0
-issues_turn mode port (step ∷ late) early only turn = (only.0, issues_turn mode port late early only.1 turn)
-
-answered_turn : (port : Port) (ended : List Pending) (early : List Step) → TurnSteps port early → TurnSteps port (answers_in ended ++ early)
-answered_turn port [] early turn = turn
-answered_turn port (e ∷ ended) early turn =
-    subst (TurnSteps port) (sym (append_assoc (answers_in ended) (Answer e Ok ∷ []) early)) (answered_turn port ended (Answer e Ok ∷ early) turn)
-
-pub answers_turn : (mode : Mode) (port : Port) (replies : List Reply) (steps : List Step) → AnswersBy mode port replies steps → TurnSteps port steps
-answers_turn mode port replies steps by =
-    subst (TurnSteps port) (sym by.steps_are) (issues_turn mode port by.later (answers_in by.ended ++ by.before) by.last (answered_turn port by.ended by.before (devices_turn port by.before by.first)))
+pub same_more : (a b c : Pending) → IsSame a b → IsSame b c → IsSame a c
+same_more a b c one two = record { request = two.request ∙ one.request; issued = two.issued ∙ one.issued; ended = λ is. two.ended (one.ended is) }
 
 -- the same request stands in a book, perhaps not as far
 pub record StandsIn (book : List Pending) (e : Pending) : Type 0 where
@@ -50,51 +38,144 @@ pub record StandsIn (book : List Pending) (e : Pending) : Type 0 where
   pub here : Contains book was
   pub request : was.request ≡ e.request
 
-same_request : (id : RequestId) (e : Pending) → (at id issue e).request ≡ e.request
-same_request id e = ⊎_elim (λ q. ap (λ (x : Pending). x.request) q.1) (λ q. ap (λ (x : Pending). x.request) q.1) (at_cases id issue e)
+-- a change of a request that keeps what was asked
+abbrev Keeps : (Pending → Pending) → Type 0
+Keeps change = (e : Pending) → (change e).request ≡ e.request
+
+changed_request : (id : RequestId) (change : Pending → Pending) → Keeps change → (e : Pending) → (at id change e).request ≡ e.request
+changed_request id change keeps e = ⊎_elim (λ q. ap (λ (x : Pending). x.request) q.1 ∙ keeps e) (λ q. ap (λ (x : Pending). x.request) q.1) (at_cases id change e)
 
 module _ (port : Port) (m : Machine) where
-  -- a device's step
-  one_before : (step : Step) (before : List Step) → IsDevices step → (z : Pending) → Contains (after m (step ∷ before)).book z → StandsIn (after m before).book z
-  one_before step before is z here =
+  -- ---- who stood before
+
+  device_before : (step : Step) (before : List Step) → IsDevices step → (z : Pending) → Contains (after m (step ∷ before)).book z → (x : Pending) × Contains (after m before).book x × IsSame x z
+  device_before step before is z here =
       let spares : SparesBook (after m before) (after_step (after m before) step) = steps_spare (after m before) (step ∷ []) (tt, is) in
       let l = found_before (after m before).book (after m (step ∷ before)).book z spares.book here in
-      record { was = l.0; here = l.1; request = sym l.2.request }
+      (l.0, l.1, record { request = l.2.request; issued = l.2.issued; ended = l.2.ended })
+
+  device_later : (step : Step) (before : List Step) → IsDevices step → (y : Pending) → Contains (after m before).book y → (x : Pending) × Contains (after m (step ∷ before)).book x × IsSame y x
+  device_later step before is y here =
+      let spares : SparesBook (after m before) (after_step (after m before) step) = steps_spare (after m before) (step ∷ []) (tt, is) in
+      let l = found_later (after m before).book (after m (step ∷ before)).book y spares.book here in
+      (l.0, l.1, record { request = l.2.request; issued = l.2.issued; ended = l.2.ended })
+
+  changed_before : (id : RequestId) (change : Pending → Pending) → Keeps change → (book : List Pending) (z : Pending) → Contains (map (at id change) book) z → StandsIn book z
+  changed_before id change keeps book z here =
+      let w = map_in (at id change) book z here in
+      record { was = w.0; here = w.1; request = sym (changed_request id change keeps w.0) ∙ ap (λ (x : Pending). x.request) (sym w.2) }
+
+  stood_more : (book later : List Pending) (z : Pending) → ((x : Pending) → Contains later x → StandsIn book x) → StandsIn later z → StandsIn book z
+  stood_more book later z each s = let b = each s.was s.here in record { was = b.was; here = b.here; request = b.request ∙ s.request }
 
   -- who is unanswered after such steps was so before
-  pub stood : (steps : List Step) → TurnSteps port steps → (z : Pending) → Contains (after m steps).book z → StandsIn m.book z
-  stood [] turn z here = record { was = z; here = here; request = refl }
-  stood (Issue mode e ∷ steps) turn z here =
-      let w = map_in (at e.request.id issue) (after m steps).book z here in
-      let b = stood steps turn.1 w.0 w.1 in
-      record { was = b.was; here = b.here; request = b.request ∙ sym (same_request e.request.id w.0) ∙ ap (λ (x : Pending). x.request) (sym w.2) }
-  stood (Answer e o ∷ steps) turn z here = stood steps turn z (without_in e.request.id (after m steps).book z here).0
-  stood (step ∷ steps) turn z here =
-      let x = one_before step steps turn.0 z here in
-      let b = stood steps turn.1 x.was x.here in
-      record { was = b.was; here = b.here; request = b.request ∙ x.request }
+  pub stood : (steps : List Step) → All (IsOfTurn port) steps → (z : Pending) → Contains (after m steps).book z → StandsIn m.book z
+  stood [] own z here = record { was = z; here = here; request = refl }
+  stood (Issue mode e ∷ steps) own z here =
+      stood_more m.book (after m steps).book z (stood steps (All-tail (IsOfTurn port) (Issue mode e) steps own)) (changed_before e.request.id issue (λ x. refl) (after m steps).book z here)
+  stood (Again e ∷ steps) own z here =
+      stood_more m.book (after m steps).book z (stood steps (All-tail (IsOfTurn port) (Again e) steps own)) (changed_before e.request.id requeued (λ x. refl) (after m steps).book z here)
+  stood (Answer e o ∷ steps) own z here = stood steps (All-tail (IsOfTurn port) (Answer e o) steps own) z (without_in e.request.id (after m steps).book z here).0
+  stood (step ∷ steps) own z here =
+      let x = device_before step steps (All-head (IsOfTurn port) step steps own) z here in
+      let b = stood steps (All-tail (IsOfTurn port) step steps own) x.0 x.1 in
+      record { was = b.was; here = b.here; request = b.request ∙ sym x.2.request }
 
-  -- what such steps issue is of the port, and was unanswered before
-  pub record IssuedBefore (id : RequestId) : Type 0 where
+  -- ---- requests of other ports
+
+  module _ (reached : IsReached m) where
+    -- a request of the port, and one of another, differ in their ids
+    apart : (steps : List Step) → AllMay m steps → (e y : Pending) → Contains (after m steps).book e → Contains (after m steps).book y → e.request.port ≡ port → y.request.port ≢ port → y.request.id.0 ≢ e.request.id.0
+    apart steps may e y here there own other same =
+        other (ap (λ (x : Pending). x.request.port) ((standing (after m steps) (reached_more m steps reached may)).sound.one y e there here same) ∙ own)
+
+    left_by : (steps : List Step) (e : Pending) (change : Pending → Pending) → AllMay m steps → Contains (after m steps).book e → e.request.port ≡ port → (y : Pending) → Contains (after m steps).book y → y.request.port ≢ port → at e.request.id change y ≡ y
+    left_by steps e change may here own y there other = ⊎_elim (λ q. absurd (apart steps may e y here there own other q.0)) (λ q. q.1) (at_cases e.request.id change y)
+
+    -- requests of other ports that are the same
+    abbrev LaterIn : List Pending → Pending → Type 0
+    LaterIn book y = (x : Pending) × Contains book x × IsSame y x
+
+    abbrev BeforeIn : List Pending → Pending → Type 0
+    BeforeIn book z = (x : Pending) × Contains book x × IsSame x z
+
+    changed_left : (steps : List Step) (e : Pending) (change : Pending → Pending) → AllMay m steps → Contains (after m steps).book e → e.request.port ≡ port → (y : Pending) → y.request.port ≢ port
+        → LaterIn (after m steps).book y → LaterIn (map (at e.request.id change) (after m steps).book) y
+    changed_left steps e change may here own y other w =
+        let still : at e.request.id change w.0 ≡ w.0 = left_by steps e change may here own w.0 w.1 (λ same. other (sym (ap (λ r. r.port) w.2.request) ∙ same)) in
+        (w.0, subst (Contains (map (at e.request.id change) (after m steps).book)) still (into_map (at e.request.id change) (after m steps).book w.0 w.1), w.2)
+
+    -- one of another port is left as it is
+    pub others_left : (steps : List Step) → All (IsOfTurn port) steps → AllMay m steps → (y : Pending) → Contains m.book y → y.request.port ≢ port → LaterIn (after m steps).book y
+    others_left [] own may y here other = (y, here, same_as y)
+    others_left (Issue mode e ∷ steps) own may y here other =
+        changed_left steps e issue may.0 may.1.0 (All-head (IsOfTurn port) (Issue mode e) steps own) y other (others_left steps (All-tail (IsOfTurn port) (Issue mode e) steps own) may.0 y here other)
+    others_left (Again e ∷ steps) own may y here other =
+        changed_left steps e requeued may.0 may.1.0 (All-head (IsOfTurn port) (Again e) steps own) y other (others_left steps (All-tail (IsOfTurn port) (Again e) steps own) may.0 y here other)
+    others_left (Answer e o ∷ steps) own may y here other =
+        let w = others_left steps (All-tail (IsOfTurn port) (Answer e o) steps own) may.0 y here other in
+        let differs = apart steps may.0 e w.0 may.1 w.1 (All-head (IsOfTurn port) (Answer e o) steps own) (λ same. other (sym (ap (λ r. r.port) w.2.request) ∙ same)) in
+        (w.0, without_into e.request.id (after m steps).book w.0 (λ same. differs (ap (λ (i : RequestId). i.0) same)) w.1, w.2)
+    others_left (step ∷ steps) own may y here other =
+        let w = others_left steps (All-tail (IsOfTurn port) step steps own) may.0 y here other in
+        let l = device_later step steps (All-head (IsOfTurn port) step steps own) w.0 w.1 in
+        (l.0, l.1, same_more y w.0 l.0 w.2 l.2)
+
+    changed_were : (steps : List Step) (e : Pending) (change : Pending → Pending) → Keeps change → AllMay m steps → Contains (after m steps).book e → e.request.port ≡ port → (z : Pending) → z.request.port ≢ port
+        → Contains (map (at e.request.id change) (after m steps).book) z → Contains (after m steps).book z
+    changed_were steps e change keeps may here own z other there =
+        let w = map_in (at e.request.id change) (after m steps).book z there in
+        let not_own : w.0.request.port ≢ port = λ same. other (ap (λ (x : Pending). x.request.port) w.2 ∙ ap (λ r. r.port) (changed_request e.request.id change keeps w.0) ∙ same) in
+        subst (Contains (after m steps).book) (sym (w.2 ∙ left_by steps e change may here own w.0 w.1 not_own)) w.1
+
+    -- and was as it is
+    pub others_were : (steps : List Step) → All (IsOfTurn port) steps → AllMay m steps → (z : Pending) → Contains (after m steps).book z → z.request.port ≢ port → BeforeIn m.book z
+    others_were [] own may z here other = (z, here, same_as z)
+    others_were (Issue mode e ∷ steps) own may z here other =
+        others_were steps (All-tail (IsOfTurn port) (Issue mode e) steps own) may.0 z (changed_were steps e issue (λ x. refl) may.0 may.1.0 (All-head (IsOfTurn port) (Issue mode e) steps own) z other here) other
+    others_were (Again e ∷ steps) own may z here other =
+        others_were steps (All-tail (IsOfTurn port) (Again e) steps own) may.0 z (changed_were steps e requeued (λ x. refl) may.0 may.1.0 (All-head (IsOfTurn port) (Again e) steps own) z other here) other
+    others_were (Answer e o ∷ steps) own may z here other = others_were steps (All-tail (IsOfTurn port) (Answer e o) steps own) may.0 z (without_in e.request.id (after m steps).book z here).0 other
+    others_were (step ∷ steps) own may z here other =
+        let x = device_before step steps (All-head (IsOfTurn port) step steps own) z here in
+        let b = others_were steps (All-tail (IsOfTurn port) step steps own) may.0 x.0 x.1 (λ same. other (ap (λ r. r.port) x.2.request ∙ same)) in
+        (b.0, b.1, same_more b.0 x.0 z b.2 x.2)
+
+  -- ---- what is handled
+
+  -- what such steps handle is of the port, and was unanswered before
+  pub record IsOwn (id : RequestId) : Type 0 where
     pub pending : Pending
     pub here : Contains m.book pending
     pub id_is : pending.request.id.0 ≡ id.0
     pub port_is : pending.request.port ≡ port
 
-  none_of_devices : (id : RequestId) (step : Step) → IsDevices step → issues_it id step ≡ true → ⊥
-  none_of_devices id (Issue mode e) is i = absurd is
-  none_of_devices id step is i = false≢true i
+  own_of : (steps : List Step) → All (IsOfTurn port) steps → (e : Pending) → Contains (after m steps).book e → e.request.port ≡ port → (id : RequestId) → (e.request.id.0 == id.0) ≡ true → IsOwn id
+  own_of steps own e here its id same =
+      let b = stood steps own e here in
+      record { pending = b.was; here = b.here; id_is = ap (λ r. r.id.0) b.request ∙ eqb-true e.request.id.0 id.0 same; port_is = ap (λ r. r.port) b.request ∙ its }
 
-  pub issued_before : (steps : List Step) → TurnSteps port steps → AllMay m steps → (id : RequestId) → IsIssuedIn id steps → IssuedBefore id
-  issued_before [] turn may id i = absurd (false≢true i)
-  issued_before (Issue mode e ∷ steps) turn may id i = ⊎_elim
-      (λ (its : (e.request.id.0 == id.0) ≡ true).
-      let b = stood steps turn.1 e may.1.0 in
-      record { pending = b.was; here = b.here; id_is = ap (λ r. r.id.0) b.request ∙ eqb-true e.request.id.0 id.0 its; port_is = ap (λ r. r.port) b.request ∙ turn.0 })
-      (λ (before : IsIssuedIn id steps). issued_before steps turn.1 may.0 id before)
-      (or_cases (e.request.id.0 == id.0) (list_any (issues_it id) steps) i)
-  issued_before (Answer e o ∷ steps) turn may id i = issued_before steps turn may.0 id i
-  issued_before (step ∷ steps) turn may id i = ⊎_elim
-      (λ (here : issues_it id step ≡ true). absurd (none_of_devices id step turn.0 here))
-      (λ (before : IsIssuedIn id steps). issued_before steps turn.1 may.0 id before)
+  pub handled_own : (step : Step) (steps : List Step) → All (IsOfTurn port) (step ∷ steps) → AllMay m (step ∷ steps) → (id : RequestId) → handles id step ≡ true → IsOwn id
+  handled_own (Issue mode e) steps own may id h = own_of steps (All-tail (IsOfTurn port) (Issue mode e) steps own) e may.1.0 (All-head (IsOfTurn port) (Issue mode e) steps own) id h
+  handled_own (Again e) steps own may id h = own_of steps (All-tail (IsOfTurn port) (Again e) steps own) e may.1.0 (All-head (IsOfTurn port) (Again e) steps own) id h
+  handled_own (Answer e o) steps own may id h = own_of steps (All-tail (IsOfTurn port) (Answer e o) steps own) e may.1 (All-head (IsOfTurn port) (Answer e o) steps own) id h
+  handled_own step steps own may id h = absurd (not_handled id step (All-head (IsOfTurn port) step steps own) h)
+
+  issues_handles : (id : RequestId) (step : Step) → issues_it id step ≡ true → handles id step ≡ true
+  issues_handles id (Issue mode e) i = i
+  issues_handles id step i = absurd (false≢true i)
+
+  pub issued_before : (steps : List Step) → All (IsOfTurn port) steps → AllMay m steps → (id : RequestId) → IsIssuedIn id steps → IsOwn id
+  issued_before [] own may id i = absurd (false≢true i)
+  issued_before (step ∷ steps) own may id i = ⊎_elim
+      (λ (here : issues_it id step ≡ true). handled_own step steps own may id (issues_handles id step here))
+      (λ (before : IsIssuedIn id steps). issued_before steps (All-tail (IsOfTurn port) step steps own) may.0 id before)
       (or_cases (issues_it id step) (list_any (issues_it id) steps) i)
+
+  -- so is what they answer
+  pub answered_own : (steps : List Step) → All (IsOfTurn port) steps → AllMay m steps → (e : Pending) (o : Outcome) → Contains steps (Answer e o) → IsOwn e.request.id
+  answered_own [] own may e o here = absurd (contains_none (Answer e o) here)
+  answered_own (step ∷ steps) own may e o here = ⊎_elim
+      (λ (is : Answer e o ≡ step). handled_own step steps own may e.request.id (subst (λ (x : Step). handles e.request.id x ≡ true) is (eq-eqb e.request.id.0 e.request.id.0 refl)))
+      (λ (there : Contains steps (Answer e o)). answered_own steps (All-tail (IsOfTurn port) step steps own) may.0 e o there)
+      (contains_cases step steps (Answer e o) here)

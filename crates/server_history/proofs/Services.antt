@@ -1,32 +1,38 @@
 -- Ready ports that are served one after another add an event.
-use Rattle.std.proofs.Common.{◌⊎◌, ◌&&◌, ℕ, suc, ◌≡◌, ◌≢◌, ◌≤◌, ◌<◌, ◌+◌, ◌-◌, ◌||◌, not, Bool, true, false, List, [], ◌∷◌, ◌++◌, map, Some, None, refl, sym, ap, ◌∙◌, subst, inl, inr, ⊎_elim, arith, append_assoc, append-nil}
+use Rattle.std.proofs.Common.{get_or, ◌⊎◌, ◌&&◌, ℕ, suc, ◌≡◌, ◌≢◌, ◌≤◌, ◌<◌, ◌+◌, ◌-◌, ◌||◌, not, Bool, true, false, List, [], ◌∷◌, ◌++◌, map, Some, None, refl, sym, ap, ◌∙◌, subst, inl, inr, ⊎_elim, arith, append_assoc, append-nil}
 use Rattle.std.specs.List.{All, AllPairs, AllZip, Contains, list_any}
 use Rattle.std.specs.List.Sorted.{IsPermutation}
 use Rattle.std.specs.Prelude.{◌↔◌}
-use Rattle.std.proofs.lemmas.Bool.{and_from, and_parts, cases_Bool, cases_eq, false≢true, cases_lt}
+use Rattle.std.proofs.lemmas.Bool.{and_from, and_parts, cases_Bool, cases_eq, false≢true, cases_lt, or_left, or_right}
 use Rattle.std.proofs.lemmas.List.{map-append}
-use Rattle.std.proofs.lemmas.List.Elements.{All-nil, All-append, All-push, Contains-append_cases, Contains-append_left, Contains-append_right}
+use Rattle.std.proofs.lemmas.List.Elements.{All-nil, All-append, All-cons, All-contains, All-contains_itself, All-head, All-tail, All-weaker, Contains-append_cases, Contains-append_left, Contains-append_right}
 use Rattle.std.proofs.lemmas.List.Quantifiers.{all_pairs_push}
-use Rattle.std.proofs.lemmas.List.Sorted.{IsPermutation-push_more, IsPermutation-refl}
+use Rattle.std.proofs.lemmas.List.Sorted.{Contains-permutation, IsPermutation-append, IsPermutation-append_comm, IsPermutation-refl, IsPermutation-trans}
 use Rattle.ata_types.specs.declared.Port.{Port}
 use Rattle.ata_types.specs.declared.PortState.{PortState}
-use Rattle.ata_types.specs.declared.PortState.TheVariants.{Absent, Dead, Ready as ReadyState}
+use Rattle.ata_types.specs.declared.PortState.TheVariants.{Absent, Dead, Foreign, Ready as ReadyState, Unfit}
 use Rattle.ata_types.specs.declared.request.Outcome.{Outcome}
-use Rattle.ata_types.specs.declared.request.Outcome.TheVariants.{Ok}
+use Rattle.ata_types.specs.declared.request.Outcome.TheVariants.{Aborted, DeviceError, Ok, PortDead, Unplugged}
 use Rattle.ata_types.specs.declared.request.Reply.{Reply}
 use Rattle.ata_types.specs.declared.request.RequestId.{RequestId}
 use Rattle.hba_regs.specs.Bits.{bit}
-use Rattle.hba_regs.specs.declared.reg.Reg.TheVariants.{Px}
-use Rattle.hba_regs.specs.declared.reg.PortReg.TheVariants.{Sact, Ci}
-use Rattle.adapter.specs.Access.{Access, Reads}
-use Rattle.adapter.specs.Access.Access.{Reading}
+use Rattle.hba_regs.specs.declared.reg.Reg.TheVariants.{Ghc, Px}
+use Rattle.hba_regs.specs.declared.reg.PortReg.TheVariants.{Ci, Cmd, Sact, Sctl}
+use Rattle.adapter.specs.Access.{Access, DoesAll, Reads}
+use Rattle.adapter.specs.Access.Access.{Loading, Reading, Storing, Writing}
+use Rattle.adapter.specs.Commands.{Meaning, is_queued}
+use Rattle.adapter.specs.declared.command.Operation.TheVariants.{ReadLog}
+use Rattle.adapter.specs.declared.tape.Fault as tape_fault
 use Rattle.adapter.specs.Device.{Device}
+use Rattle.adapter.specs.Rules.{IsOn}
+use Rattle.adapter.specs.declared.access.DeviceStep.{DeviceStep}
 use Rattle.adapter.proofs.Calls.{does_append}
 use Rattle.agreement.specs.Agrees.{port_at}
-use Rattle.agreement.specs.Driven.{IsDrivenBy}
+use Rattle.agreement.specs.Driven.{IsDrivenBy, IsOf}
 use Rattle.agreement.specs.Driver.{IsBacked}
-use Rattle.agreement.specs.Facts.{RunsWell, Undisturbed}
-use Rattle.agreement.specs.Slots.{IsFree, IsOver, IsServed, Serves, ServesRequest, Stage, Use}
+use Rattle.agreement.specs.Facts.{Undisturbed}
+use Rattle.agreement.specs.Links.{SparesRegister}
+use Rattle.agreement.specs.Slots.{IsMove, IsFree, IsOver, IsServed, Serves, ServesRequest, Stage, Use}
 use Rattle.agreement.proofs.Adding.{backed_then, nothing_backed}
 use Rattle.agreement.proofs.Controlled.{tape_over}
 use Rattle.agreement.proofs.Driven.{by_none, driven_as}
@@ -34,9 +40,10 @@ use Rattle.agreement.proofs.Finished.{steps_over}
 use Rattle.agreement.proofs.Unarmed.{reads_clear, steps_clear}
 use Rattle.agreement.proofs.Finding.{ended_is_clear}
 use Rattle.agreement.proofs.Sparing.{found_before, steps_spare}
-use Rattle.block_machine.specs.Events.{Moment, AllMay, AnswersEnded, IsIssuedIn, IsToldBefore, answers_of, issues_it, reply_of}
+use Rattle.block_machine.specs.Events.{AllGrounded, AllLawful, AllMay, AnswersEnded, Belong, HadDisk, IsIssuedIn, IsLawful, IsToldBefore, Moment, Served, ShowsDisk, Service, UnplugsAll, WasIssued, answers_of, changes_disk, issues_it, reply_of}
 use Rattle.block_machine.specs.Histories.{Instant, IsReached}
 use Rattle.block_machine.specs.Left.{after}
+use Rattle.block_machine.specs.Ports.{Evidence, Fault, IsInterrupted, IsServiced, Ports, SameDisk, SamePort}
 use Rattle.block_machine.specs.Due.{of_port}
 use Rattle.block_machine.specs.State.{Pending, Machine, unanswered}
 use Rattle.block_machine.specs.declared.due.Unanswered.{Unanswered}
@@ -50,27 +57,31 @@ use Rattle.host_boot.specs.Taken.{found_of}
 use Rattle.host_boot.specs.declared.Found.{Found}
 use Rattle.host_boot.specs.declared.Found.TheVariants.{Unserved, Ready, Unready}
 use Rattle.identify.specs.declared.DiskInfo.{DiskInfo}
-use Rattle.driver_history.specs.Evidence.{StaysHealthy}
+use Rattle.driver_history.specs.Evidence.{BringsLog, FailsPlain, FailsQueued, HasFailed, IsEvidencedOf, IsFaultTold, StaysHealthy}
 use Rattle.driver_history.specs.Histories.{FindsDone, IsAnsweredOk, IsIssuedOn, IssuesDue, TendsPort}
 use Rattle.request_queue.specs.Entries.{Held, IsEarlier}
-use Rattle.driver_history.specs.Trace.{LeavesCommand, ReadsMasks}
+use Rattle.driver_history.specs.Holds.{NoneWaits}
+use Rattle.driver_history.specs.Parts.{HasTurnIn, IsOfOther, NamesAlike}
+use Rattle.driver_history.specs.Trace.{IsDriversOwn, IsServing, LeavesCommand, LeavesEngine, ReadsMasks}
 use Rattle.server_history.specs.Below.{LawsBelow}
-use Rattle.server_history.specs.Served.{AddsTurn, AnswersBy, Checks, HasEnded, IsMaskOf, IsAnsweredIn, SameSettings, ServePorts, ServesPort, answers_in, done_reply, is_used}
-use Rattle.server_history.specs.Server.{Server, IsKept, IsMachineOf, IsSettled, is_served, mode_in, ports_of, slots_at, state_of, used_for}
+use Rattle.server_history.specs.Served.{AnswersBy, Checks, HasEnded, IsAnsweredIn, IsMaskOf, answers_in, done_reply, is_used}
+use Rattle.server_history.specs.Turns.{HasPart, IsCalmTurn, IsChecked, IsOfCommand, MakesTurn, NamesOnly, ServePorts, ServesPort, TellsFault, moment_of}
+use Rattle.server_history.specs.Server.{Server, IsKept, IsMachineOf, IsSettled, is_served, mode_at, mode_in, ports_of, sectors_of, serial_of, slots_at, state_of, trims_of, used_for}
 use Rattle.server_history.proofs.Coming.{IsBusy, IsTurn, TurnList, turn_leaves, turn_list}
 use Rattle.server_history.proofs.Asks.{none_issued, same_book}
-use Rattle.server_history.proofs.Origins.{TurnSteps, answers_turn, issued_before, stood}
+use Rattle.server_history.proofs.Origins.{answered_own, IsSame, issued_before, others_were, stood}
+use Rattle.server_history.proofs.Told.{no_evidence}
 use Rattle.server_history.proofs.Settling.{same_more, turn_apart, turn_settings, turn_slots}
 use Rattle.server_history.proofs.Rounds.{any_append, dues_carried, or_none}
 use Rattle.server_history.proofs.Serving.{still_over}
 use Rattle.server_history.proofs.Answered.{answered_in, ended_stood, in_answered, issuing_answers, may_parts, no_answer, no_answer_issuing, told_so, with_ok}
-use Rattle.server_history.proofs.Slots.{HasSlot, free_unused, issued_has, ready_found, serves_used, used_or_not}
+use Rattle.server_history.proofs.Slots.{HasSlot, IsServedBy, free_unused, issued_has, ready_found, served_request, serves_used, used_or_not}
 use Rattle.server_history.proofs.Said.{one_said}
 use Rattle.slots.specs.declared.Use.{Use as SlotUse}
 use Rattle.slots.specs.Uses.{Uses as PortSlots, use_at}
 use Rattle.block_machine.specs.declared.due.Mode.{Mode}
 use Rattle.server_history.proofs.Zips.{at_left, at_right}
-use Rattle.server_history.proofs.Turns.{AreTurns, IsSame, answer_on, devices_answer, devices_on, issues_on, no_turns, turns_more}
+use Rattle.server_history.proofs.Turns.{AreTurns, answered_of, belong_join, belong_on, grounded_join, grounded_on, lawful_join, lawful_on, no_turns, present_before, turn_on, turns_more, unplugs_join}
 use Rattle.server_history.proofs.Plain.{both_read}
 use Rattle.port_look.specs.Services.{IsService}
 use Rattle.port_look.specs.Looks.{IsLooking}
@@ -95,138 +106,651 @@ issued_clear port slot v old new small r over = r.shows slot small ∙ (steps_ov
 active_clear : (port : Port) (slot v : ℕ) (old new : Device) → slot < 32 → Reads (Px port Sact) v old new → (old.port port.0).sact slot ≡ false → bit v slot ≡ false
 active_clear port slot v old new small r clear = r.shows slot small ∙ steps_clear port.0 slot old r.mid r.steps clear
 
+-- ---- answers of lists of steps
+
+first_or_later : {X : Type 0} (y : X) (ys : List X) (x : X) → Contains (y ∷ ys) x → (x ≡ y) ⊎ Contains ys x
+first_or_later {X} y ys x here =
+    let Either : X → Type 0 = λ z. (z ≡ y) ⊎ Contains ys z in
+    All-contains Either (y ∷ ys) x (All-cons Either y ys (inl refl) (All-weaker (Contains ys) Either (λ z there. inr there) ys (All-contains_itself ys))) here
+
+answers_append : (late early : List Step) → answers_of (late ++ early) ≡ answers_of late ++ answers_of early
+answers_append [] early = refl
+answers_append (Answer e o ∷ late) early = ap (λ (list : List (Pending × Outcome)). (e, o) ∷ list) (answers_append late early)
+answers_append (step ∷ late) early = answers_append late early
+
+answers_there : (steps : List Step) (a : Pending × Outcome) → Contains (answers_of steps) a → Contains steps (Answer a.0 a.1)
+answers_there [] a here = absurd (contains_none a here)
+answers_there (Answer e o ∷ steps) a here = ⊎_elim
+    (λ (is : a ≡ (e, o)). Contains-append_left (Answer e o ∷ []) steps (Answer a.0 a.1) (0, omega arith, ap (λ (b : Pending × Outcome). Answer b.0 b.1) (sym is)))
+    (λ there. Contains-append_right (Answer e o ∷ []) steps (Answer a.0 a.1) (answers_there steps a there))
+    (first_or_later (e, o) (answers_of steps) a here)
+answers_there (step ∷ steps) a here = Contains-append_right (step ∷ []) steps (Answer a.0 a.1) (answers_there steps a here)
+
+all_pairs_append : {X : Type 0} (R : X → X → Type 0) (xs ys : List X) → AllPairs R xs → AllPairs R ys → ((a b : X) → Contains xs a → Contains ys b → R a b) → AllPairs R (xs ++ ys)
+all_pairs_append {X} R xs [] one other crossed = subst (AllPairs R) (sym (append-nil xs)) one
+all_pairs_append {X} R xs (y ∷ ys) one other crossed = subst (AllPairs R) (append_assoc xs (y ∷ []) ys)
+    (all_pairs_append R (xs ++ y ∷ []) ys
+    (all_pairs_push R xs y one (λ k d small. crossed (get_or xs k d) y (All-contains_itself xs k d small) (0, omega arith, refl)))
+    (λ i j d lt below. other (suc i) (suc j) d (omega (arith, lt)) (omega (arith, below)))
+    (λ a b here there. ⊎_elim
+    (λ its. crossed a b its (Contains-append_right (y ∷ []) ys b there))
+    (λ last. ⊎_elim
+    (λ (is : a ≡ y). let lt = there.1 in subst (λ (z : X). R z b) (sym is) (subst (R y) there.2 (other 0 (suc there.0) b (omega arith) (omega (arith, lt)))))
+    (λ none. absurd (contains_none a none))
+    (first_or_later y [] a last))
+    (Contains-append_cases xs (y ∷ []) a here)))
+
+-- ---- evidence
+
+-- what both name
+abbrev pub joined : Evidence → Evidence → Evidence
+joined one other = record {
+  faults = one.faults ++ other.faults;
+  lost = one.lost ++ other.lost;
+  gone = one.gone ++ other.gone;
+  failed = one.failed ++ other.failed;
+  fatal = one.fatal ++ other.fatal;
+  stopped = one.stopped ++ other.stopped;
+  stuck = one.stuck ++ other.stuck;
+}
+
+-- the evidence names such ports alone
+pub record NamesSome (Such : Port → Type 0) (evidence : Evidence) : Type 0 where
+  pub lost : All Such evidence.lost
+  pub gone : All Such evidence.gone
+  pub failed : All Such evidence.failed
+  pub fatal : All Such evidence.fatal
+  pub stopped : All Such evidence.stopped
+  pub stuck : All Such evidence.stuck
+
+names_more : (One Other : Port → Type 0) → ((q : Port) → One q → Other q) → (evidence : Evidence) → NamesSome One evidence → NamesSome Other evidence
+names_more One Other each evidence n = record {
+  lost = All-weaker One Other each evidence.lost n.lost;
+  gone = All-weaker One Other each evidence.gone n.gone;
+  failed = All-weaker One Other each evidence.failed n.failed;
+  fatal = All-weaker One Other each evidence.fatal n.fatal;
+  stopped = All-weaker One Other each evidence.stopped n.stopped;
+  stuck = All-weaker One Other each evidence.stuck n.stuck;
+}
+
+names_only : (port : Port) (evidence : Evidence) → NamesOnly port evidence → NamesSome (λ q. q ≡ port) evidence
+names_only port evidence n = record { lost = n.lost; gone = n.gone; failed = n.failed; fatal = n.fatal; stopped = n.stopped; stuck = n.stuck }
+
+names_joined : (Such : Port → Type 0) (one other : Evidence) → NamesSome Such one → NamesSome Such other → NamesSome Such (joined one other)
+names_joined Such one other a b = record {
+  lost = All-append Such one.lost other.lost a.lost b.lost;
+  gone = All-append Such one.gone other.gone a.gone b.gone;
+  failed = All-append Such one.failed other.failed a.failed b.failed;
+  fatal = All-append Such one.fatal other.fatal a.fatal b.fatal;
+  stopped = All-append Such one.stopped other.stopped a.stopped b.stopped;
+  stuck = All-append Such one.stuck other.stuck a.stuck b.stuck;
+}
+
+-- lists of which the other doesn't name the port
+list_alike : (port : Port) (one other : List Port) → (Contains other port → ⊥) → Contains one port ↔ Contains (one ++ other) port
+list_alike port one other none = (
+  (λ here. Contains-append_left one other port here),
+  (λ here. ⊎_elim (λ a. a) (λ b. absurd (none b)) (Contains-append_cases one other port here)),
+)
+
+list_alike_right : (port : Port) (one other : List Port) → (Contains one port → ⊥) → Contains other port ↔ Contains (one ++ other) port
+list_alike_right port one other none = (
+  (λ here. Contains-append_right one other port here),
+  (λ here. ⊎_elim (λ a. absurd (none a)) (λ b. b) (Contains-append_cases one other port here)),
+)
+
+alike_first : (Such : Port → Type 0) (port : Port) → (Such port → ⊥) → (one other : Evidence) → NamesSome Such other → NamesAlike port one (joined one other)
+alike_first Such port not one other n = record {
+  lost = list_alike port one.lost other.lost (λ here. not (All-contains Such other.lost port n.lost here));
+  gone = list_alike port one.gone other.gone (λ here. not (All-contains Such other.gone port n.gone here));
+  failed = list_alike port one.failed other.failed (λ here. not (All-contains Such other.failed port n.failed here));
+  fatal = list_alike port one.fatal other.fatal (λ here. not (All-contains Such other.fatal port n.fatal here));
+  stopped = list_alike port one.stopped other.stopped (λ here. not (All-contains Such other.stopped port n.stopped here));
+  stuck = list_alike port one.stuck other.stuck (λ here. not (All-contains Such other.stuck port n.stuck here));
+}
+
+alike_then : (Such : Port → Type 0) (port : Port) → (Such port → ⊥) → (one other : Evidence) → NamesSome Such one → NamesAlike port other (joined one other)
+alike_then Such port not one other n = record {
+  lost = list_alike_right port one.lost other.lost (λ here. not (All-contains Such one.lost port n.lost here));
+  gone = list_alike_right port one.gone other.gone (λ here. not (All-contains Such one.gone port n.gone here));
+  failed = list_alike_right port one.failed other.failed (λ here. not (All-contains Such one.failed port n.failed here));
+  fatal = list_alike_right port one.fatal other.fatal (λ here. not (All-contains Such one.fatal port n.fatal here));
+  stopped = list_alike_right port one.stopped other.stopped (λ here. not (All-contains Such one.stopped port n.stopped here));
+  stuck = list_alike_right port one.stuck other.stuck (λ here. not (All-contains Such one.stuck port n.stuck here));
+}
+
+-- answers are lawful in a call with more evidence, where so much of ports and of the call's beginning is as in the part
+lawful_lift : (old new : Moment) (evidence other : Evidence) (ports later : Ports) (e : Pending) (o : Outcome)
+    → (WasIssued old.machine e.request.id → WasIssued new.machine e.request.id) → ((told : Fault) → Contains evidence.faults told → Contains other.faults told)
+    → (Contains evidence.lost e.request.port → Contains other.lost e.request.port) → (Contains evidence.stopped e.request.port → Contains other.stopped e.request.port)
+    → later.state e.request.port ≡ ports.state e.request.port → (SameDisk old.ports ports e.request.port → SameDisk new.ports later e.request.port)
+    → IsLawful old evidence ports e o → IsLawful new other later e o
+lawful_lift old new evidence other ports later e Ok was faults lost stopped state disk l = (was l.0, l.1, l.2, l.3)
+lawful_lift old new evidence other ports later e (DeviceError status error) was faults lost stopped state disk l = (was l.0, l.1, faults _ l.2, stopped l.3)
+lawful_lift old new evidence other ports later e Aborted was faults lost stopped state disk l = (was l.0, l.1, state ∙ l.2, stopped l.3, disk l.4)
+lawful_lift old new evidence other ports later e Unplugged was faults lost stopped state disk l = (lost l.0, stopped l.1)
+lawful_lift old new evidence other ports later e PortDead was faults lost stopped state disk l = state ∙ l
+
+-- ---- ports that are what they were
+
+-- all that clients see of the port is as it was
+same_at : (one other : Server) (q : Port) → found_of other.ports q.0 ≡ found_of one.ports q.0 → mode_in other q ≡ mode_in one q → SamePort (ports_of one) (ports_of other) q
+same_at one other q found mode = (ap is_served found, ap state_of found, ap serial_of found, ap sectors_of found, ap trims_of found, mode)
+
+same_then : (a b c : Ports) (q : Port) → SamePort a b q → SamePort b c q → SamePort a c q
+same_then a b c q x y = (y.0 ∙ x.0, y.1 ∙ x.1, y.2 ∙ x.2, y.3 ∙ x.3, y.4 ∙ x.4, y.5 ∙ x.5)
+
+same_disk : (a b c d : Ports) (q : Port) → SamePort a b q → SamePort c d q → SameDisk b c q → SameDisk a d q
+same_disk a b c d q x y z = (y.2 ∙ z.0 ∙ x.2, y.3 ∙ z.1 ∙ x.3)
+
+-- what a service made of the port it made of it too where the port was the same before and is the same after, and the evidence names it alike
+serviced_lift : (a b c d : Ports) (one other : Evidence) (q : Port) → SamePort a b q → SamePort c d q → NamesAlike q one other → IsServiced b one c q → IsServiced a other d q
+serviced_lift a b c d one other q x y alike i = (
+  (λ dead. same_then a c d q (same_then a b c q x (i.0 (x.1 ∙ dead))) y),
+  (λ lives. let w = i.1 (λ dead. lives (sym x.1 ∙ dead)) in (
+    record {
+      served = y.0 ∙ w.0.served ∙ x.0;
+      stuck = λ dead. alike.stuck.0 (w.0.stuck (sym y.1 ∙ dead));
+      dies = λ named. y.1 ∙ w.0.dies (alike.stuck.1 named);
+      keeps = λ unready. same_disk a b c d q x y (w.0.keeps (λ ready. unready (y.1 ∙ ready)));
+    },
+    ⊎_elim (λ same. inl (same_then a c d q (same_then a b c q x same) y)) (λ int. inr (⊎_elim (λ s. inl (alike.stopped.0 s)) (λ t. inr (alike.stuck.0 t)) int)) w.1,
+  )),
+)
+
+ready_or_not : (state : PortState) → (state ≡ ReadyState) ⊎ (state ≢ ReadyState)
+ready_or_not ReadyState = inl refl
+ready_or_not Absent = inr (λ is. let z : Absent ≡ ReadyState = is in absurd cc)
+ready_or_not Foreign = inr (λ is. let z : Foreign ≡ ReadyState = is in absurd cc)
+ready_or_not (Unfit cause) = inr (λ is. let z : Unfit cause ≡ ReadyState = is in absurd cc)
+ready_or_not Dead = inr (λ is. let z : Dead ≡ ReadyState = is in absurd cc)
+
 -- ---- what was done so far
 
-module _ (laws : LawsBelow) (s : Server) (start : IsSettled s) (old : Moment) (reached : IsReached old.machine) (at : IsMachineOf s old.machine) where
+module _ (laws : LawsBelow) (s : Server) (start : IsSettled s) (old : Moment) (reached : IsReached old.machine) (at : IsMachineOf s old.machine) (ports_are : old.ports ≡ ports_of s) where
   abbrev kept : IsKept s
   kept = start.kept
 
   abbrev began : Instant Device
   began = record { device = s.device; moment = old }
 
+  abbrev state_at : ℕ → PortState
+  state_at q = state_of (found_of s.ports q)
+
+  -- ports that had their turns
+  abbrev HadTurn : ℕ → Port → Type 0
+  HadTurn n q = (q.0 < n) × (state_at q.0 ≡ ReadyState)
+
+  -- What is so of a port that stayed healthy.
+  pub record IsCalm (c : Server) (accesses : List Access) (steps : List Step) (evidence : Evidence) (q : Port) : Type 0 where
+    pub same : SamePort old.ports (ports_of c) q
+    pub alone : IsInterrupted evidence q → ⊥
+    pub told : (e : Pending) (o : Outcome) → Contains steps (Answer e o) → e.request.port ≡ q → o ≡ Ok
+    pub heeded : AnswersEnded old.machine steps q
+    pub finds : (e : Pending) → IsIssuedOn q old.machine e → FindsDone q accesses began steps
+
+  -- What is so of a port that had its turn, or none, at the end of what was done so far.
+  pub record IsDone (c : Server) (accesses : List Access) (steps : List Step) (evidence : Evidence) (q : Port) : Type 0 where
+    pub becomes : IsServiced old.ports evidence (ports_of c) q
+    pub disk : SamePort old.ports (ports_of c) q ⊎ HadDisk old steps (moment_of c (after old.machine steps)) q
+    pub keeps : SameDisk old.ports (ports_of c) q ⊎ NoneWaits (after old.machine steps) q
+    pub evidenced : IsEvidencedOf Service (Served []) accesses began (ports_of c) c.device evidence q
+    pub calm : StaysHealthy q.0 s.device c.device → state_at q.0 ≡ ReadyState → IsCalm c accesses steps evidence q
+
+  -- a fault that is told of a port that had its turn
+  pub record HasTold (n : ℕ) (c : Server) (accesses : List Access) (told : Fault) : Type 0 where
+    pub its : IsFaultTold began c.device accesses told
+    pub served : HadTurn n its.pending.request.port
+    pub lives : is_queued its.serves.command.operation ≡ true → state_of (found_of c.ports its.pending.request.port.0) ≢ Dead
+
   -- Ports below this number had their turns, which led to this server with these replies.
   pub record Progress (n : ℕ) (c : Server) (replies : List Reply) : Type 0 where
     pub settled : IsSettled c
-    pub same : SameSettings s c
-    pub driven : IsDrivenBy (IsTurn (TendsPort (ports_of s))) s.device c.device
+    pub wanted : c.wanted ≡ s.wanted
+    pub on : IsOn c.device
+    pub accesses : List Access
+    pub does : DoesAll accesses s.device c.device
+    pub serving : All (IsServing (TendsPort (ports_of s))) accesses
+    pub others : (q : Port) → (HadTurn n q → ⊥) → All (IsOfOther q) accesses
     pub steps : List Step
-    pub turns : AreTurns old (ports_of s) n n steps
+    pub turns : AreTurns old n steps
     pub stands : IsMachineOf c (after old.machine steps)
     pub backed : IsBacked s.device c.device old.machine steps
+    pub belong : Belong {D = DeviceStep} Service (ports_of c) steps
+    pub evidence : Evidence
+    pub names : NamesSome (HadTurn n) evidence
+    pub lawful : AllLawful old evidence (ports_of c) steps
+    pub grounded : AllGrounded evidence steps
+    pub unplugs : UnplugsAll steps (after old.machine steps)
     pub answers : List (Pending × Outcome)
     pub permuted : IsPermutation answers (answers_of steps)
     pub ordered : AllPairs IsToldBefore answers
     pub low : All (λ a. a.0.request.port.0 < n) answers
     pub told : replies ≡ map reply_of answers
-    pub heeded : (port : Port) → port.0 < n → state_of (found_of s.ports port.0) ≡ ReadyState → StaysHealthy port.0 s.device c.device → AnswersEnded old.machine steps port
-    pub finds : (port : Port) → port.0 < n → state_of (found_of s.ports port.0) ≡ ReadyState → StaysHealthy port.0 s.device c.device → (e : Pending) → IsIssuedOn port old.machine e
-        → FindsDone port driven.accesses began steps
-    pub due : (port : Port) → IssuesDue (mode_in s port) steps (after old.machine steps) port
-    pub ahead : (port : ℕ) → n ≤ port → slots_at c.slots port ≡ slots_at s.slots port
+    pub faults : (told : Fault) → Contains evidence.faults told → HasTold n c accesses told
+    pub done : (q : Port) → q.0 < n → IsDone c accesses steps evidence q
+    pub due : (q : Port) → state_of (found_of c.ports q.0) ≡ ReadyState → IssuesDue (mode_in c q) steps (after old.machine steps) q
+    pub found : (q : ℕ) → n ≤ q → found_of c.ports q ≡ found_of s.ports q
+    pub modes : (q : ℕ) → n ≤ q → mode_at c.modes q ≡ mode_at s.modes q
+    pub slots : (q : ℕ) → n ≤ q → slots_at c.slots q ≡ slots_at s.slots q
 
   pub begun : Progress 0 s []
   begun = record {
     settled = start;
-    same = refl;
-    driven = by_none (IsTurn (TendsPort (ports_of s))) s.device;
+    wanted = refl;
+    on = kept.on;
+    accesses = [];
+    does = refl;
+    serving = All-nil (IsServing (TendsPort (ports_of s)));
+    others = λ q none. All-nil (IsOfOther q);
     steps = [];
-    turns = no_turns old (ports_of s);
+    turns = no_turns old reached;
     stands = at;
     backed = nothing_backed s.device old.machine;
+    belong = tt;
+    evidence = no_evidence;
+    names = record {
+      lost = All-nil (HadTurn 0);
+      gone = All-nil (HadTurn 0);
+      failed = All-nil (HadTurn 0);
+      fatal = All-nil (HadTurn 0);
+      stopped = All-nil (HadTurn 0);
+      stuck = All-nil (HadTurn 0);
+    };
+    lawful = tt;
+    grounded = tt;
+    unplugs = record { emptied = λ e other here there. absurd (contains_none (Answer e Unplugged) here); alike = λ e other here there. absurd (contains_none (Answer e Unplugged) here) };
     answers = [];
     permuted = IsPermutation-refl [];
     ordered = λ i j d lt below. absurd (omega (arith, lt, below));
     low = All-nil (λ a. a.0.request.port.0 < 0);
     told = refl;
-    heeded = λ port lt. absurd (omega (arith, lt));
-    finds = λ port lt. absurd (omega (arith, lt));
-    due = λ port. none_issued s old.machine at [] (λ id. refl) (mode_in s port) port (start.issued port);
-    ahead = λ port past. refl;
+    faults = λ told here. absurd (contains_none told here);
+    done = λ q lt. absurd (omega (arith, lt));
+    due = λ q is_ready. none_issued s old.machine at [] (λ id. refl) (mode_in s q) q (start.issued q);
+    found = λ q past. refl;
+    modes = λ q past. refl;
+    slots = λ q past. refl;
   }
 
-  -- what was found done on a port was so still, where later steps answer nobody of it
-  finds_more : (n : ℕ) (c : Server) (replies : List Reply) (p : Progress n c replies) (q : Port) (more : List Access) (late : List Step)
-      → ((e : Pending) (o : Outcome) → Contains late (Answer e o) → e.request.port ≡ q → ⊥) → FindsDone q p.driven.accesses began p.steps → FindsDone q (p.driven.accesses ++ more) began (late ++ p.steps)
-  finds_more n c replies p q more late none f = record {
-    ci = f.ci;
-    sact = f.sact;
-    reads = record {
-      before = f.reads.before;
-      later = f.reads.later ++ more;
-      here = ap (λ (accesses : List Access). accesses ++ more) f.reads.here ∙ append_assoc f.reads.before (Reading (Px q Ci) f.ci ∷ Reading (Px q Sact) f.sact ∷ f.reads.later) more;
-      running = f.reads.running;
-    };
-    exact = λ e slot its says.
-        let x = f.exact e slot its says in (
-          (λ ok. x.0 (
-            ok.0,
-            ok.1,
-            ⊎_elim
-                (λ there. absurd (none ok.0 Ok there (ap (λ r. r.port) ok.1 ∙ its.port_is)))
-                (λ there. there)
-                (Contains-append_cases late p.steps (Answer ok.0 Ok) ok.2),
-          )),
-          (λ clear. let ok = x.1 clear in (ok.0, ok.1, Contains-append_right late p.steps (Answer ok.0 Ok) ok.2)),
+  -- the evidence doesn't name a port that had no turn
+  unnamed : (n : ℕ) (q : Port) → (HadTurn n q → ⊥) → (evidence : Evidence) → NamesSome (HadTurn n) evidence → (Contains evidence.lost q → ⊥) × (Contains evidence.gone q → ⊥) × (Contains evidence.failed q → ⊥)
+      × (Contains evidence.fatal q → ⊥) × (Contains evidence.stopped q → ⊥) × (Contains evidence.stuck q → ⊥)
+  unnamed n q none evidence names = (
+    (λ here. none (All-contains (HadTurn n) evidence.lost q names.lost here)),
+    (λ here. none (All-contains (HadTurn n) evidence.gone q names.gone here)),
+    (λ here. none (All-contains (HadTurn n) evidence.failed q names.failed here)),
+    (λ here. none (All-contains (HadTurn n) evidence.fatal q names.fatal here)),
+    (λ here. none (All-contains (HadTurn n) evidence.stopped q names.stopped here)),
+    (λ here. none (All-contains (HadTurn n) evidence.stuck q names.stuck here)),
+  )
+
+  others_leave : (q : Port) (accesses : List Access) → All (IsOfOther q) accesses → All (LeavesEngine q) accesses
+  others_leave q accesses of = All-weaker (IsOfOther q) (LeavesEngine q) (λ access x. (laws.of_spares x.0 q Cmd x.1 access x.2, laws.of_spares x.0 q Sctl x.1 access x.2)) accesses of
+
+  -- nothing is asked of the evidence of a port that isn't ready, and that it doesn't name
+  none_evidenced : (accesses : List Access) (new : Device) (ports : Ports) (evidence : Evidence) (q : Port) → state_at q.0 ≢ ReadyState → NamesSome (λ r. state_at r.0 ≡ ReadyState) evidence → All (IsOfOther q) accesses
+      → IsEvidencedOf Service (Served []) accesses began ports new evidence q
+  none_evidenced accesses new ports evidence q unready names of =
+      let Such : Port → Type 0 = λ r. state_at r.0 ≡ ReadyState in
+      let was_ready : old.ports.state q ≡ ReadyState → ⊥ = λ is. unready (sym (ap (λ (ports : Ports). ports.state q) ports_are) ∙ is) in
+      record {
+        lost = λ here. absurd (unready (All-contains Such evidence.lost q names.lost here));
+        gone_all = λ is. absurd (was_ready is);
+        gone_only = λ here. absurd (unready (All-contains Such evidence.gone q names.gone here));
+        failed_all = λ is. absurd (was_ready is);
+        failed_only = λ here. absurd (unready (All-contains Such evidence.failed q names.failed here));
+        fatal_all = λ is. absurd (was_ready is);
+        fatal_only = λ here. absurd (unready (All-contains Such evidence.fatal q names.fatal here));
+        stopped_all = inl (others_leave q accesses of);
+        stopped_only = λ here. absurd (unready (All-contains Such evidence.stopped q names.stopped here));
+        stuck_only = λ here. absurd (unready (All-contains Such evidence.stuck q names.stuck here));
+      }
+
+  -- what is so of a port that isn't ready, and had no turn
+  idle_done : (n : ℕ) (c : Server) (replies : List Reply) → (p : Progress n c replies) → (q : Port) → state_at q.0 ≢ ReadyState → found_of c.ports q.0 ≡ found_of s.ports q.0 → mode_in c q ≡ mode_in s q
+      → IsDone c p.accesses p.steps p.evidence q
+  idle_done n c replies p q unready found mode =
+      let none : HadTurn n q → ⊥ = λ served. unready served.1 in
+      let un = unnamed n q none p.evidence p.names in
+      let same : SamePort old.ports (ports_of c) q = subst (λ (ports : Ports). SamePort ports (ports_of c) q) (sym ports_are) (same_at s c q found mode) in
+      record {
+        becomes = (
+          λ dead. same,
+          λ lives. (
+            record {
+              served = same.0;
+              stuck = λ dead. absurd (lives (sym same.1 ∙ dead));
+              dies = λ named. absurd (un.5 named);
+              keeps = λ x. (same.2, same.3);
+            },
+            inl same,
+          ),
         );
-  }
+        disk = inl same;
+        keeps = inl (same.2, same.3);
+        evidenced = none_evidenced p.accesses c.device (ports_of c) p.evidence q unready (names_more (HadTurn n) (λ r. state_at r.0 ≡ ReadyState) (λ r served. served.1) p.evidence p.names) (p.others q none);
+        calm = λ well is_ready. absurd (unready is_ready);
+      }
 
   -- a port that isn't ready has no turn
-  skipped : (n : ℕ) (c : Server) (replies : List Reply) → state_of (found_of s.ports n) ≢ ReadyState → Progress n c replies → Progress (n + 1) c replies
+  skipped : (n : ℕ) (c : Server) (replies : List Reply) → state_at n ≢ ReadyState → Progress n c replies → Progress (n + 1) c replies
   skipped n c replies other p = record {
     settled = p.settled;
-    same = p.same;
-    driven = p.driven;
+    wanted = p.wanted;
+    on = p.on;
+    accesses = p.accesses;
+    does = p.does;
+    serving = p.serving;
+    others = λ q none. p.others q (λ served. let small = served.0 in none (omega (arith, small), served.1));
     steps = p.steps;
-    turns = turns_more old (ports_of s) n n (n + 1) (n + 1) p.steps (omega arith) (omega arith) p.turns;
+    turns = turns_more old reached n (n + 1) p.steps (omega arith) p.turns;
     stands = p.stands;
     backed = p.backed;
+    belong = p.belong;
+    evidence = p.evidence;
+    names = names_more (HadTurn n) (HadTurn (n + 1)) (λ q served. let small = served.0 in (omega (arith, small), served.1)) p.evidence p.names;
+    lawful = p.lawful;
+    grounded = p.grounded;
+    unplugs = p.unplugs;
     answers = p.answers;
     permuted = p.permuted;
     ordered = p.ordered;
     low = λ i d small. let lt = p.low i d small in omega (arith, lt);
     told = p.told;
-    heeded = λ port lt ready well. ⊎_elim
-        (λ (less : port.0 < n). p.heeded port less ready well)
-        (λ (most : n ≤ port.0). absurd (other (ap (λ (q : ℕ). state_of (found_of s.ports q)) (omega (arith, lt, most)) ∙ ready)))
-        (cases_lt port.0 n);
-    finds = λ port lt ready well. ⊎_elim
-        (λ (less : port.0 < n). p.finds port less ready well)
-        (λ (most : n ≤ port.0). absurd (other (ap (λ (q : ℕ). state_of (found_of s.ports q)) (omega (arith, lt, most)) ∙ ready)))
-        (cases_lt port.0 n);
+    faults = λ told here. let t = p.faults told here in record { its = t.its; served = let small = t.served.0 in (omega (arith, small), t.served.1); lives = t.lives };
+    done = λ q lt. ⊎_elim
+        (λ (less : q.0 < n). p.done q less)
+        (λ (most : n ≤ q.0).
+        let same : q.0 ≡ n = omega (arith, lt, most) in
+        idle_done n c replies p q (λ is_ready. other (ap state_at (sym same) ∙ is_ready)) (p.found q.0 most) (p.modes q.0 most))
+        (cases_lt q.0 n);
     due = p.due;
-    ahead = λ port past. p.ahead port (omega (arith, past));
+    found = λ q past. p.found q (omega (arith, past));
+    modes = λ q past. p.modes q (omega (arith, past));
+    slots = λ q past. p.slots q (omega (arith, past));
   }
 
   -- ---- a turn
 
-  module _ (n : ℕ) (c mid : Server) (before : List Reply) (info : DiskInfo) (found_is : found_of s.ports n ≡ Ready info) (p : Progress n c before) (next : IsSettled mid) where
+  module _ (n : ℕ) (c mid : Server) (before its : List Reply) (info : DiskInfo) (found_is : found_of s.ports n ≡ Ready info) (p : Progress n c before) (next : IsSettled mid) (part : HasPart (port_at n) its c mid) where
     abbrev m : Machine
     m = after old.machine p.steps
-
-    its_served : TendsPort (ports_of s) (port_at n)
-    its_served = (ap is_served found_is, λ dead. let z : ReadyState ≡ Dead = sym (ap state_of found_is) ∙ dead in absurd cc)
 
     m_reached : IsReached m
     m_reached = reached_more old.machine p.steps reached p.turns.may
 
-    ready : state_of (found_of s.ports n) ≡ ReadyState
-    ready = ap state_of found_is
+    abbrev x : MakesTurn (port_at n) its part.accesses c mid m
+    x = part.makes m m_reached p.stands
 
-    ports_is : c.ports ≡ s.ports
-    ports_is = ap (λ (x : Server). x.ports) p.same
+    abbrev all : List Step
+    all = x.steps ++ p.steps
+
+    abbrev accesses : List Access
+    accesses = p.accesses ++ part.accesses
+
+    abbrev evidence : Evidence
+    evidence = joined p.evidence x.evidence
+
+    ready : state_at n ≡ ReadyState
+    ready = ap state_of found_is
 
     low : n < 4
     low = (ready_found s n kept ready).0
 
+    ready_c : state_of (found_of c.ports n) ≡ ReadyState
+    ready_c = ap state_of (p.found n (omega arith)) ∙ ready
+
+    was_ready : old.ports.state (port_at n) ≡ ReadyState
+    was_ready = ap (λ (ports : Ports). ports.state (port_at n)) ports_are ∙ ready
+
+    its_served : TendsPort (ports_of s) (port_at n)
+    its_served = (ap is_served found_is, λ dead. let z : ReadyState ≡ Dead = sym ready ∙ dead in absurd cc)
+
+    its_driven : IsDrivenBy (IsOf (port_at n)) c.device mid.device
+    its_driven = record { accesses = part.accesses; all = part.does; only = part.of }
+
+    on_mid : IsOn mid.device
+    on_mid = laws.of_on (port_at n) c.device mid.device p.on its_driven
+
+    its_turns : AreTurns old (n + 1) all
+    its_turns = turn_on old reached n p.steps x.steps p.turns x.own x.may x.last
+
+    whole_is : after old.machine all ≡ after m x.steps
+    whole_is = after-append old.machine x.steps p.steps
+
+    not_yet : HadTurn n (port_at n) → ⊥
+    not_yet served = let lt = served.0 in omega (arith, lt)
+
+    -- a port that had its turn is another
+    earlier : (q : Port) → q.0 < n → q ≢ port_at n
+    earlier q lt same = let is : q.0 ≡ n = ap (λ (r : Port). r.0) same in omega (arith, lt, is)
+
+    -- the turn's accesses are of another port then
+    of_other : (q : Port) → q.0 ≢ n → All (IsOfOther q) part.accesses
+    of_other q ne = All-weaker (IsOf (port_at n)) (IsOfOther q) (λ access of. (port_at n, ne, of)) part.accesses part.of
+
+    same_n : SamePort old.ports (ports_of c) (port_at n)
+    same_n = subst (λ (ports : Ports). SamePort ports (ports_of c) (port_at n)) (sym ports_are) (same_at s c (port_at n) (p.found n (omega arith)) (p.modes n (omega arith)))
+
+    same_other : (q : Port) → q.0 ≢ n → SamePort (ports_of c) (ports_of mid) q
+    same_other q ne = same_at c mid q (part.others.found q.0 ne) (part.others.modes q.0 ne)
+
+    same_self : (ports : Ports) (q : Port) → SamePort ports ports q
+    same_self ports q = (refl, refl, refl, refl, refl, refl)
+
+    -- ---- evidence
+
+    mine : NamesSome (λ q. q ≡ port_at n) x.evidence
+    mine = names_only (port_at n) x.evidence x.names
+
+    alike_n : NamesAlike (port_at n) x.evidence evidence
+    alike_n = alike_then (HadTurn n) (port_at n) not_yet p.evidence x.evidence p.names
+
+    alike_other : (q : Port) → q ≢ port_at n → NamesAlike q p.evidence evidence
+    alike_other q ne = alike_first (λ r. r ≡ port_at n) q ne p.evidence x.evidence mine
+
+    -- the call so far, with the turn after it
+    turn_of : HasTurnIn (port_at n) s.device mid.device
+    turn_of = record {
+      before = p.accesses;
+      turn = part.accesses;
+      later = [];
+      start = c.device;
+      end = mid.device;
+      first = p.does;
+      then = part.does;
+      last = refl;
+      others = p.others (port_at n) not_yet;
+      others_later = All-nil (IsOfOther (port_at n));
+    }
+
+    -- an earlier port's part of it
+    turn_before : (q : Port) → q.0 ≢ n → HasTurnIn q s.device mid.device
+    turn_before q ne = record {
+      before = [];
+      turn = p.accesses;
+      later = part.accesses;
+      start = s.device;
+      end = c.device;
+      first = refl;
+      then = p.does;
+      last = part.does;
+      others = All-nil (IsOfOther q);
+      others_later = of_other q ne;
+    }
+
+    -- of what a service says, evidence asks nothing
+    any_said : (one other : List Reply) (made : List Access) (i : Instant Device) (ports : Ports) (d : Device) (e : Evidence) (q : Port) → IsEvidencedOf Service (Served one) made i ports d e q → IsEvidencedOf Service (Served other) made i ports d e q
+    any_said one other made i ports d e q v = record {
+      lost = v.lost;
+      gone_all = v.gone_all;
+      gone_only = v.gone_only;
+      failed_all = v.failed_all;
+      failed_only = v.failed_only;
+      fatal_all = v.fatal_all;
+      fatal_only = v.fatal_only;
+      stopped_all = v.stopped_all;
+      stopped_only = v.stopped_only;
+      stuck_only = v.stuck_only;
+    }
+
+    undue : (q : Port) → state_at q.0 ≡ ReadyState → (s.device.port q.0).link_due ≡ false
+    undue q is = ((kept.behind q.0 (ready_found s q.0 kept is).0).runs is).recorded.linked
+
+    evidenced_n : IsEvidencedOf Service (Served []) accesses began (ports_of mid) mid.device evidence (port_at n)
+    unfolding turn_of
+    evidenced_n = subst (λ (list : List Access). IsEvidencedOf Service (Served []) (p.accesses ++ list) began (ports_of mid) mid.device evidence (port_at n)) (append-nil part.accesses)
+        (laws.evidence (port_at n) began (moment_of c m) (ports_of mid) (ports_of mid) mid.device x.evidence evidence Service (Served []) kept.on (undue (port_at n) ready) turn_of on_mid same_n
+        (same_self (ports_of mid) (port_at n)) alike_n
+        (any_said its [] part.accesses (record { device = c.device; moment = moment_of c m }) (ports_of mid) mid.device x.evidence (port_at n) x.evidenced))
+
+    evidenced_before : (q : Port) → q.0 < n → state_at q.0 ≡ ReadyState → IsEvidencedOf Service (Served []) p.accesses began (ports_of c) c.device p.evidence q
+        → IsEvidencedOf Service (Served []) accesses began (ports_of mid) mid.device evidence q
+    unfolding turn_before
+    evidenced_before q lt is v =
+        laws.evidence q began old (ports_of c) (ports_of mid) mid.device p.evidence evidence Service (Served []) kept.on (undue q is) (turn_before q (λ same. omega (arith, lt, same))) p.on
+        (same_self old.ports q) (same_other q (λ same. omega (arith, lt, same))) (alike_other q (earlier q lt)) v
+
+    -- ---- requests
+
+    one_of : (e y : Pending) → Contains m.book e → Contains m.book y → e.request.id.0 ≡ y.request.id.0 → e ≡ y
+    one_of e y here there same = (standing m m_reached).sound.one e y here there same
+
+    one_old : (e y : Pending) → Contains old.machine.book e → Contains old.machine.book y → e.request.id.0 ≡ y.request.id.0 → e ≡ y
+    one_old e y here there same = (standing old.machine reached).sound.one e y here there same
+
+    -- a request of the port that was issued when the turn began was so when the call began
+    was_issued : (id : RequestId) → (o : Pending) → Contains m.book o → o.request.id.0 ≡ id.0 → o.request.port ≡ port_at n → WasIssued m id → WasIssued old.machine id
+    was_issued id o here same own w =
+        let is : w.pending ≡ o = one_of w.pending o w.here here (ap (λ (i : RequestId). i.0) w.id_is ∙ sym same) in
+        let port : w.pending.request.port.0 ≡ n = ap (λ (y : Pending). y.request.port.0) is ∙ ap (λ (q : Port). q.0) own in
+        let l = p.turns.origin w.pending w.here (omega (arith, port)) in
+        record { pending = l.0; here = l.1; id_is = ap (λ r. r.id) (sym l.2.request) ∙ w.id_is; issued = sym l.2.issued ∙ w.issued }
+
+    -- of the port, only the turn issues requests
+    own_alike : (u : Unanswered) → Contains (map unanswered (after m x.steps).book) u → u.port ≡ port_at n → list_any (issues_it u.id) x.steps ≡ list_any (issues_it u.id) all
+    own_alike u here own = ⊎_elim
+        (λ (early : IsIssuedIn u.id p.steps).
+        let w = p.turns.issued u.id early in
+        let y = map_in unanswered (after m x.steps).book u here in
+        let b = its_turns.from y.0 (subst (λ (k : Machine). Contains k.book y.0) (sym whole_is) y.1) in
+        let same = one_old w.0 b.was w.1 b.here (w.2 ∙ ap (λ (v : Unanswered). v.id.0) y.2 ∙ ap (λ r. r.id.0) (sym b.request)) in
+        let small = w.3 in
+        let is = ap (λ (e : Pending). e.request.port.0) same ∙ ap (λ r. r.port.0) b.request ∙ ap (λ (v : Unanswered). v.port.0) (sym y.2) ∙ ap (λ (q : Port). q.0) own in
+        absurd (omega (arith, small, is)))
+        (λ (none : list_any (issues_it u.id) p.steps ≡ false).
+        sym (any_append (issues_it u.id) x.steps p.steps ∙ ap (λ (b : Bool). list_any (issues_it u.id) x.steps || b) none ∙ or_none (list_any (issues_it u.id) x.steps)))
+        (cases_Bool (list_any (issues_it u.id) p.steps))
+
+    -- and it issues none of another
+    other_alike : (q : Port) → q ≢ port_at n → (u : Unanswered) → Contains (map unanswered m.book) u → u.port ≡ q → list_any (issues_it u.id) p.steps ≡ list_any (issues_it u.id) all
+    other_alike q ne u here own = ⊎_elim
+        (λ (late : IsIssuedIn u.id x.steps).
+        let w = issued_before (port_at n) m x.steps x.own x.may u.id late in
+        let y = map_in unanswered m.book u here in
+        let same = one_of w.pending y.0 w.here y.1 (w.id_is ∙ ap (λ (v : Unanswered). v.id.0) y.2) in
+        absurd (ne (sym own ∙ ap (λ (v : Unanswered). v.port) y.2 ∙ ap (λ (e : Pending). e.request.port) (sym same) ∙ w.port_is)))
+        (λ (none : list_any (issues_it u.id) x.steps ≡ false). sym (any_append (issues_it u.id) x.steps p.steps ∙ ap (λ (b : Bool). b || list_any (issues_it u.id) p.steps) none))
+        (cases_Bool (list_any (issues_it u.id) x.steps))
+
+    due_now : (q : Port) → state_of (found_of mid.ports q.0) ≡ ReadyState → IssuesDue (mode_in mid q) all (after old.machine all) q
+    due_now q is = subst (λ (k : Machine). IssuesDue (mode_in mid q) all k q) (sym whole_is) (⊎_elim
+        (λ (same : q.0 ≡ n).
+        subst (λ (r : Port). IssuesDue (mode_in mid r) all (after m x.steps) r) (ap port_at (sym same))
+        (dues_carried laws (mode_in mid (port_at n)) x.steps all (after m x.steps) (after m x.steps) (port_at n) refl own_alike (x.issues (ap (λ (k : ℕ). state_of (found_of mid.ports k)) (sym same) ∙ is))))
+        (λ (ne : q.0 ≢ n).
+        let apart : q ≢ port_at n = λ same. ne (ap (λ (r : Port). r.0) same) in
+        dues_carried laws (mode_in mid q) p.steps all m (after m x.steps) q
+        (ap (of_port q) (same_book c.book m.book p.stands.book) ∙ sym (part.others.book q apart) ∙ ap (of_port q) (sym (same_book mid.book (after m x.steps).book x.stands.book)))
+        (other_alike q apart)
+        (subst (λ (mode : Mode). IssuesDue mode p.steps m q) (sym (part.others.modes q.0 ne)) (p.due q (ap state_of (sym (part.others.found q.0 ne)) ∙ is))))
+        (cases_eq q.0 n))
+
+    -- ---- what is lawful
+
+    joined_lawful : AllLawful old evidence (ports_of mid) all
+    joined_lawful = lawful_join old evidence (ports_of mid) x.steps p.steps
+        (lawful_on (moment_of c m) old x.evidence evidence (ports_of mid) (ports_of mid) x.steps
+        (λ e o here.
+        let own = answered_of (λ q. q ≡ port_at n) x.steps x.own e o here in
+        let w = answered_own (port_at n) m x.steps x.own x.may e o here in
+        lawful_lift (moment_of c m) old x.evidence evidence (ports_of mid) (ports_of mid) e o
+        (was_issued e.request.id w.pending w.here w.id_is w.port_is)
+        (λ told there. Contains-append_right p.evidence.faults x.evidence.faults told there)
+        (λ there. Contains-append_right p.evidence.lost x.evidence.lost e.request.port there)
+        (λ there. Contains-append_right p.evidence.stopped x.evidence.stopped e.request.port there)
+        refl
+        (λ d. subst (λ (q : Port). SameDisk old.ports (ports_of mid) q) (sym own)
+        (same_disk old.ports (ports_of c) (ports_of mid) (ports_of mid) (port_at n) same_n (same_self (ports_of mid) (port_at n)) (subst (λ (q : Port). SameDisk (ports_of c) (ports_of mid) q) own d))))
+        (λ e here there. Contains-append_right p.evidence.stopped x.evidence.stopped e.request.port there)
+        x.lawful)
+        (lawful_on old old p.evidence evidence (ports_of c) (ports_of mid) p.steps
+        (λ e o here.
+        let lt = answered_of (λ q. q.0 < n) p.steps p.turns.below e o here in
+        let same = same_other e.request.port (λ is. omega (arith, lt, is)) in
+        lawful_lift old old p.evidence evidence (ports_of c) (ports_of mid) e o (λ w. w)
+        (λ told there. Contains-append_left p.evidence.faults x.evidence.faults told there)
+        (λ there. Contains-append_left p.evidence.lost x.evidence.lost e.request.port there)
+        (λ there. Contains-append_left p.evidence.stopped x.evidence.stopped e.request.port there)
+        same.1
+        (λ d. same_disk old.ports old.ports (ports_of c) (ports_of mid) e.request.port (same_self old.ports e.request.port) same d))
+        (λ e here there. Contains-append_left p.evidence.stopped x.evidence.stopped e.request.port there)
+        p.lawful)
+
+    joined_grounded : AllGrounded evidence all
+    joined_grounded = grounded_join evidence x.steps p.steps
+        (grounded_on x.evidence evidence (λ q there. Contains-append_right p.evidence.failed x.evidence.failed q there) x.steps x.grounded)
+        (grounded_on p.evidence evidence (λ q there. Contains-append_left p.evidence.failed x.evidence.failed q there) p.steps p.grounded)
+
+    -- ---- answers
+
+    answered_port : (a : Pending × Outcome) → Contains x.tells.answers a → a.0.request.port ≡ port_at n
+    answered_port a here =
+        answered_of (λ q. q ≡ port_at n) x.steps x.own a.0 a.1 (answers_there x.steps a (Contains-permutation x.tells.answers (answers_of x.steps) a x.tells.same here))
+
+    ordered_all : AllPairs IsToldBefore (p.answers ++ x.tells.answers)
+    ordered_all = all_pairs_append IsToldBefore p.answers x.tells.answers p.ordered x.tells.ordered (λ a b here there.
+        let lt = All-contains (λ (y : Pending × Outcome). y.0.request.port.0 < n) p.answers a p.low here in
+        let is : b.0.request.port.0 ≡ n = ap (λ (q : Port). q.0) (answered_port b there) in
+        inl (omega (arith, lt, is)))
+
+    permuted_all : IsPermutation (p.answers ++ x.tells.answers) (answers_of all)
+    permuted_all = subst (IsPermutation (p.answers ++ x.tells.answers)) (sym (answers_append x.steps p.steps))
+        (IsPermutation-trans (p.answers ++ x.tells.answers) (answers_of p.steps ++ answers_of x.steps) (answers_of x.steps ++ answers_of p.steps)
+        (IsPermutation-append p.answers (answers_of p.steps) x.tells.answers (answers_of x.steps) p.permuted x.tells.same)
+        (IsPermutation-append_comm (answers_of p.steps) (answers_of x.steps)))
+
+    -- ---- a port that stays healthy
+
+    -- what goes well in the whole went well so far, and since
+    well_parts : (q : Port) → StaysHealthy q.0 s.device mid.device → Undisturbed q.0 s.device c.device × Undisturbed q.0 c.device mid.device
+    well_parts q well =
+        calm_parts laws.looks q.0 s.device c.device mid.device
+        (tape_over (IsServing (TendsPort (ports_of s))) s.device c.device (record { accesses = p.accesses; all = p.does; only = p.serving }))
+        (tape_over (IsOf (port_at n)) c.device mid.device its_driven) well.undisturbed
+
+    healthy_before : (q : Port) → StaysHealthy q.0 s.device mid.device → StaysHealthy q.0 s.device c.device
+    healthy_before q well = record { well = well.well; undisturbed = (well_parts q well).0 }
+
+    -- the port runs well when its turn begins
+    healthy_then : StaysHealthy n s.device mid.device → StaysHealthy n c.device mid.device
+    healthy_then well =
+        let parts = well_parts (port_at n) well in
+        let of = p.others (port_at n) not_yet in
+        record {
+          well = laws.runs_well n s.device c.device
+              (laws.runs_on (port_at n) p.accesses s.device c.device kept.on p.does
+              (All-weaker (IsOfOther (port_at n)) (SparesRegister Ghc) (λ access o. laws.of_host o.0 access o.2) p.accesses of)
+              (All-weaker (IsOfOther (port_at n)) (SparesRegister (Px (port_at n) Sctl)) (λ access o. laws.of_spares o.0 (port_at n) Sctl o.1 access o.2) p.accesses of)
+              (All-weaker (IsOfOther (port_at n)) (SparesRegister (Px (port_at n) Cmd)) (λ access o. laws.of_spares o.0 (port_at n) Cmd o.1 access o.2) p.accesses of))
+              parts.0 well.well;
+          undisturbed = parts.1;
+        }
+
     -- how the port takes commands
     abbrev takes : Mode
     takes = mode_in c (port_at n)
-
-    modes_is : (q : Port) → mode_in c q ≡ mode_in s q
-    modes_is q = ap (λ (x : Server). mode_in x q) p.same
-
-    ready_c : state_of (found_of c.ports n) ≡ ReadyState
-    ready_c = ap (λ (found : List Found). state_of (found_of found n)) ports_is ∙ ready
 
     -- a request that was issued on the port has a slot
     record IsLeading (e : Pending) : Type 0 where
@@ -255,152 +779,42 @@ module _ (laws : LawsBelow) (s : Server) (start : IsSettled s) (old : Moment) (r
         (clear.0.over.issued, clear.0.sact)
 
     -- who is answered in the turn is one of these, which are of the port
-    turn_ended : (replies : List Reply) (late : List Step) (b : AnswersBy takes (port_at n) replies late) → (e : Pending) (o : Outcome) → Contains late (Answer e o) → Contains b.ended e
-    turn_ended replies late b e o here = ⊎_elim
+    turn_ended : (late : List Step) (b : AnswersBy takes (port_at n) its late) → (e : Pending) (o : Outcome) → Contains late (Answer e o) → Contains b.ended e × (o ≡ Ok)
+    turn_ended late b e o here = ⊎_elim
         (λ later. absurd (no_answer_issuing takes (port_at n) b.later b.last e o later))
         (λ rest. ⊎_elim
-        (λ answered. (answered_in b.ended e o answered).0)
+        (λ answered. answered_in b.ended e o answered)
         (λ early. absurd (no_answer b.before b.first e o early))
         (Contains-append_cases (answers_in b.ended) b.before (Answer e o) rest))
         (Contains-append_cases b.later (answers_in b.ended ++ b.before) (Answer e o) (subst (λ (steps : List Step). Contains steps (Answer e o)) b.steps_are here))
 
-    turn_answers : (replies : List Reply) (late : List Step) → AnswersBy takes (port_at n) replies late → (e : Pending) (o : Outcome) → Contains late (Answer e o) → e.request.port ≡ port_at n
-    turn_answers replies late b e o here =
-        let x = at_right (HasEnded (port_at n)) b.requests b.ended b.each e (turn_ended replies late b e o here) in
-        x.2.entry.port ∙ x.2.port_is
+    module _ (well : StaysHealthy n s.device mid.device) where
+      abbrev its_calm : IsCalmTurn (port_at n) its part.accesses c mid x.evidence x.steps
+      its_calm = x.calm (healthy_then well)
 
-    module _ (replies : List Reply) (serves : ServesPort (port_at n) replies c mid) where
-      turn_is : TurnList (TendsPort (ports_of s)) (port_at n) its_served (slots_at c.slots n) replies c.device mid.device serves.turn
-      turn_is = turn_list (TendsPort (ports_of s)) (port_at n) its_served laws.looks low (slots_at c.slots n) replies c.device mid.device serves.turn
+      abbrev b : AnswersBy takes (port_at n) its x.steps
+      b = its_calm.answers
 
-      through : IsDrivenBy IsService c.device mid.device
-      through = driven_as (IsTurn (TendsPort (ports_of s))) IsService c.device mid.device (λ access is. is.0) turn_is.driven
-
-      so_far : IsDrivenBy IsService s.device c.device
-      so_far = driven_as (IsTurn (TendsPort (ports_of s))) IsService s.device c.device (λ access is. is.0) p.driven
-
-      -- what goes well in both went well so far, and since
-      well_parts : (q : Port) → StaysHealthy q.0 s.device mid.device → StaysHealthy q.0 s.device c.device × (RunsWell (c.device.port q.0) × Undisturbed q.0 c.device mid.device)
-      well_parts q well =
-          let parts = calm_parts laws.looks q.0 s.device c.device mid.device (tape_over IsService s.device c.device so_far) (tape_over IsService c.device mid.device through) well.undisturbed in
-          (record { well = well.well; undisturbed = parts.0 }, (services_well laws.looks q s.device c.device kept.on so_far parts.0 well.well, parts.1))
-
-      -- where the port goes well, a request that had ended is told
-      ended_told : StaysHealthy n s.device mid.device → (e : Pending) → (h : IsLeading e) → e.ended ≡ true → IsAnsweredIn h.has.used.id replies
-      ended_told well e h ended =
-          let w = (well_parts (port_at n) well).1 in
+      -- a request that had ended is told
+      ended_told : (e : Pending) → (h : IsLeading e) → e.ended ≡ true → IsAnsweredIn h.has.used.id its
+      ended_told e h ended =
           let clear = ended_clear e h ended in
-          serves.answered w.0 w.1 h.has.slot h.has.used h.has.small h.has.used_is clear.0 clear.1
-
-      abbrev x : AddsTurn (port_at n) replies c mid m
-      x = serves.adds m m_reached p.stands
-
-      abbrev all : List Step
-      all = x.steps ++ p.steps
-
-      turn_steps : TurnSteps (port_at n) x.steps
-      turn_steps = answers_turn takes (port_at n) replies x.steps x.answers
-
-      whole_is : after old.machine all ≡ after m x.steps
-      whole_is = after-append old.machine x.steps p.steps
-
-      one_of : (e y : Pending) → Contains m.book e → Contains m.book y → e.request.id.0 ≡ y.request.id.0 → e ≡ y
-      one_of e y here there same = (standing m m_reached).sound.one e y here there same
-
-      -- of the port, only the turn issues requests
-      own_alike : (u : Unanswered) → Contains (map unanswered (after m x.steps).book) u → u.port ≡ port_at n → list_any (issues_it u.id) x.steps ≡ list_any (issues_it u.id) all
-      own_alike u here its = ⊎_elim
-          (λ (early : IsIssuedIn u.id p.steps).
-          let w = p.turns.issued u.id early in
-          let y = map_in unanswered (after m x.steps).book u here in
-          let b = stood (port_at n) m x.steps turn_steps y.0 y.1 in
-          let same = one_of w.0 b.was w.1 b.here (w.2 ∙ ap (λ (v : Unanswered). v.id.0) y.2 ∙ ap (λ r. r.id.0) (sym b.request)) in
-          let small = w.3 in
-          let own = ap (λ (e : Pending). e.request.port.0) same ∙ ap (λ r. r.port.0) b.request ∙ ap (λ (v : Unanswered). v.port.0) (sym y.2) ∙ ap (λ (q : Port). q.0) its in
-          absurd (omega (arith, small, own)))
-          (λ (none : list_any (issues_it u.id) p.steps ≡ false).
-          sym (any_append (issues_it u.id) x.steps p.steps ∙ ap (λ (b : Bool). list_any (issues_it u.id) x.steps || b) none ∙ or_none (list_any (issues_it u.id) x.steps)))
-          (cases_Bool (list_any (issues_it u.id) p.steps))
-
-      -- and it issues none of another
-      other_alike : (q : Port) → q ≢ port_at n → (u : Unanswered) → Contains (map unanswered m.book) u → u.port ≡ q → list_any (issues_it u.id) p.steps ≡ list_any (issues_it u.id) all
-      other_alike q ne u here its = ⊎_elim
-          (λ (late : IsIssuedIn u.id x.steps).
-          let w = issued_before (port_at n) m x.steps turn_steps x.may u.id late in
-          let y = map_in unanswered m.book u here in
-          let same = one_of w.pending y.0 w.here y.1 (w.id_is ∙ ap (λ (v : Unanswered). v.id.0) y.2) in
-          absurd (ne (sym its ∙ ap (λ (v : Unanswered). v.port) y.2 ∙ ap (λ (e : Pending). e.request.port) (sym same) ∙ w.port_is)))
-          (λ (none : list_any (issues_it u.id) x.steps ≡ false). sym (any_append (issues_it u.id) x.steps p.steps ∙ ap (λ (b : Bool). b || list_any (issues_it u.id) p.steps) none))
-          (cases_Bool (list_any (issues_it u.id) x.steps))
-
-      due_now : (q : Port) → IssuesDue (mode_in s q) all (after old.machine all) q
-      due_now q = subst (λ (k : Machine). IssuesDue (mode_in s q) all k q) (sym whole_is) (⊎_elim
-          (λ (same : q.0 ≡ n).
-          subst (λ (r : Port). IssuesDue (mode_in s r) all (after m x.steps) r) (ap port_at (sym same))
-          (dues_carried laws (mode_in s (port_at n)) x.steps all (after m x.steps) (after m x.steps) (port_at n) refl own_alike (subst (λ (mode : Mode). IssuesDue mode x.steps (after m x.steps) (port_at n)) (modes_is (port_at n)) x.issues)))
-          (λ (ne : q.0 ≢ n).
-          let apart : q ≢ port_at n = λ same. ne (ap (λ (p : Port). p.0) same) in
-          dues_carried laws (mode_in s q) p.steps all m (after m x.steps) q
-          (ap (of_port q) (same_book c.book m.book p.stands.book) ∙ sym (turn_apart laws (port_at n) replies c mid serves.turn p.settled.kept.ordered serves.answers q apart) ∙ ap (of_port q) (sym (same_book mid.book (after m x.steps).book x.stands.book)))
-          (other_alike q apart) (p.due q))
-          (cases_eq q.0 n))
-
-      -- the port had its turn, and these requests were answered
-      had_turn : AreTurns old (ports_of s) (n + 1) (n + 1) all → (answers : List (Pending × Outcome)) → IsPermutation answers (answers_of all) → AllPairs IsToldBefore answers
-          → All (λ a. a.0.request.port.0 < n + 1) answers → before ++ replies ≡ map reply_of answers
-          → (StaysHealthy n s.device mid.device → (e : Pending) → Contains old.machine.book e → e.request.port ≡ port_at n → e.ended ≡ true → (done : Pending) × (done.request ≡ e.request) × Contains all (Answer done Ok))
-          → (StaysHealthy n s.device mid.device → (e : Pending) → IsIssuedOn (port_at n) old.machine e → FindsDone (port_at n) (p.driven.accesses ++ turn_is.driven.accesses) began all)
-          → Progress (n + 1) mid (before ++ replies)
-      had_turn turns answers permuted ordered low told heeds here_finds = record {
-        settled = next;
-        same = same_more s c mid p.same (turn_settings laws (port_at n) replies c mid serves.turn serves.answers);
-        driven = record {
-          accesses = p.driven.accesses ++ turn_is.driven.accesses;
-          all = does_append p.driven.accesses turn_is.driven.accesses s.device c.device mid.device p.driven.all turn_is.driven.all;
-          only = All-append (IsTurn (TendsPort (ports_of s))) p.driven.accesses turn_is.driven.accesses p.driven.only turn_is.driven.only;
-        };
-        steps = all;
-        turns = turns;
-        stands = subst (IsMachineOf mid) (sym whole_is) x.stands;
-        backed = backed_then s.device c.device mid.device old.machine p.steps x.steps p.backed x.backed;
-        answers = answers;
-        permuted = permuted;
-        ordered = ordered;
-        low = low;
-        told = told;
-        heeded = λ q lt is_ready well e there own ended. ⊎_elim
-            (λ (less : q.0 < n).
-            let y = p.heeded q less is_ready (well_parts q well).0 e there own ended in
-            (y.0, y.1, Contains-append_right x.steps p.steps (Answer y.0 Ok) y.2))
-            (λ (most : n ≤ q.0).
-            let q_is : q.0 ≡ n = omega (arith, lt, most) in
-            heeds (subst (λ (k : ℕ). StaysHealthy k s.device mid.device) q_is well) e there (own ∙ ap port_at q_is) ended)
-            (cases_lt q.0 n);
-        finds = λ q lt is_ready well e its. ⊎_elim
-            (λ (less : q.0 < n).
-            finds_more n c before p q turn_is.driven.accesses x.steps (λ done o there. let own = turn_answers replies x.steps x.answers done o there in let k = ap (λ (r : Port). r.0) own in λ same. omega (arith, less, k, ap (λ (r : Port). r.0) same))
-            (p.finds q less is_ready (well_parts q well).0 e its))
-            (λ (most : n ≤ q.0).
-            let q_is : port_at n ≡ q = ap port_at (omega (arith, lt, most)) in
-            subst (λ (r : Port). FindsDone r (p.driven.accesses ++ turn_is.driven.accesses) began all) q_is
-            (here_finds (subst (λ (r : Port). StaysHealthy r.0 s.device mid.device) (sym q_is) well) e (subst (λ (r : Port). IsIssuedOn r old.machine e) (sym q_is) its)))
-            (cases_lt q.0 n);
-        due = due_now;
-        ahead = λ q past. turn_slots laws (port_at n) replies c mid serves.turn serves.answers q (λ same. omega (arith, past, same)) ∙ p.ahead q (omega (arith, past));
-      }
+          its_calm.answered h.has.slot h.has.used h.has.small h.has.used_is clear.0 clear.1
 
       -- who is told is answered, and who is answered is told
       module _ (e : Pending) (h : IsLeading e) where
         its_id : h.has.used.id ≡ e.request.id
         its_id = h.has.id_is ∙ ap (λ r. r.id) h.same_as.request
 
-        told_answered : IsAnsweredIn h.has.used.id replies → IsAnsweredOk e all
+        early_may : AllMay m b.before × AllMay (after m b.before) (answers_in b.ended)
+        early_may = may_parts m (answers_in b.ended) b.before (may_parts m b.later (answers_in b.ended ++ b.before) (subst (AllMay m) b.steps_are x.may)).0
+
+        told_answered : IsAnsweredIn h.has.used.id its → IsAnsweredOk e all
         told_answered told =
-            let b = x.answers in
             let r = map_in done_reply b.requests told.0 (subst (λ (list : List Reply). Contains list told.0) b.told told.1) in
             let d = at_left (HasEnded (port_at n)) b.requests b.ended b.each r.0 r.1 in
             let id_is : d.0.request.id ≡ h.now_is.request.id = d.2.entry.id ∙ sym (ap (λ (y : Reply). y.id) r.2) ∙ told.2 ∙ h.has.id_is in
-            let w = ended_stood (after m b.before) b.ended (early_may b).1 d.0 d.1 in
+            let w = ended_stood (after m b.before) b.ended early_may.1 d.0 d.1 in
             let l = found_before m.book (after m b.before).book d.0 (steps_spare m b.before b.first).book w in
             let one = one_of h.now_is l.0 h.here l.1 (ap (λ (i : RequestId). i.0) (sym id_is ∙ ap (λ r. r.id) l.2.request)) in (
               d.0,
@@ -408,246 +822,421 @@ module _ (laws : LawsBelow) (s : Server) (start : IsSettled s) (old : Moment) (r
               Contains-append_left x.steps p.steps (Answer d.0 Ok) (subst (λ (steps : List Step). Contains steps (Answer d.0 Ok)) (sym b.steps_are)
                   (Contains-append_right b.later (answers_in b.ended ++ b.before) (Answer d.0 Ok) (Contains-append_left (answers_in b.ended) b.before (Answer d.0 Ok) (in_answered b.ended d.0 d.1)))),
             )
-          where
-            early_may : (b : AnswersBy takes (port_at n) replies x.steps) → AllMay m b.before × AllMay (after m b.before) (answers_in b.ended)
-            early_may b = may_parts m (answers_in b.ended) b.before (may_parts m b.later (answers_in b.ended ++ b.before) (subst (AllMay m) b.steps_are x.may)).0
 
-        answered_told : e.request.port ≡ port_at n → IsAnsweredOk e all → IsAnsweredIn h.has.used.id replies
+        answered_told : e.request.port ≡ port_at n → IsAnsweredOk e all → IsAnsweredIn h.has.used.id its
         answered_told own ok = ⊎_elim
             (λ late.
-            let b = x.answers in
-            let r = at_right (HasEnded (port_at n)) b.requests b.ended b.each ok.0 (turn_ended replies x.steps b ok.0 Ok late) in (
+            let r = at_right (HasEnded (port_at n)) b.requests b.ended b.each ok.0 (turn_ended x.steps b ok.0 Ok late).0 in (
               done_reply r.0,
               subst (λ (list : List Reply). Contains list (done_reply r.0)) (sym b.told) (into_map done_reply b.requests r.0 r.1),
               sym r.2.entry.id ∙ ap (λ q. q.id) ok.1 ∙ sym its_id,
             ))
             (λ early.
-            let small = (p.turns.told ok.0 Ok early).2 in
+            let small = answered_of (λ q. q.0 < n) p.steps p.turns.below ok.0 Ok early in
             let there = ap (λ (q : Port). q.0) (ap (λ r. r.port) ok.1 ∙ own) in
             absurd (omega (arith, small, there)))
             (Contains-append_cases x.steps p.steps (Answer ok.0 Ok) ok.2)
 
-    -- ---- what is found done in it
+      -- ---- what is found done in it
 
-    module _ (replies : List Reply) (serves : ServesPort (port_at n) replies c mid) (healthy : StaysHealthy n s.device mid.device) (e : Pending) (its : IsIssuedOn (port_at n) old.machine e) where
-      w : RunsWell (c.device.port n) × Undisturbed n c.device mid.device
-      w = (well_parts replies serves (port_at n) healthy).1
+      module _ (e : Pending) (leads : IsIssuedOn (port_at n) old.machine e) where
+        abbrev found : IsChecked (port_at n) (slots_at c.slots n) its part.accesses c.device mid.device
+        found = let h = (leading e leads).has in its_calm.checked h.slot h.used h.small h.used_is
 
-      calm : serves.turn.look ≡ Calm
-      calm = (turn_is replies serves).calm p.settled.kept.on w.0 w.1
+        abbrev k : Checks (port_at n) (slots_at c.slots n) found.mask its found.seen mid.device
+        k = found.checks
 
-      busy : IsBusy (slots_at c.slots n)
-      busy = let h = (leading e its).has in (h.slot, h.small, ap is_used h.used_is)
+        masks_read : (read : Device) × Reads (Px (port_at n) Ci) k.reads.issued found.seen read × Reads (Px (port_at n) Sact) k.reads.active read k.read
+        masks_read = both_read (port_at n) found.mask k.done found.seen k.read k.reads
 
-      checks : (mask : ℕ) × IsMaskOf (slots_at c.slots n) mask
-          × ((k : Checks (port_at n) (slots_at c.slots n) mask replies serves.turn.seen mid.device) × ReadsMasks (port_at n) k.reads.issued k.reads.active (turn_is replies serves).driven.accesses)
-      checks = (turn_is replies serves).masks calm busy
+        abbrev AreClear : ℕ → Type 0
+        AreClear slot = (bit k.reads.issued slot ≡ false) × (bit k.reads.active slot ≡ false)
 
-      abbrev k : Checks (port_at n) (slots_at c.slots n) checks.0 replies serves.turn.seen mid.device
-      k = checks.2.0
+        -- a request's slot tells whether it was answered
+        module _ (other : Pending) (own : IsIssuedOn (port_at n) old.machine other) where
+          abbrev h : HasSlot c (port_at n) (leading other own).now_is.request.id
+          h = (leading other own).has
 
-      masks_read : (read : Device) × Reads (Px (port_at n) Ci) k.reads.issued serves.turn.seen read × Reads (Px (port_at n) Sact) k.reads.active read k.read
-      masks_read = both_read (port_at n) checks.0 k.done serves.turn.seen k.read k.reads
+          asked : bit found.mask h.slot ≡ true
+          asked = found.its h.slot h.small ∙ ap is_used h.used_is
 
-      abbrev AreClear : ℕ → Type 0
-      AreClear slot = (bit k.reads.issued slot ≡ false) × (bit k.reads.active slot ≡ false)
+          tells : bit k.done h.slot ≡ (not (bit k.reads.issued h.slot) && not (bit k.reads.active h.slot))
+          tells = k.reads.tells h.slot h.small ∙ ap (λ (y : Bool). y && not (bit k.reads.issued h.slot) && not (bit k.reads.active h.slot)) asked
 
-      -- a request's slot tells whether it was answered
-      module _ (other : Pending) (own : IsIssuedOn (port_at n) old.machine other) where
-        abbrev h : HasSlot c (port_at n) (leading other own).now_is.request.id
-        h = (leading other own).has
-
-        asked : bit checks.0 h.slot ≡ true
-        asked = checks.1 h.slot h.small ∙ ap is_used h.used_is
-
-        tells : bit k.done h.slot ≡ (not (bit k.reads.issued h.slot) && not (bit k.reads.active h.slot))
-        tells = k.reads.tells h.slot h.small ∙ ap (λ (b : Bool). b && not (bit k.reads.issued h.slot) && not (bit k.reads.active h.slot)) asked
-
-        at_slot : IsAnsweredOk other (all replies serves) ↔ AreClear h.slot
-        at_slot = (
-          (λ ok.
-              let done = (k.exact h.slot h.used h.small h.used_is).1 (answered_told replies serves other (leading other own) own.port_is ok) in
-              let both = and_parts (not (bit k.reads.issued h.slot)) (not (bit k.reads.active h.slot)) (sym tells ∙ done) in
-              (not_true (bit k.reads.issued h.slot) both.0, not_true (bit k.reads.active h.slot) both.1)),
-          (λ clear.
-              told_answered replies serves other (leading other own) ((k.exact h.slot h.used h.small h.used_is).0
-              (tells ∙ and_from (not (bit k.reads.issued h.slot)) (not (bit k.reads.active h.slot)) (ap not clear.0) (ap not clear.1)))),
-        )
-
-        -- bytes of another slot may say its command still: then it has ended, and that slot isn't used
-        module _ (slot : ℕ) (apart : slot ≢ h.slot) (says : ServesRequest old.machine s.device.memory (s.device.port n) n slot other.request.id) where
-          -- the port's slots are what they were when the service began
-          used_then : (i : ℕ) → used_for c.slots n i ≡ used_for s.slots n i
-          used_then i = ap (λ (slots : PortSlots). use_at slots i) (p.ahead n (omega arith))
-
-          unused : used_for s.slots n slot ≡ None
-          unused = ⊎_elim
-              (λ (x : (u : SlotUse) × (used_for s.slots n slot ≡ Some u)).
-              let same : other.request.id ≡ x.0.id = one_said laws s kept old.machine at n slot x.0 other.request.id ready x.1 says in
-              let there = serves_used s old.machine n at ready slot x.0 x.1 ∙ ap Serves (sym same) in
-              let here = serves_used s old.machine n at ready h.slot h.used (sym (used_then h.slot) ∙ h.used_is) ∙ ap Serves (h.id_is ∙ ap (λ r. r.id) (leading other own).same_as.request) in
-              absurd (apart (at.knows.agrees.apart n slot n h.slot other.request.id there here).1))
-              (λ none. none)
-              (used_or_not (used_for s.slots n slot))
-
-          has_ended : other.ended ≡ true
-          has_ended = ap (λ (x : Pending). x.ended) (sym same) ∙ by says.stage
-            where
-              free : IsFree (s.device.port n) slot
-              free = subst (λ (u : Use). IsServed old.machine s.device.memory s.device.tape (s.device.port n) n slot u) (free_unused s old.machine n at ready slot unused) (at.knows.agrees.slot n slot)
-
-              same : says.pending ≡ other
-              same = ⊎_elim
-                  (λ booked. (standing old.machine reached).sound.one says.pending other booked.0 own.here (ap (λ (i : RequestId). i.0) says.id_is))
-                  (λ kept_there. absurd (contains_none says.pending (subst (λ (es : List Pending). Contains es says.pending) at.kept kept_there)))
-                  says.moves
-
-              by : Stage s.device.memory (s.device.port n) n slot says.pending says.command says.places → says.pending.ended ≡ true
-              by (inl waits) = absurd (false≢true (sym free.issued ∙ waits.issued))
-              by (inr (inl taken)) = let z : None ≡ Some taken.command = sym free.free ∙ taken.taken in absurd cc
-              by (inr (inr (inl ended))) = ended.ended
-              by (inr (inr (inr dropped))) = absurd (false≢true (sym dropped.stopped ∙ ((kept.behind n low).runs ready).st))
-
-          clear_there : AreClear slot
-          clear_there = (
-            issued_clear (port_at n) slot k.reads.issued serves.turn.seen masks_read.0 says.placed.slot_below masks_read.1
-                (still_over (port_at n) slot c.device serves.turn.seen looks (record { issued = free.issued; free = free.free })),
-            active_clear (port_at n) slot k.reads.active masks_read.0 k.read says.placed.slot_below masks_read.2
-                (reads_clear n slot (Px (port_at n) Ci) k.reads.issued serves.turn.seen masks_read.0 masks_read.1
-                (looks_inactive laws.looks (port_at n) n slot c.device serves.turn.seen looks free.unarmed)),
-          )
-            where
-              free : IsFree (c.device.port n) slot
-              free = subst (λ (u : Use). IsServed m c.device.memory c.device.tape (c.device.port n) n slot u) (free_unused c m n p.stands ready_c slot (used_then slot ∙ unused)) (p.stands.knows.agrees.slot n slot)
-
-              looks : IsDrivenBy (IsLooking (port_at n)) c.device serves.turn.seen
-              looks = look_driven (port_at n) serves.turn.look c.device serves.turn.seen serves.turn.looks
-
-          apart_too : IsAnsweredOk other (all replies serves) ↔ AreClear slot
-          apart_too = (
-            (λ _. clear_there),
-            (λ _. told_answered replies serves other (leading other own) (ended_told replies serves healthy other (leading other own) has_ended)),
+          at_slot : IsAnsweredOk other all ↔ AreClear h.slot
+          at_slot = (
+            (λ ok.
+                let done = (k.exact h.slot h.used h.small h.used_is).1 (answered_told other (leading other own) own.port_is ok) in
+                let both = and_parts (not (bit k.reads.issued h.slot)) (not (bit k.reads.active h.slot)) (sym tells ∙ done) in
+                (not_true (bit k.reads.issued h.slot) both.0, not_true (bit k.reads.active h.slot) both.1)),
+            (λ clear.
+                told_answered other (leading other own) ((k.exact h.slot h.used h.small h.used_is).0
+                (tells ∙ and_from (not (bit k.reads.issued h.slot)) (not (bit k.reads.active h.slot)) (ap not clear.0) (ap not clear.1)))),
           )
 
-      finding : FindsDone (port_at n) (p.driven.accesses ++ (turn_is replies serves).driven.accesses) began (all replies serves)
-      finding = record {
-        ci = k.reads.issued;
-        sact = k.reads.active;
-        reads = record {
-          before = p.driven.accesses ++ checks.2.1.before;
-          later = checks.2.1.later;
-          here = ap (λ (late : List Access). p.driven.accesses ++ late) checks.2.1.here
-              ∙ sym (append_assoc p.driven.accesses checks.2.1.before (Reading (Px (port_at n) Ci) k.reads.issued ∷ Reading (Px (port_at n) Sact) k.reads.active ∷ checks.2.1.later));
-          running = All-append (LeavesCommand (port_at n)) p.driven.accesses checks.2.1.before
-              (λ i d small. (turn_leaves (TendsPort (ports_of s)) (port_at n) _ (p.driven.only i d small)).0) checks.2.1.running;
-        };
-        exact = λ other slot own says. ⊎_elim
-            (λ (same : slot ≡ (leading other own).has.slot). subst (λ (i : ℕ). IsAnsweredOk other (all replies serves) ↔ AreClear i) (sym same) (at_slot other own))
-            (λ (apart : slot ≢ (leading other own).has.slot). apart_too other own slot apart says)
-            (cases_eq slot (leading other own).has.slot);
+          -- bytes of another slot may say its command still: then it has ended, and that slot isn't used
+          module _ (slot : ℕ) (apart : slot ≢ h.slot) (says : ServesRequest old.machine s.device.memory (s.device.port n) n slot other.request.id) where
+            -- the port's slots are what they were when the service began
+            used_then : (i : ℕ) → used_for c.slots n i ≡ used_for s.slots n i
+            used_then i = ap (λ (slots : PortSlots). use_at slots i) (p.slots n (omega arith))
+
+            unused : used_for s.slots n slot ≡ None
+            unused = ⊎_elim
+                (λ (y : (u : SlotUse) × (used_for s.slots n slot ≡ Some u)).
+                let same : other.request.id ≡ y.0.id = one_said laws s kept old.machine at n slot y.0 other.request.id ready y.1 says in
+                let there = serves_used s old.machine n at ready slot y.0 y.1 ∙ ap Serves (sym same) in
+                let here = serves_used s old.machine n at ready h.slot h.used (sym (used_then h.slot) ∙ h.used_is) ∙ ap Serves (h.id_is ∙ ap (λ r. r.id) (leading other own).same_as.request) in
+                absurd (apart (at.knows.agrees.apart n slot n h.slot other.request.id there here).1))
+                (λ none. none)
+                (used_or_not (used_for s.slots n slot))
+
+            has_ended : other.ended ≡ true
+            has_ended = ap (λ (y : Pending). y.ended) (sym same) ∙ by says.stage
+              where
+                free : IsFree (s.device.port n) slot
+                free = subst (λ (u : Use). IsServed old.machine s.device.memory s.device.tape (s.device.port n) n slot u) (free_unused s old.machine n at ready slot unused) (at.knows.agrees.slot n slot)
+
+                same : says.pending ≡ other
+                same = ⊎_elim
+                    (λ booked. (standing old.machine reached).sound.one says.pending other booked.0 own.here (ap (λ (i : RequestId). i.0) says.id_is))
+                    (λ kept_there. absurd (contains_none says.pending (subst (λ (es : List Pending). Contains es says.pending) at.kept kept_there)))
+                    says.moves
+
+                by : Stage s.device.memory (s.device.port n) n slot says.pending says.command says.places → says.pending.ended ≡ true
+                by (inl waits) = absurd (false≢true (sym free.issued ∙ waits.issued))
+                by (inr (inl taken)) = let z : None ≡ Some taken.command = sym free.free ∙ taken.taken in absurd cc
+                by (inr (inr (inl ended))) = ended.ended
+                by (inr (inr (inr dropped))) = absurd (false≢true (sym dropped.stopped ∙ ((kept.behind n low).runs ready).st))
+
+            clear_there : AreClear slot
+            clear_there = (
+              issued_clear (port_at n) slot k.reads.issued found.seen masks_read.0 says.placed.slot_below masks_read.1
+                  (still_over (port_at n) slot c.device found.seen found.looks (record { issued = free.issued; free = free.free })),
+              active_clear (port_at n) slot k.reads.active masks_read.0 k.read says.placed.slot_below masks_read.2
+                  (reads_clear n slot (Px (port_at n) Ci) k.reads.issued found.seen masks_read.0 masks_read.1
+                  (looks_inactive laws.looks (port_at n) n slot c.device found.seen found.looks free.unarmed)),
+            )
+              where
+                free : IsFree (c.device.port n) slot
+                free = subst (λ (u : Use). IsServed m c.device.memory c.device.tape (c.device.port n) n slot u) (free_unused c m n p.stands ready_c slot (used_then slot ∙ unused)) (p.stands.knows.agrees.slot n slot)
+
+            apart_too : IsAnsweredOk other all ↔ AreClear slot
+            apart_too = (
+              (λ _. clear_there),
+              (λ _. told_answered other (leading other own) (ended_told other (leading other own) has_ended)),
+            )
+
+        finding : FindsDone (port_at n) accesses began all
+        finding = record {
+          ci = k.reads.issued;
+          sact = k.reads.active;
+          reads = record {
+            before = p.accesses ++ found.masks.before;
+            later = found.masks.later;
+            here = ap (λ (late : List Access). p.accesses ++ late) found.masks.here
+                ∙ sym (append_assoc p.accesses found.masks.before (Reading (Px (port_at n) Ci) k.reads.issued ∷ Reading (Px (port_at n) Sact) k.reads.active ∷ found.masks.later));
+            running = All-append (LeavesCommand (port_at n)) p.accesses found.masks.before
+                (All-weaker (LeavesEngine (port_at n)) (LeavesCommand (port_at n)) (λ access leaves. leaves.0) p.accesses (others_leave (port_at n) p.accesses (p.others (port_at n) not_yet)))
+                found.masks.running;
+          };
+          exact = λ other slot own says. ⊎_elim
+              (λ (same : slot ≡ (leading other own).has.slot). subst (λ (i : ℕ). IsAnsweredOk other all ↔ AreClear i) (sym same) (at_slot other own))
+              (λ (apart : slot ≢ (leading other own).has.slot). apart_too other own slot apart says)
+              (cases_eq slot (leading other own).has.slot);
+        }
+
+      calm_n : IsCalm mid accesses all evidence (port_at n)
+      calm_n = record {
+        same = same_then old.ports (ports_of c) (ports_of mid) (port_at n) same_n its_calm.same;
+        alone = λ i. its_calm.alone (⊎_elim (λ stopped. inl (alike_n.stopped.1 stopped)) (λ stuck. inr (alike_n.stuck.1 stuck)) i);
+        told = λ e o here own. ⊎_elim
+            (λ late. (turn_ended x.steps b e o late).1)
+            (λ early. let small = answered_of (λ q. q.0 < n) p.steps p.turns.below e o early in let is : e.request.port.0 ≡ n = ap (λ (q : Port). q.0) own in absurd (omega (arith, small, is)))
+            (Contains-append_cases x.steps p.steps (Answer e o) here);
+        heeded = λ e there own ended. let h = leading e (ended_on e there own ended) in told_answered e h (ended_told e h ended);
+        finds = λ e its. finding e its;
       }
 
-    -- ---- who is answered in it
+    -- ---- each port
 
-    -- These steps answered these; those of these requests that are left come later by id.
-    record SoFar (left : List Held) (steps : List Step) (answers : List (Pending × Outcome)) : Type 0 where
-      turns : AreTurns old (ports_of s) n (suc n) steps
-      permuted : IsPermutation answers (answers_of steps)
-      ordered : AllPairs IsToldBefore answers
-      low : All (λ a. a.0.request.port.0 < n + 1) answers
-      earlier : All (λ a. (a.0.request.port.0 < n) ⊎ ((a.0.request.port ≡ port_at n) × All (λ (e : Held). a.0.request.id.0 < e.entry.id.0) left)) answers
+    -- what was found done on another port was so still
+    finds_more : (q : Port) → q ≢ port_at n → FindsDone q p.accesses began p.steps → FindsDone q accesses began all
+    finds_more q ne f = record {
+      ci = f.ci;
+      sact = f.sact;
+      reads = record {
+        before = f.reads.before;
+        later = f.reads.later ++ part.accesses;
+        here = ap (λ (list : List Access). list ++ part.accesses) f.reads.here
+            ∙ append_assoc f.reads.before (Reading (Px q Ci) f.ci ∷ Reading (Px q Sact) f.sact ∷ f.reads.later) part.accesses;
+        running = f.reads.running;
+      };
+      exact = λ e slot own says.
+          let y = f.exact e slot own says in (
+            (λ ok. y.0 (
+              ok.0,
+              ok.1,
+              ⊎_elim
+                  (λ there. absurd (ne (sym own.port_is ∙ sym (ap (λ r. r.port) ok.1) ∙ answered_of (λ r. r ≡ port_at n) x.steps x.own ok.0 Ok there)))
+                  (λ there. there)
+                  (Contains-append_cases x.steps p.steps (Answer ok.0 Ok) ok.2),
+            )),
+            (λ clear. let ok = y.1 clear in (ok.0, ok.1, Contains-append_right x.steps p.steps (Answer ok.0 Ok) ok.2)),
+          );
+    }
 
-    one_more : (e : Held) (left : List Held) (done : Pending) (steps : List Step) (answers : List (Pending × Outcome)) → AllPairs IsEarlier (e ∷ left) → HasEnded (port_at n) e done
-        → Contains (after old.machine steps).book done → SoFar (e ∷ left) steps answers → SoFar left (Answer done Ok ∷ steps) (answers ++ (done, Ok) ∷ [])
-    one_more e left done steps answers order has here f = record {
-      turns = answer_on old (ports_of s) reached n steps done (ap (λ (q : Port). q.0) own) here (suc n) (omega arith) has.issued has.touched has.ended
-          (ap (λ (q : Port). state_of (found_of s.ports q.0)) own ∙ ready) f.turns;
-      permuted = IsPermutation-push_more answers (answers_of steps) ((done, Ok) ∷ answers_of steps) (done, Ok) f.permuted (IsPermutation-refl _);
-      ordered = all_pairs_push IsToldBefore answers (done, Ok) f.ordered (λ k d small. ⊎_elim
-          (λ less. inl (let q = ap (λ (r : Port). r.0) own in omega (arith, less, q)))
-          (λ same. inr (same.0 ∙ sym own, let lt = same.1 0 e (omega arith) in let id = ap (λ (i : RequestId). i.0) has.entry.id in omega (arith, lt, id)))
-          (f.earlier k d small));
-      low = All-push (λ a. a.0.request.port.0 < n + 1) answers (done, Ok) f.low (let q = ap (λ (r : Port). r.0) own in omega (arith, q));
-      earlier = All-push (λ a. (a.0.request.port.0 < n) ⊎ ((a.0.request.port ≡ port_at n) × All (λ (y : Held). a.0.request.id.0 < y.entry.id.0) left)) answers (done, Ok)
-          (λ k d small. ⊎_elim (λ less. inl less) (λ same. inr (same.0, λ i y below. same.1 (suc i) y (omega (arith, below)))) (f.earlier k d small))
-          (inr (own, λ i y below. let lt = order 0 (suc i) y (omega arith) (omega (arith, below)) in let id = ap (λ (j : RequestId). j.0) has.entry.id in omega (arith, lt, id)));
+    had_disk : (a d : Server) (early late : List Step) (q : Port) → (ports_of d).state q ≡ (ports_of a).state q → ((list_any (changes_disk q) early ≡ true) → list_any (changes_disk q) late ≡ true)
+        → HadDisk old early (moment_of a (after old.machine early)) q → HadDisk old late (moment_of d (after old.machine late)) q
+    had_disk a d early late q state more had shows = ⊎_elim (λ present. inl present) (λ changes. inr (more changes)) (had (subst ShowsDisk state shows))
+
+    done_n : IsDone mid accesses all evidence (port_at n)
+    done_n = record {
+      becomes = serviced_lift old.ports (ports_of c) (ports_of mid) (ports_of mid) x.evidence evidence (port_at n) same_n (same_self (ports_of mid) (port_at n)) alike_n x.becomes;
+      disk = ⊎_elim
+          (λ same. inl (same_then old.ports (ports_of c) (ports_of mid) (port_at n) same_n same))
+          (λ had. inr (λ shows. ⊎_elim
+          (λ present. ⊎_elim (λ was. inl was) (λ changed. inr (any_append (changes_disk (port_at n)) x.steps p.steps ∙ or_right _ _ changed)) (present_before old.machine (port_at n) p.steps present))
+          (λ changed. inr (any_append (changes_disk (port_at n)) x.steps p.steps ∙ or_left _ _ changed))
+          (had shows)))
+          x.disk;
+      keeps = ⊎_elim
+          (λ d. inl (same_disk old.ports (ports_of c) (ports_of mid) (ports_of mid) (port_at n) same_n (same_self (ports_of mid) (port_at n)) d))
+          (λ none. inr (λ e here. none e (subst (λ (k : Machine). Contains k.book e) whole_is here)))
+          x.keeps;
+      evidenced = evidenced_n;
+      calm = λ well is_ready. calm_n well;
+    }
+
+    done_before : (q : Port) → q.0 < n → IsDone c p.accesses p.steps p.evidence q → IsDone mid accesses all evidence q
+    done_before q lt d = record {
+      becomes = serviced_lift old.ports old.ports (ports_of c) (ports_of mid) p.evidence evidence q (same_self old.ports q) same alike d.becomes;
+      disk = ⊎_elim
+          (λ was. inl (same_then old.ports (ports_of c) (ports_of mid) q was same))
+          (λ had. inr (λ shows. ⊎_elim
+          (λ present. inl present)
+          (λ changed. inr (any_append (changes_disk q) x.steps p.steps ∙ or_right _ _ changed))
+          (had (subst ShowsDisk same.1 shows))))
+          d.disk;
+      keeps = ⊎_elim
+          (λ was. inl (same_disk old.ports old.ports (ports_of c) (ports_of mid) q (same_self old.ports q) same was))
+          (λ none. inr (λ e here own.
+          let b = stood (port_at n) m x.steps x.own e (subst (λ (k : Machine). Contains k.book e) whole_is here) in
+          none b.was b.here (ap (λ r. r.port) b.request ∙ own)))
+          d.keeps;
+      evidenced = ⊎_elim
+          (λ is_ready. evidenced_before q lt is_ready d.evidenced)
+          (λ unready. idle q unready)
+          (ready_or_not (state_at q.0));
+      calm = λ well is_ready.
+          let k = d.calm (healthy_before q well) is_ready in
+          record {
+            same = same_then old.ports (ports_of c) (ports_of mid) q k.same same;
+            alone = λ i. k.alone (⊎_elim (λ stopped. inl (alike.stopped.1 stopped)) (λ stuck. inr (alike.stuck.1 stuck)) i);
+            told = λ e o here own. ⊎_elim
+                (λ late. absurd (earlier q lt (sym own ∙ answered_of (λ r. r ≡ port_at n) x.steps x.own e o late)))
+                (λ early. k.told e o early own)
+                (Contains-append_cases x.steps p.steps (Answer e o) here);
+            heeded = λ e there own ended. let y = k.heeded e there own ended in (y.0, y.1, Contains-append_right x.steps p.steps (Answer y.0 Ok) y.2);
+            finds = λ e its. finds_more q (earlier q lt) (k.finds e its);
+          };
     }
       where
-        own : done.request.port ≡ port_at n
-        own = has.entry.port ∙ has.port_is
+        same : SamePort (ports_of c) (ports_of mid) q
+        same = same_other q (λ is. omega (arith, lt, is))
 
-    all_more : (requests : List Held) (ended : List Pending) (steps : List Step) (answers : List (Pending × Outcome)) → AllZip (HasEnded (port_at n)) requests ended → AllPairs IsEarlier requests
-        → AllMay (after old.machine steps) (answers_in ended) → SoFar requests steps answers → SoFar [] (answers_in ended ++ steps) (answers ++ map with_ok ended)
-    all_more [] [] steps answers each order may f = subst (SoFar [] steps) (sym (append-nil answers)) f
-    all_more [] (done ∷ ended) steps answers each order may f = absurd each
-    all_more (e ∷ requests) [] steps answers each order may f = absurd each
-    all_more (e ∷ requests) (done ∷ ended) steps answers each order may f =
-        let parts = may_parts (after old.machine steps) (answers_in ended) (Answer done Ok ∷ []) may in
-        let rest = all_more requests ended (Answer done Ok ∷ steps) (answers ++ (done, Ok) ∷ []) each.1 (λ i j d lt below. order (suc i) (suc j) d (omega (arith, lt)) (omega (arith, below))) parts.1
-        (one_more e requests done steps answers order each.0 parts.0.1 f) in
-        subst (λ (list : List (Pending × Outcome)). SoFar [] ((answers_in ended ++ Answer done Ok ∷ []) ++ steps) list) (append_assoc answers ((done, Ok) ∷ []) (map with_ok ended))
-        (subst (λ (list : List Step). SoFar [] list ((answers ++ (done, Ok) ∷ []) ++ map with_ok ended)) (sym (append_assoc (answers_in ended) (Answer done Ok ∷ []) steps)) rest)
+        alike : NamesAlike q p.evidence evidence
+        alike = alike_other q (earlier q lt)
 
-    module _ (replies : List Reply) (late : List Step) (may : AllMay m late) (b : AnswersBy takes (port_at n) replies late) where
-      both : AllMay m (answers_in b.ended ++ b.before) × AllMay (after m (answers_in b.ended ++ b.before)) b.later
-      both = may_parts m b.later (answers_in b.ended ++ b.before) (subst (AllMay m) b.steps_are may)
+        more_names : NamesSome (λ r. state_at r.0 ≡ ReadyState) evidence
+        more_names = names_joined (λ r. state_at r.0 ≡ ReadyState) p.evidence x.evidence
+            (names_more (HadTurn n) (λ r. state_at r.0 ≡ ReadyState) (λ r served. served.1) p.evidence p.names)
+            (names_more (λ r. r ≡ port_at n) (λ r. state_at r.0 ≡ ReadyState) (λ r is. ap (λ (t : Port). state_at t.0) is ∙ ready) x.evidence mine)
 
-      first : AllMay m b.before × AllMay (after m b.before) (answers_in b.ended)
-      first = may_parts m (answers_in b.ended) b.before both.0
+        idle : (q : Port) → state_at q.0 ≢ ReadyState → IsEvidencedOf Service (Served []) accesses began (ports_of mid) mid.device evidence q
+        idle q unready = none_evidenced accesses mid.device (ports_of mid) evidence q unready more_names
+            (All-append (IsOfOther q) p.accesses part.accesses (p.others q (λ served. unready served.1)) (of_other q (λ is. unready (ap state_at is ∙ ready))))
 
-      abbrev early : List Step
-      early = b.before ++ p.steps
+    -- ---- faults
 
-      abbrev base : List Step
-      base = answers_in b.ended ++ early
+    -- the request of a slot that was used when the turn began was in the slot when the call began
+    module _ (told : Fault) (f : TellsFault (port_at n) part.accesses c mid told) where
+      used_s : used_for s.slots n f.slot ≡ Some f.used
+      used_s = ap (λ (slots : PortSlots). use_at slots f.slot) (sym (p.slots n (omega arith))) ∙ f.served
 
-      begins : SoFar b.requests early p.answers
-      begins = record {
-        turns = turns_more old (ports_of s) n n n (suc n) early (omega arith) (omega arith) (devices_on old (ports_of s) n n b.before p.steps b.first first.0 p.turns);
-        permuted = subst (IsPermutation p.answers) (sym (devices_answer b.before p.steps b.first)) p.permuted;
-        ordered = p.ordered;
-        low = λ i d small. let lt = p.low i d small in omega (arith, lt);
-        earlier = λ i d small. inl (p.low i d small);
+      by : IsServedBy s old.machine n f.slot f.used.id
+      by = served_request s old.machine n f.slot at f.used.id (serves_used s old.machine n at ready f.slot f.used used_s)
+
+      port_is : by.serves.pending.request.port ≡ port_at n
+      port_is = ap port_at by.serves.port_is
+
+      -- its command is queued if it was issued so
+      kind_is : is_queued by.serves.command.operation ≡ f.used.queued
+      kind_is =
+          let h = kept.commands n f.slot f.used used_s in
+          let same = laws.one_said s.device.memory (s.device.port n).bases.clb f.slot by.serves.command h.command by.serves.places h.places by.serves.told.says h.stored.told.says in
+          ap (λ (y : Meaning). is_queued y.operation) same.0 ∙ h.kind
+
+      -- what the turn had of a fault and of a page, the call had
+      its_failed : (fault : tape_fault.Fault) → HasFailed (port_at n) part.accesses c.device mid.device fault → HasFailed (port_at n) accesses s.device mid.device fault
+      unfolding turn_of
+      its_failed fault had = subst (λ (list : List Access). HasFailed (port_at n) (p.accesses ++ list) s.device mid.device fault) (append-nil part.accesses) (laws.failed (port_at n) s.device mid.device fault kept.on turn_of had)
+
+      its_page : (page : List ℕ) → BringsLog (port_at n) c.device mid.device page → BringsLog (port_at n) s.device mid.device page
+      unfolding turn_of
+      its_page page brings = laws.brings (port_at n) s.device mid.device page kept.on turn_of ([], sym (append-nil mid.device.tape), All-nil (λ e. IsMove n ReadLog e → ⊥)) brings
+
+      -- an issued request of the port has a slot, and a plain one's is the only one
+      alone : f.used.queued ≡ false → (other : Pending) → Contains old.machine.book other → other.request.port ≡ port_at n → other.issued ≡ true → other.request.id ≡ by.serves.pending.request.id
+      alone plain other there own issued =
+          let h = issued_has s old.machine (port_at n) at kept ready other there own issued in
+          let a = kept.alone n f.slot f.used used_s plain in
+          sym h.id_is ∙ ⊎_elim
+          (λ (head : h.slot ≡ 0). let z : Some h.used ≡ Some f.used = sym h.used_is ∙ ap (used_for s.slots n) (head ∙ sym a.0) ∙ used_s in ap (λ (u : SlotUse). u.id) (same_some z))
+          (λ (other_slot : h.slot ≢ 0). let z : None ≡ Some h.used = sym (a.1 h.slot other_slot) ∙ h.used_is in absurd cc)
+          (cases_eq h.slot 0) ∙ sym by.serves.id_is
+
+      plainly : f.used.queued ≡ false → FailsPlain began mid.device accesses by.serves.pending f.slot told
+      plainly plain =
+          let i : IsOfCommand false (port_at n) part.accesses c.device mid.device f.slot told = subst (λ (b : Bool). IsOfCommand b (port_at n) part.accesses c.device mid.device f.slot told) plain f.its in
+          record {
+            alone = λ other there own issued. alone plain other there (own ∙ port_is) issued;
+            fault = i.0;
+            failed = subst (λ (q : Port). HasFailed q accesses s.device mid.device i.0) (sym port_is) (its_failed i.0 i.1);
+            slot_is = i.2;
+            status_is = i.3;
+            error_is = i.4;
+          }
+
+      by_log : f.used.queued ≡ true → FailsQueued began mid.device accesses by.serves.pending f.slot told
+      by_log queued =
+          let i : IsOfCommand true (port_at n) part.accesses c.device mid.device f.slot told = subst (λ (b : Bool). IsOfCommand b (port_at n) part.accesses c.device mid.device f.slot told) queued f.its in
+          record {
+            fault = i.0.0;
+            failed = subst (λ (q : Port). HasFailed q accesses s.device mid.device i.0.0) (sym port_is) (its_failed i.0.0 i.0.1);
+            page = i.1.0;
+            brings = subst (λ (q : Port). BringsLog q s.device mid.device i.1.0) (sym port_is) (its_page i.1.0 i.1.1);
+            tells = i.1.2;
+          }
+
+      fault_n : HasTold (n + 1) mid accesses told
+      fault_n = record {
+        its = record {
+          pending = by.serves.pending;
+          here = by.here;
+          issued = by.issued;
+          id_is = by.serves.id_is ∙ f.id_is;
+          slot = f.slot;
+          serves = subst (λ (q : ℕ). ServesRequest old.machine s.device.memory (s.device.port q) q f.slot told.id) (sym (ap (λ (q : Port). q.0) port_is))
+              (subst (λ (id : RequestId). ServesRequest old.machine s.device.memory (s.device.port n) n f.slot id) f.id_is by.serves);
+          plain = λ plain. plainly (sym kind_is ∙ kind_same ∙ plain);
+          queued = λ queued. by_log (sym kind_is ∙ kind_same ∙ queued);
+        };
+        served = subst (HadTurn (n + 1)) (sym port_is) (omega arith, ready);
+        lives = λ queued dead. f.lives (sym kind_is ∙ kind_same ∙ queued) (ap (λ (q : Port). state_of (found_of mid.ports q.0)) (sym port_is) ∙ dead);
+      }
+        where
+          kind_same : is_queued by.serves.command.operation ≡ is_queued (subst (λ (q : ℕ). ServesRequest old.machine s.device.memory (s.device.port q) q f.slot told.id) (sym (ap (λ (q : Port). q.0) port_is))
+              (subst (λ (id : RequestId). ServesRequest old.machine s.device.memory (s.device.port n) n f.slot id) f.id_is by.serves)).command.operation
+          kind_same = refl
+
+    -- a fault that was told of another port is told so still
+    module _ (told : Fault) (t : HasTold n c p.accesses told) where
+      abbrev its_port : Port
+      its_port = t.its.pending.request.port
+
+      not_n : its_port.0 ≢ n
+      not_n is = let lt = t.served.0 in omega (arith, lt, is)
+
+      still_failed : (fault : tape_fault.Fault) → HasFailed its_port p.accesses s.device c.device fault → HasFailed its_port accesses s.device mid.device fault
+      unfolding turn_before
+      still_failed fault had = laws.failed its_port s.device mid.device fault kept.on (turn_before its_port not_n) had
+
+      still_brought : (page : List ℕ) → state_of (found_of c.ports its_port.0) ≢ Dead → BringsLog its_port s.device c.device page → BringsLog its_port s.device mid.device page
+      unfolding turn_before
+      still_brought page lives brings = laws.brings its_port s.device mid.device page kept.on (turn_before its_port not_n) (part.silent its_port.0 not_n lives) brings
+
+      fault_before : HasTold (n + 1) mid accesses told
+      fault_before = record {
+        its = record {
+          pending = t.its.pending;
+          here = t.its.here;
+          issued = t.its.issued;
+          id_is = t.its.id_is;
+          slot = t.its.slot;
+          serves = t.its.serves;
+          plain = λ plain.
+              let y = t.its.plain plain in
+              record { alone = y.alone; fault = y.fault; failed = still_failed y.fault y.failed; slot_is = y.slot_is; status_is = y.status_is; error_is = y.error_is };
+          queued = λ queued.
+              let y = t.its.queued queued in
+              record { fault = y.fault; failed = still_failed y.fault y.failed; page = y.page; brings = still_brought y.page (t.lives queued) y.brings; tells = y.tells };
+        };
+        served = let lt = t.served.0 in (omega (arith, lt), t.served.1);
+        lives = λ queued dead. t.lives queued (ap state_of (sym (part.others.found its_port.0 not_n)) ∙ dead);
       }
 
-      answered : SoFar [] base (p.answers ++ map with_ok b.ended)
-      answered = all_more b.requests b.ended early p.answers b.each b.ordered (subst (λ (k : Machine). AllMay k (answers_in b.ended)) (sym (after-append old.machine b.before p.steps)) first.1) begins
+    -- ---- the turn, with what was before
 
-      base_is : after old.machine base ≡ after m (answers_in b.ended ++ b.before)
-      base_is = ap (after old.machine) (sym (append_assoc (answers_in b.ended) b.before p.steps)) ∙ after-append old.machine (answers_in b.ended ++ b.before) p.steps
+    had_turn : Progress (n + 1) mid (before ++ its)
+    had_turn = record {
+      settled = next;
+      wanted = part.others.wanted ∙ p.wanted;
+      on = on_mid;
+      accesses = accesses;
+      does = does_append p.accesses part.accesses s.device c.device mid.device p.does part.does;
+      serving = All-append (IsServing (TendsPort (ports_of s))) p.accesses part.accesses p.serving
+          (serving_of part.accesses part.of part.own);
+      others = λ q none. All-append (IsOfOther q) p.accesses part.accesses
+          (p.others q (λ served. let lt = served.0 in none (omega (arith, lt), served.1)))
+          (of_other q (λ is. none (omega (arith, is), ap state_at is ∙ ready)));
+      steps = all;
+      turns = its_turns;
+      stands = subst (IsMachineOf mid) (sym whole_is) x.stands;
+      backed = backed_then s.device c.device mid.device old.machine p.steps x.steps p.backed x.backed;
+      belong = belong_join (ports_of mid) x.steps p.steps x.belong
+          (belong_on (λ q. q.0 < n) (ports_of c) (ports_of mid) (λ q lt. let same = same_other q (λ is. omega (arith, lt, is)) in (same.1, same.5)) p.steps p.turns.below p.belong);
+      evidence = evidence;
+      names = names_joined (HadTurn (n + 1)) p.evidence x.evidence
+          (names_more (HadTurn n) (HadTurn (n + 1)) (λ q served. let lt = served.0 in (omega (arith, lt), served.1)) p.evidence p.names)
+          (names_more (λ q. q ≡ port_at n) (HadTurn (n + 1)) (λ q is. subst (HadTurn (n + 1)) (sym is) (omega arith, ready)) x.evidence mine);
+      lawful = joined_lawful;
+      grounded = joined_grounded;
+      unplugs = unplugs_join old reached n p.steps x.steps p.turns x.own x.may x.last p.unplugs x.unplugs;
+      answers = p.answers ++ x.tells.answers;
+      permuted = permuted_all;
+      ordered = ordered_all;
+      low = All-append (λ a. a.0.request.port.0 < n + 1) p.answers x.tells.answers
+          (All-weaker (λ a. a.0.request.port.0 < n) (λ a. a.0.request.port.0 < n + 1) (λ a lt. omega (arith, lt)) p.answers p.low)
+          (All-weaker (Contains x.tells.answers) (λ a. a.0.request.port.0 < n + 1) (λ a here. let is : a.0.request.port.0 ≡ n = ap (λ (q : Port). q.0) (answered_port a here) in omega (arith, is)) x.tells.answers
+          (All-contains_itself x.tells.answers));
+      told = ap (λ (list : List Reply). list ++ its) p.told ∙ ap (λ (list : List Reply). map reply_of p.answers ++ list) x.tells.told ∙ sym (map-append reply_of p.answers x.tells.answers);
+      faults = λ told here. ⊎_elim
+          (λ early. fault_before told (p.faults told early))
+          (λ late. fault_n told (x.faults told late))
+          (Contains-append_cases p.evidence.faults x.evidence.faults told here);
+      done = λ q lt. ⊎_elim
+          (λ (less : q.0 < n). done_before q less (p.done q less))
+          (λ (most : n ≤ q.0). subst (λ (r : Port). IsDone mid accesses all evidence r) (ap port_at (let e : n ≡ q.0 = omega (arith, lt, most) in e)) done_n)
+          (cases_lt q.0 n);
+      due = due_now;
+      found = λ q past. part.others.found q (λ is. omega (arith, past, is)) ∙ p.found q (omega (arith, past));
+      modes = λ q past. part.others.modes q (λ is. omega (arith, past, is)) ∙ p.modes q (omega (arith, past));
+      slots = λ q past. part.others.slots q (λ is. omega (arith, past, is)) ∙ p.slots q (omega (arith, past));
+    }
+      where
+        one_serving : (access : Access) → IsOf (port_at n) access → IsDriversOwn access → IsServing (TendsPort (ports_of s)) access
+        one_serving (Reading (Px at r) v) of own = (own, tt, subst (TendsPort (ports_of s)) (sym of) its_served)
+        one_serving (Reading r v) of own = (own, tt, tt)
+        one_serving (Writing (Px at r) v) of own = (own, laws.of_host (port_at n) (Writing (Px at r) v) of, subst (TendsPort (ports_of s)) (sym of) its_served)
+        one_serving (Writing r v) of own = (own, laws.of_host (port_at n) (Writing r v) of, tt)
+        one_serving (Loading at bytes) of own = (own, tt, tt)
+        one_serving (Storing at bytes) of own = (own, tt, tt)
 
-      then_on : AreTurns old (ports_of s) (suc n) (suc n) (b.later ++ base)
-      then_on = issues_on old (ports_of s) reached n (port_at n) refl ready takes (sym (modes_is (port_at n))) b.later base b.last
-          (subst (λ (k : Machine). AllMay k b.later) (sym base_is) both.1)
-          (turns_more old (ports_of s) n (suc n) (suc n) (suc n) base (omega arith) (omega arith) answered.turns)
-
-      whole : late ++ p.steps ≡ b.later ++ base
-      whole = ap (λ (steps : List Step). steps ++ p.steps) b.steps_are ∙ append_assoc b.later (answers_in b.ended ++ b.before) p.steps ∙ ap (λ (steps : List Step). b.later ++ steps) (append_assoc (answers_in b.ended) b.before p.steps)
-
-      its_turns : AreTurns old (ports_of s) (n + 1) (n + 1) (late ++ p.steps)
-      its_turns = turns_more old (ports_of s) (suc n) (suc n) (n + 1) (n + 1) (late ++ p.steps) (omega arith) (omega arith) (subst (AreTurns old (ports_of s) (suc n) (suc n)) (sym whole) then_on)
-
-      its_answers : answers_of (late ++ p.steps) ≡ answers_of base
-      its_answers = ap answers_of whole ∙ issuing_answers takes (port_at n) b.later base b.last
-
-      told : before ++ replies ≡ map reply_of (p.answers ++ map with_ok b.ended)
-      told =
-          ap (λ (list : List Reply). list ++ replies) p.told ∙ ap (λ (list : List Reply). map reply_of p.answers ++ list) (b.told ∙ told_so (port_at n) b.requests b.ended b.each)
-          ∙ sym (map-append reply_of p.answers (map with_ok b.ended))
-
-    turn : (replies : List Reply) → ServesPort (port_at n) replies c mid → Progress (n + 1) mid (before ++ replies)
-    turn replies serves =
-        let y : AddsTurn (port_at n) replies c mid m = serves.adds m m_reached p.stands in
-        let a = answered replies y.steps y.may y.answers in
-        had_turn replies serves
-        (its_turns replies y.steps y.may y.answers)
-        (p.answers ++ map with_ok y.answers.ended)
-        (subst (IsPermutation (p.answers ++ map with_ok y.answers.ended)) (sym (its_answers replies y.steps y.may y.answers)) a.permuted)
-        a.ordered
-        a.low
-        (told replies y.steps y.may y.answers)
-        (λ well e there own ended. let h = leading e (ended_on e there own ended) in told_answered replies serves e h (ended_told replies serves well e h ended))
-        (λ well e its. finding replies serves well e its)
+        serving_of : (list : List Access) → All (IsOf (port_at n)) list → All IsDriversOwn list → All (IsServing (TendsPort (ports_of s))) list
+        serving_of [] of own = All-nil (IsServing (TendsPort (ports_of s)))
+        serving_of (access ∷ list) of own = All-cons (IsServing (TendsPort (ports_of s))) access list
+            (one_serving access (All-head (IsOf (port_at n)) access list of) (All-head IsDriversOwn access list own))
+            (serving_of list (All-tail (IsOf (port_at n)) access list of) (All-tail IsDriversOwn access list own))
 
   -- ---- all ports
 
@@ -679,7 +1268,7 @@ module _ (laws : LawsBelow) (s : Server) (start : IsSettled s) (old : Moment) (r
   go (Ready info ∷ found) n here c new before replies p (mid, its, later, is, next, serves, more) =
       subst (Whole new) (append_assoc before its later ∙ ap (λ (r : List Reply). before ++ r) (sym is))
       (go found (n + 1) (on (Ready info) found n here) mid new (before ++ its) later
-      (turn n c mid before info (head_is (Ready info) found n here) p next its serves) more)
+      (had_turn n c mid before its info (head_is (Ready info) found n here) p next serves.part) more)
   go (Unserved ∷ found) n here c new before replies p serves =
       go found (n + 1) (on Unserved found n here) c new before replies
       (skipped n c before (λ is_ready. let z : Absent ≡ ReadyState = sym (ap state_of (head_is Unserved found n here)) ∙ is_ready in cc) p) serves

@@ -1,278 +1,260 @@
 -- The steps of a service, in which ports have their turns one after another.
-use Rattle.std.proofs.Common.{ℕ, suc, ◌≡◌, ◌≤◌, ◌<◌, false, true, List, [], ◌∷◌, ◌++◌, map, ◌==◌, refl, sym, ap, ◌∙◌, subst, inl, inr, ⊎_elim, arith, eqb-true}
-use Rattle.std.specs.List.{Contains, list_any}
-use Rattle.std.proofs.lemmas.Bool.{and_parts, false≢true, or_cases}
+use Rattle.std.proofs.Common.{Bool, eq-eqb, ◌||◌, if◌then◌else◌, ◌+◌, ◌⊎◌, ℕ, ◌≡◌, ◌≢◌, ◌≤◌, ◌<◌, ◌==◌, true, false, List, [], ◌∷◌, ◌++◌, refl, sym, ap, ◌∙◌, subst, inl, inr, ⊎_elim, arith}
+use Rattle.std.specs.List.{All, Contains, list_any}
+use Rattle.std.proofs.lemmas.Bool.{cases_eq, false≢true, ne_eqb, or_left, or_right}
+use Rattle.std.proofs.lemmas.List.Elements.{All-append, All-contains, All-head, All-nil, All-tail, All-weaker, Contains-append_cases}
 use Rattle.ata_types.specs.declared.Port.{Port}
-use Rattle.ata_types.specs.declared.PortState.TheVariants.{Ready}
 use Rattle.ata_types.specs.declared.request.Outcome.{Outcome}
-use Rattle.ata_types.specs.declared.request.Outcome.TheVariants.{Ok}
+use Rattle.ata_types.specs.declared.request.Outcome.TheVariants.{Ok, DeviceError, Aborted, Unplugged, PortDead}
 use Rattle.ata_types.specs.declared.request.RequestId.{RequestId}
 use Rattle.adapter.specs.declared.access.DeviceStep.{DeviceStep}
-use Rattle.agreement.specs.Spares.{SparesBook}
-use Rattle.agreement.proofs.Deciding.{without_into}
-use Rattle.agreement.proofs.Sparing.{found_before, found_later, steps_spare}
-use Rattle.block_machine.specs.Events.{Moment, Service, IsDevices, AllDevices, AllMay, Belong, IsIssuedIn, IssuesLast, AllLawful, AllGrounded, answers_of, issues_it}
+use Rattle.agreement.specs.Agrees.{port_at}
+use Rattle.block_machine.specs.Events.{Moment, Service, AllGrounded, AllLawful, AllMay, Belong, IsDevices, IsIssuedIn, IsLawful, IssuesLast, UnplugsAll, changes_disk, handles, issues_it}
 use Rattle.block_machine.specs.Histories.{IsReached}
 use Rattle.block_machine.specs.Left.{after}
-use Rattle.block_machine.specs.Ports.{Ports}
-use Rattle.block_machine.specs.State.{Pending, Machine}
-use Rattle.block_machine.specs.Steps.{Step, Issue, Again, Answer, May, AllTouched, at, issue, without, after_step}
-use Rattle.block_machine.specs.declared.due.Mode.{Mode}
+use Rattle.block_machine.specs.Ports.{Evidence, Ports}
+use Rattle.block_machine.specs.State.{Machine, Pending}
+use Rattle.block_machine.specs.Steps.{Step, Again, Answer, Issue, May, Replace, Unplug, after_step}
 use Rattle.block_machine.proofs.EventLemmas.{after-append}
 use Rattle.block_machine.proofs.HistoryLemmas.{reached_more}
-use Rattle.block_machine.proofs.Members.{at_cases, contains_cases, contains_none, into_map, map_in, without_in}
+use Rattle.block_machine.proofs.Members.{contains_cases, contains_here, contains_none, contains_there}
 use Rattle.block_machine.proofs.Standing.{standing}
-use Rattle.server_history.specs.Served.{IssuesOnly}
-use Rattle.server_history.proofs.Devices.{not_handled}
-use Rattle.server_history.proofs.Rounds.{not_true}
-use Rattle.server_history.proofs.Told.{no_evidence}
+use Rattle.server_history.specs.Turns.{IsOfTurn, IsStepOf}
+use Rattle.server_history.proofs.Origins.{IsSame, StandsIn, handled_own, issued_before, others_left, others_were, same_as, same_more, stood}
+use Rattle.server_history.proofs.Rounds.{issued_parts}
 
--- the same request, issued as it was; and where it had ended, it has
-pub record IsSame (old new : Pending) : Type 0 where
-  pub request : new.request ≡ old.request
-  pub issued : new.issued ≡ old.issued
-  pub ended : old.ended ≡ true → new.ended ≡ true
+-- ---- lists of steps
 
--- Steps of a service in which ports had their turns: requests were issued on ports below the first number alone, so that each other is as it was
--- when the call began; and those on ports from the second number on are there still, and none of them is answered.
-pub record AreTurns (old : Moment) (ports : Ports) (below from : ℕ) (steps : List Step) : Type 0 where
+pub may_join : (m : Machine) (late early : List Step) → AllMay m early → AllMay (after m early) late → AllMay m (late ++ early)
+may_join m [] early a b = a
+may_join m (step ∷ late) early a b =
+    (may_join m late early a b.0, subst (λ (x : Machine). May x step) (sym (after-append m late early)) b.1)
+
+-- steps of ports of one kind are of ports of another
+of_ports : (One Other : Port → Type 0) → ((q : Port) → One q → Other q) → (step : Step) → IsStepOf One step → IsStepOf Other step
+of_ports One Other each (Issue mode e) is = each e.request.port is
+of_ports One Other each (Again e) is = each e.request.port is
+of_ports One Other each (Answer e o) is = each e.request.port is
+of_ports One Other each step is = is
+
+pub all_of_ports : (One Other : Port → Type 0) → ((q : Port) → One q → Other q) → (steps : List Step) → All (IsStepOf One) steps → All (IsStepOf Other) steps
+all_of_ports One Other each steps all = All-weaker (IsStepOf One) (IsStepOf Other) (λ step is. of_ports One Other each step is) steps all
+
+-- who is answered in them is of such a port
+pub answered_of : (Such : Port → Type 0) (steps : List Step) → All (IsStepOf Such) steps → (e : Pending) (o : Outcome) → Contains steps (Answer e o) → Such e.request.port
+answered_of Such steps all e o here = All-contains (IsStepOf Such) steps (Answer e o) all here
+
+pub belong_join : (ports : Ports) (late early : List Step) → Belong {D = DeviceStep} Service ports late → Belong {D = DeviceStep} Service ports early → Belong {D = DeviceStep} Service ports (late ++ early)
+belong_join ports [] early a b = b
+belong_join ports (step ∷ late) early a b = (belong_join ports late early a.0 b, a.1)
+
+-- they belong to a call after which these ports are what they were
+pub belong_on : (Such : Port → Type 0) (old new : Ports) → ((q : Port) → Such q → (new.state q ≡ old.state q) × (new.mode q ≡ old.mode q)) → (steps : List Step) → All (IsStepOf Such) steps
+    → Belong {D = DeviceStep} Service old steps → Belong {D = DeviceStep} Service new steps
+belong_on Such old new same [] all a = tt
+belong_on Such old new same (Issue mode e ∷ steps) all a = (
+  belong_on Such old new same steps (All-tail (IsStepOf Such) (Issue mode e) steps all) a.0,
+  ⊎_elim (λ d. absurd d)
+      (λ is. let w = same e.request.port (All-head (IsStepOf Such) (Issue mode e) steps all) in inr (w.0 ∙ is.0, w.1 ∙ is.1))
+      a.1,
+)
+belong_on Such old new same (Again e ∷ steps) all a = (
+  belong_on Such old new same steps (All-tail (IsStepOf Such) (Again e) steps all) a.0,
+  ⊎_elim (λ d. absurd d) (λ is. let w = same e.request.port (All-head (IsStepOf Such) (Again e) steps all) in inr (w.0 ∙ is)) a.1,
+)
+belong_on Such old new same (Answer e o ∷ steps) all a = (belong_on Such old new same steps (All-tail (IsStepOf Such) (Answer e o) steps all) a.0, inr tt)
+belong_on Such old new same (step ∷ steps) all a = (belong_on Such old new same steps (All-tail (IsStepOf Such) step steps all) a.0, inl (All-head (IsStepOf Such) step steps all))
+
+pub lawful_join : (old : Moment) (evidence : Evidence) (ports : Ports) (late early : List Step) → AllLawful old evidence ports late → AllLawful old evidence ports early → AllLawful old evidence ports (late ++ early)
+lawful_join old evidence ports [] early a b = b
+lawful_join old evidence ports (Answer e o ∷ late) early a b = (lawful_join old evidence ports late early a.0 b, a.1)
+lawful_join old evidence ports (Again e ∷ late) early a b = (lawful_join old evidence ports late early a.0 b, a.1)
+lawful_join old evidence ports (step ∷ late) early a b = lawful_join old evidence ports late early a b
+
+-- answers are lawful in another call where each of them is
+pub lawful_on : (old new : Moment) (evidence other : Evidence) (ports later : Ports) (steps : List Step)
+    → ((e : Pending) (o : Outcome) → Contains steps (Answer e o) → IsLawful old evidence ports e o → IsLawful new other later e o)
+    → ((e : Pending) → Contains steps (Again e) → Contains evidence.stopped e.request.port → Contains other.stopped e.request.port)
+    → AllLawful old evidence ports steps → AllLawful new other later steps
+lawful_on old new evidence other ports later [] each again a = tt
+lawful_on old new evidence other ports later (Answer e o ∷ steps) each again a = (
+  lawful_on old new evidence other ports later steps (λ x y h. each x y (contains_there (Answer e o) steps (Answer x y) h)) (λ x h. again x (contains_there (Answer e o) steps (Again x) h)) a.0,
+  each e o (contains_here (Answer e o) steps (Answer e o) refl) a.1,
+)
+lawful_on old new evidence other ports later (Again e ∷ steps) each again a = (
+  lawful_on old new evidence other ports later steps (λ x y h. each x y (contains_there (Again e) steps (Answer x y) h)) (λ x h. again x (contains_there (Again e) steps (Again x) h)) a.0,
+  again e (contains_here (Again e) steps (Again e) refl) a.1,
+)
+lawful_on old new evidence other ports later (step ∷ steps) each again a =
+    lawful_on old new evidence other ports later steps (λ x y h. each x y (contains_there step steps (Answer x y) h)) (λ x h. again x (contains_there step steps (Again x) h)) a
+
+pub grounded_join : (evidence : Evidence) (late early : List Step) → AllGrounded evidence late → AllGrounded evidence early → AllGrounded evidence (late ++ early)
+grounded_join evidence [] early a b = b
+grounded_join evidence (Again e ∷ late) early a b = (grounded_join evidence late early a.0 b, a.1)
+grounded_join evidence (Answer e Aborted ∷ late) early a b = (grounded_join evidence late early a.0 b, a.1)
+grounded_join evidence (Answer e (DeviceError status error) ∷ late) early a b = (grounded_join evidence late early a.0 b, a.1)
+grounded_join evidence (Answer e Ok ∷ late) early a b = grounded_join evidence late early a b
+grounded_join evidence (Answer e Unplugged ∷ late) early a b = grounded_join evidence late early a b
+grounded_join evidence (Answer e PortDead ∷ late) early a b = grounded_join evidence late early a b
+grounded_join evidence (step ∷ late) early a b = grounded_join evidence late early a b
+
+pub grounded_on : (evidence other : Evidence) → ((q : Port) → Contains evidence.failed q → Contains other.failed q) → (steps : List Step) → AllGrounded evidence steps → AllGrounded other steps
+grounded_on evidence other more [] a = tt
+grounded_on evidence other more (Again e ∷ steps) a = (grounded_on evidence other more steps a.0, more e.request.port a.1)
+grounded_on evidence other more (Answer e Aborted ∷ steps) a = (grounded_on evidence other more steps a.0, more e.request.port a.1)
+grounded_on evidence other more (Answer e (DeviceError status error) ∷ steps) a = (grounded_on evidence other more steps a.0, more e.request.port a.1)
+grounded_on evidence other more (Answer e Ok ∷ steps) a = grounded_on evidence other more steps a
+grounded_on evidence other more (Answer e Unplugged ∷ steps) a = grounded_on evidence other more steps a
+grounded_on evidence other more (Answer e PortDead ∷ steps) a = grounded_on evidence other more steps a
+grounded_on evidence other more (step ∷ steps) a = grounded_on evidence other more steps a
+
+-- a disk that is in was in before the steps, or one of them changed it
+pub present_before : (m : Machine) (q : Port) (steps : List Step) → (after m steps).present q ≡ true → (m.present q ≡ true) ⊎ (list_any (changes_disk q) steps ≡ true)
+present_before m q [] is = inl is
+present_before m q (Unplug p ∷ steps) is = ⊎_elim
+    (λ (same : p.0 ≡ q.0). inr (or_left (p.0 == q.0) (list_any (changes_disk q) steps) (eq-eqb p.0 q.0 same)))
+    (λ (ne : p.0 ≢ q.0). more (p.0 == q.0) (present_before m q steps (other ne)))
+    (cases_eq p.0 q.0)
+  where
+    other : p.0 ≢ q.0 → (after m steps).present q ≡ true
+    other ne = subst (λ (b : Bool). (if b then false else (after m steps).present q) ≡ true) (ne_eqb q.0 p.0 (λ e. ne (sym e))) is
+
+    more : (b : Bool) → (m.present q ≡ true) ⊎ (list_any (changes_disk q) steps ≡ true) → (m.present q ≡ true) ⊎ ((b || list_any (changes_disk q) steps) ≡ true)
+    more b w = ⊎_elim (λ a. inl a) (λ c. inr (or_right b (list_any (changes_disk q) steps) c)) w
+present_before m q (Replace p id size disk ∷ steps) is = ⊎_elim
+    (λ (same : p.0 ≡ q.0). inr (or_left (p.0 == q.0) (list_any (changes_disk q) steps) (eq-eqb p.0 q.0 same)))
+    (λ (ne : p.0 ≢ q.0). more (p.0 == q.0) (present_before m q steps (other ne)))
+    (cases_eq p.0 q.0)
+  where
+    other : p.0 ≢ q.0 → (after m steps).present q ≡ true
+    other ne = subst (λ (b : Bool). (if b then true else (after m steps).present q) ≡ true) (ne_eqb q.0 p.0 (λ e. ne (sym e))) is
+
+    more : (b : Bool) → (m.present q ≡ true) ⊎ (list_any (changes_disk q) steps ≡ true) → (m.present q ≡ true) ⊎ ((b || list_any (changes_disk q) steps) ≡ true)
+    more b w = ⊎_elim (λ a. inl a) (λ c. inr (or_right b (list_any (changes_disk q) steps) c)) w
+present_before m q (step ∷ steps) is = present_before m q steps is
+
+-- ---- ports that had their turns
+
+-- Steps of a service in which ports below this number had their turns: the server's are of requests of those, so that each request of another port is as
+-- it was when the call began; and each that is unanswered was so then.
+pub record AreTurns (old : Moment) (n : ℕ) (steps : List Step) : Type 0 where
   pub may : AllMay old.machine steps
-  pub belong : Belong {D = DeviceStep} Service ports steps
   pub last : IssuesLast steps
-  pub lawful : AllLawful old no_evidence ports steps
-  pub grounded : AllGrounded no_evidence steps
-  pub told : (e : Pending) (o : Outcome) → Contains steps (Answer e o) → (o ≡ Ok) × (ports.state e.request.port ≡ Ready) × (e.request.port.0 < from)
-  pub issued : (id : RequestId) → IsIssuedIn id steps
-      → (e : Pending) × Contains (after old.machine steps).book e × (e.request.id.0 ≡ id.0) × (e.request.port.0 < below) × (e.issued ≡ true)
-  pub further : (e : Pending) → Contains old.machine.book e → from ≤ e.request.port.0
-      → (x : Pending) × Contains (after old.machine steps).book x × IsSame e x
-  pub origin : (x : Pending) → Contains (after old.machine steps).book x → below ≤ x.request.port.0
-      → (e : Pending) × Contains old.machine.book e × IsSame e x
+  pub below : All (IsStepOf (λ q. q.0 < n)) steps
+  pub issued : (id : RequestId) → IsIssuedIn id steps → (e : Pending) × Contains old.machine.book e × (e.request.id.0 ≡ id.0) × (e.request.port.0 < n)
+  pub from : (z : Pending) → Contains (after old.machine steps).book z → StandsIn old.machine.book z
+  pub further : (e : Pending) → Contains old.machine.book e → n ≤ e.request.port.0 → (x : Pending) × Contains (after old.machine steps).book x × IsSame e x
+  pub origin : (x : Pending) → Contains (after old.machine steps).book x → n ≤ x.request.port.0 → (e : Pending) × Contains old.machine.book e × IsSame e x
 
-device_lawful : (old : Moment) (ports : Ports) (step : Step) (steps : List Step) → IsDevices step → AllLawful old no_evidence ports steps → AllLawful old no_evidence ports (step ∷ steps)
-device_lawful old ports (Again e) steps is l = absurd is
-device_lawful old ports (Answer e o) steps is l = absurd is
-device_lawful old ports step steps is l = l
-
-device_grounded : (step : Step) (steps : List Step) → IsDevices step → AllGrounded no_evidence steps → AllGrounded no_evidence (step ∷ steps)
-device_grounded (Again e) steps is g = absurd is
-device_grounded (Answer e o) steps is g = absurd is
-device_grounded step steps is g = g
-
-device_issues : (id : RequestId) (step : Step) → IsDevices step → issues_it id step ≡ true → ⊥
-device_issues id (Issue mode e) is h = absurd is
-device_issues id step is h = false≢true h
-
--- the device's steps answer nobody
-pub devices_answer : (late base : List Step) → AllDevices late → answers_of (late ++ base) ≡ answers_of base
-devices_answer [] base is = refl
-devices_answer (Answer e o ∷ late) base is = absurd is.1
-devices_answer (step ∷ late) base is = devices_answer late base is.0
-
-same_request : (id : RequestId) (e : Pending) → (at id issue e).request ≡ e.request
-same_request id e = ⊎_elim (λ q. ap (λ (x : Pending). x.request) q.1) (λ q. ap (λ (x : Pending). x.request) q.1) (at_cases id issue e)
-
--- it is issued then
-issued_now : (e : Pending) → (at e.request.id issue e).issued ≡ true
-issued_now e = ⊎_elim (λ q. ap (λ (x : Pending). x.issued) q.1) (λ q. absurd (q.0 refl)) (at_cases e.request.id issue e)
-
-issued_still : (id : RequestId) (e : Pending) → e.issued ≡ true → (at id issue e).issued ≡ true
-issued_still id e is = ⊎_elim (λ q. ap (λ (x : Pending). x.issued) q.1) (λ q. ap (λ (x : Pending). x.issued) q.1 ∙ is) (at_cases id issue e)
-
-module _ (old : Moment) (ports : Ports) where
-  pub no_turns : AreTurns old ports 0 0 []
+module _ (old : Moment) (reached : IsReached old.machine) where
+  pub no_turns : AreTurns old 0 []
   no_turns = record {
     may = tt;
-    belong = tt;
     last = tt;
-    lawful = tt;
-    grounded = tt;
-    told = λ e o h. absurd (contains_none (Answer e o) h);
+    below = All-nil (IsStepOf (λ q. q.0 < 0));
     issued = λ id h. absurd (false≢true h);
-    further = λ e h low. (e, h, record { request = refl; issued = refl; ended = λ y. y });
-    origin = λ e h low. (e, h, record { request = refl; issued = refl; ended = λ y. y });
+    from = λ z here. record { was = z; here = here; request = refl };
+    further = λ e h low. (e, h, same_as e);
+    origin = λ e h low. (e, h, same_as e);
   }
 
-  -- more ports may have had their turns
-  pub turns_more : (below from low high : ℕ) (steps : List Step) → below ≤ low → from ≤ high → AreTurns old ports below from steps → AreTurns old ports low high steps
-  turns_more below from low high steps first then x = record {
+  -- one more port may have had its turn
+  pub turns_more : (n more : ℕ) (steps : List Step) → n ≤ more → AreTurns old n steps → AreTurns old more steps
+  turns_more n more steps le x = record {
     may = x.may;
-    belong = x.belong;
     last = x.last;
-    lawful = x.lawful;
-    grounded = x.grounded;
-    told = λ e o h. let w = x.told e o h in let small = w.2 in (w.0, w.1, omega (arith, then, small));
-    issued = λ id i. let w = x.issued id i in let small = w.3 in (w.0, w.1, w.2, omega (arith, first, small), w.4);
-    further = λ e h far. x.further e h (omega (arith, then, far));
-    origin = λ e h far. x.origin e h (omega (arith, first, far));
+    below = all_of_ports (λ q. q.0 < n) (λ q. q.0 < more) (λ q small. omega (arith, le, small)) steps x.below;
+    issued = λ id i. let w = x.issued id i in let small = w.3 in (w.0, w.1, w.2, omega (arith, le, small));
+    from = x.from;
+    further = λ e h far. x.further e h (omega (arith, le, far));
+    origin = λ e h far. x.origin e h (omega (arith, le, far));
   }
 
-  device_on : (below from : ℕ) (step : Step) (base : List Step) → IsDevices step → May (after old.machine base) step → AreTurns old ports below from base → AreTurns old ports below from (step ∷ base)
-  device_on below from step base is may x = record {
-    may = (x.may, may);
-    belong = (x.belong, inl is);
-    last = (x.last, λ id h i. not_handled id step is h);
-    lawful = device_lawful old ports step base is x.lawful;
-    grounded = device_grounded step base is x.grounded;
-    told = λ e o h. ⊎_elim
-        (λ (q : Answer e o ≡ step). absurd (subst IsDevices (sym q) is))
-        (λ (i : Contains base (Answer e o)). x.told e o i)
-        (contains_cases step base (Answer e o) h);
-    issued = λ id i. ⊎_elim
-        (λ (h : issues_it id step ≡ true). absurd (device_issues id step is h))
-        (λ (h : IsIssuedIn id base).
-        let w = x.issued id h in
-        let l = found_later before.book later.book w.0 spares.book w.1 in
-        (l.0, l.1, ap (λ r. r.id.0) l.2.request ∙ w.2, subst (λ r. r.port.0 < below) (sym l.2.request) w.3, l.2.issued ∙ w.4))
-        (or_cases (issues_it id step) (list_any (issues_it id) base) i);
-    further = λ e h far.
-        let w = x.further e h far in
-        let l = found_later before.book later.book w.0 spares.book w.1 in
-        (l.0, l.1, record { request = l.2.request ∙ w.2.request; issued = l.2.issued ∙ w.2.issued; ended = λ y. l.2.ended (w.2.ended y) });
-    origin = λ z h far.
-        let l = found_before before.book later.book z spares.book h in
-        let w = x.origin l.0 l.1 (subst (λ r. below ≤ r.port.0) l.2.request far) in
-        (w.0, w.1, record { request = l.2.request ∙ w.2.request; issued = l.2.issued ∙ w.2.issued; ended = λ y. l.2.ended (w.2.ended y) });
-  }
-    where
-      before : Machine
-      before = after old.machine base
+  module _ (n : ℕ) (base late : List Step) (x : AreTurns old n base) (own : All (IsOfTurn (port_at n)) late) (may : AllMay (after old.machine base) late) (last : IssuesLast late) where
+    m_reached : IsReached (after old.machine base)
+    m_reached = reached_more old.machine base reached x.may
 
-      later : Machine
-      later = after_step before step
+    one_of : (e y : Pending) → Contains old.machine.book e → Contains old.machine.book y → e.request.id.0 ≡ y.request.id.0 → e ≡ y
+    one_of e y here there same = (standing old.machine reached).sound.one e y here there same
 
-      spares : SparesBook before later
-      spares = steps_spare before (step ∷ []) (tt, is)
-
-  pub devices_on : (below from : ℕ) (late base : List Step) → AllDevices late → AllMay (after old.machine base) late → AreTurns old ports below from base → AreTurns old ports below from (late ++ base)
-  devices_on below from [] base is may x = x
-  devices_on below from (step ∷ late) base is may x =
-      device_on below from step (late ++ base) is.1 (subst (λ (m : Machine). May m step) (sym (after-append old.machine late base)) may.1)
-      (devices_on below from late base is.0 may.0 x)
-
-  module _ (reached : IsReached old.machine) (n : ℕ) (base : List Step) (e : Pending) (its : e.request.port.0 ≡ n) (here : Contains (after old.machine base).book e) where
-    -- a request of that id is this one
-    one : (below from : ℕ) → AreTurns old ports below from base → (x : Pending) → Contains (after old.machine base).book x → x.request.id.0 ≡ e.request.id.0 → x.request.port.0 ≡ n
-    one below from t x there same =
-        ap (λ (y : Pending). y.request.port.0) ((standing (after old.machine base) (reached_more old.machine base reached t.may)).sound.one x e there here same) ∙ its
-
-    -- it wasn't issued in these steps
-    fresh : (from : ℕ) → AreTurns old ports n from base → (id : RequestId) → e.request.id.0 ≡ id.0 → IsIssuedIn id base → ⊥
-    fresh from t id same i =
-        let w = t.issued id i in
+    -- what the turn handles wasn't issued before
+    fresh : (e : Pending) → Contains (after old.machine base).book e → e.request.port ≡ port_at n → (id : RequestId) → e.request.id.0 ≡ id.0 → IsIssuedIn id base → ⊥
+    fresh e here its id same i =
+        let w = x.issued id i in
+        let b = x.from e here in
+        let it : w.0 ≡ b.was = one_of w.0 b.was w.1 b.here (w.2 ∙ sym same ∙ ap (λ r. r.id.0) (sym b.request)) in
         let small = w.3 in
-        let own = one n from t w.0 w.1 (w.2 ∙ sym same) in
-        absurd (omega (arith, small, own))
+        let is : w.0.request.port.0 ≡ n = ap (λ (y : Pending). y.request.port.0) it ∙ ap (λ r. r.port.0) b.request ∙ ap (λ (q : Port). q.0) its in
+        absurd (omega (arith, small, is))
 
-    -- nor was it, where it waits
-    fresh_waiting : (below from : ℕ) → AreTurns old ports below from base → e.issued ≡ false → (id : RequestId) → e.request.id.0 ≡ id.0 → IsIssuedIn id base → ⊥
-    fresh_waiting below from t waits id same i =
-        let w = t.issued id i in
-        let it : w.0 ≡ e = (standing (after old.machine base) (reached_more old.machine base reached t.may)).sound.one w.0 e w.1 here (w.2 ∙ sym same) in
-        false≢true (sym waits ∙ ap (λ (y : Pending). y.issued) (sym it) ∙ w.4)
+    last_join : (steps : List Step) → All (IsOfTurn (port_at n)) steps → AllMay (after old.machine base) steps → IssuesLast steps → IssuesLast (steps ++ base)
+    last_join [] all its_may l = x.last
+    last_join (step ∷ steps) all its_may l = (
+      last_join steps (All-tail (IsOfTurn (port_at n)) step steps all) its_may.0 l.0,
+      λ id h i. ⊎_elim
+          (λ late_one. l.1 id h late_one)
+          (λ early. let o = handled_own (port_at n) (after old.machine base) step steps all its_may id h in fresh o.pending o.here o.port_is id o.id_is early)
+          (issued_parts id steps base i),
+    )
 
-    pub answer_on : (from : ℕ) → from ≤ suc n → e.issued ≡ true → AllTouched e → e.ended ≡ true → ports.state e.request.port ≡ Ready → AreTurns old ports n from base → AreTurns old ports n (suc n) (Answer e Ok ∷ base)
-    answer_on from few issued touched ended ready x = record {
-      may = (x.may, here);
-      belong = (x.belong, inr tt);
-      last = (x.last, λ id h i. fresh from x id (eqb-true e.request.id.0 id.0 h) i);
-      lawful = (
-        x.lawful,
-        (record { pending = was.0; here = was.1; id_is = ap (λ r. r.id) (sym was.2.request); issued = sym was.2.issued ∙ issued }, issued, touched, ended),
-      );
-      grounded = x.grounded;
-      told = λ y o h. ⊎_elim
-          (λ (q : Answer y o ≡ Answer e Ok).
-          let a : y ≡ e = cc in
-          let b : o ≡ Ok = cc in
-          (b, subst (λ (z : Pending). ports.state z.request.port ≡ Ready) (sym a) ready, subst (λ (z : Pending). z.request.port.0 < suc n) (sym a) (omega (arith, its))))
-          (λ (i : Contains base (Answer y o)). let w = x.told y o i in let small = w.2 in (w.0, w.1, omega (arith, small, few)))
-          (contains_cases (Answer e Ok) base (Answer y o) h);
-      issued = λ id i.
-          let w = x.issued id i in
-          let small = w.3 in
-          (w.0, stays w.0 w.1 (λ own. omega (arith, small, own)), w.2, w.3, w.4);
-      further = λ y h far.
-          let w = x.further y h (omega (arith, far, few)) in
-          let port : w.0.request.port.0 ≡ y.request.port.0 = ap (λ r. r.port.0) w.2.request in
-          (w.0, stays w.0 w.1 (λ own. omega (arith, far, port, own)), w.2);
-      origin = λ z h far.
-          let w = without_in e.request.id before.book z h in
-          x.origin z w.0 far;
-    }
-      where
-        before : Machine
-        before = after old.machine base
+    whole_is : after old.machine (late ++ base) ≡ after (after old.machine base) late
+    whole_is = after-append old.machine late base
 
-        was : (y : Pending) × Contains old.machine.book y × IsSame y e
-        was = x.origin e here (omega (arith, its))
+    in_whole : (z : Pending) → Contains (after old.machine (late ++ base)).book z → Contains (after (after old.machine base) late).book z
+    in_whole z here = subst (λ (k : Machine). Contains k.book z) whole_is here
 
-        -- a request of another port stays
-        stays : (y : Pending) → Contains before.book y → (y.request.port.0 ≡ n → ⊥) → Contains (without e.request.id before.book) y
-        stays y there other = without_into e.request.id before.book y (λ same. other (one n from x y there (ap (λ (i : RequestId). i.0) same))) there
+    not_own : (r : Port) → n + 1 ≤ r.0 → r ≢ port_at n
+    not_own r far same = let is : r.0 ≡ n = ap (λ (q : Port). q.0) same in absurd (omega (arith, far, is))
 
-    pub issue_on : (mode : Mode) → May (after old.machine base) (Issue mode e) → e.issued ≡ false → ports.state e.request.port ≡ Ready → ports.mode e.request.port ≡ mode → AreTurns old ports (suc n) (suc n) base → AreTurns old ports (suc n) (suc n) (Issue mode e ∷ base)
-    issue_on mode may waits ready takes x = record {
-      may = (x.may, may);
-      belong = (x.belong, inr (ready, takes));
-      last = (x.last, λ id h i. fresh_waiting (suc n) (suc n) x waits id (eqb-true e.request.id.0 id.0 h) i);
-      lawful = x.lawful;
-      grounded = x.grounded;
-      told = λ y o h. ⊎_elim
-          (λ (q : Answer y o ≡ Issue mode e). absurd cc)
-          (λ (i : Contains base (Answer y o)). x.told y o i)
-          (contains_cases (Issue mode e) base (Answer y o) h);
+    pub turn_on : AreTurns old (n + 1) (late ++ base)
+    turn_on = record {
+      may = may_join old.machine late base x.may may;
+      last = last_join late own may last;
+      below = All-append (IsStepOf (λ q. q.0 < n + 1)) late base
+          (all_of_ports (λ q. q ≡ port_at n) (λ q. q.0 < n + 1) (λ q is. let same : q.0 ≡ n = ap (λ (r : Port). r.0) is in omega (arith, same)) late own)
+          (all_of_ports (λ q. q.0 < n) (λ q. q.0 < n + 1) (λ q small. omega (arith, small)) base x.below);
       issued = λ id i. ⊎_elim
-          (λ (h : (e.request.id.0 == id.0) ≡ true). (
-            at e.request.id issue e,
-            into_map (at e.request.id issue) before.book e here,
-            ap (λ r. r.id.0) (same_request e.request.id e) ∙ eqb-true e.request.id.0 id.0 h,
-            subst (λ r. r.port.0 < suc n) (sym (same_request e.request.id e)) (omega (arith, its)),
-            issued_now e,
-          ))
-          (λ (h : IsIssuedIn id base).
-          let w = x.issued id h in
-          let small = w.3 in (
-            at e.request.id issue w.0,
-            into_map (at e.request.id issue) before.book w.0 w.1,
-            ap (λ r. r.id.0) (same_request e.request.id w.0) ∙ w.2,
-            subst (λ r. r.port.0 < suc n) (sym (same_request e.request.id w.0)) (omega (arith, small)),
-            issued_still e.request.id w.0 w.4,
-          ))
-          (or_cases (e.request.id.0 == id.0) (list_any (issues_it id) base) i);
-      further = λ y h far.
-          let w = x.further y h far in
-          let port : w.0.request.port.0 ≡ y.request.port.0 = ap (λ r. r.port.0) w.2.request in
-          (w.0, subst (λ (z : Pending). Contains later z) (left w.0 w.1 (λ own. omega (arith, far, port, own))) (into_map (at e.request.id issue) before.book w.0 w.1), w.2);
-      origin = λ z h far.
-          let w = map_in (at e.request.id issue) before.book z h in
-          let port : w.0.request.port.0 ≡ z.request.port.0 = sym (ap (λ (y : Pending). y.request.port.0) w.2 ∙ ap (λ r. r.port.0) (same_request e.request.id w.0)) in
-          let same : w.0 ≡ z = sym (w.2 ∙ left w.0 w.1 (λ own. omega (arith, far, port, own))) in
-          x.origin z (subst (λ (y : Pending). Contains before.book y) same w.1) far;
+          (λ its.
+          let o = issued_before (port_at n) (after old.machine base) late own may id its in
+          let b = x.from o.pending o.here in
+          let is : b.was.request.port.0 ≡ n = ap (λ r. r.port.0) b.request ∙ ap (λ (q : Port). q.0) o.port_is in
+          (b.was, b.here, ap (λ r. r.id.0) b.request ∙ o.id_is, omega (arith, is)))
+          (λ early. let w = x.issued id early in let small = w.3 in (w.0, w.1, w.2, omega (arith, small)))
+          (issued_parts id late base i);
+      from = λ z here.
+          let b = stood (port_at n) (after old.machine base) late own z (in_whole z here) in
+          let c = x.from b.was b.here in
+          record { was = c.was; here = c.here; request = c.request ∙ b.request };
+      further = λ e here far.
+          let w = x.further e here (omega (arith, far)) in
+          let l = others_left (port_at n) (after old.machine base) m_reached late own may w.0 w.1 (λ same. not_own e.request.port far (sym (ap (λ r. r.port) w.2.request) ∙ same)) in
+          (l.0, subst (λ (k : Machine). Contains k.book l.0) (sym whole_is) l.1, same_more e w.0 l.0 w.2 l.2);
+      origin = λ z here far.
+          let b = others_were (port_at n) (after old.machine base) m_reached late own may z (in_whole z here) (not_own z.request.port far) in
+          let c = x.origin b.0 b.1 (subst (λ (q : ℕ). n ≤ q) (ap (λ r. r.port.0) b.2.request) (omega (arith, far))) in
+          (c.0, c.1, same_more c.0 b.0 z c.2 b.2);
+    }
+
+    -- who is left of what was answered before, or stays, stays answered so
+    pub unplugs_join : UnplugsAll base (after old.machine base) → UnplugsAll late (after (after old.machine base) late) → UnplugsAll (late ++ base) (after old.machine (late ++ base))
+    unplugs_join early its = record {
+      emptied = λ e other here there. ⊎_elim
+          (λ i. its.emptied e other i (in_whole other there))
+          (λ i same.
+          let b = stood (port_at n) (after old.machine base) late own other (in_whole other there) in
+          early.emptied e b.was i b.here (ap (λ r. r.port) b.request ∙ same))
+          (Contains-append_cases late base (Answer e Unplugged) here);
+      alike = λ e other here there same. ⊎_elim
+          (λ i. ⊎_elim
+          (λ j. its.alike e other i j same)
+          (λ j. crossed e.request.port other.request.port (answered_of (λ q. q ≡ port_at n) late own e Unplugged i) (answered_of (λ q. q.0 < n) base x.below other PortDead j) same)
+          (Contains-append_cases late base (Answer other PortDead) there))
+          (λ i. ⊎_elim
+          (λ j. crossed other.request.port e.request.port (answered_of (λ q. q ≡ port_at n) late own other PortDead j) (answered_of (λ q. q.0 < n) base x.below e Unplugged i) (sym same))
+          (λ j. early.alike e other i j same)
+          (Contains-append_cases late base (Answer other PortDead) there))
+          (Contains-append_cases late base (Answer e Unplugged) here);
     }
       where
-        before : Machine
-        before = after old.machine base
-
-        later : List Pending
-        later = map (at e.request.id issue) before.book
-
-        -- a request of another port is left as it is
-        left : (y : Pending) → Contains before.book y → (y.request.port.0 ≡ n → ⊥) → at e.request.id issue y ≡ y
-        left y there other = ⊎_elim (λ q. absurd (other (one (suc n) (suc n) x y there q.0))) (λ q. q.1) (at_cases e.request.id issue y)
-
--- requests of the port are issued by such steps
-module _ (old : Moment) (ports : Ports) (reached : IsReached old.machine) (n : ℕ) (port : Port) (its : port.0 ≡ n) (ready : ports.state port ≡ Ready) (kind : Mode) (takes : ports.mode port ≡ kind) where
-  pub issues_on : (late base : List Step) → IssuesOnly kind port late → AllMay (after old.machine base) late → AreTurns old ports (suc n) (suc n) base → AreTurns old ports (suc n) (suc n) (late ++ base)
-  issues_on [] base only may x = x
-  issues_on (Issue mode e ∷ late) base only may x =
-      issue_on old ports reached n (late ++ base) e (ap (λ (p : Port). p.0) only.1 ∙ its) its_may.0 mode its_may
-      (not_true e.issued (and_parts _ _ its_may.1.clear).0)
-      (ap ports.state only.1 ∙ ready) (ap ports.mode only.1 ∙ takes ∙ sym only.0)
-      (issues_on late base only.2 may.0 x)
-    where
-      its_may : May (after old.machine (late ++ base)) (Issue mode e)
-      its_may = subst (λ (m : Machine). May m (Issue mode e)) (sym (after-append old.machine late base)) may.1
-  issues_on (step ∷ late) base only may x =
-      device_on old ports (suc n) (suc n) step (late ++ base) only.0 (subst (λ (m : Machine). May m step) (sym (after-append old.machine late base)) may.1)
-      (issues_on late base only.1 may.0 x)
+        crossed : (a b : Port) → a ≡ port_at n → b.0 < n → b ≡ a → ⊥
+        crossed a b is small same = let q : b.0 ≡ n = ap (λ (r : Port). r.0) (same ∙ is) in absurd (omega (arith, small, q))

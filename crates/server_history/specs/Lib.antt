@@ -1,4 +1,5 @@
 pub mod Server
 pub mod Histories
 pub mod Served
+pub mod Turns
 pub mod Below

@@ -250,20 +250,3 @@ pub record AddsTurn (port : Port) (replies : List Reply) (old new : Server) (m :
   pub backed : IsBacked old.device new.device m steps
   pub answers : AnswersBy (mode_in old port) port replies steps
   pub issues : IssuesDue (mode_in old port) steps (after m steps) port
-
--- What serving a port does: the port has its turn, in which those of its requests are answered that are found done; and from each machine that
--- stands for the old server such steps lead to one that stands for the new. On a port that goes well, each is whose command's bits were clear when the turn began.
-pub record ServesPort (port : Port) (replies : List Reply) (old new : Server) : Type 0 where
-  pub turn : HasTurn port (slots_at old.slots port.0) replies old.device new.device
-  pub answers : AnswersTurn port replies old new turn
-  pub adds : (m : Machine) → IsReached m → IsMachineOf old m → AddsTurn port replies old new m
-  pub answered : RunsWell (old.device.port port.0) → Undisturbed port.0 old.device new.device → (slot : ℕ) (used : SlotUse) → slot < 32
-      → used_for old.slots port.0 slot ≡ Some used → (old.device.port port.0).ci slot ≡ false → (old.device.port port.0).sact slot ≡ false → IsAnsweredIn used.id replies
-
--- so it was with each of these ports that was found ready, one after another, of which the first has this number
-abbrev pub ServePorts : ℕ → List Found → List Reply → Server → Server → Type 0
-ServePorts port [] replies old new = (replies ≡ []) × (new ≡ old)
-ServePorts port (Ready info ∷ rest) replies old new =
-    (mid : Server) × (its later : List Reply) × (replies ≡ its ++ later)
-    × IsSettled mid × ServesPort (port_at port) its old mid × ServePorts (port + 1) rest later mid new
-ServePorts port (found ∷ rest) replies old new = ServePorts (port + 1) rest replies old new

@@ -34,7 +34,8 @@ ghost use Rattle.ncq.specs.Masks.{ReadsDone, SeesClear};
 ghost use Rattle.request_queue.specs.Entries.{Held, asks, asks_of};
 ghost use Rattle.server_history.specs.Below.{LawsBelow};
 ghost use Rattle.server_history.specs.Histories.{Adds, HasBegun, load_said, store_said};
-ghost use Rattle.server_history.specs.Served.{Accepts, AnswersDone, AnswersOne, HasNone, IsMaskOf, IssuesAll, IssuesOne, ServePorts, ServesPort, accepting};
+ghost use Rattle.server_history.specs.Served.{Accepts, AnswersDone, AnswersOne, HasNone, IsMaskOf, IssuesAll, IssuesOne, accepting};
+ghost use Rattle.server_history.specs.Turns.{ServePorts, ServesPort};
 ghost use Rattle.server_history.specs.Server.{Server, IsKept, IsNewServer, IsSettled, mode_in, ports_of, situation_of, slots_at, state_of, used_for};
 ghost use Rattle.slots.specs.Uses.{IsLowestFree, IsTaken};
 ghost use Rattle.slots.specs.declared.Use.{Use as SlotUse};
@@ -45,9 +46,12 @@ ghost use Rattle.port_look.specs.declared.Look.TheVariants.{Undisturbed as Calm}
 use adapter::laws::saying_is_one;
 use agreement::laws::due_finds_free_slot;
 use agreement::readying::{readied_stays, stored_stays_over_acts};
+use agreement::stretches::other_ports_are_left;
 use block_machine::laws::{due_in_turn, due_is_exact, other_ports_stay, own_requests_count};
+use driver_history::laws::a_turns_evidence_is_the_calls;
 use host_boot::laws::what_was_taken_over_may_be_served;
 use ncq::laws::{calls_are_of_one_port, finding_is_followed, issuing_performs};
+use port_boot::laws::a_port_runs_on;
 use port_look::lawful::laws_hold;
 use request_queue::laws::{
     accepted_requests_stay, an_id_is_one_request, clients_have_as_many,
@@ -78,6 +82,9 @@ fn the_laws_below_hold()
     issuing_performs();
     calls_are_of_one_port();
     finding_is_followed();
+    other_ports_are_left();
+    a_port_runs_on();
+    a_turns_evidence_is_the_calls();
 }
 
 /// A ready port of a new server runs well, if nothing went wrong on it since the adapter was idle.

@@ -35,4 +35,13 @@ returns c = record {
   issuing_of = c.calls_are_of_one_port.ensures.issuing;
   finding_of = c.calls_are_of_one_port.ensures.finding;
   finding_followed = c.finding_is_followed.ensures;
+  of_on = c.other_ports_are_left.ensures.on;
+  of_left = c.other_ports_are_left.ensures.left;
+  of_spares = c.other_ports_are_left.ensures.spares;
+  of_host = c.other_ports_are_left.ensures.spares_host;
+  runs_on = c.a_port_runs_on.ensures.runs;
+  runs_well = c.a_port_runs_on.ensures.well;
+  evidence = c.a_turns_evidence_is_the_calls.ensures.evidence;
+  failed = c.a_turns_evidence_is_the_calls.ensures.failed;
+  brings = c.a_turns_evidence_is_the_calls.ensures.brings;
 }

@@ -1,0 +1,163 @@
+-- What a port's turn in a service makes of a machine that stands for the server (this project's own).
+use Rattle.std.specs.Prelude.{ℕ, Bool, true, false, ◌≡◌, ◌≢◌, ◌⊎◌, ◌<◌, ◌+◌, ◌++◌, List, [], ◌∷◌, All, Contains, Some}
+use Rattle.ata_types.specs.declared.Port.{Port}
+use Rattle.ata_types.specs.declared.PortState.TheVariants.{Dead, Ready as ReadyState}
+use Rattle.ata_types.specs.declared.request.Reply.{Reply}
+use Rattle.adapter.specs.Access.{Access, DoesAll}
+use Rattle.adapter.specs.Device.{Device}
+use Rattle.adapter.specs.declared.access.DeviceStep.{DeviceStep}
+use Rattle.adapter.specs.declared.command.Operation.TheVariants.{ReadLog}
+use Rattle.adapter.specs.declared.tape.Fault as tape_fault
+use Rattle.agreement.specs.Agrees.{port_at}
+use Rattle.agreement.specs.Driven.{IsDrivenBy, IsOf, SendsNone}
+use Rattle.agreement.specs.Driver.{IsBacked}
+use Rattle.block_machine.specs.Events.{AllGrounded, AllLawful, AllMay, Belong, HadDisk, IsDevices, IssuesLast, Moment, Served, Service, Tells, UnplugsAll}
+use Rattle.block_machine.specs.Due.{of_port}
+use Rattle.block_machine.specs.Histories.{Instant, IsReached}
+use Rattle.block_machine.specs.Left.{after}
+use Rattle.block_machine.specs.Ports.{Evidence, Fault, IsInterrupted, IsServiced, SameDisk, SamePort}
+use Rattle.block_machine.specs.State.{Machine, Pending}
+use Rattle.block_machine.specs.Steps.{Step, Again, Answer, Issue}
+use Rattle.driver_history.specs.Evidence.{BringsLog, HasFailed, IsEvidencedOf, StaysHealthy, TellsError}
+use Rattle.driver_history.specs.Histories.{IssuesDue}
+use Rattle.driver_history.specs.Holds.{NoneWaits}
+use Rattle.driver_history.specs.Trace.{IsDriversOwn, ReadsMasks}
+use Rattle.host_boot.specs.Taken.{found_of}
+use Rattle.host_boot.specs.declared.Found.{Found}
+use Rattle.host_boot.specs.declared.Found.TheVariants.{Ready}
+use Rattle.port_look.specs.Looks.{IsLooking}
+use Rattle.request_queue.specs.Entries.{asks_of}
+use Rattle.server_history.specs.Served.{AnswersBy, AnswersTurn, Checks, HasTurn, IsAnsweredIn, IsMaskOf}
+use Rattle.server_history.specs.Server.{Server, IsMachineOf, IsSettled, mode_at, mode_in, ports_of, slots_at, state_of, used_for}
+use Rattle.slots.specs.Uses.{Uses as PortSlots}
+use Rattle.slots.specs.declared.Use.{Use as SlotUse}
+
+-- the moment and the instant at which a machine stands for the server
+abbrev pub moment_of : Server → Machine → Moment
+moment_of s m = record { machine = m; ports = ports_of s }
+
+abbrev pub instant_of : Server → Machine → Instant Device
+instant_of s m = record { device = s.device; moment = moment_of s m }
+
+-- the step is the device's own, or the server's with a request of such a port
+abbrev pub IsStepOf : (Port → Type 0) → Step → Type 0
+IsStepOf Such (Issue mode e) = Such e.request.port
+IsStepOf Such (Again e) = Such e.request.port
+IsStepOf Such (Answer e outcome) = Such e.request.port
+IsStepOf Such step = IsDevices step
+
+-- of this port
+abbrev pub IsOfTurn : Port → Step → Type 0
+IsOfTurn port step = IsStepOf (λ q. q ≡ port) step
+
+-- the evidence names this port and no other
+pub record NamesOnly (port : Port) (evidence : Evidence) : Type 0 where
+  pub lost : All (λ q. q ≡ port) evidence.lost
+  pub gone : All (λ q. q ≡ port) evidence.gone
+  pub failed : All (λ q. q ≡ port) evidence.failed
+  pub fatal : All (λ q. q ≡ port) evidence.fatal
+  pub stopped : All (λ q. q ≡ port) evidence.stopped
+  pub stuck : All (λ q. q ≡ port) evidence.stuck
+
+-- A fault of the port stood on the tape since ST was set before the turn, at a moment of it before PxCMD was written; and status and error are
+-- its own, where it is of this slot's plain command, or are what the log's last page tells of this slot's queued one.
+abbrev pub IsOfCommand : Bool → Port → List Access → Device → Device → ℕ → Fault → Type 0
+IsOfCommand false port accesses old new slot told =
+    (fault : tape_fault.Fault) × HasFailed port accesses old new fault × (fault.slot.0 ≡ slot) × (fault.status ≡ told.status) × (fault.error ≡ told.error)
+IsOfCommand true port accesses old new slot told =
+    ((fault : tape_fault.Fault) × HasFailed port accesses old new fault)
+    × ((page : List ℕ) × BringsLog port old new page × TellsError page slot told.status told.error)
+
+-- The fault that is told is of a request that had a slot of the port when the turn began. (One that the log's page told leaves the port with its
+-- engine running, or stopped.)
+pub record TellsFault (port : Port) (accesses : List Access) (old new : Server) (told : Fault) : Type 0 where
+  pub slot : ℕ
+  pub used : SlotUse
+  pub served : used_for old.slots port.0 slot ≡ Some used
+  pub id_is : used.id ≡ told.id
+  pub its : IsOfCommand used.queued port accesses old.device new.device slot told
+  pub lives : used.queued ≡ true → state_of (found_of new.ports port.0) ≢ Dead
+
+-- ---- a port that stays healthy
+
+-- The port was looked at, and then its used slots were checked, by readings of the masks that are among these accesses.
+pub record IsChecked (port : Port) (slots : PortSlots) (replies : List Reply) (accesses : List Access) (old new : Device) : Type 0 where
+  pub mask : ℕ
+  pub its : IsMaskOf slots mask
+  pub seen : Device
+  pub looks : IsDrivenBy (IsLooking port) old seen
+  pub checks : Checks port slots mask replies seen new
+  pub masks : ReadsMasks port checks.reads.issued checks.reads.active accesses
+
+-- The port is what it was, and nothing interrupts it. The device's steps were followed by the answers of what had ended, and those by issues. Where a
+-- slot is used, the used ones were checked; and who had a slot whose bits were clear when the turn began was answered.
+pub record IsCalmTurn (port : Port) (replies : List Reply) (accesses : List Access) (old new : Server) (evidence : Evidence) (steps : List Step) : Type 0 where
+  pub same : SamePort (ports_of old) (ports_of new) port
+  pub alone : IsInterrupted evidence port → ⊥
+  pub answers : AnswersBy (mode_in old port) port replies steps
+  pub checked : (slot : ℕ) (used : SlotUse) → slot < 32 → used_for old.slots port.0 slot ≡ Some used
+      → IsChecked port (slots_at old.slots port.0) replies accesses old.device new.device
+  pub answered : (slot : ℕ) (used : SlotUse) → slot < 32 → used_for old.slots port.0 slot ≡ Some used → (old.device.port port.0).ci slot ≡ false
+      → (old.device.port port.0).sact slot ≡ false → IsAnsweredIn used.id replies
+
+-- ---- a turn
+
+-- What a turn that made these accesses and said these replies has made of the machine: its steps may come, and lead to a machine that stands for
+-- the new server; the tape backs them; and they are the device's own, or of requests of the port. Its evidence names the port alone, and is
+-- backed by the device. What a service owes and claims, the turn owes and claims of its port.
+pub record MakesTurn (port : Port) (replies : List Reply) (accesses : List Access) (old new : Server) (m : Machine) : Type 0 where
+  pub steps : List Step
+  pub evidence : Evidence
+  pub may : AllMay m steps
+  pub stands : IsMachineOf new (after m steps)
+  pub backed : IsBacked old.device new.device m steps
+  pub own : All (IsOfTurn port) steps
+  pub belong : Belong {D = DeviceStep} Service (ports_of new) steps
+  pub last : IssuesLast steps
+  pub names : NamesOnly port evidence
+  pub lawful : AllLawful (moment_of old m) evidence (ports_of new) steps
+  pub grounded : AllGrounded evidence steps
+  pub tells : Tells steps replies
+  pub unplugs : UnplugsAll steps (after m steps)
+  pub becomes : IsServiced (ports_of old) evidence (ports_of new) port
+  pub disk : SamePort (ports_of old) (ports_of new) port ⊎ HadDisk (moment_of old m) steps (moment_of new (after m steps)) port
+  pub keeps : SameDisk (ports_of old) (ports_of new) port ⊎ NoneWaits (after m steps) port
+  pub issues : (ports_of new).state port ≡ ReadyState → IssuesDue (mode_in new port) steps (after m steps) port
+  pub evidenced : IsEvidencedOf Service (Served replies) accesses (instant_of old m) (ports_of new) new.device evidence port
+  pub faults : (told : Fault) → Contains evidence.faults told → TellsFault port accesses old new told
+  pub calm : StaysHealthy port.0 old.device new.device → IsCalmTurn port replies accesses old new evidence steps
+
+-- what a turn of the port leaves of the server: grants, owners and wanted disks, the id that was handed out last, and all of the other ports
+pub record LeavesOthers (port : Port) (old new : Server) : Type 0 where
+  pub grants : new.grants ≡ old.grants
+  pub wanted : new.wanted ≡ old.wanted
+  pub last : new.last ≡ old.last
+  pub found : (q : ℕ) → q ≢ port.0 → found_of new.ports q ≡ found_of old.ports q
+  pub modes : (q : ℕ) → q ≢ port.0 → mode_at new.modes q ≡ mode_at old.modes q
+  pub slots : (q : ℕ) → q ≢ port.0 → slots_at new.slots q ≡ slots_at old.slots q
+  pub book : (q : Port) → q ≢ port → of_port q (asks_of new.book) ≡ of_port q (asks_of old.book)
+
+-- A port's turn, in which these replies were given: its accesses are of the port, and those of memory in the driver's frames; it leaves the other
+-- ports, of which each that isn't dead is sent no page of the log; and from each machine that stands for the old server it makes one that stands for the new.
+pub record HasPart (port : Port) (replies : List Reply) (old new : Server) : Type 0 where
+  pub accesses : List Access
+  pub does : DoesAll accesses old.device new.device
+  pub of : All (IsOf port) accesses
+  pub own : All IsDriversOwn accesses
+  pub others : LeavesOthers port old new
+  pub silent : (q : ℕ) → q ≢ port.0 → state_of (found_of old.ports q) ≢ Dead → SendsNone q ReadLog old.device new.device
+  pub makes : (m : Machine) → IsReached m → IsMachineOf old m → MakesTurn port replies accesses old new m
+
+-- What serving a port does: the port has its turn, in which those of its requests are answered that are found done, and which is a part of a service.
+pub record ServesPort (port : Port) (replies : List Reply) (old new : Server) : Type 0 where
+  pub turn : HasTurn port (slots_at old.slots port.0) replies old.device new.device
+  pub answers : AnswersTurn port replies old new turn
+  pub part : HasPart port replies old new
+
+-- so it was with each of these ports that was found ready, one after another, of which the first has this number
+abbrev pub ServePorts : ℕ → List Found → List Reply → Server → Server → Type 0
+ServePorts port [] replies old new = (replies ≡ []) × (new ≡ old)
+ServePorts port (Ready info ∷ rest) replies old new =
+    (mid : Server) × (its later : List Reply) × (replies ≡ its ++ later)
+    × IsSettled mid × ServesPort (port_at port) its old mid × ServePorts (port + 1) rest later mid new
+ServePorts port (found ∷ rest) replies old new = ServePorts (port + 1) rest replies old new
