@@ -21,7 +21,7 @@ use Rattle.block_machine.specs.State.{Machine}
 use Rattle.block_machine.specs.Steps.{Step}
 use Rattle.identify.specs.declared.wanted.Wanted.{Wanted}
 use Rattle.driver_history.specs.Claims.{IsSpared}
-use Rattle.driver_history.specs.Evidence.{Gains, GainsRunning, HasErrors, IsEvidencedOf, IsGone, ShowsFailure, ShowsFatal, StaysHealthy}
+use Rattle.driver_history.specs.Evidence.{Gains, GainsRunning, HasErrors, HasFatalErrors, IsEvidencedOf, IsGone, ShowsFailure, ShowsFatal, StaysHealthy}
 use Rattle.driver_history.specs.Histories.{LosesNoTrouble, Ties}
 use Rattle.driver_history.specs.Trace.{LeavesEngine}
 
@@ -100,6 +100,32 @@ untroubled evidence old ports new port healthy = record {
       trouble);
 }
 
+-- nothing of what trouble is named for is so of it
+module _ (port : Port) (old : Instant Device) (new : Device) (healthy : StaysHealthy port.0 old.device new) where
+  pub no_errors : HasErrors port old new → ⊥
+  no_errors e = ⊎_elim
+      (no_failure (old.device.port port.0) healthy.well.quiet)
+      (λ g. ⊎_elim
+      (none_gained port.0 (IsFaultOf port.0) old.device new (fault_disturbs port.0) healthy.undisturbed)
+      (none_gained port.0 (IsFatalOf port.0) old.device new (fatal_disturbs port.0) healthy.undisturbed)
+      g)
+      e.1
+
+  pub no_fatal_errors : HasFatalErrors port old new → ⊥
+  no_fatal_errors e = ⊎_elim
+      (no_fatal (old.device.port port.0) healthy.well.quiet)
+      (none_gained port.0 (IsFatalOf port.0) old.device new (fatal_disturbs port.0) healthy.undisturbed)
+      e.1
+
+  pub no_plugging : Gains (IsPlugging port.0) old.device new → ⊥
+  no_plugging = none_gained port.0 (IsPlugging port.0) old.device new (plugging_disturbs port.0) healthy.undisturbed
+
+  pub not_gone : IsGone port old new → ⊥
+  not_gone g = ⊎_elim
+      (λ change. ⊎_elim (λ n. false≢true (sym healthy.well.quiet.serr_n ∙ n)) (λ x. false≢true (sym healthy.well.quiet.serr_x ∙ x)) change)
+      (λ more. ⊎_elim (λ missing. missing healthy.well.det) no_plugging more)
+      g.1
+
 -- ---- a call in which a port stays healthy
 
 module _ (told : EntryIsTold) (wanted : List Wanted) (old : Instant Device) (h : Happening Device DeviceStep) (t : Ties wanted old h) (port : Port)
@@ -110,31 +136,13 @@ module _ (told : EntryIsTold) (wanted : List Wanted) (old : Instant Device) (h :
   ev : IsEvidencedOf h.event.ask h.event.said t.accesses old h.event.ports h.device h.event.evidence port
   ev = t.evidenced.port port
 
-  errors : HasErrors port old h.device → ⊥
-  errors e = ⊎_elim
-      (no_failure (old.device.port port.0) healthy.well.quiet)
-      (λ g. ⊎_elim
-      (none_gained port.0 (IsFaultOf port.0) old.device h.device (fault_disturbs port.0) healthy.undisturbed)
-      (none_gained port.0 (IsFatalOf port.0) old.device h.device (fatal_disturbs port.0) healthy.undisturbed)
-      g)
-      e.1
-
-  plugs : Gains (IsPlugging port.0) old.device h.device → ⊥
-  plugs = none_gained port.0 (IsPlugging port.0) old.device h.device (plugging_disturbs port.0) healthy.undisturbed
-
-  gone : IsGone port old h.device → ⊥
-  gone g = ⊎_elim
-      (λ change. ⊎_elim (λ n. false≢true (sym healthy.well.quiet.serr_n ∙ n)) (λ x. false≢true (sym healthy.well.quiet.serr_x ∙ x)) change)
-      (λ more. ⊎_elim (λ missing. missing healthy.well.det) plugs more)
-      g.1
-
   changes : list_any (changes_disk port) h.event.steps ≡ true → ⊥
   changes is =
       let x = told port old.moment.machine t.backed.gained h.event.steps t.backed.tells is in
-      plugs (record { gained = t.backed.gained; tape = t.backed.tape; entry = x.0; here = x.1; is = x.2 })
+      no_plugging port old h.device healthy (record { gained = t.backed.gained; tape = t.backed.tape; entry = x.0; here = x.1; is = x.2 })
 
   undisturbed : IsDisturbed h.event.evidence h.event.steps port → ⊥
-  undisturbed d = ⊎_elim (λ failed. errors (ev.failed_only failed)) (λ rest. ⊎_elim (λ g. gone (ev.gone_only g)) changes rest) d
+  undisturbed d = ⊎_elim (λ failed. no_errors port old h.device healthy (ev.failed_only failed)) (λ rest. ⊎_elim (λ g. not_gone port old h.device healthy (ev.gone_only g)) changes rest) d
 
   module _ (asks : h.event.ask ≡ Service) (ready : old.moment.ports.state port ≡ Ready) where
     serves : ServesReady old.moment h.event.evidence h.event.steps (moment_after old.moment h.event) port

@@ -23,8 +23,8 @@ ghost use Rattle.block_machine.specs.State.{Pending};
 ghost use Rattle.block_machine.specs.Steps.{Answer};
 ghost use Rattle.identify.specs.declared.wanted.Wanted.{Wanted};
 ghost use Rattle.driver_history.specs.Claims.{AnswerRests, GoesWellFor, IsHealthyFor, IsSpared};
-ghost use Rattle.driver_history.specs.Evidence.{BringsLog, HasFailed, IsEvidencedOf, ShowsChange, StaysHealthy};
-ghost use Rattle.driver_history.specs.Histories.{IsHistory, Issues};
+ghost use Rattle.driver_history.specs.Evidence.{BringsLog, HasErrors, HasFailed, HasFatalErrors, IsEvidencedOf, IsGone, ShowsChange, StaysHealthy};
+ghost use Rattle.driver_history.specs.Histories.{IsHistory, Issues, LosesNoTrouble};
 ghost use Rattle.driver_history.specs.Holds.{HoldsAt};
 ghost use Rattle.driver_history.specs.Moves.{KeepsMoves};
 ghost use Rattle.driver_history.specs.Parts.{HasTurnIn, NamesAlike, all_of};
@@ -182,3 +182,14 @@ pub fn a_turns_evidence_is_the_calls()
 {
     laws_hold();
 }
+
+/// Of a port that stays healthy in a call nothing is so for which trouble is named: it isn't gone, and has no errors. So there is no trouble that
+/// could be lost.
+pub fn healthy_ports_are_untroubled()
+    ensures gone { (port : Port) (old : Instant Device) (new : Device) → StaysHealthy port.0 old.device new → IsGone port old new → ⊥ }
+    ensures errors { (port : Port) (old : Instant Device) (new : Device) → StaysHealthy port.0 old.device new → HasErrors port old new → ⊥ }
+    ensures fatal { (port : Port) (old : Instant Device) (new : Device) → StaysHealthy port.0 old.device new
+        → HasFatalErrors port old new → ⊥ }
+    ensures trouble { (evidence : Evidence) (old : Instant Device) (ports : Ports) (new : Device) (port : Port)
+        → StaysHealthy port.0 old.device new → LosesNoTrouble evidence old ports new port }
+{}

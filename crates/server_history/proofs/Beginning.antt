@@ -28,7 +28,7 @@ use Rattle.block_machine.specs.State.{Disk, Machine, Pending}
 use Rattle.block_machine.specs.Rules.{DifferInName}
 use Rattle.block_machine.proofs.HistoryLemmas.{reached_more}
 use Rattle.dma_frames.specs.Table.{owner_of}
-use Rattle.host_boot.specs.Taken.{FoundBadDisk, IsLeft, StandsBehind, TakesOver, found_of, wanted_of}
+use Rattle.host_boot.specs.Taken.{StillStandsBehind, FoundBadDisk, IsLeft, StandsBehind, TakesOver, found_of, wanted_of}
 use Rattle.host_boot.specs.declared.Found.{Found}
 use Rattle.host_boot.specs.declared.Found.TheVariants.{Unserved, Ready, Unready}
 use Rattle.host_boot.specs.declared.Host.{Host}
@@ -123,6 +123,27 @@ cause_is : (wanted : Wanted) (found : Found) (port cause : ℕ) (d : Device) →
 cause_is wanted Unserved port cause d s is = absurd (let z : Absent ≡ Unfit cause = is in cc)
 cause_is wanted (Ready info) port cause d s is = absurd (let z : ReadyState ≡ Unfit cause = is in cc)
 cause_is wanted (Unready state) port cause d s is = unfit_numbered cause port d ((subst (λ (x : PortState). EndsAs (serial_of wanted) x port d) is s.1).1)
+
+-- what is known of ports at each moment of a call makes them fit
+pub kept_fit : (s : Server) → IsKept s → AreFit (ports_of s)
+kept_fit s k = record {
+  few = λ port served. (k.there port.0 served).0;
+  absent = λ port other. absent_is (found_of s.ports port.0) other;
+  slots = λ port ready. (its_mode s port.0 k (ready_found s port.0 k ready).0).0;
+  causes = λ port cause is. caused (found_of s.ports port.0) port cause is refl;
+}
+  where
+    absent_is : (f : Found) → is_served f ≡ false → state_of f ≡ Absent
+    absent_is Unserved other = refl
+    absent_is (Ready info) other = absurd (false≢true (sym other))
+    absent_is (Unready state) other = absurd (false≢true (sym other))
+
+    caused : (f : Found) (port : Port) (cause : ℕ) → state_of f ≡ Unfit cause → found_of s.ports port.0 ≡ f → (1 ≤ cause) × (cause ≤ 9)
+    caused Unserved port cause is e = absurd (let z : Absent ≡ Unfit cause = is in cc)
+    caused (Ready info) port cause is e = absurd (let z : ReadyState ≡ Unfit cause = is in cc)
+    caused (Unready state) port cause is e =
+        cause_is (wanted_of s.wanted port.0) (Unready state) port.0 cause s.device
+        (subst (λ (f : Found). StillStandsBehind (wanted_of s.wanted port.0) f port.0 s.device) e (k.behind port.0 (k.there port.0 (ap is_served e)).0).behind) is
 
 -- ports past the fourth aren't served
 none_past : (ports : List Found) (port : ℕ) → length ports ≤ port → found_of ports port ≡ Unserved

@@ -14,16 +14,16 @@ use Rattle.agreement.specs.Driver.{Knows, IsBacked}
 use Rattle.agreement.specs.Links.{SameAdapter}
 use Rattle.agreement.specs.Spares.{AllFurther, IsFurther, SparesBook}
 use Rattle.agreement.proofs.Sparing.{steps_spare}
-use Rattle.block_machine.specs.Events.{Ask, Said, AllMay, AllDevices, Belong, IssuesLast, AllLawful, IsAnswered}
+use Rattle.block_machine.specs.Events.{Ask, Said, AllMay, AllDevices, Belong, IssuesLast, AllLawful, IsAnswered, KeepsDisks}
 use Rattle.block_machine.specs.Histories.{Instant, Happening, IsHistory, IsReached, now}
 use Rattle.block_machine.specs.Left.{after}
-use Rattle.block_machine.specs.Ports.{Ports, AreFit, SamePorts, SameDisk}
+use Rattle.block_machine.specs.Ports.{Ports, AreFit, Evidence, SamePorts, SameDisk}
 use Rattle.block_machine.specs.State.{Machine, Pending}
 use Rattle.block_machine.specs.Steps.{Step}
 use Rattle.block_machine.proofs.HistoryLemmas.{history_reaches, reached_more}
 use Rattle.dma_frames.specs.Table.{Table}
 use Rattle.host_boot.specs.Taken.{found_of}
-use Rattle.driver_history.specs.Evidence.{StaysHealthy}
+use Rattle.driver_history.specs.Evidence.{IsEvidenced, StaysHealthy}
 use Rattle.driver_history.specs.Histories.{Begins, CameBy, Issues, Ties, TiesPort}
 use Rattle.driver_history.specs.Trace.{LeavesEngine}
 use Rattle.driver_history.proofs.Instants.{history_fit, ready_low}
@@ -139,10 +139,13 @@ ports_same old new is = subst (SamePorts old) is (λ port. (refl, refl, refl, re
 pub disks_same : (old new : Ports) → old ≡ new → (port : Port) → SameDisk old new port
 disks_same old new is port = subst (λ (ports : Ports). SameDisk old ports port) is (refl, refl)
 
--- what a call does, with the evidence of one in which no port is stopped
+-- what a call does, with this evidence
+abbrev pub happening_with : Evidence → Device → Ask DeviceStep → Said → List Step → Ports → Happening Device DeviceStep
+happening_with evidence new ask said steps ports = record { event = record { ask = ask; said = said; evidence = evidence; steps = steps; ports = ports }; device = new }
+
+-- with the evidence of one in which no port is stopped
 abbrev pub happening : Instant Device → Device → Ask DeviceStep → Said → List Step → Ports → Happening Device DeviceStep
-happening old new ask said steps ports =
-    record { event = record { ask = ask; said = said; evidence = told_by old.device old.moment.ports; steps = steps; ports = ports }; device = new }
+happening old new ask said steps ports = happening_with (told_by old.device old.moment.ports) new ask said steps ports
 
 -- the instant, with this device
 abbrev pub with_device : Device → Instant Device → Instant Device
@@ -153,6 +156,58 @@ pub same_ports : (s new : Server) → s.ports ≡ new.ports → s.modes ≡ new.
 same_ports s new ports modes = λ i. ports_of (record s { ports = ports i; modes = modes i })
 
 -- a call, with what its event needs
+pub lead_with : (first : Instant Device) (past : List (Happening Device DeviceStep)) (s new : Server) (ask : Ask DeviceStep) (said : Said) (evidence : Evidence) (steps : List Step)
+    → new.wanted ≡ s.wanted → Leads first past s → IsKept new → AreFit (ports_of new)
+    → AllMay (now first past).moment.machine steps → Belong ask (ports_of new) steps → IssuesLast steps
+    → AllLawful (now first past).moment evidence (ports_of new) steps
+    → KeepsDisks (now first past).moment (record { machine = after (now first past).moment.machine steps; ports = ports_of new })
+    → IsAnswered ask said (now first past).moment evidence steps (record { machine = after (now first past).moment.machine steps; ports = ports_of new })
+    → (accesses : List Access) → CameBy (now first past).moment ask said accesses s.device new.device
+    → IsEvidenced ask said accesses (with_device s.device (now first past)) (ports_of new) new.device evidence
+    → ((port : Port) → Issues ask steps (after (now first past).moment.machine steps) (ports_of new) port)
+    → ((port : Port) → StaysHealthy port.0 s.device new.device
+    → TiesPort (with_device s.device (now first past)) (happening_with evidence new.device ask said steps (ports_of new)) accesses port)
+    → IsBacked s.device new.device (now first past).moment.machine steps
+    → IsMachineOf new (after (now first past).moment.machine steps)
+    → (h : Happening Device DeviceStep) × (h.event.ask ≡ ask) × (h.event.said ≡ said) × Leads first (h ∷ past) new
+lead_with first past s new ask said evidence steps wanted_is leads kept fit may belong last lawful disks answered accesses came evidenced issues parts backed stands = (
+  h,
+  refl,
+  refl,
+  record {
+    history = (
+      subst (λ wanted. IsHistory (Begins wanted) (Ties wanted) first past) (sym wanted_is) leads.history,
+      record { may = may; belong = belong; last = last; lawful = lawful; fit = fit; disks = disks; answered = answered },
+      subst (λ (d : Device). Ties new.wanted (with_device d old) h) (sym leads.stands.device_is) ties,
+    );
+    stands = record { device_is = refl; ports_are = refl; machine = stands };
+  },
+)
+  where
+    old : Instant Device
+    old = now first past
+
+    h : Happening Device DeviceStep
+    h = happening_with evidence new.device ask said steps (ports_of new)
+
+    later : Machine
+    later = after old.moment.machine steps
+
+    reached : IsReached later
+    reached = reached_more old.moment.machine steps (history_reaches (Begins s.wanted) (Ties s.wanted) first past leads.history) may
+
+    ties : Ties new.wanted (with_device s.device old) h
+    ties = record {
+      accesses = accesses;
+      came = came;
+      backed = backed;
+      evidenced = evidenced;
+      issues = issues;
+      port = parts;
+      holds = (slots new kept later reached stands, holds_with new kept later reached stands);
+    }
+
+-- one in which no port is stopped, and each is what it was
 pub lead_by : (first : Instant Device) (past : List (Happening Device DeviceStep)) (s new : Server) (ask : Ask DeviceStep) (said : Said) (steps : List Step)
     → new.wanted ≡ s.wanted → new.ports ≡ s.ports → new.modes ≡ s.modes → Leads first past s → IsKept new
     → AllMay (now first past).moment.machine steps → Belong ask (ports_of new) steps → IssuesLast steps
@@ -166,56 +221,19 @@ pub lead_by : (first : Instant Device) (past : List (Happening Device DeviceStep
     → IsBacked s.device new.device (now first past).moment.machine steps
     → IsMachineOf new (after (now first past).moment.machine steps)
     → (h : Happening Device DeviceStep) × (h.event.ask ≡ ask) × (h.event.said ≡ said) × Leads first (h ∷ past) new
-lead_by first past s new ask said steps wanted_is ports_is modes_is leads kept may belong last lawful answered accesses came leaves issues parts backed stands = (
-  h,
-  refl,
-  refl,
-  record {
-    history = (
-      subst (λ wanted. IsHistory (Begins wanted) (Ties wanted) first past) (sym wanted_is) leads.history,
-      record {
-        may = may;
-        belong = belong;
-        last = last;
-        lawful = lawful_told s.device old.moment.ports old.moment (ports_of new) steps lawful;
-        fit = subst AreFit ports fit;
-        disks = λ e o here i same. disks_same old.moment.ports (ports_of new) ports e.request.port;
-        answered = answered;
-      },
-      subst (λ (d : Device). Ties new.wanted (with_device d old) h) (sym at.device_is) ties,
-    );
-    stands = record { device_is = refl; ports_are = refl; machine = stands };
-  },
-)
+lead_by first past s new ask said steps wanted_is ports_is modes_is leads kept may belong last lawful answered accesses came leaves issues parts backed stands =
+    lead_with first past s new ask said (told_by s.device old.moment.ports) steps wanted_is leads kept (subst AreFit ports fit) may belong last
+    (lawful_told s.device old.moment.ports old.moment (ports_of new) steps lawful)
+    (λ e o here i same. disks_same old.moment.ports (ports_of new) ports e.request.port)
+    answered accesses came
+    (evidenced ask said accesses (with_device s.device old) (ports_of new) new.device (λ port ready. (ready_low old port fit ready).1) leaves)
+    issues parts backed stands
   where
     old : Instant Device
     old = now first past
 
-    at : Stands old s
-    at = leads.stands
-
     ports : old.moment.ports ≡ ports_of new
-    ports = at.ports_are ∙ same_ports s new (sym ports_is) (sym modes_is)
+    ports = leads.stands.ports_are ∙ same_ports s new (sym ports_is) (sym modes_is)
 
     fit : AreFit old.moment.ports
     fit = history_fit (Begins s.wanted) (Ties s.wanted) first past leads.history
-
-    h : Happening Device DeviceStep
-    h = happening (with_device s.device old) new.device ask said steps (ports_of new)
-
-    later : Machine
-    later = after old.moment.machine steps
-
-    reached : IsReached later
-    reached = reached_more old.moment.machine steps (history_reaches (Begins s.wanted) (Ties s.wanted) first past leads.history) may
-
-    ties : Ties new.wanted (with_device s.device old) h
-    ties = record {
-      accesses = accesses;
-      came = came;
-      backed = backed;
-      evidenced = evidenced ask said accesses (with_device s.device old) (ports_of new) new.device (λ port ready. (ready_low old port fit ready).1) leaves;
-      issues = issues;
-      port = parts;
-      holds = (slots new kept later reached stands, holds_with new kept later reached stands);
-    }

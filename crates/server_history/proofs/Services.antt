@@ -65,7 +65,7 @@ use Rattle.driver_history.specs.Parts.{HasTurnIn, IsOfOther, NamesAlike}
 use Rattle.driver_history.specs.Trace.{IsDriversOwn, IsServing, LeavesCommand, LeavesEngine, ReadsMasks}
 use Rattle.server_history.specs.Below.{LawsBelow}
 use Rattle.server_history.specs.Served.{AnswersBy, Checks, HasEnded, IsAnsweredIn, IsMaskOf, answers_in, done_reply, is_used}
-use Rattle.server_history.specs.Turns.{HasPart, IsCalmTurn, IsChecked, IsOfCommand, MakesTurn, NamesOnly, ServePorts, ServesPort, TellsFault, moment_of}
+use Rattle.server_history.specs.Turns.{HasPart, IsCalmTurn, IsChecked, IsOfCommand, IsStepOf, MakesTurn, NamesOnly, ServePorts, ServesPort, TellsFault, moment_of}
 use Rattle.server_history.specs.Server.{Server, IsKept, IsMachineOf, IsSettled, is_served, mode_at, mode_in, ports_of, sectors_of, serial_of, slots_at, state_of, trims_of, used_for}
 use Rattle.server_history.proofs.Coming.{IsBusy, IsTurn, TurnList, turn_leaves, turn_list}
 use Rattle.server_history.proofs.Asks.{none_issued, same_book}
@@ -81,7 +81,7 @@ use Rattle.slots.specs.declared.Use.{Use as SlotUse}
 use Rattle.slots.specs.Uses.{Uses as PortSlots, use_at}
 use Rattle.block_machine.specs.declared.due.Mode.{Mode}
 use Rattle.server_history.proofs.Zips.{at_left, at_right}
-use Rattle.server_history.proofs.Turns.{AreTurns, answered_of, belong_join, belong_on, grounded_join, grounded_on, lawful_join, lawful_on, no_turns, present_before, turn_on, turns_more, unplugs_join}
+use Rattle.server_history.proofs.Turns.{AreTurns, all_of_ports, answered_of, belong_join, belong_on, grounded_join, grounded_on, lawful_join, lawful_on, no_turns, present_before, turn_on, turns_more, unplugs_join}
 use Rattle.server_history.proofs.Plain.{both_read}
 use Rattle.port_look.specs.Services.{IsService}
 use Rattle.port_look.specs.Looks.{IsLooking}
@@ -258,7 +258,7 @@ serviced_lift a b c d one other q x y alike i = (
   )),
 )
 
-ready_or_not : (state : PortState) → (state ≡ ReadyState) ⊎ (state ≢ ReadyState)
+pub ready_or_not : (state : PortState) → (state ≡ ReadyState) ⊎ (state ≢ ReadyState)
 ready_or_not ReadyState = inl refl
 ready_or_not Absent = inr (λ is. let z : Absent ≡ ReadyState = is in absurd cc)
 ready_or_not Foreign = inr (λ is. let z : Foreign ≡ ReadyState = is in absurd cc)
@@ -330,9 +330,10 @@ module _ (laws : LawsBelow) (s : Server) (start : IsSettled s) (old : Moment) (r
     pub faults : (told : Fault) → Contains evidence.faults told → HasTold n c accesses told
     pub done : (q : Port) → q.0 < n → IsDone c accesses steps evidence q
     pub due : (q : Port) → state_of (found_of c.ports q.0) ≡ ReadyState → IssuesDue (mode_in c q) steps (after old.machine steps) q
-    pub found : (q : ℕ) → n ≤ q → found_of c.ports q ≡ found_of s.ports q
-    pub modes : (q : ℕ) → n ≤ q → mode_at c.modes q ≡ mode_at s.modes q
-    pub slots : (q : ℕ) → n ≤ q → slots_at c.slots q ≡ slots_at s.slots q
+    pub of : All (IsStepOf (HadTurn n)) steps
+    pub found : (q : Port) → (HadTurn n q → ⊥) → found_of c.ports q.0 ≡ found_of s.ports q.0
+    pub modes : (q : Port) → (HadTurn n q → ⊥) → mode_at c.modes q.0 ≡ mode_at s.modes q.0
+    pub slots : (q : Port) → (HadTurn n q → ⊥) → slots_at c.slots q.0 ≡ slots_at s.slots q.0
 
   pub begun : Progress 0 s []
   begun = record {
@@ -368,9 +369,10 @@ module _ (laws : LawsBelow) (s : Server) (start : IsSettled s) (old : Moment) (r
     faults = λ told here. absurd (contains_none told here);
     done = λ q lt. absurd (omega (arith, lt));
     due = λ q is_ready. none_issued s old.machine at [] (λ id. refl) (mode_in s q) q (start.issued q);
-    found = λ q past. refl;
-    modes = λ q past. refl;
-    slots = λ q past. refl;
+    of = All-nil (IsStepOf (HadTurn 0));
+    found = λ q none. refl;
+    modes = λ q none. refl;
+    slots = λ q none. refl;
   }
 
   -- the evidence doesn't name a port that had no turn
@@ -408,12 +410,11 @@ module _ (laws : LawsBelow) (s : Server) (start : IsSettled s) (old : Moment) (r
       }
 
   -- what is so of a port that isn't ready, and had no turn
-  idle_done : (n : ℕ) (c : Server) (replies : List Reply) → (p : Progress n c replies) → (q : Port) → state_at q.0 ≢ ReadyState → found_of c.ports q.0 ≡ found_of s.ports q.0 → mode_in c q ≡ mode_in s q
-      → IsDone c p.accesses p.steps p.evidence q
-  idle_done n c replies p q unready found mode =
+  pub idle_done : (n : ℕ) (c : Server) (replies : List Reply) → (p : Progress n c replies) → (q : Port) → state_at q.0 ≢ ReadyState → IsDone c p.accesses p.steps p.evidence q
+  idle_done n c replies p q unready =
       let none : HadTurn n q → ⊥ = λ served. unready served.1 in
       let un = unnamed n q none p.evidence p.names in
-      let same : SamePort old.ports (ports_of c) q = subst (λ (ports : Ports). SamePort ports (ports_of c) q) (sym ports_are) (same_at s c q found mode) in
+      let same : SamePort old.ports (ports_of c) q = subst (λ (ports : Ports). SamePort ports (ports_of c) q) (sym ports_are) (same_at s c q (p.found q none) (p.modes q none)) in
       record {
         becomes = (
           λ dead. same,
@@ -462,14 +463,28 @@ module _ (laws : LawsBelow) (s : Server) (start : IsSettled s) (old : Moment) (r
     done = λ q lt. ⊎_elim
         (λ (less : q.0 < n). p.done q less)
         (λ (most : n ≤ q.0).
-        let same : q.0 ≡ n = omega (arith, lt, most) in
-        idle_done n c replies p q (λ is_ready. other (ap state_at (sym same) ∙ is_ready)) (p.found q.0 most) (p.modes q.0 most))
+        let same : n ≡ q.0 = omega (arith, lt, most) in
+        idle_done n c replies p q (λ is_ready. other (ap state_at same ∙ is_ready)))
         (cases_lt q.0 n);
     due = p.due;
-    found = λ q past. p.found q (omega (arith, past));
-    modes = λ q past. p.modes q (omega (arith, past));
-    slots = λ q past. p.slots q (omega (arith, past));
+    of = all_of_ports (HadTurn n) (HadTurn (n + 1)) (λ q served. let small = served.0 in (omega (arith, small), served.1)) p.steps p.of;
+    found = λ q none. p.found q (λ served. let small = served.0 in none (omega (arith, small), served.1));
+    modes = λ q none. p.modes q (λ served. let small = served.0 in none (omega (arith, small), served.1));
+    slots = λ q none. p.slots q (λ served. let small = served.0 in none (omega (arith, small), served.1));
   }
+
+  -- who was answered is of a port that was ready
+  pub answered_was : (n : ℕ) (c : Server) (replies : List Reply) → (p : Progress n c replies) → (e : Pending) (o : Outcome) → Contains p.steps (Answer e o) → state_at e.request.port.0 ≡ ReadyState
+  answered_was n c replies p e o here = (answered_of (HadTurn n) p.steps p.of e o here).1
+
+  -- a port that wasn't ready is what it was, and nothing interrupts it
+  pub unready_same : (n : ℕ) (c : Server) (replies : List Reply) → (p : Progress n c replies) → (q : Port) → state_at q.0 ≢ ReadyState → SamePort (ports_of s) (ports_of c) q
+  unready_same n c replies p q unready = same_at s c q (p.found q (λ served. unready served.1)) (p.modes q (λ served. unready served.1))
+
+  pub unready_spared : (n : ℕ) (c : Server) (replies : List Reply) → (p : Progress n c replies) → (q : Port) → state_at q.0 ≢ ReadyState → IsInterrupted p.evidence q → ⊥
+  unready_spared n c replies p q unready i =
+      let un = unnamed n q (λ served. unready served.1) p.evidence p.names in
+      ⊎_elim un.4 un.5 i
 
   -- ---- a turn
 
@@ -498,8 +513,11 @@ module _ (laws : LawsBelow) (s : Server) (start : IsSettled s) (old : Moment) (r
     low : n < 4
     low = (ready_found s n kept ready).0
 
+    not_yet : HadTurn n (port_at n) → ⊥
+    not_yet served = let lt = served.0 in omega (arith, lt)
+
     ready_c : state_of (found_of c.ports n) ≡ ReadyState
-    ready_c = ap state_of (p.found n (omega arith)) ∙ ready
+    ready_c = ap state_of (p.found (port_at n) not_yet) ∙ ready
 
     was_ready : old.ports.state (port_at n) ≡ ReadyState
     was_ready = ap (λ (ports : Ports). ports.state (port_at n)) ports_are ∙ ready
@@ -519,9 +537,6 @@ module _ (laws : LawsBelow) (s : Server) (start : IsSettled s) (old : Moment) (r
     whole_is : after old.machine all ≡ after m x.steps
     whole_is = after-append old.machine x.steps p.steps
 
-    not_yet : HadTurn n (port_at n) → ⊥
-    not_yet served = let lt = served.0 in omega (arith, lt)
-
     -- a port that had its turn is another
     earlier : (q : Port) → q.0 < n → q ≢ port_at n
     earlier q lt same = let is : q.0 ≡ n = ap (λ (r : Port). r.0) same in omega (arith, lt, is)
@@ -531,7 +546,7 @@ module _ (laws : LawsBelow) (s : Server) (start : IsSettled s) (old : Moment) (r
     of_other q ne = All-weaker (IsOf (port_at n)) (IsOfOther q) (λ access of. (port_at n, ne, of)) part.accesses part.of
 
     same_n : SamePort old.ports (ports_of c) (port_at n)
-    same_n = subst (λ (ports : Ports). SamePort ports (ports_of c) (port_at n)) (sym ports_are) (same_at s c (port_at n) (p.found n (omega arith)) (p.modes n (omega arith)))
+    same_n = subst (λ (ports : Ports). SamePort ports (ports_of c) (port_at n)) (sym ports_are) (same_at s c (port_at n) (p.found (port_at n) not_yet) (p.modes (port_at n) not_yet))
 
     same_other : (q : Port) → q.0 ≢ n → SamePort (ports_of c) (ports_of mid) q
     same_other q ne = same_at c mid q (part.others.found q.0 ne) (part.others.modes q.0 ne)
@@ -878,7 +893,7 @@ module _ (laws : LawsBelow) (s : Server) (start : IsSettled s) (old : Moment) (r
           module _ (slot : ℕ) (apart : slot ≢ h.slot) (says : ServesRequest old.machine s.device.memory (s.device.port n) n slot other.request.id) where
             -- the port's slots are what they were when the service began
             used_then : (i : ℕ) → used_for c.slots n i ≡ used_for s.slots n i
-            used_then i = ap (λ (slots : PortSlots). use_at slots i) (p.slots n (omega arith))
+            used_then i = ap (λ (slots : PortSlots). use_at slots i) (p.slots (port_at n) not_yet)
 
             unused : used_for s.slots n slot ≡ None
             unused = ⊎_elim
@@ -1061,7 +1076,7 @@ module _ (laws : LawsBelow) (s : Server) (start : IsSettled s) (old : Moment) (r
     -- the request of a slot that was used when the turn began was in the slot when the call began
     module _ (told : Fault) (f : TellsFault (port_at n) part.accesses c mid told) where
       used_s : used_for s.slots n f.slot ≡ Some f.used
-      used_s = ap (λ (slots : PortSlots). use_at slots f.slot) (sym (p.slots n (omega arith))) ∙ f.served
+      used_s = ap (λ (slots : PortSlots). use_at slots f.slot) (sym (p.slots (port_at n) not_yet)) ∙ f.served
 
       by : IsServedBy s old.machine n f.slot f.used.id
       by = served_request s old.machine n f.slot at f.used.id (serves_used s old.machine n at ready f.slot f.used used_s)
@@ -1219,11 +1234,17 @@ module _ (laws : LawsBelow) (s : Server) (start : IsSettled s) (old : Moment) (r
           (λ (most : n ≤ q.0). subst (λ (r : Port). IsDone mid accesses all evidence r) (ap port_at (let e : n ≡ q.0 = omega (arith, lt, most) in e)) done_n)
           (cases_lt q.0 n);
       due = due_now;
-      found = λ q past. part.others.found q (λ is. omega (arith, past, is)) ∙ p.found q (omega (arith, past));
-      modes = λ q past. part.others.modes q (λ is. omega (arith, past, is)) ∙ p.modes q (omega (arith, past));
-      slots = λ q past. part.others.slots q (λ is. omega (arith, past, is)) ∙ p.slots q (omega (arith, past));
+      of = All-append (IsStepOf (HadTurn (n + 1))) x.steps p.steps
+          (all_of_ports (λ q. q ≡ port_at n) (HadTurn (n + 1)) (λ q is. subst (HadTurn (n + 1)) (sym is) (omega arith, ready)) x.steps x.own)
+          (all_of_ports (HadTurn n) (HadTurn (n + 1)) (λ q served. let lt = served.0 in (omega (arith, lt), served.1)) p.steps p.of);
+      found = λ q none. part.others.found q.0 (λ is. none (omega (arith, is), ap state_at is ∙ ready)) ∙ p.found q (still_none q none);
+      modes = λ q none. part.others.modes q.0 (λ is. none (omega (arith, is), ap state_at is ∙ ready)) ∙ p.modes q (still_none q none);
+      slots = λ q none. part.others.slots q.0 (λ is. none (omega (arith, is), ap state_at is ∙ ready)) ∙ p.slots q (still_none q none);
     }
       where
+        still_none : (q : Port) → (HadTurn (n + 1) q → ⊥) → HadTurn n q → ⊥
+        still_none q none served = let lt = served.0 in none (omega (arith, lt), served.1)
+
         one_serving : (access : Access) → IsOf (port_at n) access → IsDriversOwn access → IsServing (TendsPort (ports_of s)) access
         one_serving (Reading (Px at r) v) of own = (own, tt, subst (TendsPort (ports_of s)) (sym of) its_served)
         one_serving (Reading r v) of own = (own, tt, tt)

@@ -41,7 +41,8 @@ use Rattle.agreement.specs.Facts.{RunsWell, Undisturbed}
 use Rattle.block_machine.specs.Events.{Ask, Moment, Said}
 use Rattle.block_machine.specs.Histories.{Instant, IsReached}
 use Rattle.block_machine.specs.Ports.{Evidence, Ports, SamePort}
-use Rattle.driver_history.specs.Evidence.{BringsLog, HasFailed, IsEvidencedOf}
+use Rattle.driver_history.specs.Evidence.{BringsLog, HasErrors, HasFailed, HasFatalErrors, IsEvidencedOf, IsGone, StaysHealthy}
+use Rattle.driver_history.specs.Histories.{LosesNoTrouble}
 use Rattle.driver_history.specs.Parts.{HasTurnIn, NamesAlike, all_of}
 use Rattle.port_boot.specs.States.{RunsOn}
 use Rattle.ncq.specs.Masks.{ReadsDone, IsFinding}
@@ -123,3 +124,8 @@ pub record LawsBelow : Type 0 where
       → IsEvidencedOf ask said t.turn (record { device = t.start; moment = begun }) ended t.end turn port → IsEvidencedOf ask said (all_of t) old ports new call port
   pub failed : (port : Port) (old new : Device) (fault : Fault) → IsOn old → (t : HasTurnIn port old new) → HasFailed port t.turn t.start t.end fault → HasFailed port (all_of t) old new fault
   pub brings : (port : Port) (old new : Device) (page : List ℕ) → IsOn old → (t : HasTurnIn port old new) → SendsNone port.0 ReadLog t.end new → BringsLog port t.start t.end page → BringsLog port old new page
+  -- a port that stays healthy has no trouble
+  pub never_gone : (port : Port) (old : Instant Device) (new : Device) → StaysHealthy port.0 old.device new → IsGone port old new → ⊥
+  pub never_failed : (port : Port) (old : Instant Device) (new : Device) → StaysHealthy port.0 old.device new → HasErrors port old new → ⊥
+  pub never_fatal : (port : Port) (old : Instant Device) (new : Device) → StaysHealthy port.0 old.device new → HasFatalErrors port old new → ⊥
+  pub untroubled : (evidence : Evidence) (old : Instant Device) (ports : Ports) (new : Device) (port : Port) → StaysHealthy port.0 old.device new → LosesNoTrouble evidence old ports new port

@@ -48,7 +48,7 @@ use agreement::laws::due_finds_free_slot;
 use agreement::readying::{readied_stays, stored_stays_over_acts};
 use agreement::stretches::other_ports_are_left;
 use block_machine::laws::{due_in_turn, due_is_exact, other_ports_stay, own_requests_count};
-use driver_history::laws::a_turns_evidence_is_the_calls;
+use driver_history::laws::{a_turns_evidence_is_the_calls, healthy_ports_are_untroubled};
 use host_boot::laws::what_was_taken_over_may_be_served;
 use ncq::laws::{calls_are_of_one_port, finding_is_followed, issuing_performs};
 use port_boot::laws::a_port_runs_on;
@@ -85,6 +85,7 @@ fn the_laws_below_hold()
     other_ports_are_left();
     a_port_runs_on();
     a_turns_evidence_is_the_calls();
+    healthy_ports_are_untroubled();
 }
 
 /// A ready port of a new server runs well, if nothing went wrong on it since the adapter was idle.

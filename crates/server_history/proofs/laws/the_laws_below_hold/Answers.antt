@@ -44,4 +44,8 @@ returns c = record {
   evidence = c.a_turns_evidence_is_the_calls.ensures.evidence;
   failed = c.a_turns_evidence_is_the_calls.ensures.failed;
   brings = c.a_turns_evidence_is_the_calls.ensures.brings;
+  never_gone = c.healthy_ports_are_untroubled.ensures.gone;
+  never_failed = c.healthy_ports_are_untroubled.ensures.errors;
+  never_fatal = c.healthy_ports_are_untroubled.ensures.fatal;
+  untroubled = c.healthy_ports_are_untroubled.ensures.trouble;
 }
