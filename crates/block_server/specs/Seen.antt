@@ -9,6 +9,7 @@ seen s = record {
   table = s.table.value;
   wanted = s.wanted;
   ports = s.ports;
+  remembered = s.remembered;
   modes = s.modes;
   slots = s.slots;
   book = s.book;

@@ -15,7 +15,7 @@ use configuration::Config;
 use dma_frames::FrameTable;
 use grants::{Grants, decide};
 use host_boot::{Found, PORTS, take_over};
-use identify::Wanted;
+use identify::{DiskInfo, Wanted};
 use ncq::done;
 use plan::Plan;
 use port_look::{Look, look_at};
@@ -41,6 +41,8 @@ pub struct Server<A: Adapter> {
     table: Box<FrameTable>,
     wanted: [Wanted; PORTS],
     ports: [Found; PORTS],
+    /// Of a port that isn't ready, the disk that it was last ready with, if it ever was.
+    remembered: [Option<DiskInfo>; PORTS],
     modes: [Mode; PORTS],
     slots: [Slots; PORTS],
     book: Book,
@@ -80,7 +82,7 @@ impl<A: Adapter> Server<A> {
     ghost use Rattle.server_history.specs.Histories.{Adds, store_said, load_said};
     ghost use Rattle.ata_types.specs.declared.request.Reply.{Reply};
     ghost use Rattle.server_history.specs.Served.{AnswersDone, ServesPort};
-    ghost use Rattle.server_history.specs.Server.{IsSettled, mode_at, situation_of, state_of, sectors_of, trims_of};
+    ghost use Rattle.server_history.specs.Server.{IsSettled, disk_of, mode_at, remembered_at, situation_of, state_of, sectors_of, trims_of};
     ghost use Rattle.hba_regs.specs.Bits.{bit};
     ghost use Rattle.agreement.specs.Slots.{IsOver};
     ghost use Rattle.ata_types.specs.declared.PortState.TheVariants.{Ready};
@@ -121,6 +123,7 @@ impl<A: Adapter> Server<A> {
             table,
             wanted,
             ports: host.ports,
+            remembered: [None; PORTS],
             modes,
             slots: unused_slots(&modes),
             book,
@@ -169,13 +172,27 @@ impl<A: Adapter> Server<A> {
         }
     }
 
-    /// How many sectors the disk of a ready port has; 0 for another port.
-    fn sectors(&self, port: Port) -> u64
-        ensures { result ≡ sectors_of (found_of self.now.ports port.0) }
+    /// The disk that a port is ready with, or was last ready with, if it ever was.
+    fn disk(&self, port: Port) -> Option<DiskInfo>
+        ensures { result ≡ disk_of (found_of self.now.ports port.0) (remembered_at self.now.remembered port.0) }
     {
         match self.found(port) {
-            Found::Ready(info) => info.sectors,
-            _ => 0,
+            Found::Ready(info) => Some(info),
+            _ => self
+                .remembered
+                .get(usize::from(port.0))
+                .copied()
+                .unwrap_or(None),
+        }
+    }
+
+    /// How many sectors that disk has; 0 where there is none.
+    fn sectors(&self, port: Port) -> u64
+        ensures { result ≡ sectors_of (disk_of (found_of self.now.ports port.0) (remembered_at self.now.remembered port.0)) }
+    {
+        match self.disk(port) {
+            Some(info) => info.sectors,
+            None => 0,
         }
     }
 
@@ -414,6 +431,7 @@ impl<A: Adapter> Server<A> {
             table,
             wanted: _,
             ports: _,
+            remembered: _,
             modes: _,
             slots: _,
             book,

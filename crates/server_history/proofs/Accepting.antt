@@ -49,7 +49,7 @@ use Rattle.block_machine.specs.declared.due.Mode.{Mode}
 use Rattle.server_history.proofs.Asks.{none_due}
 use Rattle.server_history.proofs.Calls.{reached, situation_is}
 use Rattle.server_history.proofs.Coming.{issuing_is, issuing_leaves}
-use Rattle.server_history.proofs.Going.{kept_then, lead_by, ports_same, same_ports, with_device}
+use Rattle.server_history.proofs.Going.{kept_then, lead_by, ports_same, with_device}
 use Rattle.server_history.proofs.Granting.{has_room, is_accepted, is_new, on_ready, request_in, entry_in, unlent}
 use Rattle.server_history.proofs.Rounds.{AreIssued, accepts_on, any_append, belong_on, dues, dues_carried, each_driven, each_issued, each_settings, last_on, lawful_on, or_none, settled}
 use Rattle.server_history.proofs.Slots.{ready_found, served_request, serves_used, used_ready}
@@ -179,7 +179,7 @@ module _ (laws : LawsBelow) (s : Server) (k : IsKept s) (r : Request) (acc : IsA
     pub event : (first : Instant Device) (past : List (Happening Device DeviceStep)) → Leads first past s
         → (h : Happening Device DeviceStep) × (h.event.ask ≡ Submit r) × (h.event.said ≡ Submitted (Ok id)) × Leads first (h ∷ past) new
     event first past leads =
-        lead_by first past s new (Submit r) (Submitted (Ok id)) (x.steps ++ early) (ap (λ (n : Server). n.wanted) same) ports_same_too modes_same_too leads settles.kept
+        lead_by first past s new (Submit r) (Submitted (Ok id)) (x.steps ++ early) (ap (λ (n : Server). n.wanted) same) (ap ports_of same) leads settles.kept
         (may-append m x.steps early (tt, fresh m was is) x.may)
         (belong_on mode port {D = DeviceStep} (Submit r) (ports_of new) (λ p own. (its_ready p own, its_mode p own)) x.steps early x.only (tt, inr refl))
         (last_on mode port x.steps early x.only x.last (tt, λ other h i. false≢true h) (λ other i j. false≢true j))
@@ -220,9 +220,6 @@ module _ (laws : LawsBelow) (s : Server) (k : IsKept s) (r : Request) (acc : IsA
         mode : Mode
         mode = mode_in s port
 
-        modes_same_too : new.modes ≡ s.modes
-        modes_same_too = ap (λ (n : Server). n.modes) same
-
         its_mode : (p : machine.Pending) → p.request.port ≡ port → (ports_of new).mode p.request.port ≡ mode
         its_mode p own = ap (mode_in new) own ∙ ap (λ (n : Server). mode_in n port) same
 
@@ -239,7 +236,7 @@ module _ (laws : LawsBelow) (s : Server) (k : IsKept s) (r : Request) (acc : IsA
         its_row = subst (λ (rows : List GrantRow). IsNamed rows r row) (sym is.rows) named
 
         same_ports_are : SamePorts old.moment.ports (ports_of new)
-        same_ports_are = ports_same old.moment.ports (ports_of new) (leads.stands.ports_are ∙ same_ports s new (sym ports_same_too) (sym modes_same_too))
+        same_ports_are = ports_same old.moment.ports (ports_of new) (leads.stands.ports_are ∙ sym (ap ports_of same))
 
         all_issued : AllIssued (record { machine = after m (x.steps ++ early); ports = ports_of new })
         all_issued other on = none_due new (after m (x.steps ++ early)) stands (mode_in new other) other (settles.issued other)

@@ -269,6 +269,7 @@ module _ (laws : TakenLaws) (s : Server) (host : Host) (d : Device) (is : IsIdle
     rows = n.rows;
     owners = n.owners;
     four = n.four_slots;
+    four_remembered = n.four_remembered;
     slots = λ port low. record { places = n.places port low; usable = n.usable port low; unused = λ slot high. n.unused port slot };
     modes = n.modes;
     kinds = λ port slot used e is. absurd (let z : None ≡ Some used = sym (n.unused port.0 slot) ∙ is in cc);

@@ -144,7 +144,7 @@ module _ (laws : LawsBelow) where
           let m = at.machine in
           let x = (device_adds (known m.uses none_parked s.device) new moves).adds old.moment.machine (reached first past s leads) m.knows in
           let steps : List Step = x.0 in
-          lead_by first past s (record s { device = new }) (Told step) (Stepped true) steps refl refl refl leads (device_kept s new k.kept moves) x.1 (devices_belong (Told step) (ports_of s) steps x.3.only) (devices_last steps x.3.only)
+          lead_by first past s (record s { device = new }) (Told step) (Stepped true) steps refl refl leads (device_kept s new k.kept moves) x.1 (devices_belong (Told step) (ports_of s) steps x.3.only) (devices_last steps x.3.only)
           (devices_lawful old.moment no_evidence (ports_of s) steps x.3.only)
           (x.3.only, ports_same old.moment.ports (ports_of s) at.ports_are)
           []
@@ -168,7 +168,7 @@ module _ (laws : LawsBelow) where
           → (h : Happening Device DeviceStep) × (h.event.ask ≡ ask) × (h.event.said ≡ said) × Leads first (h ∷ past) s
       adds first past leads =
           let old : Instant Device = now first past in
-          lead_by first past s s ask said [] refl refl refl leads k.kept tt tt tt tt (answered old leads.stands (told_by s.device old.moment.ports)) [] (came old.moment)
+          lead_by first past s s ask said [] refl refl leads k.kept tt tt tt tt (answered old leads.stands (told_by s.device old.moment.ports)) [] (came old.moment)
           (λ port. All-nil (LeavesEngine port)) (issues old (reached first past s leads) leads.stands) (λ port healthy. parts (with_device s.device old) port healthy) (nothing_backed s.device old.moment.machine) leads.stands.machine
 
   pub undone_adds : (s : Server) (step : DeviceStep) → IsSettled s → Adds s s (Told step) (Stepped false)
@@ -285,7 +285,7 @@ module _ (laws : LawsBelow) where
             let old : Instant Device = now first past in
             let at : Stands old s = leads.stands in
             let x = load_ends s new client frame offset bytes k opens loads old.moment.machine (reached first past s leads) at.machine in
-            lead_by first past s (record s { device = new }) (LoadAt client frame offset (length bytes)) (load_said (Ok tt) bytes) (Load client frame offset bytes ∷ x.0.steps) refl refl refl leads (load_kept loads) x.0.may (devices_belong {D = DeviceStep} (LoadAt client frame offset (length bytes)) (ports_of s) x.0.steps x.0.only, inr (refl, refl, refl, refl))
+            lead_by first past s (record s { device = new }) (LoadAt client frame offset (length bytes)) (load_said (Ok tt) bytes) (Load client frame offset bytes ∷ x.0.steps) refl refl leads (load_kept loads) x.0.may (devices_belong {D = DeviceStep} (LoadAt client frame offset (length bytes)) (ports_of s) x.0.steps x.0.only, inr (refl, refl, refl, refl))
             (devices_last x.0.steps x.0.only, λ id h i. false≢true h)
             (devices_lawful old.moment no_evidence (ports_of s) x.0.steps x.0.only)
             (as_told s old.moment.machine at.machine (λ owner lent. IsOpen owner lent client frame offset (length bytes)) opens, ap (λ (rest : List (List ℕ)). bytes ∷ rest) (devices_transfer x.0.steps x.0.only), ports_same old.moment.ports (ports_of s) at.ports_are)
@@ -305,7 +305,7 @@ module _ (laws : LawsBelow) where
             let old : Instant Device = now first past in
             let at : Stands old s = leads.stands in
             let x = store_ends s new client frame offset bytes k opens stores old.moment.machine (reached first past s leads) at.machine in
-            lead_by first past s (record s { device = new }) (StoreAt client frame offset bytes) (store_said (Ok tt)) (Store client frame offset bytes ∷ x.0.steps) refl refl refl leads (store_kept stores) x.0.may (devices_belong {D = DeviceStep} (StoreAt client frame offset bytes) (ports_of s) x.0.steps x.0.only, inr (refl, refl, refl, refl))
+            lead_by first past s (record s { device = new }) (StoreAt client frame offset bytes) (store_said (Ok tt)) (Store client frame offset bytes ∷ x.0.steps) refl refl leads (store_kept stores) x.0.may (devices_belong {D = DeviceStep} (StoreAt client frame offset bytes) (ports_of s) x.0.steps x.0.only, inr (refl, refl, refl, refl))
             (devices_last x.0.steps x.0.only, λ id h i. false≢true h)
             (devices_lawful old.moment no_evidence (ports_of s) x.0.steps x.0.only)
             (as_told s old.moment.machine at.machine (λ owner lent. IsOpen owner lent client frame offset (length bytes)) opens, ap (λ (rest : List (List ℕ)). bytes ∷ rest) (devices_transfer x.0.steps x.0.only), ports_same old.moment.ports (ports_of s) at.ports_are)

@@ -105,6 +105,7 @@ kept_then s device table slots book last k on same behind owners four used kinds
   there = λ port served. let t = k.there port served in (t.0, ap (λ (pi : ℕ). bit pi port) same.pi ∙ t.1);
   behind = behind;
   four = four;
+  four_remembered = k.four_remembered;
   modes = λ port low. k.modes port low ∙ ap (λ (cap : ℕ). mode_found cap (found_of s.ports port)) (sym same.cap);
   slots = used;
   kinds = kinds;
@@ -148,13 +149,9 @@ happening old new ask said steps ports =
 abbrev pub with_device : Device → Instant Device → Instant Device
 with_device d i = record { device = d; moment = i.moment }
 
--- servers with the same ports, which take commands in the same way
-pub same_ports : (s new : Server) → s.ports ≡ new.ports → s.modes ≡ new.modes → ports_of s ≡ ports_of new
-same_ports s new ports modes = λ i. ports_of (record s { ports = ports i; modes = modes i })
-
 -- a call, with what its event needs
 pub lead_by : (first : Instant Device) (past : List (Happening Device DeviceStep)) (s new : Server) (ask : Ask DeviceStep) (said : Said) (steps : List Step)
-    → new.wanted ≡ s.wanted → new.ports ≡ s.ports → new.modes ≡ s.modes → Leads first past s → IsKept new
+    → new.wanted ≡ s.wanted → ports_of new ≡ ports_of s → Leads first past s → IsKept new
     → AllMay (now first past).moment.machine steps → Belong ask (ports_of new) steps → IssuesLast steps
     → AllLawful (now first past).moment no_evidence (ports_of new) steps
     → IsAnswered ask said (now first past).moment (told_by s.device (now first past).moment.ports) steps (record { machine = after (now first past).moment.machine steps; ports = ports_of new })
@@ -166,7 +163,7 @@ pub lead_by : (first : Instant Device) (past : List (Happening Device DeviceStep
     → IsBacked s.device new.device (now first past).moment.machine steps
     → IsMachineOf new (after (now first past).moment.machine steps)
     → (h : Happening Device DeviceStep) × (h.event.ask ≡ ask) × (h.event.said ≡ said) × Leads first (h ∷ past) new
-lead_by first past s new ask said steps wanted_is ports_is modes_is leads kept may belong last lawful answered accesses came leaves issues parts backed stands = (
+lead_by first past s new ask said steps wanted_is ports_is leads kept may belong last lawful answered accesses came leaves issues parts backed stands = (
   h,
   refl,
   refl,
@@ -195,7 +192,7 @@ lead_by first past s new ask said steps wanted_is ports_is modes_is leads kept m
     at = leads.stands
 
     ports : old.moment.ports ≡ ports_of new
-    ports = at.ports_are ∙ same_ports s new (sym ports_is) (sym modes_is)
+    ports = at.ports_are ∙ sym ports_is
 
     fit : AreFit old.moment.ports
     fit = history_fit (Begins s.wanted) (Ties s.wanted) first past leads.history

@@ -146,7 +146,7 @@ module _ (laws : LawsBelow) (s new : Server) (replies : List Reply) (start : IsS
 
   pub service_event : (h : Happening Device DeviceStep) × (h.event.ask ≡ Service) × (h.event.said ≡ Served replies) × Leads first (h ∷ past) new
   service_event = subst (λ (x : Server). (h : Happening Device DeviceStep) × (h.event.ask ≡ Service) × (h.event.said ≡ Served replies) × Leads first (h ∷ past) x) (sym p.same)
-      (lead_by first past s later Service (Served replies) p.steps refl refl refl leads holds
+      (lead_by first past s later Service (Served replies) p.steps refl refl leads holds
       p.turns.may p.turns.belong p.turns.last p.turns.lawful all_answered
       p.driven.accesses
       (p.driven.all, subst (λ (ports : Ports). All (IsServing (TendsPort ports)) p.driven.accesses) (sym same) (λ i d small. turn_serving (TendsPort (ports_of s)) _ (p.driven.only i d small)))

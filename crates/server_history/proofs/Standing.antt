@@ -27,7 +27,7 @@ use Rattle.identify.specs.declared.wanted.Wanted.{Wanted}
 use Rattle.request_queue.specs.Entries.{Held}
 use Rattle.request_queue.specs.Machine.{IsEntry}
 use Rattle.slots.specs.declared.Use.{Use as SlotUse}
-use Rattle.server_history.specs.Server.{StandsAlone, Server, IsKept, IsMachineOf, IsUsedAs, is_served, mode_at, mode_found, mode_in, none_parked, ports_of, sectors_of, serial_of, state_of, trims_of, usable_of, use_of, used_for}
+use Rattle.server_history.specs.Server.{StandsAlone, Server, IsKept, IsMachineOf, IsUsedAs, is_served, mode_at, mode_found, mode_in, none_parked, ports_of, disk_in, disk_of, remembered_at, sectors_of, serial_of, state_of, trims_of, usable_of, use_of, used_for}
 use Rattle.server_history.proofs.Slots.{free_unused, its_mode, of_ready, ready_use, usable_ready, used_as, used_serves}
 use Rattle.server_history.proofs.Zips.{at_right}
 
@@ -70,6 +70,9 @@ module _ (s : Server) (k : IsKept s) (m : Machine) (reached : IsReached m) (is :
     module _ (info : DiskInfo) (found : found_of s.ports port.0 ≡ Ready info) where
       ready : state_of (found_of s.ports port.0) ≡ ReadyState
       ready = ap state_of found
+
+      disk_is : disk_in s port ≡ Some info
+      disk_is = ap (λ (f : Found). disk_of f (remembered_at s.remembered port.0)) found
 
       abbrev mode : Mode
       mode = mode_in s port
@@ -138,7 +141,7 @@ module _ (s : Server) (k : IsKept s) (m : Machine) (reached : IsReached m) (is :
       runs = runs refl;
       info = info;
       disk = behind.1;
-      shows = record { serial = ap serial_of e; sectors = ap sectors_of e; trims = ap trims_of e; mode = k.modes port.0 low ∙ ap (mode_found s.device.cap) e };
+      shows = record { serial = ap serial_of (disk_is info e); sectors = ap sectors_of (disk_is info e); trims = ap trims_of e; mode = k.modes port.0 low ∙ ap (mode_found s.device.cap) e };
       slots = requests info e;
       kept = none_kept port;
     }

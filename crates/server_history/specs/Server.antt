@@ -30,6 +30,7 @@ use Rattle.host_boot.specs.Taken.{FoundBadDisk, StillStandsBehind, found_of, wan
 use Rattle.host_boot.specs.declared.Found.{Found}
 use Rattle.host_boot.specs.declared.Found.TheVariants.{Unserved, Ready, Unready}
 use Rattle.host_boot.specs.declared.Host.{Host}
+use Rattle.identify.specs.declared.DiskInfo.{DiskInfo}
 use Rattle.identify.specs.declared.wanted.Wanted.{Wanted}
 use Rattle.request_queue.specs.Entries.{Held, asks_of, unanswered_of, IsAccepted, IsInOrder}
 use Rattle.request_queue.specs.Machine.{IsBook}
@@ -38,14 +39,15 @@ use Rattle.slots.specs.declared.Use.{Use as SlotUse}
 use Rattle.driver_history.specs.Holds.{Runs, mode_of}
 
 -- The device behind the adapter; the grants; by frame its owner and the request that it is lent to; by port the disk that is wanted,
--- what it was found to be, how it takes commands, and what its slots are used for; the unanswered requests in order of acceptance, with what is
--- lent to them; and the id that was handed out last, or 0.
+-- what it was found to be, which disk it was ready with before that, how it takes commands, and what its slots are used for; the unanswered
+-- requests in order of acceptance, with what is lent to them; and the id that was handed out last, or 0.
 pub record Server : Type 0 where
   pub device : Device
   pub grants : List GrantRow
   pub table : Table
   pub wanted : List Wanted
   pub ports : List Found
+  pub remembered : List (Option DiskInfo)
   pub modes : List Mode
   pub slots : List PortSlots
   pub book : List Held
@@ -65,15 +67,25 @@ state_of Unserved = Absent
 state_of (Ready info) = ReadyState
 state_of (Unready state) = state
 
--- its disk's serial number, size in sectors, and whether it trims: they are known of a ready port alone
-abbrev pub serial_of : Found → List ℕ
-serial_of (Ready info) = info.serial
-serial_of _ = []
+-- which disk is remembered of a port, if any
+abbrev pub remembered_at : List (Option DiskInfo) → ℕ → Option DiskInfo
+remembered_at remembered port = slice_index_or remembered port None
 
-abbrev pub sectors_of : Found → ℕ
-sectors_of (Ready info) = info.sectors
-sectors_of _ = 0
+-- the disk that a port is ready with, or was last ready with, which is the remembered one; none, if it never was
+abbrev pub disk_of : Found → Option DiskInfo → Option DiskInfo
+disk_of (Ready info) remembered = Some info
+disk_of _ remembered = remembered
 
+-- that disk's serial number, and its size in sectors
+abbrev pub serial_of : Option DiskInfo → List ℕ
+serial_of None = []
+serial_of (Some info) = info.serial
+
+abbrev pub sectors_of : Option DiskInfo → ℕ
+sectors_of None = 0
+sectors_of (Some info) = info.sectors
+
+-- whether its disk trims, which is known of a ready port alone
 abbrev pub trims_of : Found → Bool
 trims_of (Ready info) = info.trim
 trims_of _ = false
@@ -96,12 +108,16 @@ mode_found cap _ = plain_mode
 abbrev pub mode_in : Server → Port → Mode
 mode_in s port = mode_at s.modes port.0
 
+-- the disk that the port is ready with, or was last ready with
+abbrev pub disk_in : Server → Port → Option DiskInfo
+disk_in s port = disk_of (found_of s.ports port.0) (remembered_at s.remembered port.0)
+
 abbrev pub ports_of : Server → Ports
 ports_of s = record {
   served = λ port. is_served (found_of s.ports port.0);
   state = λ port. state_of (found_of s.ports port.0);
-  serial = λ port. serial_of (found_of s.ports port.0);
-  sectors = λ port. sectors_of (found_of s.ports port.0);
+  serial = λ port. serial_of (disk_in s port);
+  sectors = λ port. sectors_of (disk_in s port);
   trims = λ port. trims_of (found_of s.ports port.0);
   mode = mode_in s;
 }
@@ -203,8 +219,8 @@ abbrev pub StandsAlone : List PortSlots → ℕ → ℕ → Type 0
 StandsAlone slots port slot = (slot ≡ 0) × ((other : ℕ) → other ≢ 0 → used_for slots port other ≡ None)
 
 -- What holds of a server at each moment of a call. The adapter is on and has the memory of the driver and of the clients, and each port that is
--- served; each port is as it was found, and runs if that was ready; the four ports take commands as adapter and disk can, and use the slots that
--- they may, for queued commands or for plain ones, of which each is alone in slot 0; grants are as a configuration may give them;
+-- served; each port is as it was found, and runs if that was ready; the four ports may have a remembered disk each, take commands as adapter and
+-- disk can, and use the slots that they may, for queued commands or for plain ones, of which each is alone in slot 0; grants are as a configuration may give them;
 -- requests are as they were accepted, in order, and of ready ports; and some machine that a history leads to stands for the server.
 pub record IsKept (s : Server) : Type 0 where
   pub on : IsOn s.device
@@ -212,6 +228,7 @@ pub record IsKept (s : Server) : Type 0 where
   pub there : (port : ℕ) → is_served (found_of s.ports port) ≡ true → HasPort s.device port
   pub behind : (port : ℕ) → port < 4 → IsPortOf s.wanted s.ports port s.device
   pub four : length s.slots ≡ 4
+  pub four_remembered : length s.remembered ≡ 4
   pub modes : (port : ℕ) → port < 4 → mode_at s.modes port ≡ mode_found s.device.cap (found_of s.ports port)
   pub slots : (port : ℕ) → port < 4 → HasSlots s.ports s.modes s.slots port
   pub kinds : (port : Port) (slot : ℕ) (used : SlotUse) (e : Held) → used_for s.slots port.0 slot ≡ Some used → Contains s.book e → e.entry.id ≡ used.id
@@ -233,11 +250,13 @@ pub record IsSettled (s : Server) : Type 0 where
   pub kept : IsKept s
   pub issued : (port : Port) → NoneDue (mode_in s port) (asks_of s.book) port
 
--- A server as it is made: what was found and wanted of four ports, at most 64 grants that differ in name, owners that are clients 1 to 8, no
--- frame lent, nothing asked, and no id handed out.
+-- A server as it is made: what was found and wanted of four ports, of which it remembers nothing else, at most 64 grants that differ in name,
+-- owners that are clients 1 to 8, no frame lent, nothing asked, and no id handed out.
 pub record IsNewServer (host : Host) (s : Server) : Type 0 where
   pub ports : s.ports ≡ host.ports
   pub four : length host.ports ≡ 4
+  pub four_remembered : length s.remembered ≡ 4
+  pub forgotten : (port : ℕ) → remembered_at s.remembered port ≡ None
   pub rows : All IsRow s.grants
   pub names : AllPairs DifferInName s.grants
   pub few : length s.grants ≤ 64
