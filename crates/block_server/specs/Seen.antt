@@ -12,6 +12,7 @@ seen s = record {
   remembered = s.remembered;
   modes = s.modes;
   slots = s.slots;
+  kept = s.kept;
   book = s.book;
   last = s.last;
 }

@@ -3,6 +3,7 @@ ghost use Rattle.std.specs.Prelude.{◌≡◌, ◌≢◌, false, ◌<◌, ◌≤
 
 use crate::ServerError;
 use crate::answering::answer_done;
+use crate::kept::{KeptLoans, end_all, give_all_back, none_kept};
 use crate::modes::{PLAIN, modes_of, unused_slots};
 use crate::port::issue_due;
 use adapter::{Adapter, DeviceStep, Stepped};
@@ -23,8 +24,8 @@ use request_queue::laws::the_book_stays_in_order;
 use request_queue::{Book, Entry};
 use server_history::laws::{
     a_finished_port_settles, a_new_server_has_begun, a_port_is_served, acceptances_add,
-    client_bytes_add, device_steps_add, looks_keep, open_bytes_are_free, refusals_add,
-    requests_keep, services_add,
+    client_bytes_add, device_steps_add, kept_loans_are_lent, looks_keep, open_bytes_are_free,
+    refusals_add, requests_keep, services_add,
 };
 use slots::Slots;
 use std::alloc::Global;
@@ -45,6 +46,8 @@ pub struct Server<A: Adapter> {
     remembered: [Option<DiskInfo>; PORTS],
     modes: [Mode; PORTS],
     slots: [Slots; PORTS],
+    /// Of a dead port, the loans of requests that were answered, but whose sectors the device may still move.
+    kept: [KeptLoans; PORTS],
     book: Book,
     last: u64,
 }
@@ -109,8 +112,12 @@ impl<A: Adapter> Server<A> {
         let Ok(table) = FrameTable::boxed(alloc, plan.owners()) else {
             return Err((ServerError::NoMemory, adapter));
         };
-        // A book can't be dropped, so it comes last of what can be refused.
+        // Loans can't be dropped, nor a book, so these come last of what can be refused.
+        let Ok(kept) = none_kept(alloc) else {
+            return Err((ServerError::NoMemory, adapter));
+        };
         let Ok(book) = Book::new(alloc) else {
+            end_all(kept);
             return Err((ServerError::NoMemory, adapter));
         };
         let wanted = *plan.wanted();
@@ -126,6 +133,7 @@ impl<A: Adapter> Server<A> {
             remembered: [None; PORTS],
             modes,
             slots: unused_slots(&modes),
+            kept,
             book,
             last: 0,
         })
@@ -425,6 +433,7 @@ impl<A: Adapter> Server<A> {
     pub fn close(self) -> A
         ensures { result ≡ self.adapter }
     {
+        kept_loans_are_lent();
         let Server {
             adapter,
             grants: _,
@@ -434,11 +443,15 @@ impl<A: Adapter> Server<A> {
             remembered: _,
             modes: _,
             slots: _,
+            kept,
             book,
             last: _,
         } = self;
         let mut table = table;
+        let mut kept = kept;
         book.give_all_back(&mut table);
+        give_all_back(&mut kept, &mut table);
+        end_all(kept);
         adapter
     }
 }

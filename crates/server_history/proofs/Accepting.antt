@@ -43,7 +43,7 @@ use Rattle.driver_history.proofs.Calm.{untroubled}
 use Rattle.server_history.specs.Below.{LawsBelow}
 use Rattle.server_history.specs.Histories.{Adds, Leads}
 use Rattle.server_history.specs.Served.{IssuesIn, Accepts, IssuesAll, accepted_as, accepting}
-use Rattle.server_history.specs.Server.{Server, IsKept, IsMachineOf, IsSettled, none_parked, mode_in, ports_of, situation_of, state_of, used_for}
+use Rattle.server_history.specs.Server.{Server, IsKept, IsMachineOf, IsSettled, mode_in, ports_of, situation_of, state_of, used_for}
 use Rattle.slots.specs.declared.Use.{Use as SlotUse}
 use Rattle.block_machine.specs.declared.due.Mode.{Mode}
 use Rattle.server_history.proofs.Asks.{none_due}
@@ -127,7 +127,9 @@ module _ (laws : LawsBelow) (s : Server) (k : IsKept s) (r : Request) (acc : IsA
     stands_next = record {
       uses = is.uses;
       used = is.used;
-      knows = accept_knows (known is.uses none_parked s.device) m request is.knows;
+      parked = is.parked;
+      unparked = is.unparked;
+      knows = accept_knows (known is.uses is.parked s.device) m request is.knows;
       book = laws.accepts s.book m e request is.book (entry_in s r acc row named port port_is id id_is m);
       kept = is.kept;
       rows = is.rows;
@@ -141,7 +143,8 @@ module _ (laws : LawsBelow) (s : Server) (k : IsKept s) (r : Request) (acc : IsA
   kinds_then q slot used h is there same = ⊎_elim
       (λ (old : Contains s.book h). k.kinds q slot used h is old same)
       (λ (new : h ≡ e).
-      let x = served_request s k.machine q.0 slot k.stands used.id (serves_used s k.machine q.0 k.stands (used_ready s q.0 slot used k is) slot used is) in
+      let ready = used_ready s q.0 slot used k is in
+      let x = served_request s k.machine q.0 slot k.stands ready used.id (serves_used s k.machine q.0 k.stands ready slot used is) in
       let low = All-contains (λ (y : Held). y.entry.id.0 ≤ s.last) s.book x.request k.handed_out x.there in
       let its : x.request.entry.id.0 ≡ id.0 = ap (λ (i : RequestId). i.0) (x.id_is ∙ sym same ∙ ap (λ (y : Held). y.entry.id) new) in
       absurd (omega (arith, low, its, id_is)))

@@ -13,7 +13,7 @@ use Rattle.agreement.specs.Driven.{known}
 use Rattle.agreement.specs.Driver.{Knows, IsBacked}
 use Rattle.agreement.specs.Links.{SameAdapter}
 use Rattle.agreement.specs.Spares.{AllFurther, IsFurther, SparesBook}
-use Rattle.agreement.proofs.Sparing.{steps_spare}
+use Rattle.agreement.proofs.Sparing.{found_before, found_later, steps_spare}
 use Rattle.block_machine.specs.Events.{Ask, Said, AllMay, AllDevices, Belong, IssuesLast, AllLawful, IsAnswered}
 use Rattle.block_machine.specs.Histories.{Instant, Happening, IsHistory, IsReached, now}
 use Rattle.block_machine.specs.Left.{after}
@@ -21,8 +21,10 @@ use Rattle.block_machine.specs.Ports.{Ports, AreFit, SamePorts, SameDisk}
 use Rattle.block_machine.specs.State.{Machine, Pending}
 use Rattle.block_machine.specs.Steps.{Step}
 use Rattle.block_machine.proofs.HistoryLemmas.{history_reaches, reached_more}
+use Rattle.dma_frames.specs.Loan.{Lending}
 use Rattle.dma_frames.specs.Table.{Table}
 use Rattle.host_boot.specs.Taken.{found_of}
+use Rattle.host_boot.specs.declared.Found.{Found}
 use Rattle.driver_history.specs.Evidence.{StaysHealthy}
 use Rattle.driver_history.specs.Histories.{Begins, CameBy, Issues, Ties, TiesPort}
 use Rattle.driver_history.specs.Trace.{LeavesEngine}
@@ -31,7 +33,7 @@ use Rattle.server_history.specs.Histories.{Leads, Stands}
 use Rattle.request_queue.specs.Entries.{Held, IsAccepted, IsInOrder}
 use Rattle.request_queue.specs.Machine.{IsBook, IsEntry, range_of}
 use Rattle.slots.specs.Uses.{Uses as PortSlots}
-use Rattle.server_history.specs.Server.{HasCommand, StandsAlone, HasSlots, Server, IsKept, IsMachineOf, IsPortOf, mode_found, mode_in, none_parked, ports_of, state_of, used_for}
+use Rattle.server_history.specs.Server.{HasCommand, StandsAlone, HasSlots, Server, IsKept, IsMachineOf, IsPortOf, mode_found, mode_in, kept_at, AreKept, ports_of, state_of, used_for}
 use Rattle.slots.specs.declared.Use.{Use as SlotUse}
 use Rattle.block_machine.specs.Due.{is_plain}
 use Rattle.server_history.proofs.Standing.{holds_with, slots}
@@ -62,20 +64,34 @@ book_on (e ∷ es) [] news further all = absurd all
 book_on (e ∷ es) (old ∷ olds) [] further all = absurd further
 book_on (e ∷ es) (old ∷ olds) (new ∷ news) further all = (entry_on e old new further.0 all.0, book_on es olds news further.1 all.1)
 
-none_on : (olds news : List Pending) → AllFurther olds news → olds ≡ [] → news ≡ []
-none_on olds news further is = subst (λ (es : List Pending). AllFurther es news) is further
+-- and so do kept requests, with their loans
+pub still_kept : (found : List Found) (kept : List (List Lending)) (olds news : List Pending) → AllFurther olds news → AreKept found kept olds → AreKept found kept news
+still_kept found kept olds news further are = record {
+  dead = λ e here. let o = found_before olds news e further here in ap (λ r. found_of found r.port.0) o.2.request ∙ are.dead o.0 o.1;
+  loan = λ e here.
+      let o = found_before olds news e further here in
+      let l = are.loan o.0 o.1 in
+      (l.0, subst (λ r. Contains (kept_at kept r.port.0) l.0) (sym o.2.request) l.1, (l.2.0 ∙ sym (ap (λ r. r.id) o.2.request), l.2.1 ∙ sym (ap (λ r. r.asked.frames.items) o.2.request)));
+  whose = λ port loan here.
+      let e = are.whose port loan here in
+      let n = found_later olds news e.0 further e.1 in
+      (n.0, n.1, ap (λ r. r.port.0) n.2.request ∙ e.2, (e.3.0 ∙ sym (ap (λ r. r.id) n.2.request), e.3.1 ∙ sym (ap (λ r. r.asked.frames.items) n.2.request)));
+  apart = are.apart;
+}
 
 -- ---- the machine that stands for a server
 
 pub machine_with : (s : Server) (new : Device) (m later : Machine) → (is : IsMachineOf s m) → SparesBook m later
-    → Knows later (known is.uses none_parked new)
+    → Knows later (known is.uses is.parked new)
     → IsMachineOf (record s { device = new }) later
 machine_with s new m later is spares knows = record {
   uses = is.uses;
   used = is.used;
+  parked = is.parked;
+  unparked = is.unparked;
   knows = knows;
   book = book_on s.book m.book later.book spares.book is.book;
-  kept = none_on m.kept later.kept spares.kept is.kept;
+  kept = still_kept s.ports s.kept m.kept later.kept spares.kept is.kept;
   rows = spares.rows ∙ is.rows;
   owner = λ frame. ap (λ f. f frame) spares.owner ∙ is.owner frame;
   lent = λ frame. ap (λ f. f frame) spares.lent ∙ is.lent frame;
@@ -84,7 +100,7 @@ machine_with s new m later is spares knows = record {
 
 -- it goes on over steps of the device
 pub machine_on : (s : Server) (new : Device) (m : Machine) (steps : List Step) → (is : IsMachineOf s m) → AllDevices steps
-    → Knows (after m steps) (known is.uses none_parked new)
+    → Knows (after m steps) (known is.uses is.parked new)
     → IsMachineOf (record s { device = new }) (after m steps)
 machine_on s new m steps is own knows = machine_with s new m (after m steps) is (steps_spare m steps own) knows
 
@@ -106,6 +122,7 @@ kept_then s device table slots book last k on same behind owners four used kinds
   behind = behind;
   four = four;
   four_remembered = k.four_remembered;
+  four_kept = k.four_kept;
   modes = λ port low. k.modes port low ∙ ap (λ (cap : ℕ). mode_found cap (found_of s.ports port)) (sym same.cap);
   slots = used;
   kinds = kinds;

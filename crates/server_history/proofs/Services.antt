@@ -43,7 +43,7 @@ use Rattle.block_machine.specs.declared.due.Unanswered.{Unanswered}
 use Rattle.block_machine.specs.Steps.{Step, Answer}
 use Rattle.block_machine.proofs.EventLemmas.{after-append}
 use Rattle.block_machine.proofs.HistoryLemmas.{reached_more}
-use Rattle.block_machine.proofs.Members.{contains_none, into_map, map_in}
+use Rattle.block_machine.proofs.Members.{into_map, map_in}
 use Rattle.block_machine.proofs.Standing.{standing}
 use Rattle.block_machine.proofs.Started.{ended_issued}
 use Rattle.host_boot.specs.Taken.{found_of}
@@ -64,7 +64,7 @@ use Rattle.server_history.proofs.Settling.{same_more, turn_apart, turn_settings,
 use Rattle.server_history.proofs.Rounds.{any_append, dues_carried, or_none}
 use Rattle.server_history.proofs.Serving.{still_over}
 use Rattle.server_history.proofs.Answered.{answered_in, ended_stood, in_answered, issuing_answers, may_parts, no_answer, no_answer_issuing, told_so, with_ok}
-use Rattle.server_history.proofs.Slots.{HasSlot, free_unused, issued_has, ready_found, serves_used, used_or_not}
+use Rattle.server_history.proofs.Slots.{HasSlot, free_unused, issued_has, ready_found, serves_used, still_booked, used_or_not}
 use Rattle.server_history.proofs.Said.{one_said}
 use Rattle.slots.specs.declared.Use.{Use as SlotUse}
 use Rattle.slots.specs.Uses.{Uses as PortSlots, use_at}
@@ -497,10 +497,7 @@ module _ (laws : LawsBelow) (s : Server) (start : IsSettled s) (old : Moment) (r
               free = subst (λ (u : Use). IsServed old.machine s.device.memory s.device.tape (s.device.port n) n slot u) (free_unused s old.machine n at ready slot unused) (at.knows.agrees.slot n slot)
 
               same : says.pending ≡ other
-              same = ⊎_elim
-                  (λ booked. (standing old.machine reached).sound.one says.pending other booked.0 own.here (ap (λ (i : RequestId). i.0) says.id_is))
-                  (λ kept_there. absurd (contains_none says.pending (subst (λ (es : List Pending). Contains es says.pending) at.kept kept_there)))
-                  says.moves
+              same = (standing old.machine reached).sound.one says.pending other (still_booked s old.machine n at ready says.pending says.moves says.port_is).0 own.here (ap (λ (i : RequestId). i.0) says.id_is)
 
               by : Stage s.device.memory (s.device.port n) n slot says.pending says.command says.places → says.pending.ended ≡ true
               by (inl waits) = absurd (false≢true (sym free.issued ∙ waits.issued))

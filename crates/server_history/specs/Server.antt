@@ -1,5 +1,5 @@
 -- What a server of several ports holds, and the block machine that stands for it (this project's own).
-use Rattle.std.specs.Prelude.{ℕ, Bool, true, false, not, ◌≡◌, ◌≢◌, ◌⊎◌, ◌+◌, ◌*◌, ◌<◌, ◌≤◌, List, [], Option, Some, None, All, AllPairs, Contains, length, slice_index_or, slice_set}
+use Rattle.std.specs.Prelude.{ℕ, Bool, true, false, not, ◌≡◌, ◌≢◌, ◌+◌, ◌*◌, ◌<◌, ◌≤◌, List, [], Option, Some, None, All, AllPairs, Contains, length, slice_index_or, slice_set}
 use Rattle.ata_types.specs.declared.Port.{Port}
 use Rattle.ata_types.specs.declared.PortState.{PortState}
 use Rattle.ata_types.specs.declared.PortState.TheVariants.{Absent, Ready as ReadyState, Dead}
@@ -11,20 +11,20 @@ use Rattle.ata_types.specs.declared.request.RequestId.{RequestId}
 use Rattle.adapter.specs.Commands.{Meaning, is_queued}
 use Rattle.adapter.specs.Device.{Device}
 use Rattle.adapter.specs.Rules.{IsOn, HasPort}
-use Rattle.adapter.specs.declared.command.Operation.TheVariants.{Identify}
 use Rattle.agreement.specs.Driven.{known}
 use Rattle.agreement.specs.Driver.{Knows}
 use Rattle.agreement.specs.Links.{HasDeviceOrNone}
 use Rattle.agreement.specs.Readying.{IsStored}
-use Rattle.agreement.specs.Slots.{Free, Own, Serves, Use, Uses}
+use Rattle.agreement.specs.Slots.{Free, Serves, Use, Uses}
 use Rattle.block_machine.specs.Due.{NoneDue, is_plain}
 use Rattle.block_machine.specs.Histories.{IsReached}
 use Rattle.block_machine.specs.Left.{IsRow}
 use Rattle.block_machine.specs.Ports.{Ports}
 use Rattle.block_machine.specs.Refusals.{Situation}
 use Rattle.block_machine.specs.Rules.{DifferInName}
-use Rattle.block_machine.specs.State.{Machine}
+use Rattle.block_machine.specs.State.{Machine, Pending}
 use Rattle.block_machine.specs.declared.due.Mode.{Mode}
+use Rattle.dma_frames.specs.Loan.{Lending}
 use Rattle.dma_frames.specs.Table.{Table, owner_of, lent_to}
 use Rattle.host_boot.specs.Taken.{FoundBadDisk, StillStandsBehind, found_of, wanted_of}
 use Rattle.host_boot.specs.declared.Found.{Found}
@@ -39,8 +39,9 @@ use Rattle.slots.specs.declared.Use.{Use as SlotUse}
 use Rattle.driver_history.specs.Holds.{Runs, mode_of}
 
 -- The device behind the adapter; the grants; by frame its owner and the request that it is lent to; by port the disk that is wanted,
--- what it was found to be, which disk it was ready with before that, how it takes commands, and what its slots are used for; the unanswered
--- requests in order of acceptance, with what is lent to them; and the id that was handed out last, or 0.
+-- what it was found to be, which disk it was ready with before that, how it takes commands, what its slots are used for, and what is still lent
+-- to requests of it that were answered; the unanswered requests in order of acceptance, with what is lent to them; and the id that was handed out
+-- last, or 0.
 pub record Server : Type 0 where
   pub device : Device
   pub grants : List GrantRow
@@ -50,6 +51,7 @@ pub record Server : Type 0 where
   pub remembered : List (Option DiskInfo)
   pub modes : List Mode
   pub slots : List PortSlots
+  pub kept : List (List Lending)
   pub book : List Held
   pub last : ℕ
 
@@ -137,10 +139,6 @@ situation_of s = record {
 
 -- ---- the machine that stands for it
 
--- no request was taken from its slot and isn't answered
-abbrev pub none_parked : ℕ → List RequestId
-none_parked = λ port. []
-
 -- a port that there isn't has no slot
 abbrev pub no_slots : PortSlots
 no_slots = record { usable = 0; places = [] }
@@ -162,28 +160,55 @@ abbrev pub use_of : Option SlotUse → Use
 use_of None = Free
 use_of (Some used) = Serves used.id
 
--- A slot is used as the server has it; but slot 0 of a dead port may have IDENTIFY DEVICE still.
-abbrev pub IsUsedAs : Found → ℕ → Option SlotUse → Use → Type 0
-IsUsedAs found slot used u = (u ≡ use_of used) ⊎ ((found ≡ Unready Dead) × (slot ≡ 0) × (u ≡ Own Identify))
+-- A slot is used as the server has it, unless its port is dead: there an engine was awaited in vain, so that whatever was in the slots may be there
+-- still, and nobody asks for it until the adapter is reset.
+abbrev pub IsUsedAs : Found → Option SlotUse → Use → Type 0
+IsUsedAs found used u = found ≢ Unready Dead → u ≡ use_of used
 
 -- each slot of each port is used so
 abbrev pub AreUsesOf : Server → Uses → Type 0
-AreUsesOf s uses = (port slot : ℕ) → IsUsedAs (found_of s.ports port) slot (used_for s.slots port slot) (uses port slot)
+AreUsesOf s uses = (port slot : ℕ) → IsUsedAs (found_of s.ports port) (used_for s.slots port slot) (uses port slot)
 
--- The machine agrees with what the server knows of its device; and it has the server's book, its grants, its owners, its loans and its
--- next id.
+-- the loans of the port that are kept
+abbrev pub kept_at : List (List Lending) → ℕ → List Lending
+kept_at kept port = slice_index_or kept port []
+
+-- the loan is the request's
+abbrev pub IsLoanOf : Lending → Pending → Type 0
+IsLoanOf loan e = (loan.request ≡ e.request.id) × (loan.frames ≡ e.request.asked.frames.items)
+
+-- the loans are of two requests
+abbrev pub AreOfTwo : Lending → Lending → Type 0
+AreOfTwo a b = a.request ≢ b.request
+
+-- The machine's kept requests are those whose loans the server keeps, each of them one loan, on dead ports alone.
+pub record AreKept (found : List Found) (kept : List (List Lending)) (requests : List Pending) : Type 0 where
+  pub dead : (e : Pending) → Contains requests e → found_of found e.request.port.0 ≡ Unready Dead
+  pub loan : (e : Pending) → Contains requests e → (loan : Lending) × Contains (kept_at kept e.request.port.0) loan × IsLoanOf loan e
+  pub whose : (port : ℕ) (loan : Lending) → Contains (kept_at kept port) loan
+      → (e : Pending) × Contains requests e × (e.request.port.0 ≡ port) × IsLoanOf loan e
+  pub apart : (port : ℕ) → AllPairs AreOfTwo (kept_at kept port)
+
+-- The machine agrees with what the server knows of its device, where requests that were taken from their slots, and are issued or kept, are of dead
+-- ports alone; and it has the server's book, the requests whose loans it keeps, its grants, its owners, its loans and its next id.
 pub record IsMachineOf (s : Server) (m : Machine) : Type 0 where
   pub uses : Uses
   pub used : AreUsesOf s uses
-  pub knows : Knows m (known uses none_parked s.device)
+  pub parked : ℕ → List RequestId
+  pub unparked : (port : ℕ) → found_of s.ports port ≢ Unready Dead → parked port ≡ []
+  pub knows : Knows m (known uses parked s.device)
   pub book : IsBook s.book m.book
-  pub kept : m.kept ≡ []
+  pub kept : AreKept s.ports s.kept m.kept
   pub rows : m.rows ≡ s.grants
   pub owner : (frame : Frame) → m.owner frame ≡ owner_of s.table frame
   pub lent : (frame : Frame) → m.lent frame ≡ lent_to s.table frame
   pub next : m.next ≡ s.last + 1
 
 -- ---- what holds of a server between calls
+
+-- the loan's frames are lent to its request
+abbrev pub IsLentOut : Table → Lending → Type 0
+IsLentOut table loan = All (λ f. lent_to table f ≡ Some loan.request) loan.frames
 
 -- frames that have an owner are clients' frames of the memory
 abbrev pub OwnsClientFrames : Table → ℕ → Type 0
@@ -219,8 +244,8 @@ abbrev pub StandsAlone : List PortSlots → ℕ → ℕ → Type 0
 StandsAlone slots port slot = (slot ≡ 0) × ((other : ℕ) → other ≢ 0 → used_for slots port other ≡ None)
 
 -- What holds of a server at each moment of a call. The adapter is on and has the memory of the driver and of the clients, and each port that is
--- served; each port is as it was found, and runs if that was ready; the four ports may have a remembered disk each, take commands as adapter and
--- disk can, and use the slots that they may, for queued commands or for plain ones, of which each is alone in slot 0; grants are as a configuration may give them;
+-- served; each port is as it was found, and runs if that was ready; the four ports may have a remembered disk and kept loans each, take commands as
+-- adapter and disk can, and use the slots that they may, for queued commands or for plain ones, of which each is alone in slot 0; grants are as a configuration may give them;
 -- requests are as they were accepted, in order, and of ready ports; and some machine that a history leads to stands for the server.
 pub record IsKept (s : Server) : Type 0 where
   pub on : IsOn s.device
@@ -229,6 +254,7 @@ pub record IsKept (s : Server) : Type 0 where
   pub behind : (port : ℕ) → port < 4 → IsPortOf s.wanted s.ports port s.device
   pub four : length s.slots ≡ 4
   pub four_remembered : length s.remembered ≡ 4
+  pub four_kept : length s.kept ≡ 4
   pub modes : (port : ℕ) → port < 4 → mode_at s.modes port ≡ mode_found s.device.cap (found_of s.ports port)
   pub slots : (port : ℕ) → port < 4 → HasSlots s.ports s.modes s.slots port
   pub kinds : (port : Port) (slot : ℕ) (used : SlotUse) (e : Held) → used_for s.slots port.0 slot ≡ Some used → Contains s.book e → e.entry.id ≡ used.id
@@ -251,12 +277,14 @@ pub record IsSettled (s : Server) : Type 0 where
   pub issued : (port : Port) → NoneDue (mode_in s port) (asks_of s.book) port
 
 -- A server as it is made: what was found and wanted of four ports, of which it remembers nothing else, at most 64 grants that differ in name,
--- owners that are clients 1 to 8, no frame lent, nothing asked, and no id handed out.
+-- owners that are clients 1 to 8, no frame lent, nothing asked or kept, and no id handed out.
 pub record IsNewServer (host : Host) (s : Server) : Type 0 where
   pub ports : s.ports ≡ host.ports
   pub four : length host.ports ≡ 4
   pub four_remembered : length s.remembered ≡ 4
   pub forgotten : (port : ℕ) → remembered_at s.remembered port ≡ None
+  pub four_kept : length s.kept ≡ 4
+  pub unkept : (port : ℕ) → kept_at s.kept port ≡ []
   pub rows : All IsRow s.grants
   pub names : AllPairs DifferInName s.grants
   pub few : length s.grants ≤ 64
