@@ -1,7 +1,8 @@
 -- What is kept may be given back.
-use Rattle.std.proofs.Common.{ℕ, ◌≡◌, ◌≢◌, ◌<◌, List, Some, get_or, length, inl, inr, sym, ap, ◌∙◌, subst}
+use Rattle.std.proofs.Common.{ℕ, ◌≡◌, ◌≢◌, ◌<◌, List, Some, get_or, length, inl, inr, sym, ap, ◌∙◌, subst, [], ◌∷◌, refl, arith}
 use Rattle.std.specs.List.{All, Contains}
 use Rattle.std.proofs.lemmas.List.{get_or_default}
+use Rattle.ata_types.specs.declared.PortState.TheVariants.{Dead}
 use Rattle.ata_types.specs.declared.request.Frame.{Frame}
 use Rattle.block_machine.specs.Confined.{WasAccepted, WithinLimits}
 use Rattle.block_machine.specs.Left.{IsLegal, IsStart, after}
@@ -10,6 +11,7 @@ use Rattle.block_machine.specs.Steps.{Step, IsLiving}
 use Rattle.dma_frames.specs.Loan.{Lending}
 use Rattle.dma_frames.specs.Table.{lent_to}
 use Rattle.host_boot.specs.Taken.{found_of}
+use Rattle.host_boot.specs.declared.Found.TheVariants.{Unready}
 use Rattle.request_queue.specs.Entries.{Held}
 use Rattle.request_queue.specs.Machine.{IsEntry}
 use Rattle.server_history.specs.Server.{Server, IsKept, IsLentOut, kept_at}
@@ -65,3 +67,10 @@ module _ (laws : LivingLaws) (s : Server) (k : IsKept s) where
         let one : its.0.request ≡ y.0.request = same_request its.0 y.0 (inr its.1) (inr y.1) (sym its.3 ∙ same ∙ y.3.0) in
         let frames : loan.frames ≡ b.frames = its.4 ∙ ap (λ r. r.asked.frames.items) one ∙ sym y.3.1 in
         (sym its.2 ∙ ap (λ r. r.port.0) one ∙ y.2, λ i. record { frames = frames i; request = same i })
+
+-- a port that isn't dead keeps no loan
+pub none_alive : (s : Server) → IsKept s → (port : ℕ) → found_of s.ports port ≢ Unready Dead → (loans : List Lending) → kept_at s.kept port ≡ loans → loans ≡ []
+none_alive s k port alive [] is = refl
+none_alive s k port alive (loan ∷ rest) is =
+    let e = k.stands.kept.whose port loan (subst (λ (list : List Lending). Contains list loan) (sym is) (0, omega arith, refl)) in
+    absurd (alive (ap (λ (q : ℕ). found_of s.ports q) (sym e.2) ∙ k.stands.kept.dead e.0 e.1))

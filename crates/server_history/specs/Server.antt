@@ -160,7 +160,7 @@ abbrev pub use_of : Option SlotUse → Use
 use_of None = Free
 use_of (Some used) = Serves used.id
 
--- A slot is used as the server has it, unless its port is dead: there an engine was awaited in vain, so that whatever was in the slots may be there
+-- A slot is used as the server has it, unless its port is dead: there an engine was awaited in vain, so that what was in the slot may be there
 -- still, and nobody asks for it until the adapter is reset.
 abbrev pub IsUsedAs : Found → Option SlotUse → Use → Type 0
 IsUsedAs found used u = found ≢ Unready Dead → u ≡ use_of used
@@ -181,7 +181,7 @@ IsLoanOf loan e = (loan.request ≡ e.request.id) × (loan.frames ≡ e.request.
 abbrev pub AreOfTwo : Lending → Lending → Type 0
 AreOfTwo a b = a.request ≢ b.request
 
--- The machine's kept requests are those whose loans the server keeps, each of them one loan, on dead ports alone.
+-- The machine's kept requests are those whose loans the server keeps, one loan each, on dead ports alone.
 pub record AreKept (found : List Found) (kept : List (List Lending)) (requests : List Pending) : Type 0 where
   pub dead : (e : Pending) → Contains requests e → found_of found e.request.port.0 ≡ Unready Dead
   pub loan : (e : Pending) → Contains requests e → (loan : Lending) × Contains (kept_at kept e.request.port.0) loan × IsLoanOf loan e
@@ -189,8 +189,8 @@ pub record AreKept (found : List Found) (kept : List (List Lending)) (requests :
       → (e : Pending) × Contains requests e × (e.request.port.0 ≡ port) × IsLoanOf loan e
   pub apart : (port : ℕ) → AllPairs AreOfTwo (kept_at kept port)
 
--- The machine agrees with what the server knows of its device, where requests that were taken from their slots, and are issued or kept, are of dead
--- ports alone; and it has the server's book, the requests whose loans it keeps, its grants, its owners, its loans and its next id.
+-- The machine agrees with what the server knows of its device, where only a dead port's requests may have been taken from their slots; and it has
+-- the server's book, the requests whose loans it keeps, its grants, its owners, its loans and its next id.
 pub record IsMachineOf (s : Server) (m : Machine) : Type 0 where
   pub uses : Uses
   pub used : AreUsesOf s uses
@@ -244,9 +244,10 @@ abbrev pub StandsAlone : List PortSlots → ℕ → ℕ → Type 0
 StandsAlone slots port slot = (slot ≡ 0) × ((other : ℕ) → other ≢ 0 → used_for slots port other ≡ None)
 
 -- What holds of a server at each moment of a call. The adapter is on and has the memory of the driver and of the clients, and each port that is
--- served; each port is as it was found, and runs if that was ready; the four ports may have a remembered disk and kept loans each, take commands as
--- adapter and disk can, and use the slots that they may, for queued commands or for plain ones, of which each is alone in slot 0; grants are as a configuration may give them;
--- requests are as they were accepted, in order, and of ready ports; and some machine that a history leads to stands for the server.
+-- served; each port is as it was found, and runs if that was ready; of each of the four ports a disk may be remembered and loans may be kept; they
+-- take commands as adapter and disk can, and use the slots that they may, for queued commands or for plain ones, of which each is alone in slot 0;
+-- grants are as a configuration may give them; requests are as they were accepted, in order, and of ready ports; and some machine that a history
+-- leads to stands for the server.
 pub record IsKept (s : Server) : Type 0 where
   pub on : IsOn s.device
   pub room : DRIVER_BYTES ≤ s.device.size

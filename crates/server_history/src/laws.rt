@@ -1,7 +1,7 @@
 // Laws of the definitions, for callers: the clause is the theorem. Nothing comes of calling these functions.
 ghost use Rattle.std.specs.Prelude.{ℕ, true, false, ◌≡◌, ◌≢◌, ◌⊎◌, ◌<◌, ◌≤◌, ◌+◌, ◌*◌, ◌/◌, ◌%◌, List, [], ◌∷◌, Some, None, Ok, Err, length, All, AllPairs, Contains};
 ghost use Rattle.ata_types.specs.declared.Port.{Port};
-ghost use Rattle.ata_types.specs.declared.PortState.TheVariants.{Ready as ReadyState};
+ghost use Rattle.ata_types.specs.declared.PortState.TheVariants.{Dead, Ready as ReadyState};
 ghost use Rattle.ata_types.specs.declared.grant.GrantRow.{GrantRow};
 ghost use Rattle.ata_types.specs.declared.memory.TheConstants.{FRAME_BYTES};
 ghost use Rattle.ata_types.specs.declared.refusal.MemFault.{MemFault};
@@ -29,6 +29,7 @@ ghost use Rattle.command_table.specs.Written.{IsUnused};
 ghost use Rattle.dma_frames.specs.Loan.{Lending};
 ghost use Rattle.dma_frames.specs.Table.{Table, LendsOnly, owner_of, lent_to};
 ghost use Rattle.host_boot.specs.Taken.{found_of, TakesOver};
+ghost use Rattle.host_boot.specs.declared.Found.TheVariants.{Unready};
 ghost use Rattle.host_boot.specs.declared.Host.{Host};
 ghost use Rattle.hba_regs.specs.Bits.{bit};
 ghost use Rattle.ncq.specs.Masks.{ReadsDone, SeesClear};
@@ -171,8 +172,9 @@ pub fn a_used_slot_has_its_request()
 {}
 
 /// What is kept may be given back: the frames of each kept loan are lent to its request, which isn't unanswered, and of which there is no
-/// other loan.
+/// other loan. A port that isn't dead has none.
 pub fn kept_loans_are_lent()
+    ensures none { (s : Server) (port : ℕ) → IsKept s → found_of s.ports port ≢ Unready Dead → kept_at s.kept port ≡ [] }
     ensures lent { (s : Server) (port : ℕ) → IsKept s → All (IsLentOut s.table) (kept_at s.kept port) }
     ensures two { (s : Server) (port : ℕ) → IsKept s → AllPairs AreOfTwo (kept_at s.kept port) }
     ensures one { (s : Server) (port other : ℕ) (a b : Lending) → IsKept s → Contains (kept_at s.kept port) a → Contains (kept_at s.kept other) b

@@ -1,8 +1,11 @@
-use Rattle.std.proofs.Common.{get_or}
+use Rattle.std.proofs.Common.{get_or, refl}
 use Rattle.std.proofs.lemmas.List.{get_or_default}
 use Rattle.server_history.specs.Server.{kept_at}
-use Rattle.server_history.proofs.Keeping.{answered, lent_out, one_loan}
+use Rattle.server_history.proofs.Keeping.{answered, lent_out, none_alive, one_loan}
 use Rattle.server_history.proofs.laws.kept_loans_are_lent.Goals as goal
+
+pub returns-clause-none : goal.returns-clause-none
+returns-clause-none c = λ s port k alive. none_alive s k port alive (kept_at s.kept port) refl
 
 pub returns-clause-lent : goal.returns-clause-lent
 returns-clause-lent c = λ s port k i d small.
