@@ -9,3 +9,4 @@ pub mod Accepting
 pub mod Finishing
 mod Sending
 pub mod Healthy
+pub mod Keeping

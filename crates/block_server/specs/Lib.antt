@@ -1,4 +1,5 @@
 pub mod View
+pub mod Kept
 pub mod Seen
 pub mod Made
 pub mod Calls

@@ -15,7 +15,7 @@ use Rattle.host_boot.specs.Taken.{TakesOver}
 use Rattle.host_boot.specs.declared.Host.{Host}
 use Rattle.plan.specs.Plan.{PlanView, IsPlan, IsPlanOf}
 use Rattle.server_history.specs.Histories.{HasBegun}
-use Rattle.server_history.specs.Server.{IsSettled, used_for}
+use Rattle.server_history.specs.Server.{IsSettled, kept_at, remembered_at, used_for}
 use Rattle.block_server.specs.declared.types.ServerError.{ServerError}
 use Rattle.block_server.specs.declared.types.ServerError.TheVariants.{BadConfig, NoMemory}
 
@@ -24,8 +24,9 @@ pub record IsReadyFor (config : Config) (d : Device) : Type 0 where
   pub idle : IsIdle d
   pub room : IsSound config → FRAME_BYTES * config.frames ≤ d.size
 
--- The server has what the configuration's plan says: its grants, its owners, and the disks that it asks for. The adapter was taken over. Nothing is asked, nothing lent, no slot used, no id handed out. It keeps what
--- a server keeps, and a history without calls leads to it.
+-- The server has what the configuration's plan says: its grants, its owners, and the disks that it asks for. The adapter was taken over. No
+-- disk is remembered but those that were found, nothing is asked, nothing lent, no loan kept, no slot used, no id handed out. It keeps what a
+-- server keeps, and a history without calls leads to it.
 pub record IsNew {A : Type 0} (device : A → Device) (config : Config) (adapter : A) (s : ServerView A) : Type 0 where
   pub plan : PlanView
   pub is_plan : IsPlan plan
@@ -37,7 +38,9 @@ pub record IsNew {A : Type 0} (device : A → Device) (config : Config) (adapter
   pub wanted : s.wanted ≡ plan.wanted
   pub host : Host
   pub ports : s.ports ≡ host.ports
+  pub forgotten : (port : ℕ) → remembered_at s.remembered port ≡ None
   pub taken : TakesOver plan.wanted host (device adapter) (device s.adapter)
+  pub unkept : (port : ℕ) → kept_at s.kept port ≡ []
   pub book : s.book ≡ []
   pub last : s.last ≡ 0
   pub unused : (port slot : ℕ) → used_for s.slots port slot ≡ None

@@ -9,8 +9,10 @@ seen s = record {
   table = s.table.value;
   wanted = s.wanted;
   ports = s.ports;
+  remembered = s.remembered;
   modes = s.modes;
   slots = s.slots;
+  kept = s.kept;
   book = s.book;
   last = s.last;
 }

@@ -1,10 +1,12 @@
 -- What contracts see of a server.
-use Rattle.std.specs.Prelude.{ℕ, List}
+use Rattle.std.specs.Prelude.{ℕ, List, Option}
 use Rattle.ata_types.specs.declared.grant.GrantRow.{GrantRow}
 use Rattle.adapter.specs.Device.{Device}
 use Rattle.block_machine.specs.declared.due.Mode.{Mode}
+use Rattle.dma_frames.specs.Loan.{Lending}
 use Rattle.dma_frames.specs.Table.{Table}
 use Rattle.host_boot.specs.declared.Found.{Found}
+use Rattle.identify.specs.declared.DiskInfo.{DiskInfo}
 use Rattle.identify.specs.declared.wanted.Wanted.{Wanted}
 use Rattle.request_queue.specs.Entries.{Held}
 use Rattle.server_history.specs.Server.{Server}
@@ -15,11 +17,14 @@ pub record ServerView (A : Type 0) : Type 0 where
   -- the grants, and by frame its owner and the request that it is lent to
   pub grants : List GrantRow
   pub table : Table
-  -- by port, the disk that is wanted, what it was found to be, how it takes commands, and what its slots are used for
+  -- by port, the disk that is wanted, what it was found to be, which disk it was ready with before that, how it takes commands, what its slots
+  -- are used for, and what is still lent to requests of it that were answered
   pub wanted : List Wanted
   pub ports : List Found
+  pub remembered : List (Option DiskInfo)
   pub modes : List Mode
   pub slots : List PortSlots
+  pub kept : List (List Lending)
   -- the unanswered requests of all ports, in order of acceptance
   pub book : List Held
   -- the id that was handed out last, or 0
@@ -33,8 +38,10 @@ server_of device s = record {
   table = s.table;
   wanted = s.wanted;
   ports = s.ports;
+  remembered = s.remembered;
   modes = s.modes;
   slots = s.slots;
+  kept = s.kept;
   book = s.book;
   last = s.last;
 }

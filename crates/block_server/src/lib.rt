@@ -2,6 +2,7 @@
 #![tactic(auto)]
 
 mod answering;
+mod kept;
 pub mod laws;
 mod modes;
 mod port;

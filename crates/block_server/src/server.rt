@@ -3,6 +3,7 @@ ghost use Rattle.std.specs.Prelude.{◌≡◌, ◌≢◌, false, ◌<◌, ◌≤
 
 use crate::ServerError;
 use crate::answering::answer_done;
+use crate::kept::{KeptLoans, end_all, give_all_back, none_kept};
 use crate::modes::{PLAIN, modes_of, unused_slots};
 use crate::port::issue_due;
 use adapter::{Adapter, DeviceStep, Stepped};
@@ -15,7 +16,7 @@ use configuration::Config;
 use dma_frames::FrameTable;
 use grants::{Grants, decide};
 use host_boot::{Found, PORTS, take_over};
-use identify::Wanted;
+use identify::{DiskInfo, Wanted};
 use ncq::done;
 use plan::Plan;
 use port_look::{Look, look_at};
@@ -23,8 +24,8 @@ use request_queue::laws::the_book_stays_in_order;
 use request_queue::{Book, Entry};
 use server_history::laws::{
     a_finished_port_settles, a_new_server_has_begun, a_port_is_served, acceptances_add,
-    client_bytes_add, device_steps_add, looks_keep, open_bytes_are_free, refusals_add,
-    requests_keep, services_add,
+    client_bytes_add, device_steps_add, kept_loans_are_lent, looks_keep, open_bytes_are_free,
+    refusals_add, requests_keep, services_add,
 };
 use slots::Slots;
 use std::alloc::Global;
@@ -41,8 +42,12 @@ pub struct Server<A: Adapter> {
     table: Box<FrameTable>,
     wanted: [Wanted; PORTS],
     ports: [Found; PORTS],
+    /// Of a port that isn't ready, the disk that it was last ready with, if it ever was.
+    remembered: [Option<DiskInfo>; PORTS],
     modes: [Mode; PORTS],
     slots: [Slots; PORTS],
+    /// Of a dead port, the loans of requests that were answered, but whose sectors the device may still move.
+    kept: [KeptLoans; PORTS],
     book: Book,
     last: u64,
 }
@@ -80,7 +85,7 @@ impl<A: Adapter> Server<A> {
     ghost use Rattle.server_history.specs.Histories.{Adds, store_said, load_said};
     ghost use Rattle.ata_types.specs.declared.request.Reply.{Reply};
     ghost use Rattle.server_history.specs.Served.{AnswersDone, ServesPort};
-    ghost use Rattle.server_history.specs.Server.{IsSettled, mode_at, situation_of, state_of, sectors_of, trims_of};
+    ghost use Rattle.server_history.specs.Server.{IsSettled, disk_of, mode_at, remembered_at, situation_of, state_of, sectors_of, trims_of};
     ghost use Rattle.hba_regs.specs.Bits.{bit};
     ghost use Rattle.agreement.specs.Slots.{IsOver};
     ghost use Rattle.ata_types.specs.declared.PortState.TheVariants.{Ready};
@@ -107,8 +112,12 @@ impl<A: Adapter> Server<A> {
         let Ok(table) = FrameTable::boxed(alloc, plan.owners()) else {
             return Err((ServerError::NoMemory, adapter));
         };
-        // A book can't be dropped, so it comes last of what can be refused.
+        // Loans can't be dropped, nor a book, so these come last of what can be refused.
+        let Ok(kept) = none_kept(alloc) else {
+            return Err((ServerError::NoMemory, adapter));
+        };
         let Ok(book) = Book::new(alloc) else {
+            end_all(kept);
             return Err((ServerError::NoMemory, adapter));
         };
         let wanted = *plan.wanted();
@@ -121,8 +130,10 @@ impl<A: Adapter> Server<A> {
             table,
             wanted,
             ports: host.ports,
+            remembered: [None; PORTS],
             modes,
             slots: unused_slots(&modes),
+            kept,
             book,
             last: 0,
         })
@@ -169,13 +180,27 @@ impl<A: Adapter> Server<A> {
         }
     }
 
-    /// How many sectors the disk of a ready port has; 0 for another port.
-    fn sectors(&self, port: Port) -> u64
-        ensures { result ≡ sectors_of (found_of self.now.ports port.0) }
+    /// The disk that a port is ready with, or was last ready with, if it ever was.
+    fn disk(&self, port: Port) -> Option<DiskInfo>
+        ensures { result ≡ disk_of (found_of self.now.ports port.0) (remembered_at self.now.remembered port.0) }
     {
         match self.found(port) {
-            Found::Ready(info) => info.sectors,
-            _ => 0,
+            Found::Ready(info) => Some(info),
+            _ => self
+                .remembered
+                .get(usize::from(port.0))
+                .copied()
+                .unwrap_or(None),
+        }
+    }
+
+    /// How many sectors that disk has; 0 where there is none.
+    fn sectors(&self, port: Port) -> u64
+        ensures { result ≡ sectors_of (disk_of (found_of self.now.ports port.0) (remembered_at self.now.remembered port.0)) }
+    {
+        match self.disk(port) {
+            Some(info) => info.sectors,
+            None => 0,
         }
     }
 
@@ -408,19 +433,25 @@ impl<A: Adapter> Server<A> {
     pub fn close(self) -> A
         ensures { result ≡ self.adapter }
     {
+        kept_loans_are_lent();
         let Server {
             adapter,
             grants: _,
             table,
             wanted: _,
             ports: _,
+            remembered: _,
             modes: _,
             slots: _,
+            kept,
             book,
             last: _,
         } = self;
         let mut table = table;
+        let mut kept = kept;
         book.give_all_back(&mut table);
+        give_all_back(&mut kept, &mut table);
+        end_all(kept);
         adapter
     }
 }

@@ -43,13 +43,13 @@ use Rattle.driver_history.proofs.Calm.{untroubled}
 use Rattle.server_history.specs.Below.{LawsBelow}
 use Rattle.server_history.specs.Histories.{Adds, Leads}
 use Rattle.server_history.specs.Served.{IssuesIn, Accepts, IssuesAll, accepted_as, accepting}
-use Rattle.server_history.specs.Server.{Server, IsKept, IsMachineOf, IsSettled, none_parked, mode_in, ports_of, situation_of, state_of, used_for}
+use Rattle.server_history.specs.Server.{Server, IsKept, IsMachineOf, IsSettled, mode_in, ports_of, situation_of, state_of, used_for}
 use Rattle.slots.specs.declared.Use.{Use as SlotUse}
 use Rattle.block_machine.specs.declared.due.Mode.{Mode}
 use Rattle.server_history.proofs.Asks.{none_due}
 use Rattle.server_history.proofs.Calls.{reached, situation_is}
 use Rattle.server_history.proofs.Coming.{issuing_is, issuing_leaves}
-use Rattle.server_history.proofs.Going.{kept_then, lead_by, ports_same, same_ports, with_device}
+use Rattle.server_history.proofs.Going.{kept_then, lead_by, ports_same, with_device}
 use Rattle.server_history.proofs.Granting.{has_room, is_accepted, is_new, on_ready, request_in, entry_in, unlent}
 use Rattle.server_history.proofs.Rounds.{AreIssued, accepts_on, any_append, belong_on, dues, dues_carried, each_driven, each_issued, each_settings, last_on, lawful_on, or_none, settled}
 use Rattle.server_history.proofs.Slots.{ready_found, served_request, serves_used, used_ready}
@@ -127,7 +127,9 @@ module _ (laws : LawsBelow) (s : Server) (k : IsKept s) (r : Request) (acc : IsA
     stands_next = record {
       uses = is.uses;
       used = is.used;
-      knows = accept_knows (known is.uses none_parked s.device) m request is.knows;
+      parked = is.parked;
+      unparked = is.unparked;
+      knows = accept_knows (known is.uses is.parked s.device) m request is.knows;
       book = laws.accepts s.book m e request is.book (entry_in s r acc row named port port_is id id_is m);
       kept = is.kept;
       rows = is.rows;
@@ -141,7 +143,8 @@ module _ (laws : LawsBelow) (s : Server) (k : IsKept s) (r : Request) (acc : IsA
   kinds_then q slot used h is there same = ⊎_elim
       (λ (old : Contains s.book h). k.kinds q slot used h is old same)
       (λ (new : h ≡ e).
-      let x = served_request s k.machine q.0 slot k.stands used.id (serves_used s k.machine q.0 k.stands (used_ready s q.0 slot used k is) slot used is) in
+      let ready = used_ready s q.0 slot used k is in
+      let x = served_request s k.machine q.0 slot k.stands ready used.id (serves_used s k.machine q.0 k.stands ready slot used is) in
       let low = All-contains (λ (y : Held). y.entry.id.0 ≤ s.last) s.book x.request k.handed_out x.there in
       let its : x.request.entry.id.0 ≡ id.0 = ap (λ (i : RequestId). i.0) (x.id_is ∙ sym same ∙ ap (λ (y : Held). y.entry.id) new) in
       absurd (omega (arith, low, its, id_is)))
@@ -179,7 +182,7 @@ module _ (laws : LawsBelow) (s : Server) (k : IsKept s) (r : Request) (acc : IsA
     pub event : (first : Instant Device) (past : List (Happening Device DeviceStep)) → Leads first past s
         → (h : Happening Device DeviceStep) × (h.event.ask ≡ Submit r) × (h.event.said ≡ Submitted (Ok id)) × Leads first (h ∷ past) new
     event first past leads =
-        lead_by first past s new (Submit r) (Submitted (Ok id)) (x.steps ++ early) (ap (λ (n : Server). n.wanted) same) ports_same_too modes_same_too leads settles.kept
+        lead_by first past s new (Submit r) (Submitted (Ok id)) (x.steps ++ early) (ap (λ (n : Server). n.wanted) same) (ap ports_of same) leads settles.kept
         (may-append m x.steps early (tt, fresh m was is) x.may)
         (belong_on mode port {D = DeviceStep} (Submit r) (ports_of new) (λ p own. (its_ready p own, its_mode p own)) x.steps early x.only (tt, inr refl))
         (last_on mode port x.steps early x.only x.last (tt, λ other h i. false≢true h) (λ other i j. false≢true j))
@@ -220,9 +223,6 @@ module _ (laws : LawsBelow) (s : Server) (k : IsKept s) (r : Request) (acc : IsA
         mode : Mode
         mode = mode_in s port
 
-        modes_same_too : new.modes ≡ s.modes
-        modes_same_too = ap (λ (n : Server). n.modes) same
-
         its_mode : (p : machine.Pending) → p.request.port ≡ port → (ports_of new).mode p.request.port ≡ mode
         its_mode p own = ap (mode_in new) own ∙ ap (λ (n : Server). mode_in n port) same
 
@@ -239,7 +239,7 @@ module _ (laws : LawsBelow) (s : Server) (k : IsKept s) (r : Request) (acc : IsA
         its_row = subst (λ (rows : List GrantRow). IsNamed rows r row) (sym is.rows) named
 
         same_ports_are : SamePorts old.moment.ports (ports_of new)
-        same_ports_are = ports_same old.moment.ports (ports_of new) (leads.stands.ports_are ∙ same_ports s new (sym ports_same_too) (sym modes_same_too))
+        same_ports_are = ports_same old.moment.ports (ports_of new) (leads.stands.ports_are ∙ sym (ap ports_of same))
 
         all_issued : AllIssued (record { machine = after m (x.steps ++ early); ports = ports_of new })
         all_issued other on = none_due new (after m (x.steps ++ early)) stands (mode_in new other) other (settles.issued other)

@@ -17,7 +17,7 @@ use Rattle.block_machine.specs.State.{Machine, Pending}
 use Rattle.block_machine.specs.Steps.{Answer, IsLiving, after_step, is_lent_to, unlend}
 use Rattle.block_machine.proofs.HistoryLemmas.{reached_more}
 use Rattle.block_machine.proofs.Lending.{lent_own}
-use Rattle.block_machine.proofs.Members.{contains_none, contains_cases}
+use Rattle.block_machine.proofs.Members.{contains_cases}
 use Rattle.agreement.specs.Driven.{known}
 use Rattle.agreement.specs.Driver.{Forgets, HasNoSlot, Known, parking}
 use Rattle.agreement.specs.Slots.{Free, Serves, Uses, put, IsDropped, IsEnded, IsOver, ServesRequest}
@@ -29,7 +29,7 @@ use Rattle.host_boot.specs.Taken.{found_of}
 use Rattle.request_queue.specs.Entries.{Held, IsAccepted, without}
 use Rattle.request_queue.specs.Machine.{IsBook, IsEntry}
 use Rattle.server_history.specs.Served.{AnswersOne, HasEnded}
-use Rattle.server_history.specs.Server.{Server, IsKept, IsMachineOf, mode_at, none_parked, slots_at, state_of, usable_of, with_slot, used_for}
+use Rattle.server_history.specs.Server.{Server, IsKept, IsMachineOf, mode_at, slots_at, state_of, usable_of, with_slot, used_for}
 use Rattle.server_history.specs.Below.{LawsBelow}
 use Rattle.server_history.proofs.Going.{kept_then}
 use Rattle.server_history.proofs.Placing.{freed_was, placed_four, placed_has, placed_uses}
@@ -65,14 +65,12 @@ given_back m e x old new reached lives entry same lent lends f = by (m.lent f) r
             ∙ sym (left (Some o) is (λ z. let w : e.entry.id ≡ o = (let v : Some e.entry.id ≡ Some o = z in cc) in
             false≢true (sym q ∙ eq-eqb o.0 x.request.id.0 (ap (λ (i : RequestId). i.0) (sym w ∙ sym entry.id)))))
 
--- what is parked alone is forgotten
-forgets_one : (uses : Uses) (d : Device) (port slot : ℕ) (id : RequestId) → Forgets id (parking (known uses none_parked d) port slot id).parked none_parked
-forgets_one uses d port slot id q other here ne = absurd (ne (only q other here))
-  where
-    only : (q : ℕ) (other : RequestId) → Contains ((parking (known uses none_parked d) port slot id).parked q) other → other ≡ id
-    only = changed_each none_parked port (id ∷ []) (λ q ids. (other : RequestId) → Contains ids other → other ≡ id)
-        (λ other h. ⊎_elim (λ e. e) (λ i. absurd (contains_none other i)) (contains_cases id [] other h))
-        (λ q other h. absurd (contains_none other h))
+-- what is parked last is forgotten
+forgets_one : (uses : Uses) (parked : ℕ → List RequestId) (d : Device) (port slot : ℕ) (id : RequestId) → Forgets id (parking (known uses parked d) port slot id).parked parked
+forgets_one uses parked d port slot id =
+    changed_each parked port (id ∷ parked port) (λ q ids. (other : RequestId) → Contains ids other → (other ≡ id → ⊥) → Contains (parked q) other)
+    (λ other here ne. ⊎_elim (λ same. absurd (ne same)) (λ there. there) (contains_cases id (parked port) other here))
+    (λ q other here ne. here)
 
 -- ---- it is answered
 
@@ -109,7 +107,7 @@ module _ (laws : LawsBelow) (s new : Server) (port : Port) (e : Held) (k : IsKep
     serves = serves_used s m port.0 is ready slot one.used one.served ∙ ap Serves one.id_is
 
     abbrev r : IsServedBy s m port.0 slot id
-    r = served_request s m port.0 slot is id serves
+    r = served_request s m port.0 slot is ready id serves
 
     abbrev x : ServesRequest m s.device.memory (s.device.port port.0) port.0 slot id
     x = r.serves
@@ -134,19 +132,21 @@ module _ (laws : LawsBelow) (s new : Server) (port : Port) (e : Held) (k : IsKep
     answered = after_step m (Answer done outcome.Ok)
 
     abbrev taken : Known
-    taken = parking (known is.uses none_parked s.device) port.0 slot id
+    taken = parking (known is.uses is.parked s.device) port.0 slot id
 
     no_slot : HasNoSlot taken.uses done.request.id
-    no_slot = subst (HasNoSlot taken.uses) (sym x.id_is) (parking_frees (known is.uses none_parked s.device) port.0 slot id is.knows.agrees.apart serves)
+    no_slot = subst (HasNoSlot taken.uses) (sym x.id_is) (parking_frees (known is.uses is.parked s.device) port.0 slot id is.knows.agrees.apart serves)
 
-    forgets : Forgets done.request.id taken.parked none_parked
-    forgets = subst (λ (i : RequestId). Forgets i taken.parked none_parked) (sym x.id_is) (forgets_one is.uses s.device port.0 slot id)
+    forgets : Forgets done.request.id taken.parked is.parked
+    forgets = subst (λ (i : RequestId). Forgets i taken.parked is.parked) (sym x.id_is) (forgets_one is.uses is.parked s.device port.0 slot id)
 
     stands : IsMachineOf left answered
     stands = record {
       uses = put is.uses port.0 slot Free;
       used = placed_uses s.slots port.0 slot None (let l = low in let f = k.four in omega (arith, l, f)) (let h = (k.slots port.0 low).places in let small = one.small in omega (arith, h, small)) s.ports is.uses is.used;
-      knows = answer_knows taken m done outcome.Ok none_parked reached (parked_at s m port slot is id serves over) r.here refl no_slot forgets;
+      parked = is.parked;
+      unparked = is.unparked;
+      knows = answer_knows taken m done outcome.Ok is.parked reached (parked_at s m port slot is id serves over) r.here refl no_slot forgets;
       book = subst (λ (i : RequestId). IsBook (without i s.book) answered.book) x.id_is (laws.answers s.book m done outcome.Ok is.book);
       kept = is.kept;
       rows = is.rows;

@@ -27,6 +27,7 @@ use Rattle.block_machine.specs.Ports.{AreFit, IsMode}
 use Rattle.block_machine.specs.State.{Disk, Machine, Pending}
 use Rattle.block_machine.specs.Rules.{DifferInName}
 use Rattle.block_machine.proofs.HistoryLemmas.{reached_more}
+use Rattle.dma_frames.specs.Loan.{Lending}
 use Rattle.dma_frames.specs.Table.{owner_of}
 use Rattle.host_boot.specs.Taken.{StillStandsBehind, FoundBadDisk, IsLeft, StandsBehind, TakesOver, found_of, wanted_of}
 use Rattle.host_boot.specs.declared.Found.{Found}
@@ -40,7 +41,7 @@ use Rattle.identify.specs.declared.wanted.Wanted.{Wanted}
 use Rattle.port_boot.specs.States.{EndsAs, IsUnfit}
 use Rattle.driver_history.specs.Holds.{Runs}
 use Rattle.agreement.specs.Facts.{IsRecorded, RunsWell, Undisturbed}
-use Rattle.server_history.proofs.Slots.{ready_found, stood_mode}
+use Rattle.server_history.proofs.Slots.{its_mode, ready_found, stood_mode}
 use Rattle.identify.specs.declared.DiskInfo.{DiskInfo}
 use Rattle.server_history.proofs.Standing.{holds_with, slots}
 use Rattle.server_history.specs.Histories.{HasBegun}
@@ -49,7 +50,7 @@ use Rattle.block_machine.proofs.Members.{contains_none}
 use Rattle.request_queue.specs.Entries.{Held, IsAccepted, IsInOrder, asks_of}
 use Rattle.request_queue.specs.Machine.{IsBook}
 use Rattle.slots.specs.Uses.{Uses as PortSlots}
-use Rattle.server_history.specs.Server.{Server, AreUsesOf, IsKept, IsMachineOf, IsNewServer, IsPortOf, IsSettled, IsUsedAs, is_served, none_parked, mode_in, ports_of, state_of, use_of, used_for}
+use Rattle.server_history.specs.Server.{Server, AreUsesOf, IsKept, IsMachineOf, IsNewServer, IsPortOf, IsSettled, IsUsedAs, is_served, AreKept, AreOfTwo, kept_at, mode_in, ports_of, state_of, use_of, used_for}
 use Rattle.host_boot.proofs.Leaving.{boots_begin}
 use Rattle.agreement.proofs.Driven.{followed_adds}
 
@@ -178,9 +179,21 @@ served_there wanted (Unready state) port d s served = s.0.1
 
 -- a slot that was left as it was is used as a server without requests has it
 left_as : (ports found : List Found) (slots : List PortSlots) (uses : Uses) (port slot : ℕ) → found_of found port ≡ found_of ports port → used_for slots port slot ≡ None → IsLeft ports uses port slot
-    → IsUsedAs (found_of found port) slot (used_for slots port slot) (uses port slot)
-left_as ports found slots uses port slot same none (inl free) = inl (free ∙ sym (ap use_of none))
-left_as ports found slots uses port slot same none (inr (zero_is, own, dead)) = inr (same ∙ dead, zero_is, ap (uses port) zero_is ∙ own)
+    → IsUsedAs (found_of found port) (used_for slots port slot) (uses port slot)
+left_as ports found slots uses port slot same none (inl free) = λ _. free ∙ sym (ap use_of none)
+left_as ports found slots uses port slot same none (inr (zero_is, own, dead)) = λ alive. absurd (alive (same ∙ dead))
+
+-- where no request is kept, no loan is
+none_are_kept : (found : List Found) (kept : List (List Lending)) (requests : List Pending) → requests ≡ [] → ((port : ℕ) → kept_at kept port ≡ []) → AreKept found kept requests
+none_are_kept found kept requests none empty = record {
+  dead = λ e here. absurd (nobody e here);
+  loan = λ e here. absurd (nobody e here);
+  whose = λ port loan here. absurd (contains_none loan (subst (λ (loans : List Lending). Contains loans loan) (empty port) here));
+  apart = λ port. subst (AllPairs AreOfTwo) (sym (empty port)) (λ i j d lt small. absurd (omega (arith, small)));
+}
+  where
+    nobody : (e : Pending) → Contains requests e → ⊥
+    nobody e here = contains_none e (subst (λ (es : List Pending). Contains es e) none here)
 
 -- no requests are in order
 none_in_order : IsInOrder []
@@ -249,13 +262,15 @@ module _ (laws : TakenLaws) (s : Server) (host : Host) (d : Device) (is : IsIdle
   uses_are : AreUsesOf s taken.uses
   uses_are port slot = left_as host.ports s.ports s.slots taken.uses port slot (found_is port) (n.unused port slot) (taken.left port slot)
 
-  stands_for : (m : Machine) → IsStart m → SparesBook first_machine m → Knows m (known taken.uses none_parked s.device) → IsMachineOf s m
+  stands_for : (m : Machine) → IsStart m → SparesBook first_machine m → Knows m (known taken.uses (λ port. []) s.device) → IsMachineOf s m
   stands_for m begun spares knows = record {
     uses = taken.uses;
     used = uses_are;
+    parked = λ port. [];
+    unparked = λ port alive. refl;
     knows = knows;
     book = subst (λ (book : List Held). IsBook book m.book) (sym n.book) (subst (λ (es : List Pending). IsBook [] es) (sym begun.book) tt);
-    kept = begun.kept;
+    kept = none_are_kept s.ports s.kept m.kept begun.kept n.unkept;
     rows = spares.rows;
     owner = λ frame. ap (λ (owner : Frame → Option ClientId). owner frame) spares.owner;
     lent = λ frame. begun.lent frame ∙ sym (n.lent frame);
@@ -290,6 +305,8 @@ module _ (laws : TakenLaws) (s : Server) (host : Host) (d : Device) (is : IsIdle
     rows = n.rows;
     owners = n.owners;
     four = n.four_slots;
+    four_remembered = n.four_remembered;
+    four_kept = n.four_kept;
     slots = λ port low. record { places = n.places port low; usable = n.usable port low; unused = λ slot high. n.unused port slot };
     modes = n.modes;
     kinds = λ port slot used e is. absurd (let z : None ≡ Some used = sym (n.unused port.0 slot) ∙ is in cc);
@@ -310,7 +327,7 @@ module _ (laws : TakenLaws) (s : Server) (host : Host) (d : Device) (is : IsIdle
 
   pub new_server : IsSettled s × HasBegun s
   new_server =
-      let x = (followed_adds taken.followed (λ port slot. Free) none_parked refl).adds first_machine reached_first (machine_knows d s.grants (owner_of s.table) start is told) in
+      let x = (followed_adds taken.followed (λ port slot. Free) (λ port. []) refl).adds first_machine reached_first (machine_knows d s.grants (owner_of s.table) start is told) in
       let later : Machine = after first_machine x.0 in
       let spares : SparesBook first_machine later = steps_spare first_machine x.0 x.3.only in
       let begun : IsStart later = start_on first_machine later start spares in

@@ -52,7 +52,7 @@ use Rattle.driver_history.specs.Evidence.{StaysHealthy}
 use Rattle.driver_history.specs.Trace.{LeavesEngine}
 use Rattle.driver_history.proofs.Calm.{untroubled}
 use Rattle.server_history.specs.Histories.{Adds, Leads, Stands, load_said, store_said}
-use Rattle.server_history.specs.Server.{HasCommand, Server, IsKept, IsMachineOf, IsPortOf, IsSettled, mode_in, none_parked, ports_of, situation_of, used_for}
+use Rattle.server_history.specs.Server.{HasCommand, Server, IsKept, IsMachineOf, IsPortOf, IsSettled, mode_in, ports_of, situation_of, used_for}
 use Rattle.slots.specs.declared.Use.{Use as SlotUse}
 use Rattle.agreement.specs.Agrees.{port_at}
 use Rattle.agreement.specs.Places.{IsTable}
@@ -101,7 +101,7 @@ module _ (laws : LawsBelow) where
     silent : (port : ℕ) → found_of s.ports port ≢ Unready Dead → SendsNone port Identify s.device new
     silent port other =
         access_sends_none k.stands.uses k.machine access s.device new port Identify k.reached k.stands.knows.agrees does refl
-        (not_own (found_of s.ports port) 0 (used_for s.slots port 0) (k.stands.uses port 0) other (k.stands.used port 0))
+        (not_own (found_of s.ports port) (used_for s.slots port 0) (k.stands.uses port 0) other (k.stands.used port 0))
 
     ports_on : (port : ℕ) → port < 4 → IsPortOf s.wanted s.ports port new
     ports_on port below =
@@ -128,7 +128,7 @@ module _ (laws : LawsBelow) where
 
   pub device_kept : (s : Server) (new : Device) → IsKept s → Steps s.device new → IsKept (record s { device = new })
   device_kept s new k steps =
-      let x = (device_adds (known k.stands.uses none_parked s.device) new steps).adds k.machine k.reached k.stands.knows in
+      let x = (device_adds (known k.stands.uses k.stands.parked s.device) new steps).adds k.machine k.reached k.stands.knows in
       kept_with s k new (Loading 0 []) tt (loads_above 0 []) (none_loaded s.device new steps) x.0 x.1
       (machine_on s new k.machine x.0 k.stands x.3.only x.2)
 
@@ -142,9 +142,9 @@ module _ (laws : LawsBelow) where
           let old : Instant Device = now first past in
           let at : Stands old s = leads.stands in
           let m = at.machine in
-          let x = (device_adds (known m.uses none_parked s.device) new moves).adds old.moment.machine (reached first past s leads) m.knows in
+          let x = (device_adds (known m.uses m.parked s.device) new moves).adds old.moment.machine (reached first past s leads) m.knows in
           let steps : List Step = x.0 in
-          lead_by first past s (record s { device = new }) (Told step) (Stepped true) steps refl refl refl leads (device_kept s new k.kept moves) x.1 (devices_belong (Told step) (ports_of s) steps x.3.only) (devices_last steps x.3.only)
+          lead_by first past s (record s { device = new }) (Told step) (Stepped true) steps refl refl leads (device_kept s new k.kept moves) x.1 (devices_belong (Told step) (ports_of s) steps x.3.only) (devices_last steps x.3.only)
           (devices_lawful old.moment no_evidence (ports_of s) steps x.3.only)
           (x.3.only, ports_same old.moment.ports (ports_of s) at.ports_are)
           []
@@ -168,7 +168,7 @@ module _ (laws : LawsBelow) where
           → (h : Happening Device DeviceStep) × (h.event.ask ≡ ask) × (h.event.said ≡ said) × Leads first (h ∷ past) s
       adds first past leads =
           let old : Instant Device = now first past in
-          lead_by first past s s ask said [] refl refl refl leads k.kept tt tt tt tt (answered old leads.stands (told_by s.device old.moment.ports)) [] (came old.moment)
+          lead_by first past s s ask said [] refl refl leads k.kept tt tt tt tt (answered old leads.stands (told_by s.device old.moment.ports)) [] (came old.moment)
           (λ port. All-nil (LeavesEngine port)) (issues old (reached first past s leads) leads.stands) (λ port healthy. parts (with_device s.device old) port healthy) (nothing_backed s.device old.moment.machine) leads.stands.machine
 
   pub undone_adds : (s : Server) (step : DeviceStep) → IsSettled s → Adds s s (Told step) (Stepped false)
@@ -235,18 +235,18 @@ module _ (laws : LawsBelow) where
   -- the machine of a load is that of the device's steps
   load_ends : (s : Server) (new : Device) (client : ClientId) (frame : Frame) (offset : ℕ) (bytes : List ℕ) → IsKept s → IsOpen (owner_of s.table) (lent_to s.table) client frame offset (length bytes)
       → Loads (4096 * frame.0 + offset) bytes s.device new → (m : Machine) → IsReached m → (is : IsMachineOf s m)
-      → (x : EndsWith (known is.uses none_parked s.device) m (Load client frame offset bytes) (known is.uses none_parked new)) × IsMachineOf (record s { device = new }) (after m (Load client frame offset bytes ∷ x.steps))
+      → (x : EndsWith (known is.uses is.parked s.device) m (Load client frame offset bytes) (known is.uses is.parked new)) × IsMachineOf (record s { device = new }) (after m (Load client frame offset bytes ∷ x.steps))
   load_ends s new client frame offset bytes k opens loads m r is =
-      let x : EndsWith (known is.uses none_parked s.device) m (Load client frame offset bytes) (known is.uses none_parked new) =
-      client_loads (known is.uses none_parked s.device) m client frame offset bytes new r is.knows (as_told s m is (λ owner lent. IsOpen owner lent client frame offset (length bytes)) opens) loads in
+      let x : EndsWith (known is.uses is.parked s.device) m (Load client frame offset bytes) (known is.uses is.parked new) =
+      client_loads (known is.uses is.parked s.device) m client frame offset bytes new r is.knows (as_told s m is (λ owner lent. IsOpen owner lent client frame offset (length bytes)) opens) loads in
       (x, machine_with s new m (after m (Load client frame offset bytes ∷ x.steps)) is (steps_spare m x.steps x.only) x.knows)
 
   store_ends : (s : Server) (new : Device) (client : ClientId) (frame : Frame) (offset : ℕ) (bytes : List ℕ) → IsKept s → IsOpen (owner_of s.table) (lent_to s.table) client frame offset (length bytes)
       → Stores (4096 * frame.0 + offset) bytes s.device new → (m : Machine) → IsReached m → (is : IsMachineOf s m)
-      → (x : EndsWith (known is.uses none_parked s.device) m (Store client frame offset bytes) (known is.uses none_parked new)) × IsMachineOf (record s { device = new }) (after m (Store client frame offset bytes ∷ x.steps))
+      → (x : EndsWith (known is.uses is.parked s.device) m (Store client frame offset bytes) (known is.uses is.parked new)) × IsMachineOf (record s { device = new }) (after m (Store client frame offset bytes ∷ x.steps))
   store_ends s new client frame offset bytes k opens stores m r is =
-      let x : EndsWith (known is.uses none_parked s.device) m (Store client frame offset bytes) (known is.uses none_parked new) =
-      client_stores (known is.uses none_parked s.device) m client frame offset bytes new r is.knows (as_told s m is (λ owner lent. IsOpen owner lent client frame offset (length bytes)) opens) stores in
+      let x : EndsWith (known is.uses is.parked s.device) m (Store client frame offset bytes) (known is.uses is.parked new) =
+      client_stores (known is.uses is.parked s.device) m client frame offset bytes new r is.knows (as_told s m is (λ owner lent. IsOpen owner lent client frame offset (length bytes)) opens) stores in
       let spares : SparesBook m (after m x.steps) = steps_spare m x.steps x.only in (
         x,
         machine_with s new m (after m (Store client frame offset bytes ∷ x.steps)) is
@@ -285,7 +285,7 @@ module _ (laws : LawsBelow) where
             let old : Instant Device = now first past in
             let at : Stands old s = leads.stands in
             let x = load_ends s new client frame offset bytes k opens loads old.moment.machine (reached first past s leads) at.machine in
-            lead_by first past s (record s { device = new }) (LoadAt client frame offset (length bytes)) (load_said (Ok tt) bytes) (Load client frame offset bytes ∷ x.0.steps) refl refl refl leads (load_kept loads) x.0.may (devices_belong {D = DeviceStep} (LoadAt client frame offset (length bytes)) (ports_of s) x.0.steps x.0.only, inr (refl, refl, refl, refl))
+            lead_by first past s (record s { device = new }) (LoadAt client frame offset (length bytes)) (load_said (Ok tt) bytes) (Load client frame offset bytes ∷ x.0.steps) refl refl leads (load_kept loads) x.0.may (devices_belong {D = DeviceStep} (LoadAt client frame offset (length bytes)) (ports_of s) x.0.steps x.0.only, inr (refl, refl, refl, refl))
             (devices_last x.0.steps x.0.only, λ id h i. false≢true h)
             (devices_lawful old.moment no_evidence (ports_of s) x.0.steps x.0.only)
             (as_told s old.moment.machine at.machine (λ owner lent. IsOpen owner lent client frame offset (length bytes)) opens, ap (λ (rest : List (List ℕ)). bytes ∷ rest) (devices_transfer x.0.steps x.0.only), ports_same old.moment.ports (ports_of s) at.ports_are)
@@ -305,7 +305,7 @@ module _ (laws : LawsBelow) where
             let old : Instant Device = now first past in
             let at : Stands old s = leads.stands in
             let x = store_ends s new client frame offset bytes k opens stores old.moment.machine (reached first past s leads) at.machine in
-            lead_by first past s (record s { device = new }) (StoreAt client frame offset bytes) (store_said (Ok tt)) (Store client frame offset bytes ∷ x.0.steps) refl refl refl leads (store_kept stores) x.0.may (devices_belong {D = DeviceStep} (StoreAt client frame offset bytes) (ports_of s) x.0.steps x.0.only, inr (refl, refl, refl, refl))
+            lead_by first past s (record s { device = new }) (StoreAt client frame offset bytes) (store_said (Ok tt)) (Store client frame offset bytes ∷ x.0.steps) refl refl leads (store_kept stores) x.0.may (devices_belong {D = DeviceStep} (StoreAt client frame offset bytes) (ports_of s) x.0.steps x.0.only, inr (refl, refl, refl, refl))
             (devices_last x.0.steps x.0.only, λ id h i. false≢true h)
             (devices_lawful old.moment no_evidence (ports_of s) x.0.steps x.0.only)
             (as_told s old.moment.machine at.machine (λ owner lent. IsOpen owner lent client frame offset (length bytes)) opens, ap (λ (rest : List (List ℕ)). bytes ∷ rest) (devices_transfer x.0.steps x.0.only), ports_same old.moment.ports (ports_of s) at.ports_are)

@@ -13,7 +13,7 @@ use Rattle.agreement.specs.Driven.{known}
 use Rattle.agreement.specs.Driver.{Knows, IsBacked}
 use Rattle.agreement.specs.Links.{SameAdapter}
 use Rattle.agreement.specs.Spares.{AllFurther, IsFurther, SparesBook}
-use Rattle.agreement.proofs.Sparing.{steps_spare}
+use Rattle.agreement.proofs.Sparing.{found_before, found_later, steps_spare}
 use Rattle.block_machine.specs.Events.{Ask, Said, AllMay, AllDevices, Belong, IssuesLast, AllLawful, IsAnswered, KeepsDisks}
 use Rattle.block_machine.specs.Histories.{Instant, Happening, IsHistory, IsReached, now}
 use Rattle.block_machine.specs.Left.{after}
@@ -21,8 +21,10 @@ use Rattle.block_machine.specs.Ports.{Ports, AreFit, Evidence, SamePorts, SameDi
 use Rattle.block_machine.specs.State.{Machine, Pending}
 use Rattle.block_machine.specs.Steps.{Step}
 use Rattle.block_machine.proofs.HistoryLemmas.{history_reaches, reached_more}
+use Rattle.dma_frames.specs.Loan.{Lending}
 use Rattle.dma_frames.specs.Table.{Table}
 use Rattle.host_boot.specs.Taken.{found_of}
+use Rattle.host_boot.specs.declared.Found.{Found}
 use Rattle.driver_history.specs.Evidence.{IsEvidenced, StaysHealthy}
 use Rattle.driver_history.specs.Histories.{Begins, CameBy, Issues, Ties, TiesPort}
 use Rattle.driver_history.specs.Trace.{LeavesEngine}
@@ -31,7 +33,7 @@ use Rattle.server_history.specs.Histories.{Leads, Stands}
 use Rattle.request_queue.specs.Entries.{Held, IsAccepted, IsInOrder}
 use Rattle.request_queue.specs.Machine.{IsBook, IsEntry, range_of}
 use Rattle.slots.specs.Uses.{Uses as PortSlots}
-use Rattle.server_history.specs.Server.{HasCommand, StandsAlone, HasSlots, Server, IsKept, IsMachineOf, IsPortOf, mode_found, mode_in, none_parked, ports_of, state_of, used_for}
+use Rattle.server_history.specs.Server.{HasCommand, StandsAlone, HasSlots, Server, IsKept, IsMachineOf, IsPortOf, mode_found, mode_in, kept_at, AreKept, ports_of, state_of, used_for}
 use Rattle.slots.specs.declared.Use.{Use as SlotUse}
 use Rattle.block_machine.specs.Due.{is_plain}
 use Rattle.server_history.proofs.Standing.{holds_with, slots}
@@ -62,20 +64,34 @@ book_on (e ∷ es) [] news further all = absurd all
 book_on (e ∷ es) (old ∷ olds) [] further all = absurd further
 book_on (e ∷ es) (old ∷ olds) (new ∷ news) further all = (entry_on e old new further.0 all.0, book_on es olds news further.1 all.1)
 
-none_on : (olds news : List Pending) → AllFurther olds news → olds ≡ [] → news ≡ []
-none_on olds news further is = subst (λ (es : List Pending). AllFurther es news) is further
+-- and so do kept requests, with their loans
+pub still_kept : (found : List Found) (kept : List (List Lending)) (olds news : List Pending) → AllFurther olds news → AreKept found kept olds → AreKept found kept news
+still_kept found kept olds news further are = record {
+  dead = λ e here. let o = found_before olds news e further here in ap (λ r. found_of found r.port.0) o.2.request ∙ are.dead o.0 o.1;
+  loan = λ e here.
+      let o = found_before olds news e further here in
+      let l = are.loan o.0 o.1 in
+      (l.0, subst (λ r. Contains (kept_at kept r.port.0) l.0) (sym o.2.request) l.1, (l.2.0 ∙ sym (ap (λ r. r.id) o.2.request), l.2.1 ∙ sym (ap (λ r. r.asked.frames.items) o.2.request)));
+  whose = λ port loan here.
+      let e = are.whose port loan here in
+      let n = found_later olds news e.0 further e.1 in
+      (n.0, n.1, ap (λ r. r.port.0) n.2.request ∙ e.2, (e.3.0 ∙ sym (ap (λ r. r.id) n.2.request), e.3.1 ∙ sym (ap (λ r. r.asked.frames.items) n.2.request)));
+  apart = are.apart;
+}
 
 -- ---- the machine that stands for a server
 
 pub machine_with : (s : Server) (new : Device) (m later : Machine) → (is : IsMachineOf s m) → SparesBook m later
-    → Knows later (known is.uses none_parked new)
+    → Knows later (known is.uses is.parked new)
     → IsMachineOf (record s { device = new }) later
 machine_with s new m later is spares knows = record {
   uses = is.uses;
   used = is.used;
+  parked = is.parked;
+  unparked = is.unparked;
   knows = knows;
   book = book_on s.book m.book later.book spares.book is.book;
-  kept = none_on m.kept later.kept spares.kept is.kept;
+  kept = still_kept s.ports s.kept m.kept later.kept spares.kept is.kept;
   rows = spares.rows ∙ is.rows;
   owner = λ frame. ap (λ f. f frame) spares.owner ∙ is.owner frame;
   lent = λ frame. ap (λ f. f frame) spares.lent ∙ is.lent frame;
@@ -84,7 +100,7 @@ machine_with s new m later is spares knows = record {
 
 -- it goes on over steps of the device
 pub machine_on : (s : Server) (new : Device) (m : Machine) (steps : List Step) → (is : IsMachineOf s m) → AllDevices steps
-    → Knows (after m steps) (known is.uses none_parked new)
+    → Knows (after m steps) (known is.uses is.parked new)
     → IsMachineOf (record s { device = new }) (after m steps)
 machine_on s new m steps is own knows = machine_with s new m (after m steps) is (steps_spare m steps own) knows
 
@@ -105,6 +121,8 @@ kept_then s device table slots book last k on same behind owners four used kinds
   there = λ port served. let t = k.there port served in (t.0, ap (λ (pi : ℕ). bit pi port) same.pi ∙ t.1);
   behind = behind;
   four = four;
+  four_remembered = k.four_remembered;
+  four_kept = k.four_kept;
   modes = λ port low. k.modes port low ∙ ap (λ (cap : ℕ). mode_found cap (found_of s.ports port)) (sym same.cap);
   slots = used;
   kinds = kinds;
@@ -150,10 +168,6 @@ happening old new ask said steps ports = happening_with (told_by old.device old.
 -- the instant, with this device
 abbrev pub with_device : Device → Instant Device → Instant Device
 with_device d i = record { device = d; moment = i.moment }
-
--- servers with the same ports, which take commands in the same way
-pub same_ports : (s new : Server) → s.ports ≡ new.ports → s.modes ≡ new.modes → ports_of s ≡ ports_of new
-same_ports s new ports modes = λ i. ports_of (record s { ports = ports i; modes = modes i })
 
 -- a call, with what its event needs
 pub lead_with : (first : Instant Device) (past : List (Happening Device DeviceStep)) (s new : Server) (ask : Ask DeviceStep) (said : Said) (evidence : Evidence) (steps : List Step)
@@ -209,7 +223,7 @@ lead_with first past s new ask said evidence steps wanted_is leads kept fit may 
 
 -- one in which no port is stopped, and each is what it was
 pub lead_by : (first : Instant Device) (past : List (Happening Device DeviceStep)) (s new : Server) (ask : Ask DeviceStep) (said : Said) (steps : List Step)
-    → new.wanted ≡ s.wanted → new.ports ≡ s.ports → new.modes ≡ s.modes → Leads first past s → IsKept new
+    → new.wanted ≡ s.wanted → ports_of new ≡ ports_of s → Leads first past s → IsKept new
     → AllMay (now first past).moment.machine steps → Belong ask (ports_of new) steps → IssuesLast steps
     → AllLawful (now first past).moment no_evidence (ports_of new) steps
     → IsAnswered ask said (now first past).moment (told_by s.device (now first past).moment.ports) steps (record { machine = after (now first past).moment.machine steps; ports = ports_of new })
@@ -221,7 +235,7 @@ pub lead_by : (first : Instant Device) (past : List (Happening Device DeviceStep
     → IsBacked s.device new.device (now first past).moment.machine steps
     → IsMachineOf new (after (now first past).moment.machine steps)
     → (h : Happening Device DeviceStep) × (h.event.ask ≡ ask) × (h.event.said ≡ said) × Leads first (h ∷ past) new
-lead_by first past s new ask said steps wanted_is ports_is modes_is leads kept may belong last lawful answered accesses came leaves issues parts backed stands =
+lead_by first past s new ask said steps wanted_is ports_is leads kept may belong last lawful answered accesses came leaves issues parts backed stands =
     lead_with first past s new ask said (told_by s.device old.moment.ports) steps wanted_is leads kept (subst AreFit ports fit) may belong last
     (lawful_told s.device old.moment.ports old.moment (ports_of new) steps lawful)
     (λ e o here i same. disks_same old.moment.ports (ports_of new) ports e.request.port)
@@ -233,7 +247,7 @@ lead_by first past s new ask said steps wanted_is ports_is modes_is leads kept m
     old = now first past
 
     ports : old.moment.ports ≡ ports_of new
-    ports = leads.stands.ports_are ∙ same_ports s new (sym ports_is) (sym modes_is)
+    ports = leads.stands.ports_are ∙ sym ports_is
 
     fit : AreFit old.moment.ports
     fit = history_fit (Begins s.wanted) (Ties s.wanted) first past leads.history

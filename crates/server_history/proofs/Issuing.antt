@@ -17,11 +17,11 @@ use Rattle.block_machine.specs.Steps.{Step, Issue, May}
 use Rattle.block_machine.specs.declared.due.Mode.{Mode}
 use Rattle.block_machine.specs.declared.due.Unanswered.{Unanswered}
 use Rattle.block_machine.proofs.HistoryLemmas.{reached_more}
-use Rattle.block_machine.proofs.Members.{contains_none, into_map, map_in}
+use Rattle.block_machine.proofs.Members.{into_map, map_in}
 use Rattle.agreement.specs.Driven.{known, IsDrivenBy}
 use Rattle.agreement.specs.Driver.{EndsWith, IsBacked, serving}
 use Rattle.agreement.specs.Slots.{Free, Serves, Use, put}
-use Rattle.agreement.specs.Spares.{AllFurther, SparesBook}
+use Rattle.agreement.specs.Spares.{SparesBook}
 use Rattle.agreement.proofs.Driven.{driven_as}
 use Rattle.agreement.proofs.Sparing.{steps_spare}
 use Rattle.host_boot.specs.Taken.{found_of}
@@ -35,11 +35,11 @@ use Rattle.request_queue.specs.Entries.{asks}
 use Rattle.slots.specs.Uses.{IsLowestFree}
 use Rattle.slots.specs.declared.Use.{Use as SlotUse}
 use Rattle.server_history.specs.Served.{IssuesOne, task_of, use_for}
-use Rattle.server_history.specs.Server.{HasCommand, StandsAlone, Server, IsKept, IsMachineOf, IsPortOf, IsUsedAs, mode_at, mode_in, none_parked, slots_at, state_of, usable_of, used_for, with_slot}
+use Rattle.server_history.specs.Server.{HasCommand, StandsAlone, Server, IsKept, IsMachineOf, IsPortOf, IsUsedAs, mode_at, mode_in, slots_at, state_of, usable_of, used_for, with_slot}
 use Rattle.server_history.specs.Below.{LawsBelow}
 use Rattle.server_history.proofs.Asks.{asked_alike, same_book}
 use Rattle.server_history.proofs.Changed.{all_changed}
-use Rattle.server_history.proofs.Going.{book_on, kept_then}
+use Rattle.server_history.proofs.Going.{book_on, kept_then, still_kept}
 use Rattle.server_history.proofs.Looking.{behind_served}
 use Rattle.server_history.proofs.Placing.{its_or_other, placed_four, placed_has, placed_same, placed_uses, placed_was}
 use Rattle.server_history.proofs.Stored.{AreApart, issuing_leaves_stored}
@@ -50,7 +50,7 @@ use Rattle.agreement.specs.Agrees.{port_at}
 use Rattle.ata_types.specs.declared.request.Op.{Op}
 use Rattle.ata_types.specs.declared.request.Op.TheVariants.{Read, Write, Trim, Flush}
 use Rattle.ncq.specs.Tasks.{operation_of}
-use Rattle.server_history.proofs.Slots.{free_unused, IsServedBy, its_mode, lowest_may, not_false, not_own, not_true, of_ready, ready_found, served_request, serves_used, usable_ready, used_or_not, used_there}
+use Rattle.server_history.proofs.Slots.{free_unused, IsServedBy, its_mode, lowest_may, none_kept, not_dead, not_false, not_own, not_true, of_ready, ready_found, served_request, serves_used, usable_ready, used_or_not, used_there}
 use Rattle.server_history.proofs.Zips.{at_left}
 use Rattle.port_look.specs.Services.{IsService}
 use Rattle.ncq.specs.Tasks.{IsIssuing, IsTaskOf, IssuesTask, MayServe}
@@ -79,12 +79,12 @@ issued_serves port slot old new driven = driven_as (IsIssuing port slot) IsServi
 -- on a ready port, that leaves what stands behind each
 behind_issued : LawsBelow → (s : Server) (new : Device) (port : Port) (slot : ℕ) (mode : Mode) (r : Task) (frames : List Frame) (p : Pending) (k : IsKept s) → state_of (found_of s.ports port.0) ≡ ReadyState
     → IssuesTask port slot r frames s.device new → IsTaskOf port slot r frames mode p
-    → MayServe port slot mode p (record { uses = k.stands.uses; parked = none_parked }) k.machine → (q : ℕ) → q < 4 → IsPortOf s.wanted s.ports q new
+    → MayServe port slot mode p (record { uses = k.stands.uses; parked = k.stands.parked }) k.machine → (q : ℕ) → q < 4 → IsPortOf s.wanted s.ports q new
 behind_issued laws s new port slot mode r frames p k ready issues its may =
     behind_served laws.looks s new port k ready (issued_serves port slot s.device new issues.driven)
     (λ q low other. apart laws.looks port (IsIssuing port slot) (laws.issuing_of port slot) q other s.device new k.on issues.driven)
-    (λ q other. laws.issuing_silent port slot r frames mode p s.device new (record { uses = k.stands.uses; parked = none_parked }) k.machine issues its k.reached k.stands.knows may q Identify refl
-    (not_own (found_of s.ports q) 0 (used_for s.slots q 0) (k.stands.uses q 0) other (k.stands.used q 0)))
+    (λ q other. laws.issuing_silent port slot r frames mode p s.device new (record { uses = k.stands.uses; parked = k.stands.parked }) k.machine issues its k.reached k.stands.knows may q Identify refl
+    (not_own (found_of s.ports q) (used_for s.slots q 0) (k.stands.uses q 0) other (k.stands.used q 0)))
 
 module _ (laws : LawsBelow) (s new : Server) (port : Port) (id : RequestId) (k : IsKept s) (one : IssuesOne port id s new) where
   abbrev e : Held
@@ -145,7 +145,7 @@ module _ (laws : LawsBelow) (s new : Server) (port : Port) (id : RequestId) (k :
         subst B (sym (same_book s.book m.book is.book)) (subst R (sym (asked_alike e p x.2)) one.due)
 
     may : May m (Issue mode p)
-    may = (x.1, due, λ y here. absurd (contains_none y (subst (λ (es : List Pending). Contains es y) is.kept here)))
+    may = (x.1, due, none_kept s m p.request.port is (not_dead s p.request.port.0 (ap (λ (q : Port). state_of (found_of s.ports q.0)) (x.2.port ∙ one.port_is) ∙ issued_ready)))
 
     its_transfer : IsTaskOf port slot r e.frames mode p
     its_transfer = record {
@@ -159,8 +159,8 @@ module _ (laws : LawsBelow) (s new : Server) (port : Port) (id : RequestId) (k :
       head = λ plain. may_use.3 (not_false (is_plain mode e.entry.op) plain);
     }
 
-    ends : EndsWith (known is.uses none_parked s.device) m (Issue mode p) (serving (known is.uses none_parked s.device) port.0 slot p.request.id new.device)
-    ends = laws.issuing_ends port slot r e.frames mode p s.device new.device (record { uses = is.uses; parked = none_parked }) m one.issues its_transfer reached is.knows (free, may)
+    ends : EndsWith (known is.uses is.parked s.device) m (Issue mode p) (serving (known is.uses is.parked s.device) port.0 slot p.request.id new.device)
+    ends = laws.issuing_ends port slot r e.frames mode p s.device new.device (record { uses = is.uses; parked = is.parked }) m one.issues its_transfer reached is.knows (free, may)
 
     its_id : p.request.id ≡ id
     its_id = x.2.id ∙ one.id_is
@@ -171,12 +171,14 @@ module _ (laws : LawsBelow) (s new : Server) (port : Port) (id : RequestId) (k :
     stands : IsMachineOf later (after m (Issue mode p ∷ ends.steps))
     stands = record {
       uses = put is.uses port.0 slot (Serves p.request.id);
-      used = subst (λ (u : Use). (q n : ℕ) → IsUsedAs (found_of s.ports q) n (used_for (with_slot s.slots port.0 slot its_use) q n) (put is.uses port.0 slot u q n)) (ap Serves (sym x.2.id))
+      used = subst (λ (u : Use). (q n : ℕ) → IsUsedAs (found_of s.ports q) (used_for (with_slot s.slots port.0 slot its_use) q n) (put is.uses port.0 slot u q n)) (ap Serves (sym x.2.id))
           (placed_uses s.slots port.0 slot its_use (let l = low in let f = k.four in omega (arith, l, f)) (let h = (k.slots port.0 low).places in let t = may_use.1 in omega (arith, h, t)) s.ports is.uses is.used);
+      parked = is.parked;
+      unparked = is.unparked;
       knows = ends.knows;
       book = subst (λ (i : RequestId). IsBook (map (at i issue) s.book) (after m (Issue mode p ∷ ends.steps)).book) its_id
           (laws.issues s.book (after m ends.steps) mode p (book_on s.book m.book (after m ends.steps).book spares.book is.book));
-      kept = subst (λ (es : List Pending). AllFurther es (after m ends.steps).kept) is.kept spares.kept;
+      kept = still_kept s.ports s.kept m.kept (after m ends.steps).kept spares.kept is.kept;
       rows = spares.rows ∙ is.rows;
       owner = λ frame. ap (λ f. f frame) spares.owner ∙ is.owner frame;
       lent = λ frame. ap (λ f. f frame) spares.lent ∙ is.lent frame;
@@ -256,12 +258,12 @@ module _ (laws : LawsBelow) (s new : Server) (port : Port) (id : RequestId) (k :
       let was = was_used q n used other is in
       let t = used_there s q n used k was in
       let h = k.commands q n used was in
-      let acts = one.issues.comes mode (p k.machine k.reached k.stands) (its_transfer k.machine k.reached k.stands) (record { uses = k.stands.uses; parked = none_parked }) k.machine k.reached k.stands.knows
+      let acts = one.issues.comes mode (p k.machine k.reached k.stands) (its_transfer k.machine k.reached k.stands) (record { uses = k.stands.uses; parked = k.stands.parked }) k.machine k.reached k.stands.knows
       (free k.machine k.reached k.stands, may k.machine k.reached k.stands) in
       record {
         command = h.command;
         places = h.places;
-        stored = laws.stored (port_at q) n h.command h.places acts.acts (at_slots (record { uses = k.stands.uses; parked = none_parked }) s.device) _ k.machine k.reached k.stands.knows acts.done
+        stored = laws.stored (port_at q) n h.command h.places acts.acts (at_slots (record { uses = k.stands.uses; parked = k.stands.parked }) s.device) _ k.machine k.reached k.stands.knows acts.done
             (λ i d small. issuing_leaves_stored port (port_at q) slot n low may_use.1 t.0 t.1 other _ (subst (All (IsIssuing port slot)) (sym acts.accesses_are) one.issues.driven.only i d small)) k.on h.stored;
         kind = h.kind;
       })
@@ -305,7 +307,7 @@ module _ (laws : LawsBelow) (s new : Server) (port : Port) (id : RequestId) (k :
       (holds (asks x.request.entry) x.port_is (sym x.entry.issued ∙ x.issued) (⊎_elim (λ it. inl it) (λ its. inr (plain_of its)) plain)))
     where
       x : IsServedBy s k.machine port.0 n u.id
-      x = served_request s k.machine port.0 n k.stands u.id (serves_used s k.machine port.0 k.stands issued_ready n u used)
+      x = served_request s k.machine port.0 n k.stands issued_ready u.id (serves_used s k.machine port.0 k.stands issued_ready n u used)
 
       plain_of : u.queued ≡ false → is_plain mode x.request.entry.op ≡ true
       plain_of its = not_false (is_plain mode x.request.entry.op) (sym (k.kinds port n u x.request used x.there x.id_is) ∙ its)

@@ -29,3 +29,4 @@ pub mod Services
 pub mod Origins
 pub mod Coming
 pub mod Serving
+pub mod Keeping

@@ -17,7 +17,7 @@ use Rattle.agreement.proofs.Driven.{driven_as, followed_adds, followed_silent}
 use Rattle.host_boot.specs.Taken.{found_of}
 use Rattle.host_boot.specs.declared.Found.TheVariants.{Unready}
 use Rattle.server_history.specs.Served.{IsMaskOf}
-use Rattle.server_history.specs.Server.{Server, IsKept, IsPortOf, none_parked, slots_at, state_of, used_for}
+use Rattle.server_history.specs.Server.{Server, IsKept, IsPortOf, slots_at, state_of, used_for}
 use Rattle.server_history.proofs.Going.{machine_on, kept_on}
 use Rattle.server_history.proofs.Ports.{port_on}
 use Rattle.server_history.proofs.Slots.{AreOver, busy_used, not_own, ready_found, serves_used, used_there}
@@ -55,19 +55,19 @@ module _ (s : Server) (new : Device) (port : Port) (k : IsKept s) (ready : state
       let laws : Laws = below.looks in
       let uses : Uses = k.stands.uses in
       let driven : IsDrivenBy IsService s.device new = driven_as May IsService s.device new service followed.driven in
-      let x = (followed_adds followed uses none_parked tt).adds k.machine k.reached k.stands.knows in
+      let x = (followed_adds followed uses k.stands.parked tt).adds k.machine k.reached k.stands.knows in
       kept_on s new k (services_on laws s.device new k.on driven) (services_same laws s.device new driven)
       (behind_served laws s new port k ready driven left
-      (λ q other. followed_silent followed uses none_parked k.machine tt k.reached k.stands.knows (port_at q) Identify refl (none (port_at q)).0 (none (port_at q)).1
-      (not_own (found_of s.ports q) 0 (used_for s.slots q 0) (uses q 0) other (k.stands.used q 0))))
+      (λ q other. followed_silent followed uses k.stands.parked k.machine tt k.reached k.stands.knows (port_at q) Identify refl (none (port_at q)).0 (none (port_at q)).1
+      (not_own (found_of s.ports q) (used_for s.slots q 0) (uses q 0) other (k.stands.used q 0))))
       (λ q n used is.
       let t = used_there s q n used k is in
       let h = k.commands q n used is in
-      let acts = followed.comes (record { uses = uses; parked = none_parked }) k.machine k.reached k.stands.knows tt in
+      let acts = followed.comes (record { uses = uses; parked = k.stands.parked }) k.machine k.reached k.stands.knows tt in
       record {
         command = h.command;
         places = h.places;
-        stored = below.stored (port_at q) n h.command h.places acts.acts (at_slots (record { uses = uses; parked = none_parked }) s.device) (at_slots (record { uses = uses; parked = none_parked }) new) k.machine k.reached k.stands.knows acts.done
+        stored = below.stored (port_at q) n h.command h.places acts.acts (at_slots (record { uses = uses; parked = k.stands.parked }) s.device) (at_slots (record { uses = uses; parked = k.stands.parked }) new) k.machine k.reached k.stands.knows acts.done
             (λ i d small.
             let its = subst (All May) (sym acts.accesses_are) followed.driven.only i d small in
             service_leaves_stored (port_at q) n _ (service _ its) (λ a bytes place e x from to. storeless _ a bytes its e)) k.on h.stored;
@@ -111,7 +111,7 @@ module _ (s : Server) (new : Device) (port : Port) (k : IsKept s) (ready : state
     found_over its slot small found =
         let asked : bit mask slot ≡ true = (and_parts (bit mask slot) _ (and_parts _ _ (sym (finds.tells slot small) ∙ found)).0).0 in
         let used = busy_used (used_for s.slots port.0 slot) (sym (its slot small) ∙ asked) in
-        let x = finds.comes (record { uses = k.stands.uses; parked = none_parked }) k.machine k.reached k.stands.knows tt in
+        let x = finds.comes (record { uses = k.stands.uses; parked = k.stands.parked }) k.machine k.reached k.stands.knows tt in
         (x.tells.ended started slot used.0.id small found (serves_used s k.machine port.0 k.stands ready slot used.0 used.1)).0
       where
         started : (s.device.port port.0).st ≡ true

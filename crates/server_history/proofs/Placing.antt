@@ -30,15 +30,15 @@ module _ (slots : List PortSlots) (port slot : ℕ) (used : Option SlotUse) (low
       (cases_eq q port)
 
   -- where its uses are what they were but for this slot
-  pub placed_uses : (found : List Found) (uses : Uses) → ((q k : ℕ) → IsUsedAs (found_of found q) k (used_for slots q k) (uses q k))
-      → (q k : ℕ) → IsUsedAs (found_of found q) k (used_for (with_slot slots port slot used) q k) (put uses port slot (use_of used) q k)
+  pub placed_uses : (found : List Found) (uses : Uses) → ((q k : ℕ) → IsUsedAs (found_of found q) (used_for slots q k) (uses q k))
+      → (q k : ℕ) → IsUsedAs (found_of found q) (used_for (with_slot slots port slot used) q k) (put uses port slot (use_of used) q k)
   placed_uses found uses was q k = ⊎_elim
       (λ (at : (q ≡ port) × (k ≡ slot)).
-      inl (ap (λ (p : ℕ). put uses port slot (use_of used) p k) at.0 ∙ ap (λ (n : ℕ). put uses port slot (use_of used) port n) at.1 ∙ put_same uses port slot (use_of used)
-      ∙ ap use_of (sym placed_same ∙ ap (λ (n : ℕ). used_for (with_slot slots port slot used) port n) (sym at.1) ∙ ap (λ (p : ℕ). used_for (with_slot slots port slot used) p k) (sym at.0))))
+      λ _. ap (λ (p : ℕ). put uses port slot (use_of used) p k) at.0 ∙ ap (λ (n : ℕ). put uses port slot (use_of used) port n) at.1 ∙ put_same uses port slot (use_of used)
+      ∙ ap use_of (sym placed_same ∙ ap (λ (n : ℕ). used_for (with_slot slots port slot used) port n) (sym at.1) ∙ ap (λ (p : ℕ). used_for (with_slot slots port slot used) p k) (sym at.0)))
       (λ (there : (q ≡ port → k ≡ slot → ⊥) × (put uses port slot (use_of used) q k ≡ uses q k)).
-      let U : Use → Type 0 = λ u. IsUsedAs (found_of found q) k (used_for (with_slot slots port slot used) q k) u in
-      let P : Option SlotUse → Type 0 = λ p. IsUsedAs (found_of found q) k p (uses q k) in
+      let U : Use → Type 0 = λ u. IsUsedAs (found_of found q) (used_for (with_slot slots port slot used) q k) u in
+      let P : Option SlotUse → Type 0 = λ p. IsUsedAs (found_of found q) p (uses q k) in
       subst U (sym there.1) (subst P (sym (placed_other q k there.0)) (was q k)))
       (put_cases uses port slot (use_of used) q k)
 

@@ -14,7 +14,6 @@ use Rattle.agreement.specs.Agrees.{port_at}
 use Rattle.adapter.specs.Commands.{Meaning}
 use Rattle.block_machine.specs.Rules.{IsCount, frames_for}
 use Rattle.block_machine.specs.State.{Accepted, Machine, Pending, frame_at}
-use Rattle.block_machine.proofs.Members.{contains_none}
 use Rattle.dma_frames.specs.Table.{lent_to}
 use Rattle.host_boot.specs.Taken.{found_of}
 use Rattle.request_queue.specs.Entries.{Held, IsAccepted}
@@ -22,7 +21,7 @@ use Rattle.request_queue.specs.Machine.{IsEntry}
 use Rattle.slots.specs.declared.Use.{Use as SlotUse}
 use Rattle.server_history.specs.Below.{LawsBelow}
 use Rattle.server_history.specs.Server.{StandsAlone, Server, IsKept, IsMachineOf, mode_in, state_of, used_for}
-use Rattle.server_history.proofs.Slots.{HasSlot, IsServedBy, issued_has, not_true, queued_op, served_request, serves_used}
+use Rattle.server_history.proofs.Slots.{HasSlot, IsServedBy, issued_has, not_true, queued_op, served_request, serves_used, still_booked}
 use Rattle.server_history.proofs.Zips.{at_right}
 
 -- the first place of a read or a write is that of its first frame
@@ -64,13 +63,10 @@ module _ (laws : LawsBelow) (s : Server) (k : IsKept s) (m : Machine) (is : IsMa
   module _ (port slot : ℕ) (used : SlotUse) (id : RequestId) (ready : state_of (found_of s.ports port) ≡ ReadyState) (its : used_for s.slots port slot ≡ Some used)
       (says : ServesRequest m s.device.memory (s.device.port port) port slot id) where
     x : IsServedBy s m port slot used.id
-    x = served_request s m port slot is used.id (serves_used s m port is ready slot used its)
+    x = served_request s m port slot is ready used.id (serves_used s m port is ready slot used its)
 
     booked : Contains m.book says.pending × (says.pending.issued ≡ true)
-    booked = ⊎_elim
-        (λ (b : Contains m.book says.pending × (says.pending.issued ≡ true)). b)
-        (λ kept. absurd (contains_none says.pending (subst (λ (es : List Pending). Contains es says.pending) is.kept kept)))
-        says.moves
+    booked = still_booked s m port is ready says.pending says.moves says.port_is
 
     -- a plain one is alone, so the other has no other slot
     said_plain : used.queued ≡ false → id ≡ used.id

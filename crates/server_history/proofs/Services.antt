@@ -66,7 +66,7 @@ use Rattle.driver_history.specs.Trace.{IsDriversOwn, IsServing, LeavesCommand, L
 use Rattle.server_history.specs.Below.{LawsBelow}
 use Rattle.server_history.specs.Served.{AnswersBy, Checks, HasEnded, IsAnsweredIn, IsMaskOf, answers_in, done_reply, is_used}
 use Rattle.server_history.specs.Turns.{HasPart, IsCalmTurn, IsChecked, IsOfCommand, IsStepOf, MakesTurn, NamesOnly, ServePorts, ServesPort, TellsFault, moment_of}
-use Rattle.server_history.specs.Server.{Server, IsKept, IsMachineOf, IsSettled, is_served, mode_at, mode_in, ports_of, sectors_of, serial_of, slots_at, state_of, trims_of, used_for}
+use Rattle.server_history.specs.Server.{Server, IsKept, IsMachineOf, IsSettled, disk_in, disk_of, is_served, mode_at, mode_in, ports_of, remembered_at, sectors_of, serial_of, slots_at, state_of, trims_of, used_for}
 use Rattle.server_history.proofs.Coming.{IsBusy, IsTurn, TurnList, turn_leaves, turn_list}
 use Rattle.server_history.proofs.Asks.{none_issued, same_book}
 use Rattle.server_history.proofs.Origins.{answered_own, IsSame, issued_before, others_were, stood}
@@ -75,7 +75,7 @@ use Rattle.server_history.proofs.Settling.{same_more, turn_apart, turn_settings,
 use Rattle.server_history.proofs.Rounds.{any_append, dues_carried, or_none}
 use Rattle.server_history.proofs.Serving.{still_over}
 use Rattle.server_history.proofs.Answered.{answered_in, ended_stood, in_answered, issuing_answers, may_parts, no_answer, no_answer_issuing, told_so, with_ok}
-use Rattle.server_history.proofs.Slots.{HasSlot, IsServedBy, free_unused, issued_has, ready_found, served_request, serves_used, used_or_not}
+use Rattle.server_history.proofs.Slots.{HasSlot, IsServedBy, free_unused, issued_has, ready_found, served_request, serves_used, still_booked, used_or_not}
 use Rattle.server_history.proofs.Said.{one_said}
 use Rattle.slots.specs.declared.Use.{Use as SlotUse}
 use Rattle.slots.specs.Uses.{Uses as PortSlots, use_at}
@@ -234,8 +234,11 @@ lawful_lift old new evidence other ports later e PortDead was faults lost stoppe
 -- ---- ports that are what they were
 
 -- all that clients see of the port is as it was
-same_at : (one other : Server) (q : Port) → found_of other.ports q.0 ≡ found_of one.ports q.0 → mode_in other q ≡ mode_in one q → SamePort (ports_of one) (ports_of other) q
-same_at one other q found mode = (ap is_served found, ap state_of found, ap serial_of found, ap sectors_of found, ap trims_of found, mode)
+same_at : (one other : Server) (q : Port) → found_of other.ports q.0 ≡ found_of one.ports q.0 → remembered_at other.remembered q.0 ≡ remembered_at one.remembered q.0 → mode_in other q ≡ mode_in one q
+    → SamePort (ports_of one) (ports_of other) q
+same_at one other q found remembered mode =
+    let disk : disk_in other q ≡ disk_in one q = ap (λ (f : Found). disk_of f (remembered_at other.remembered q.0)) found ∙ ap (disk_of (found_of one.ports q.0)) remembered in
+    (ap is_served found, ap state_of found, ap serial_of disk, ap sectors_of disk, ap trims_of found, mode)
 
 same_then : (a b c : Ports) (q : Port) → SamePort a b q → SamePort b c q → SamePort a c q
 same_then a b c q x y = (y.0 ∙ x.0, y.1 ∙ x.1, y.2 ∙ x.2, y.3 ∙ x.3, y.4 ∙ x.4, y.5 ∙ x.5)
@@ -332,6 +335,7 @@ module _ (laws : LawsBelow) (s : Server) (start : IsSettled s) (old : Moment) (r
     pub due : (q : Port) → state_of (found_of c.ports q.0) ≡ ReadyState → IssuesDue (mode_in c q) steps (after old.machine steps) q
     pub of : All (IsStepOf (HadTurn n)) steps
     pub found : (q : Port) → (HadTurn n q → ⊥) → found_of c.ports q.0 ≡ found_of s.ports q.0
+    pub remembered : (q : Port) → (HadTurn n q → ⊥) → remembered_at c.remembered q.0 ≡ remembered_at s.remembered q.0
     pub modes : (q : Port) → (HadTurn n q → ⊥) → mode_at c.modes q.0 ≡ mode_at s.modes q.0
     pub slots : (q : Port) → (HadTurn n q → ⊥) → slots_at c.slots q.0 ≡ slots_at s.slots q.0
 
@@ -371,6 +375,7 @@ module _ (laws : LawsBelow) (s : Server) (start : IsSettled s) (old : Moment) (r
     due = λ q is_ready. none_issued s old.machine at [] (λ id. refl) (mode_in s q) q (start.issued q);
     of = All-nil (IsStepOf (HadTurn 0));
     found = λ q none. refl;
+    remembered = λ q none. refl;
     modes = λ q none. refl;
     slots = λ q none. refl;
   }
@@ -414,7 +419,7 @@ module _ (laws : LawsBelow) (s : Server) (start : IsSettled s) (old : Moment) (r
   idle_done n c replies p q unready =
       let none : HadTurn n q → ⊥ = λ served. unready served.1 in
       let un = unnamed n q none p.evidence p.names in
-      let same : SamePort old.ports (ports_of c) q = subst (λ (ports : Ports). SamePort ports (ports_of c) q) (sym ports_are) (same_at s c q (p.found q none) (p.modes q none)) in
+      let same : SamePort old.ports (ports_of c) q = subst (λ (ports : Ports). SamePort ports (ports_of c) q) (sym ports_are) (same_at s c q (p.found q none) (p.remembered q none) (p.modes q none)) in
       record {
         becomes = (
           λ dead. same,
@@ -469,6 +474,7 @@ module _ (laws : LawsBelow) (s : Server) (start : IsSettled s) (old : Moment) (r
     due = p.due;
     of = all_of_ports (HadTurn n) (HadTurn (n + 1)) (λ q served. let small = served.0 in (omega (arith, small), served.1)) p.steps p.of;
     found = λ q none. p.found q (λ served. let small = served.0 in none (omega (arith, small), served.1));
+    remembered = λ q none. p.remembered q (λ served. let small = served.0 in none (omega (arith, small), served.1));
     modes = λ q none. p.modes q (λ served. let small = served.0 in none (omega (arith, small), served.1));
     slots = λ q none. p.slots q (λ served. let small = served.0 in none (omega (arith, small), served.1));
   }
@@ -479,7 +485,7 @@ module _ (laws : LawsBelow) (s : Server) (start : IsSettled s) (old : Moment) (r
 
   -- a port that wasn't ready is what it was, and nothing interrupts it
   pub unready_same : (n : ℕ) (c : Server) (replies : List Reply) → (p : Progress n c replies) → (q : Port) → state_at q.0 ≢ ReadyState → SamePort (ports_of s) (ports_of c) q
-  unready_same n c replies p q unready = same_at s c q (p.found q (λ served. unready served.1)) (p.modes q (λ served. unready served.1))
+  unready_same n c replies p q unready = same_at s c q (p.found q (λ served. unready served.1)) (p.remembered q (λ served. unready served.1)) (p.modes q (λ served. unready served.1))
 
   pub unready_spared : (n : ℕ) (c : Server) (replies : List Reply) → (p : Progress n c replies) → (q : Port) → state_at q.0 ≢ ReadyState → IsInterrupted p.evidence q → ⊥
   unready_spared n c replies p q unready i =
@@ -546,10 +552,10 @@ module _ (laws : LawsBelow) (s : Server) (start : IsSettled s) (old : Moment) (r
     of_other q ne = All-weaker (IsOf (port_at n)) (IsOfOther q) (λ access of. (port_at n, ne, of)) part.accesses part.of
 
     same_n : SamePort old.ports (ports_of c) (port_at n)
-    same_n = subst (λ (ports : Ports). SamePort ports (ports_of c) (port_at n)) (sym ports_are) (same_at s c (port_at n) (p.found (port_at n) not_yet) (p.modes (port_at n) not_yet))
+    same_n = subst (λ (ports : Ports). SamePort ports (ports_of c) (port_at n)) (sym ports_are) (same_at s c (port_at n) (p.found (port_at n) not_yet) (p.remembered (port_at n) not_yet) (p.modes (port_at n) not_yet))
 
     same_other : (q : Port) → q.0 ≢ n → SamePort (ports_of c) (ports_of mid) q
-    same_other q ne = same_at c mid q (part.others.found q.0 ne) (part.others.modes q.0 ne)
+    same_other q ne = same_at c mid q (part.others.found q.0 ne) (part.others.remembered q.0 ne) (part.others.modes q.0 ne)
 
     same_self : (ports : Ports) (q : Port) → SamePort ports ports q
     same_self ports q = (refl, refl, refl, refl, refl, refl)
@@ -831,7 +837,7 @@ module _ (laws : LawsBelow) (s : Server) (start : IsSettled s) (old : Moment) (r
             let id_is : d.0.request.id ≡ h.now_is.request.id = d.2.entry.id ∙ sym (ap (λ (y : Reply). y.id) r.2) ∙ told.2 ∙ h.has.id_is in
             let w = ended_stood (after m b.before) b.ended early_may.1 d.0 d.1 in
             let l = found_before m.book (after m b.before).book d.0 (steps_spare m b.before b.first).book w in
-            let one = one_of h.now_is l.0 h.here l.1 (ap (λ (i : RequestId). i.0) (sym id_is ∙ ap (λ r. r.id) l.2.request)) in (
+            let one : h.now_is ≡ l.0 = one_of h.now_is l.0 h.here l.1 (ap (λ (i : RequestId). i.0) (sym id_is ∙ ap (λ r. r.id) l.2.request)) in (
               d.0,
               l.2.request ∙ ap (λ (y : Pending). y.request) (sym one) ∙ h.same_as.request,
               Contains-append_left x.steps p.steps (Answer d.0 Ok) (subst (λ (steps : List Step). Contains steps (Answer d.0 Ok)) (sym b.steps_are)
@@ -912,10 +918,7 @@ module _ (laws : LawsBelow) (s : Server) (start : IsSettled s) (old : Moment) (r
                 free = subst (λ (u : Use). IsServed old.machine s.device.memory s.device.tape (s.device.port n) n slot u) (free_unused s old.machine n at ready slot unused) (at.knows.agrees.slot n slot)
 
                 same : says.pending ≡ other
-                same = ⊎_elim
-                    (λ booked. (standing old.machine reached).sound.one says.pending other booked.0 own.here (ap (λ (i : RequestId). i.0) says.id_is))
-                    (λ kept_there. absurd (contains_none says.pending (subst (λ (es : List Pending). Contains es says.pending) at.kept kept_there)))
-                    says.moves
+                same = (standing old.machine reached).sound.one says.pending other (still_booked s old.machine n at ready says.pending says.moves says.port_is).0 own.here (ap (λ (i : RequestId). i.0) says.id_is)
 
                 by : Stage s.device.memory (s.device.port n) n slot says.pending says.command says.places → says.pending.ended ≡ true
                 by (inl waits) = absurd (false≢true (sym free.issued ∙ waits.issued))
@@ -1079,7 +1082,7 @@ module _ (laws : LawsBelow) (s : Server) (start : IsSettled s) (old : Moment) (r
       used_s = ap (λ (slots : PortSlots). use_at slots f.slot) (sym (p.slots (port_at n) not_yet)) ∙ f.served
 
       by : IsServedBy s old.machine n f.slot f.used.id
-      by = served_request s old.machine n f.slot at f.used.id (serves_used s old.machine n at ready f.slot f.used used_s)
+      by = served_request s old.machine n f.slot at ready f.used.id (serves_used s old.machine n at ready f.slot f.used used_s)
 
       port_is : by.serves.pending.request.port ≡ port_at n
       port_is = ap port_at by.serves.port_is
@@ -1238,6 +1241,7 @@ module _ (laws : LawsBelow) (s : Server) (start : IsSettled s) (old : Moment) (r
           (all_of_ports (λ q. q ≡ port_at n) (HadTurn (n + 1)) (λ q is. subst (HadTurn (n + 1)) (sym is) (omega arith, ready)) x.steps x.own)
           (all_of_ports (HadTurn n) (HadTurn (n + 1)) (λ q served. let lt = served.0 in (omega (arith, lt), served.1)) p.steps p.of);
       found = λ q none. part.others.found q.0 (λ is. none (omega (arith, is), ap state_at is ∙ ready)) ∙ p.found q (still_none q none);
+      remembered = λ q none. part.others.remembered q.0 (λ is. none (omega (arith, is), ap state_at is ∙ ready)) ∙ p.remembered q (still_none q none);
       modes = λ q none. part.others.modes q.0 (λ is. none (omega (arith, is), ap state_at is ∙ ready)) ∙ p.modes q (still_none q none);
       slots = λ q none. part.others.slots q.0 (λ is. none (omega (arith, is), ap state_at is ∙ ready)) ∙ p.slots q (still_none q none);
     }

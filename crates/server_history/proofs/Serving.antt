@@ -48,7 +48,7 @@ use Rattle.slots.specs.Uses.{Uses as PortSlots}
 use Rattle.slots.specs.declared.Use.{Use as SlotUse}
 use Rattle.server_history.specs.Below.{LawsBelow}
 use Rattle.server_history.specs.Served.{AddsTurn, AnswersDone, AnswersEach, AnswersOne, HasNone, HasTurn, IsMaskOf, IssuesIn, IssuesOnly, IsAnsweredIn, ServesPort, answers_in, done_reply, is_used}
-use Rattle.server_history.specs.Server.{Server, IsKept, IsMachineOf, IsSettled, mode_in, none_parked, slots_at, state_of, used_for, with_slot}
+use Rattle.server_history.specs.Server.{Server, IsKept, IsMachineOf, IsSettled, mode_in, slots_at, state_of, used_for, with_slot}
 use Rattle.server_history.proofs.Answering.{answer_kept}
 use Rattle.server_history.proofs.Asks.{none_issued}
 use Rattle.server_history.proofs.Coming.{bit_zero}
@@ -76,7 +76,7 @@ answers_issue_none id (e ∷ ended) = any_append (issues_it id) (answers_in ende
 followed_steps : (s : Server) (new : Device) → IsFollowed IsService AnyUse s.device new → (m : Machine) → IsReached m → IsMachineOf s m
     → (steps : List Step) × AllMay m steps × IsMachineOf (record s { device = new }) (after m steps) × IsBacked s.device new m steps × AllDevices steps
 followed_steps s new followed m reached is =
-    let x = (followed_adds followed is.uses none_parked tt).adds m reached is.knows in
+    let x = (followed_adds followed is.uses is.parked tt).adds m reached is.knows in
     (x.0, x.1, machine_on s new m x.0 is x.3.only x.2, x.3.backed, x.3.only)
 
 nobody_answered : (s : Server) (new : Device) (port : Port) → IsSettled s → HasTurn port (slots_at s.slots port.0) [] s.device new → IsFollowed IsService AnyUse s.device new

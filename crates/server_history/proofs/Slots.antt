@@ -20,7 +20,7 @@ use Rattle.adapter.specs.declared.command.Operation.TheVariants.{Identify}
 use Rattle.block_machine.specs.Due.{IsDue, is_plain}
 use Rattle.block_machine.specs.Ports.{IsMode}
 use Rattle.block_machine.specs.State.{Machine, Pending, unanswered}
-use Rattle.block_machine.specs.Steps.{Issue, May}
+use Rattle.block_machine.specs.Steps.{Issue, May, MayMove, NoneKept}
 use Rattle.block_machine.specs.declared.due.Mode.{Mode}
 use Rattle.block_machine.specs.declared.due.Unanswered.{Unanswered}
 use Rattle.block_machine.proofs.Members.{contains_none}
@@ -39,7 +39,7 @@ use Rattle.std.proofs.lemmas.List.{get_or_past}
 use Rattle.slots.specs.Uses.{Uses as PortSlots, IsLowestFree, IsTaken, use_at}
 use Rattle.slots.specs.declared.Use.{Use as SlotUse}
 use Rattle.server_history.specs.Served.{is_used}
-use Rattle.server_history.specs.Server.{Server, IsKept, IsMachineOf, IsUsedAs, is_served, mode_at, mode_found, mode_in, no_slots, none_parked, slots_at, state_of, usable_of, use_of, used_for}
+use Rattle.server_history.specs.Server.{Server, IsKept, IsMachineOf, IsUsedAs, is_served, mode_at, mode_found, mode_in, no_slots, slots_at, state_of, usable_of, use_of, used_for}
 use Rattle.server_history.specs.Below.{LawsBelow}
 use Rattle.server_history.proofs.Asks.{asked_alike, same_book}
 use Rattle.server_history.proofs.Zips.{at_left, at_right}
@@ -138,14 +138,17 @@ queued_op mode Flush queued = absurd (false≢true (sym queued))
 -- ---- slots
 
 -- but for a dead port's, a slot is used as the server has it
-pub used_as : (found : Found) (slot : ℕ) (used : Option SlotUse) (u : Use) → found ≢ Unready Dead → IsUsedAs found slot used u → u ≡ use_of used
-used_as found slot used u other (inl is) = is
-used_as found slot used u other (inr own) = absurd (other own.0)
+pub used_as : (found : Found) (used : Option SlotUse) (u : Use) → found ≢ Unready Dead → IsUsedAs found used u → u ≡ use_of used
+used_as found used u other is = is other
 
 -- and has no command of the driver's own
-pub not_own : (found : Found) (slot : ℕ) (used : Option SlotUse) (u : Use) → found ≢ Unready Dead → IsUsedAs found slot used u → u ≡ Own Identify → ⊥
-not_own found slot None u other is own = let z : Free ≡ Own Identify = sym (used_as found slot None u other is) ∙ own in cc
-not_own found slot (Some used) u other is own = let z : Serves used.id ≡ Own Identify = sym (used_as found slot (Some used) u other is) ∙ own in cc
+pub not_own : (found : Found) (used : Option SlotUse) (u : Use) → found ≢ Unready Dead → IsUsedAs found used u → u ≡ Own Identify → ⊥
+not_own found None u other is own = let z : Free ≡ Own Identify = sym (is other) ∙ own in cc
+not_own found (Some used) u other is own = let z : Serves used.id ≡ Own Identify = sym (is other) ∙ own in cc
+
+-- no request is kept of a port that isn't dead
+pub none_kept : (s : Server) (m : Machine) (port : Port) → IsMachineOf s m → found_of s.ports port.0 ≢ Unready Dead → NoneKept m port
+none_kept s m port is other e here own = other (ap (λ (q : Port). found_of s.ports q.0) (sym own) ∙ is.kept.dead e here)
 
 -- used, or not
 pub used_or_not : (used : Option SlotUse) → ((u : SlotUse) × (used ≡ Some u)) ⊎ (used ≡ None)
@@ -200,7 +203,7 @@ busy_used (Some u) busy = (u, refl)
 module _ (s : Server) (m : Machine) (port : ℕ) (is : IsMachineOf s m) (ready : state_of (found_of s.ports port) ≡ ReadyState) where
   -- a slot of a ready port is used as the server has it
   pub ready_use : (slot : ℕ) → is.uses port slot ≡ use_of (used_for s.slots port slot)
-  ready_use slot = used_as (found_of s.ports port) slot (used_for s.slots port slot) (is.uses port slot) (not_dead s port ready) (is.used port slot)
+  ready_use slot = is.used port slot (not_dead s port ready)
 
   pub serves_used : (slot : ℕ) (u : SlotUse) → used_for s.slots port slot ≡ Some u → is.uses port slot ≡ Serves u.id
   serves_used slot u used = ready_use slot ∙ ap use_of used
@@ -214,6 +217,12 @@ module _ (s : Server) (m : Machine) (port : ℕ) (is : IsMachineOf s m) (ready :
       (λ (x : (u : SlotUse) × (used_for s.slots port slot ≡ Some u)). let z : Serves x.0.id ≡ Serves id = sym (serves_used slot x.0 x.1) ∙ serves in (x.0, x.1, cc))
       (λ (none : used_for s.slots port slot ≡ None). let z : Free ≡ Serves id = sym (free_unused slot none) ∙ serves in absurd cc)
       (used_or_not (used_for s.slots port slot))
+
+-- a request of a ready port that the device may move is unanswered
+pub still_booked : (s : Server) (m : Machine) (port : ℕ) → IsMachineOf s m → state_of (found_of s.ports port) ≡ ReadyState → (e : Pending) → MayMove m e → e.request.port.0 ≡ port
+    → Contains m.book e × (e.issued ≡ true)
+still_booked s m port is ready e (inl booked) own = booked
+still_booked s m port is ready e (inr kept) own = absurd (not_dead s port ready (ap (λ (q : ℕ). found_of s.ports q) (sym own) ∙ is.kept.dead e kept))
 
 -- what the machine has of the request that a slot serves
 pub served_by : (s : Server) (m : Machine) (port slot : ℕ) → (is : IsMachineOf s m) → (id : RequestId) → is.uses port slot ≡ Serves id
@@ -232,13 +241,10 @@ pub record IsServedBy (s : Server) (m : Machine) (port slot : ℕ) (id : Request
   pub id_is : request.entry.id ≡ id
   pub port_is : request.entry.port.0 ≡ port
 
-pub served_request : (s : Server) (m : Machine) (port slot : ℕ) → (is : IsMachineOf s m) → (id : RequestId) → is.uses port slot ≡ Serves id → IsServedBy s m port slot id
-served_request s m port slot is id serves =
+pub served_request : (s : Server) (m : Machine) (port slot : ℕ) → (is : IsMachineOf s m) → state_of (found_of s.ports port) ≡ ReadyState → (id : RequestId) → is.uses port slot ≡ Serves id → IsServedBy s m port slot id
+served_request s m port slot is ready id serves =
     let x : ServesRequest m s.device.memory (s.device.port port) port slot id = served_by s m port slot is id serves in
-    let booked : Contains m.book x.pending × (x.pending.issued ≡ true) = ⊎_elim
-    (λ (b : Contains m.book x.pending × (x.pending.issued ≡ true)). b)
-    (λ (kept : Contains m.kept x.pending). absurd (contains_none x.pending (subst (λ (es : List Pending). Contains es x.pending) is.kept kept)))
-    x.moves in
+    let booked = still_booked s m port is ready x.pending x.moves x.port_is in
     let e = at_right IsEntry s.book m.book is.book x.pending booked.0 in
     record {
       serves = x;
@@ -273,7 +279,8 @@ pub record HasSlot (s : Server) (port : Port) (id : RequestId) : Type 0 where
 pub issued_has : (s : Server) (m : Machine) (port : Port) → (is : IsMachineOf s m) → IsKept s → state_of (found_of s.ports port.0) ≡ ReadyState → (e : Pending) → Contains m.book e
     → e.request.port ≡ port → e.issued ≡ true → HasSlot s port e.request.id
 issued_has s m port is k ready e here own issued = ⊎_elim
-    (λ (parked : Contains (none_parked port.0) e.request.id). absurd (contains_none e.request.id parked))
+    (λ (parked : Contains (is.parked port.0) e.request.id).
+    absurd (contains_none e.request.id (subst (λ (ids : List RequestId). Contains ids e.request.id) (is.unparked port.0 (not_dead s port.0 ready)) parked)))
     (λ (w : (slot : ℕ) × (is.uses port.0 slot ≡ Serves e.request.id)).
     let x = used_serves s m port.0 is ready w.0 e.request.id w.1 in
     record { slot = w.0; small = used_small s port.0 w.0 x.0 k ready x.1; used = x.0; used_is = x.1; id_is = x.2 })
@@ -303,7 +310,7 @@ module _ (laws : LawsBelow) (s : Server) (e : Held) (k : IsKept s) (here : Conta
     (let B : List Unanswered → Type 0 = λ book. IsDue mode book (unanswered p) in
         let R : Unanswered → Type 0 = λ r. IsDue mode (asks_of s.book) r in
         subst B (sym (same_book s.book k.machine.book k.stands.book)) (subst R (sym (asked_alike e p x.2)) due)),
-    λ y there. absurd (contains_none y (subst (λ (es : List Pending). Contains es y) k.stands.kept there)),
+    none_kept s k.machine p.request.port k.stands (not_dead s p.request.port.0 (ap (λ (q : Port). state_of (found_of s.ports q.0)) x.2.port ∙ ready)),
   )
 
   use_known : (slot : ℕ) → k.stands.uses p.request.port.0 slot ≡ use_of (used_for s.slots port.0 slot)
@@ -364,7 +371,7 @@ module _ (laws : LawsBelow) (s : Server) (e : Held) (k : IsKept s) (here : Conta
     (let few = fit.0.1 in omega (arith, few, small)),
     (let few = fit.1 in omega (arith, few, small)),
     (λ plain. ⊎_elim (λ (head : slot ≡ 0). head) (λ (other : slot ≢ 0). absurd (taken_not (plain_free plain) (lowest.2 0 (omega (arith, other))))) (cases_eq slot 0)),
-    (k.stands.uses, free_unused s k.machine port.0 k.stands ready slot lowest.1, record { machine = k.machine; parked = none_parked; reached = k.reached; knows = k.stands.knows }),
+    (k.stands.uses, free_unused s k.machine port.0 k.stands ready slot lowest.1, record { machine = k.machine; parked = k.stands.parked; reached = k.reached; knows = k.stands.knows }),
   )
     where
       fit : IsMode mode × (mode.usable ≤ s.device.cap / 256 % 32 + 1)
@@ -389,5 +396,5 @@ stage_over memory p port slot e c places (inr (inl t)) over = let x : None ≡ S
 stage_over memory p port slot e c places (inr (inr left)) over = left
 
 pub parked_at : (s : Server) (m : Machine) (port : Port) (slot : ℕ) → (is : IsMachineOf s m) → (id : RequestId) → is.uses port.0 slot ≡ Serves id → IsOver (s.device.port port.0) slot
-    → Knows m (parking (known is.uses none_parked s.device) port.0 slot id)
-parked_at s m port slot is id serves over = park_knows (known is.uses none_parked s.device) m is.knows port.0 slot over id serves
+    → Knows m (parking (known is.uses is.parked s.device) port.0 slot id)
+parked_at s m port slot is id serves over = park_knows (known is.uses is.parked s.device) m is.knows port.0 slot over id serves

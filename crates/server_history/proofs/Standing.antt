@@ -1,5 +1,5 @@
 -- What holds at the instant of a server that keeps what it keeps.
-use Rattle.std.proofs.Common.{ℕ, ◌≡◌, ◌≢◌, ◌<◌, ◌≤◌, not, true, false, List, Option, Some, None, inl, inr, refl, sym, ap, ◌∙◌, subst, arith}
+use Rattle.std.proofs.Common.{ℕ, ◌≡◌, ◌≢◌, ◌<◌, ◌≤◌, not, true, false, Option, Some, None, inl, inr, refl, sym, ap, ◌∙◌, subst, arith}
 use Rattle.std.specs.Prelude.{◌↔◌}
 use Rattle.std.specs.List.{Contains}
 use Rattle.std.proofs.lemmas.Bool.{false≢true}
@@ -16,8 +16,6 @@ use Rattle.block_machine.specs.Ports.{IsMode}
 use Rattle.block_machine.specs.declared.due.Mode.{Mode}
 use Rattle.block_machine.specs.Histories.{Instant, IsReached}
 use Rattle.block_machine.specs.State.{Machine, Pending}
-use Rattle.block_machine.specs.Steps.{NoneKept}
-use Rattle.block_machine.proofs.Members.{contains_none}
 use Rattle.driver_history.specs.Holds.{HasNothing, HasRequests, HoldsOf, HoldsWith, IsClients, IsOfKind, NoneWaits, Runs, ServesIn}
 use Rattle.host_boot.specs.Taken.{FoundBadDisk, IsServed as IsServedPort, StillStandsBehind, found_of, wanted_of}
 use Rattle.host_boot.specs.declared.Found.{Found}
@@ -27,8 +25,8 @@ use Rattle.identify.specs.declared.wanted.Wanted.{Wanted}
 use Rattle.request_queue.specs.Entries.{Held}
 use Rattle.request_queue.specs.Machine.{IsEntry}
 use Rattle.slots.specs.declared.Use.{Use as SlotUse}
-use Rattle.server_history.specs.Server.{StandsAlone, Server, IsKept, IsMachineOf, IsUsedAs, is_served, mode_at, mode_found, mode_in, none_parked, ports_of, sectors_of, serial_of, state_of, trims_of, usable_of, use_of, used_for}
-use Rattle.server_history.proofs.Slots.{free_unused, its_mode, of_ready, ready_use, usable_ready, used_as, used_serves}
+use Rattle.server_history.specs.Server.{StandsAlone, Server, IsKept, IsMachineOf, is_served, mode_at, mode_found, mode_in, ports_of, disk_in, disk_of, remembered_at, sectors_of, serial_of, state_of, trims_of, usable_of, use_of, used_for}
+use Rattle.server_history.proofs.Slots.{free_unused, its_mode, none_kept, not_dead, of_ready, ready_use, usable_ready, used_serves}
 use Rattle.server_history.proofs.Zips.{at_right}
 
 -- what is used for a client's request or for none
@@ -44,13 +42,10 @@ served_is wanted (Unready state) port d s = ((λ yes. s.0), (λ served. refl))
 
 module _ (s : Server) (k : IsKept s) (m : Machine) (reached : IsReached m) (is : IsMachineOf s m) where
   abbrev pub slots : InSlots
-  slots = record { uses = is.uses; parked = none_parked }
+  slots = record { uses = is.uses; parked = is.parked }
 
   abbrev pub instant : Instant Device
   instant = record { device = s.device; moment = record { machine = m; ports = ports_of s } }
-
-  none_kept : (port : Port) → NoneKept m port
-  none_kept port e here = absurd (contains_none e (subst (λ (es : List Pending). Contains es e) is.kept here))
 
   none_waits : (port : Port) → state_of (found_of s.ports port.0) ≢ ReadyState → NoneWaits m port
   none_waits port other e here own =
@@ -58,18 +53,25 @@ module _ (s : Server) (k : IsKept s) (m : Machine) (reached : IsReached m) (is :
       other (ap (λ (q : Port). state_of (found_of s.ports q.0)) (sym own ∙ a.2.port) ∙ of_ready s k a.0 a.1)
 
   module _ (port : Port) (low : port.0 < 4) where
+    -- it isn't dead
+    alive : (f : Found) → found_of s.ports port.0 ≡ f → f ≢ Unready Dead → found_of s.ports port.0 ≢ Unready Dead
+    alive f e other dead = other (sym e ∙ dead)
+
     -- a port that isn't ready uses no slot
     nothing : (f : Found) → found_of s.ports port.0 ≡ f → usable_of f (mode_at s.modes port.0) ≡ 0 → f ≢ Unready Dead → HasNothing slots port.0
     nothing f e none other = record {
       free = λ slot.
-          used_as f slot (used_for s.slots port.0 slot) (is.uses port.0 slot) other (subst (λ (x : Found). IsUsedAs x slot (used_for s.slots port.0 slot) (is.uses port.0 slot)) e (is.used port.0 slot))
+          is.used port.0 slot (alive f e other)
           ∙ ap use_of ((k.slots port.0 low).unused slot (subst (λ (n : ℕ). n ≤ slot) (sym (ap (λ (x : Found). usable_of x (mode_at s.modes port.0)) e ∙ none)) (omega arith)));
-      unparked = refl;
+      unparked = is.unparked port.0 (alive f e other);
     }
 
     module _ (info : DiskInfo) (found : found_of s.ports port.0 ≡ Ready info) where
       ready : state_of (found_of s.ports port.0) ≡ ReadyState
       ready = ap state_of found
+
+      disk_is : disk_in s port ≡ Some info
+      disk_is = ap (λ (f : Found). disk_of f (remembered_at s.remembered port.0)) found
 
       abbrev mode : Mode
       mode = mode_in s port
@@ -116,7 +118,7 @@ module _ (s : Server) (k : IsKept s) (m : Machine) (reached : IsReached m) (is :
       requests = record {
         clients = λ slot. subst IsClients (sym (ready_use s m port.0 is ready slot)) (clients (used_for s.slots port.0 slot));
         low = unused;
-        unparked = refl;
+        unparked = is.unparked port.0 (not_dead s port.0 ready);
         kinds = kind;
         alone = alone;
       }
@@ -131,16 +133,16 @@ module _ (s : Server) (k : IsKept s) (m : Machine) (reached : IsReached m) (is :
       idle = behind.1;
       slots = nothing Unserved e refl (λ x. cc);
       waits = none_waits port (λ ready. let z : Absent ≡ ReadyState = sym (ap state_of e) ∙ ready in absurd cc);
-      kept = none_kept port;
+      kept = none_kept s m port is (alive Unserved e (λ x. cc));
     }
     of (Ready info) e behind runs = record {
       on = k.on;
       runs = runs refl;
       info = info;
       disk = behind.1;
-      shows = record { serial = ap serial_of e; sectors = ap sectors_of e; trims = ap trims_of e; mode = k.modes port.0 low ∙ ap (mode_found s.device.cap) e };
+      shows = record { serial = ap serial_of (disk_is info e); sectors = ap sectors_of (disk_is info e); trims = ap trims_of e; mode = k.modes port.0 low ∙ ap (mode_found s.device.cap) e };
       slots = requests info e;
-      kept = none_kept port;
+      kept = none_kept s m port is (alive (Ready info) e (λ x. cc));
     }
     of (Unready ReadyState) e behind runs = absurd behind.1
     of (Unready Absent) e behind runs = record {
@@ -149,7 +151,7 @@ module _ (s : Server) (k : IsKept s) (m : Machine) (reached : IsReached m) (is :
       shown = λ bad. absurd bad;
       slots = nothing (Unready Absent) e refl (λ x. cc);
       waits = none_waits port (λ ready. let z : Absent ≡ ReadyState = sym (ap state_of e) ∙ ready in absurd cc);
-      kept = none_kept port;
+      kept = none_kept s m port is (alive (Unready Absent) e (λ x. cc));
     }
     of (Unready Foreign) e behind runs = record {
       on = k.on;
@@ -157,7 +159,7 @@ module _ (s : Server) (k : IsKept s) (m : Machine) (reached : IsReached m) (is :
       shown = λ bad. shown_as (Unready Foreign) e bad;
       slots = nothing (Unready Foreign) e refl (λ x. cc);
       waits = none_waits port (λ ready. let z : Foreign ≡ ReadyState = sym (ap state_of e) ∙ ready in absurd cc);
-      kept = none_kept port;
+      kept = none_kept s m port is (alive (Unready Foreign) e (λ x. cc));
     }
     of (Unready (Unfit n)) e behind runs = record {
       on = k.on;
@@ -165,7 +167,7 @@ module _ (s : Server) (k : IsKept s) (m : Machine) (reached : IsReached m) (is :
       shown = λ bad. shown_as (Unready (Unfit n)) e bad;
       slots = nothing (Unready (Unfit n)) e refl (λ x. cc);
       waits = none_waits port (λ ready. let z : Unfit n ≡ ReadyState = sym (ap state_of e) ∙ ready in absurd cc);
-      kept = none_kept port;
+      kept = none_kept s m port is (alive (Unready (Unfit n)) e (λ x. cc));
     }
     of (Unready Dead) e behind runs = record {
       why = inl behind.1;

@@ -1,5 +1,5 @@
 -- What a server of several ports holds, and the block machine that stands for it (this project's own).
-use Rattle.std.specs.Prelude.{ℕ, Bool, true, false, not, ◌≡◌, ◌≢◌, ◌⊎◌, ◌+◌, ◌*◌, ◌<◌, ◌≤◌, List, [], Option, Some, None, All, AllPairs, Contains, length, slice_index_or, slice_set}
+use Rattle.std.specs.Prelude.{ℕ, Bool, true, false, not, ◌≡◌, ◌≢◌, ◌+◌, ◌*◌, ◌<◌, ◌≤◌, List, [], Option, Some, None, All, AllPairs, Contains, length, slice_index_or, slice_set}
 use Rattle.ata_types.specs.declared.Port.{Port}
 use Rattle.ata_types.specs.declared.PortState.{PortState}
 use Rattle.ata_types.specs.declared.PortState.TheVariants.{Absent, Ready as ReadyState, Dead}
@@ -11,25 +11,26 @@ use Rattle.ata_types.specs.declared.request.RequestId.{RequestId}
 use Rattle.adapter.specs.Commands.{Meaning, is_queued}
 use Rattle.adapter.specs.Device.{Device}
 use Rattle.adapter.specs.Rules.{IsOn, HasPort}
-use Rattle.adapter.specs.declared.command.Operation.TheVariants.{Identify}
 use Rattle.agreement.specs.Driven.{known}
 use Rattle.agreement.specs.Driver.{Knows}
 use Rattle.agreement.specs.Links.{HasDeviceOrNone}
 use Rattle.agreement.specs.Readying.{IsStored}
-use Rattle.agreement.specs.Slots.{Free, Own, Serves, Use, Uses}
+use Rattle.agreement.specs.Slots.{Free, Serves, Use, Uses}
 use Rattle.block_machine.specs.Due.{NoneDue, is_plain}
 use Rattle.block_machine.specs.Histories.{IsReached}
 use Rattle.block_machine.specs.Left.{IsRow}
 use Rattle.block_machine.specs.Ports.{Ports}
 use Rattle.block_machine.specs.Refusals.{Situation}
 use Rattle.block_machine.specs.Rules.{DifferInName}
-use Rattle.block_machine.specs.State.{Machine}
+use Rattle.block_machine.specs.State.{Machine, Pending}
 use Rattle.block_machine.specs.declared.due.Mode.{Mode}
+use Rattle.dma_frames.specs.Loan.{Lending}
 use Rattle.dma_frames.specs.Table.{Table, owner_of, lent_to}
 use Rattle.host_boot.specs.Taken.{FoundBadDisk, StillStandsBehind, found_of, wanted_of}
 use Rattle.host_boot.specs.declared.Found.{Found}
 use Rattle.host_boot.specs.declared.Found.TheVariants.{Unserved, Ready, Unready}
 use Rattle.host_boot.specs.declared.Host.{Host}
+use Rattle.identify.specs.declared.DiskInfo.{DiskInfo}
 use Rattle.identify.specs.declared.wanted.Wanted.{Wanted}
 use Rattle.request_queue.specs.Entries.{Held, asks_of, unanswered_of, IsAccepted, IsInOrder}
 use Rattle.request_queue.specs.Machine.{IsBook}
@@ -38,16 +39,19 @@ use Rattle.slots.specs.declared.Use.{Use as SlotUse}
 use Rattle.driver_history.specs.Holds.{Runs, mode_of}
 
 -- The device behind the adapter; the grants; by frame its owner and the request that it is lent to; by port the disk that is wanted,
--- what it was found to be, how it takes commands, and what its slots are used for; the unanswered requests in order of acceptance, with what is
--- lent to them; and the id that was handed out last, or 0.
+-- what it was found to be, which disk it was ready with before that, how it takes commands, what its slots are used for, and what is still lent
+-- to requests of it that were answered; the unanswered requests in order of acceptance, with what is lent to them; and the id that was handed out
+-- last, or 0.
 pub record Server : Type 0 where
   pub device : Device
   pub grants : List GrantRow
   pub table : Table
   pub wanted : List Wanted
   pub ports : List Found
+  pub remembered : List (Option DiskInfo)
   pub modes : List Mode
   pub slots : List PortSlots
+  pub kept : List (List Lending)
   pub book : List Held
   pub last : ℕ
 
@@ -65,15 +69,25 @@ state_of Unserved = Absent
 state_of (Ready info) = ReadyState
 state_of (Unready state) = state
 
--- its disk's serial number, size in sectors, and whether it trims: they are known of a ready port alone
-abbrev pub serial_of : Found → List ℕ
-serial_of (Ready info) = info.serial
-serial_of _ = []
+-- which disk is remembered of a port, if any
+abbrev pub remembered_at : List (Option DiskInfo) → ℕ → Option DiskInfo
+remembered_at remembered port = slice_index_or remembered port None
 
-abbrev pub sectors_of : Found → ℕ
-sectors_of (Ready info) = info.sectors
-sectors_of _ = 0
+-- the disk that a port is ready with, or was last ready with, which is the remembered one; none, if it never was
+abbrev pub disk_of : Found → Option DiskInfo → Option DiskInfo
+disk_of (Ready info) remembered = Some info
+disk_of _ remembered = remembered
 
+-- that disk's serial number, and its size in sectors
+abbrev pub serial_of : Option DiskInfo → List ℕ
+serial_of None = []
+serial_of (Some info) = info.serial
+
+abbrev pub sectors_of : Option DiskInfo → ℕ
+sectors_of None = 0
+sectors_of (Some info) = info.sectors
+
+-- whether its disk trims, which is known of a ready port alone
 abbrev pub trims_of : Found → Bool
 trims_of (Ready info) = info.trim
 trims_of _ = false
@@ -96,12 +110,16 @@ mode_found cap _ = plain_mode
 abbrev pub mode_in : Server → Port → Mode
 mode_in s port = mode_at s.modes port.0
 
+-- the disk that the port is ready with, or was last ready with
+abbrev pub disk_in : Server → Port → Option DiskInfo
+disk_in s port = disk_of (found_of s.ports port.0) (remembered_at s.remembered port.0)
+
 abbrev pub ports_of : Server → Ports
 ports_of s = record {
   served = λ port. is_served (found_of s.ports port.0);
   state = λ port. state_of (found_of s.ports port.0);
-  serial = λ port. serial_of (found_of s.ports port.0);
-  sectors = λ port. sectors_of (found_of s.ports port.0);
+  serial = λ port. serial_of (disk_in s port);
+  sectors = λ port. sectors_of (disk_in s port);
   trims = λ port. trims_of (found_of s.ports port.0);
   mode = mode_in s;
 }
@@ -120,10 +138,6 @@ situation_of s = record {
 }
 
 -- ---- the machine that stands for it
-
--- no request was taken from its slot and isn't answered
-abbrev pub none_parked : ℕ → List RequestId
-none_parked = λ port. []
 
 -- a port that there isn't has no slot
 abbrev pub no_slots : PortSlots
@@ -146,28 +160,55 @@ abbrev pub use_of : Option SlotUse → Use
 use_of None = Free
 use_of (Some used) = Serves used.id
 
--- A slot is used as the server has it; but slot 0 of a dead port may have IDENTIFY DEVICE still.
-abbrev pub IsUsedAs : Found → ℕ → Option SlotUse → Use → Type 0
-IsUsedAs found slot used u = (u ≡ use_of used) ⊎ ((found ≡ Unready Dead) × (slot ≡ 0) × (u ≡ Own Identify))
+-- A slot is used as the server has it, unless its port is dead: there an engine was awaited in vain, so that what was in the slot may be there
+-- still, and nobody asks for it until the adapter is reset.
+abbrev pub IsUsedAs : Found → Option SlotUse → Use → Type 0
+IsUsedAs found used u = found ≢ Unready Dead → u ≡ use_of used
 
 -- each slot of each port is used so
 abbrev pub AreUsesOf : Server → Uses → Type 0
-AreUsesOf s uses = (port slot : ℕ) → IsUsedAs (found_of s.ports port) slot (used_for s.slots port slot) (uses port slot)
+AreUsesOf s uses = (port slot : ℕ) → IsUsedAs (found_of s.ports port) (used_for s.slots port slot) (uses port slot)
 
--- The machine agrees with what the server knows of its device; and it has the server's book, its grants, its owners, its loans and its
--- next id.
+-- the loans of the port that are kept
+abbrev pub kept_at : List (List Lending) → ℕ → List Lending
+kept_at kept port = slice_index_or kept port []
+
+-- the loan is the request's
+abbrev pub IsLoanOf : Lending → Pending → Type 0
+IsLoanOf loan e = (loan.request ≡ e.request.id) × (loan.frames ≡ e.request.asked.frames.items)
+
+-- the loans are of two requests
+abbrev pub AreOfTwo : Lending → Lending → Type 0
+AreOfTwo a b = a.request ≢ b.request
+
+-- The machine's kept requests are those whose loans the server keeps, one loan each, on dead ports alone.
+pub record AreKept (found : List Found) (kept : List (List Lending)) (requests : List Pending) : Type 0 where
+  pub dead : (e : Pending) → Contains requests e → found_of found e.request.port.0 ≡ Unready Dead
+  pub loan : (e : Pending) → Contains requests e → (loan : Lending) × Contains (kept_at kept e.request.port.0) loan × IsLoanOf loan e
+  pub whose : (port : ℕ) (loan : Lending) → Contains (kept_at kept port) loan
+      → (e : Pending) × Contains requests e × (e.request.port.0 ≡ port) × IsLoanOf loan e
+  pub apart : (port : ℕ) → AllPairs AreOfTwo (kept_at kept port)
+
+-- The machine agrees with what the server knows of its device, where only a dead port's requests may have been taken from their slots; and it has
+-- the server's book, the requests whose loans it keeps, its grants, its owners, its loans and its next id.
 pub record IsMachineOf (s : Server) (m : Machine) : Type 0 where
   pub uses : Uses
   pub used : AreUsesOf s uses
-  pub knows : Knows m (known uses none_parked s.device)
+  pub parked : ℕ → List RequestId
+  pub unparked : (port : ℕ) → found_of s.ports port ≢ Unready Dead → parked port ≡ []
+  pub knows : Knows m (known uses parked s.device)
   pub book : IsBook s.book m.book
-  pub kept : m.kept ≡ []
+  pub kept : AreKept s.ports s.kept m.kept
   pub rows : m.rows ≡ s.grants
   pub owner : (frame : Frame) → m.owner frame ≡ owner_of s.table frame
   pub lent : (frame : Frame) → m.lent frame ≡ lent_to s.table frame
   pub next : m.next ≡ s.last + 1
 
 -- ---- what holds of a server between calls
+
+-- the loan's frames are lent to its request
+abbrev pub IsLentOut : Table → Lending → Type 0
+IsLentOut table loan = All (λ f. lent_to table f ≡ Some loan.request) loan.frames
 
 -- frames that have an owner are clients' frames of the memory
 abbrev pub OwnsClientFrames : Table → ℕ → Type 0
@@ -203,15 +244,18 @@ abbrev pub StandsAlone : List PortSlots → ℕ → ℕ → Type 0
 StandsAlone slots port slot = (slot ≡ 0) × ((other : ℕ) → other ≢ 0 → used_for slots port other ≡ None)
 
 -- What holds of a server at each moment of a call. The adapter is on and has the memory of the driver and of the clients, and each port that is
--- served; each port is as it was found, and runs if that was ready; the four ports take commands as adapter and disk can, and use the slots that
--- they may, for queued commands or for plain ones, of which each is alone in slot 0; grants are as a configuration may give them;
--- requests are as they were accepted, in order, and of ready ports; and some machine that a history leads to stands for the server.
+-- served; each port is as it was found, and runs if that was ready; of each of the four ports a disk may be remembered and loans may be kept; they
+-- take commands as adapter and disk can, and use the slots that they may, for queued commands or for plain ones, of which each is alone in slot 0;
+-- grants are as a configuration may give them; requests are as they were accepted, in order, and of ready ports; and some machine that a history
+-- leads to stands for the server.
 pub record IsKept (s : Server) : Type 0 where
   pub on : IsOn s.device
   pub room : DRIVER_BYTES ≤ s.device.size
   pub there : (port : ℕ) → is_served (found_of s.ports port) ≡ true → HasPort s.device port
   pub behind : (port : ℕ) → port < 4 → IsPortOf s.wanted s.ports port s.device
   pub four : length s.slots ≡ 4
+  pub four_remembered : length s.remembered ≡ 4
+  pub four_kept : length s.kept ≡ 4
   pub modes : (port : ℕ) → port < 4 → mode_at s.modes port ≡ mode_found s.device.cap (found_of s.ports port)
   pub slots : (port : ℕ) → port < 4 → HasSlots s.ports s.modes s.slots port
   pub kinds : (port : Port) (slot : ℕ) (used : SlotUse) (e : Held) → used_for s.slots port.0 slot ≡ Some used → Contains s.book e → e.entry.id ≡ used.id
@@ -233,11 +277,15 @@ pub record IsSettled (s : Server) : Type 0 where
   pub kept : IsKept s
   pub issued : (port : Port) → NoneDue (mode_in s port) (asks_of s.book) port
 
--- A server as it is made: what was found and wanted of four ports, at most 64 grants that differ in name, owners that are clients 1 to 8, no
--- frame lent, nothing asked, and no id handed out.
+-- A server as it is made: what was found and wanted of four ports, of which it remembers nothing else, at most 64 grants that differ in name,
+-- owners that are clients 1 to 8, no frame lent, nothing asked or kept, and no id handed out.
 pub record IsNewServer (host : Host) (s : Server) : Type 0 where
   pub ports : s.ports ≡ host.ports
   pub four : length host.ports ≡ 4
+  pub four_remembered : length s.remembered ≡ 4
+  pub forgotten : (port : ℕ) → remembered_at s.remembered port ≡ None
+  pub four_kept : length s.kept ≡ 4
+  pub unkept : (port : ℕ) → kept_at s.kept port ≡ []
   pub rows : All IsRow s.grants
   pub names : AllPairs DifferInName s.grants
   pub few : length s.grants ≤ 64

@@ -28,7 +28,7 @@ use Rattle.host_boot.specs.declared.Found.TheVariants.{Ready}
 use Rattle.port_look.specs.Looks.{IsLooking}
 use Rattle.request_queue.specs.Entries.{asks_of}
 use Rattle.server_history.specs.Served.{AnswersBy, AnswersTurn, Checks, HasTurn, IsAnsweredIn, IsMaskOf}
-use Rattle.server_history.specs.Server.{Server, IsMachineOf, IsSettled, mode_at, mode_in, ports_of, slots_at, state_of, used_for}
+use Rattle.server_history.specs.Server.{Server, IsMachineOf, IsSettled, mode_at, mode_in, ports_of, remembered_at, slots_at, state_of, used_for}
 use Rattle.slots.specs.Uses.{Uses as PortSlots}
 use Rattle.slots.specs.declared.Use.{Use as SlotUse}
 
@@ -133,6 +133,7 @@ pub record LeavesOthers (port : Port) (old new : Server) : Type 0 where
   pub wanted : new.wanted ≡ old.wanted
   pub last : new.last ≡ old.last
   pub found : (q : ℕ) → q ≢ port.0 → found_of new.ports q ≡ found_of old.ports q
+  pub remembered : (q : ℕ) → q ≢ port.0 → remembered_at new.remembered q ≡ remembered_at old.remembered q
   pub modes : (q : ℕ) → q ≢ port.0 → mode_at new.modes q ≡ mode_at old.modes q
   pub slots : (q : ℕ) → q ≢ port.0 → slots_at new.slots q ≡ slots_at old.slots q
   pub book : (q : Port) → q ≢ port → of_port q (asks_of new.book) ≡ of_port q (asks_of old.book)

@@ -1,7 +1,7 @@
 // Laws of the definitions, for callers: the clause is the theorem. Nothing comes of calling these functions.
-ghost use Rattle.std.specs.Prelude.{ℕ, true, false, ◌≡◌, ◌≢◌, ◌⊎◌, ◌<◌, ◌≤◌, ◌+◌, ◌*◌, ◌/◌, ◌%◌, List, [], ◌∷◌, Some, None, Ok, Err, length, Contains};
+ghost use Rattle.std.specs.Prelude.{ℕ, true, false, ◌≡◌, ◌≢◌, ◌⊎◌, ◌<◌, ◌≤◌, ◌+◌, ◌*◌, ◌/◌, ◌%◌, List, [], ◌∷◌, Some, None, Ok, Err, length, All, AllPairs, Contains};
 ghost use Rattle.ata_types.specs.declared.Port.{Port};
-ghost use Rattle.ata_types.specs.declared.PortState.TheVariants.{Ready as ReadyState};
+ghost use Rattle.ata_types.specs.declared.PortState.TheVariants.{Dead, Ready as ReadyState};
 ghost use Rattle.ata_types.specs.declared.grant.GrantRow.{GrantRow};
 ghost use Rattle.ata_types.specs.declared.memory.TheConstants.{FRAME_BYTES};
 ghost use Rattle.ata_types.specs.declared.refusal.MemFault.{MemFault};
@@ -26,8 +26,10 @@ ghost use Rattle.block_machine.specs.Events.{Submit, StoreAt, LoadAt, Service, S
 ghost use Rattle.block_machine.specs.Refusals.{IsAcceptable, IsFirstRefusal, IsOpen, IsFirstMemFault};
 ghost use Rattle.block_machine.specs.Rules.{IsNamed};
 ghost use Rattle.command_table.specs.Written.{IsUnused};
+ghost use Rattle.dma_frames.specs.Loan.{Lending};
 ghost use Rattle.dma_frames.specs.Table.{Table, LendsOnly, owner_of, lent_to};
 ghost use Rattle.host_boot.specs.Taken.{found_of, TakesOver};
+ghost use Rattle.host_boot.specs.declared.Found.TheVariants.{Unready};
 ghost use Rattle.host_boot.specs.declared.Host.{Host};
 ghost use Rattle.hba_regs.specs.Bits.{bit};
 ghost use Rattle.ncq.specs.Masks.{ReadsDone, SeesClear};
@@ -36,7 +38,7 @@ ghost use Rattle.server_history.specs.Below.{LawsBelow};
 ghost use Rattle.server_history.specs.Histories.{Adds, HasBegun, load_said, store_said};
 ghost use Rattle.server_history.specs.Served.{Accepts, AnswersDone, AnswersOne, HasNone, IsMaskOf, IssuesAll, IssuesOne, accepting};
 ghost use Rattle.server_history.specs.Turns.{ServePorts, ServesPort};
-ghost use Rattle.server_history.specs.Server.{Server, IsKept, IsNewServer, IsSettled, mode_in, ports_of, situation_of, slots_at, state_of, used_for};
+ghost use Rattle.server_history.specs.Server.{AreOfTwo, Server, IsKept, IsLentOut, IsNewServer, IsSettled, kept_at, mode_in, ports_of, situation_of, slots_at, state_of, used_for};
 ghost use Rattle.slots.specs.Uses.{IsLowestFree, IsTaken};
 ghost use Rattle.slots.specs.declared.Use.{Use as SlotUse};
 ghost use Rattle.port_look.specs.Looks.{IsLooking, LooksAt};
@@ -47,7 +49,10 @@ use adapter::laws::saying_is_one;
 use agreement::laws::due_finds_free_slot;
 use agreement::readying::{readied_stays, stored_stays_over_acts};
 use agreement::stretches::other_ports_are_left;
-use block_machine::laws::{due_in_turn, due_is_exact, other_ports_stay, own_requests_count};
+use block_machine::laws::{
+    due_in_turn, due_is_exact, limits_hold, living_was_accepted, one_id_is_one_request,
+    other_ports_stay, own_requests_count,
+};
 use driver_history::laws::{a_turns_evidence_is_the_calls, healthy_ports_are_untroubled};
 use host_boot::laws::what_was_taken_over_may_be_served;
 use ncq::laws::{calls_are_of_one_port, finding_is_followed, issuing_performs};
@@ -173,6 +178,22 @@ pub fn a_used_slot_has_its_request()
         → used_for s.slots port.0 slot ≡ Some used
         → (request : Held) × Contains s.book request × (request.entry.id ≡ used.id) × (request.entry.port ≡ port) × (request.entry.issued ≡ true) }
 {}
+
+/// What is kept may be given back: the frames of each kept loan are lent to its request, which isn't unanswered, and of which there is no
+/// other loan. A port that isn't dead has none.
+pub fn kept_loans_are_lent()
+    ensures none { (s : Server) (port : ℕ) → IsKept s → found_of s.ports port ≢ Unready Dead → kept_at s.kept port ≡ [] }
+    ensures lent { (s : Server) (port : ℕ) → IsKept s → All (IsLentOut s.table) (kept_at s.kept port) }
+    ensures two { (s : Server) (port : ℕ) → IsKept s → AllPairs AreOfTwo (kept_at s.kept port) }
+    ensures one { (s : Server) (port other : ℕ) (a b : Lending) → IsKept s → Contains (kept_at s.kept port) a → Contains (kept_at s.kept other) b
+        → a.request ≡ b.request → (port ≡ other) × (a ≡ b) }
+    ensures answered { (s : Server) (port : ℕ) (loan : Lending) (e : Held) → IsKept s → Contains (kept_at s.kept port) loan → Contains s.book e
+        → e.entry.id ≢ loan.request }
+{
+    limits_hold();
+    living_was_accepted();
+    one_id_is_one_request();
+}
 
 /// A server goes on while requests are accepted, answered and issued.
 pub fn requests_keep()

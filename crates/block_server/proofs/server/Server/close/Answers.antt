@@ -1,5 +1,28 @@
-use Rattle.std.proofs.Common.{rules}
+use Rattle.std.proofs.Common.{rules, sym, subst}
+use Rattle.dma_frames.specs.Table.{Table}
+use Rattle.request_queue.specs.Entries.{GivesBack}
+use Rattle.server_history.specs.Server.{Server}
+use Rattle.block_server.specs.Kept.{MayGoBack}
+use Rattle.block_server.specs.Seen.{seen}
+use Rattle.block_server.specs.View.{server_of}
+use Rattle.block_server.proofs.Keeping.{may_go_back}
 use Rattle.block_server.proofs.server.Server.close.Goals as goal
 
 pub give_all_back-requires : goal.give_all_back-requires
 give_all_back-requires g c = search rules
+
+pub give_all_back-requires-2 : goal.give_all_back-requires-2
+give_all_back-requires-2 g c =
+    let s : Server = server_of g.A.Adapter.device (seen c.self.inside) in
+    let kept = c.self.invariant.kept in
+    let laws = c.kept_loans_are_lent.ensures in
+    subst (λ (table : Table). MayGoBack table c.self.inside.kept) (sym c.deref_mut-2.ensures.value)
+    (may_go_back s c.give_all_back.new.table
+    (record {
+      lent = λ port. laws.lent s port kept;
+      two = λ port. laws.two s port kept;
+      one = λ port other a b. laws.one s port other a b kept;
+      answered = λ port loan e. laws.answered s port loan e kept;
+    })
+    (λ k d small. (kept.accepted k d small).lent)
+    (subst (λ (table : Table). GivesBack table c.give_all_back.new.table c.self.inside.book) c.deref_mut.ensures.value c.give_all_back.ensures))

@@ -1,0 +1,116 @@
+// Loans that are kept when their requests are answered, since the device may still move their sectors.
+ghost use Rattle.std.specs.Prelude.{◌≡◌, ◌<◌, ◌++◌, ◌∷◌, [], ℕ, All, AllPairs, Contains, IfOk, length};
+ghost use Rattle.block_server.specs.Kept.{IsKeptIn, MayGoBack, TakesBack};
+ghost use Rattle.server_history.specs.Server.{AreOfTwo, IsLentOut, kept_at};
+
+use dma_frames::{FrameTable, Loan};
+use host_boot::PORTS;
+use slots::SLOTS;
+use std::alloc::{AllocError, Global};
+use std::marker::Model;
+
+/// The loans of one port that are kept, 32 at most, in the order in which they came. They can't be dropped: `give_all_back` and
+/// `end_all` end them.
+pub(crate) struct KeptLoans {
+    loans: Vec<Loan>,
+}
+
+impl Model for KeptLoans {
+    ghost use Rattle.std.specs.Prelude.{List, ◌≤◌, vec_capacity};
+    ghost use Rattle.dma_frames.specs.Loan.{Lending};
+
+    ghost Value = { List Lending };
+
+    ghost view = { λ k. k.loans.items };
+
+    ghost invariant = { λ k. 32 ≤ vec_capacity k.loans };
+}
+
+impl KeptLoans {
+    /// No loans, with room for 32. Nothing else takes memory.
+    pub(crate) fn new(alloc: Global) -> Result<Self, AllocError>
+        ensures { IfOk result (λ kept. kept ≡ []) }
+    {
+        let loans = Vec::with_capacity(alloc, SLOTS)?;
+        Ok(KeptLoans { loans })
+    }
+
+    /// Keeps one more loan.
+    pub(crate) fn keep(&mut self, loan: Loan)
+        requires { length self.old < 32 }
+        ensures { self.new ≡ self.old ++ loan ∷ [] }
+    {
+        self.loans.push_reserved(loan);
+    }
+
+    /// Ends the loans: their frames are lent to none.
+    fn give_back(&mut self, table: &mut FrameTable)
+        requires lent { All (IsLentOut table.old) self.old }
+        requires apart { AllPairs AreOfTwo self.old }
+        ensures empty { self.new ≡ [] }
+        ensures back { TakesBack table.old table.new (Contains self.old) }
+    {
+        while let Some(loan) = self.loans.pop() {
+            table.give_back(loan);
+        }
+    }
+
+    /// Ends what has no loans.
+    fn end(self)
+        requires { self ≡ [] }
+    {
+        let KeptLoans { loans } = self;
+        loans.destroy_empty();
+    }
+}
+
+/// No loans of two ports.
+fn none_of_two(alloc: Global) -> Result<(KeptLoans, KeptLoans), AllocError>
+    ensures { IfOk result (λ two. (two.0 ≡ []) × (two.1 ≡ [])) }
+{
+    let first = KeptLoans::new(alloc)?;
+    match KeptLoans::new(alloc) {
+        Ok(second) => Ok((first, second)),
+        Err(error) => {
+            first.end();
+            Err(error)
+        }
+    }
+}
+
+/// No loans of any port. The only error is want of memory.
+pub(crate) fn none_kept(alloc: Global) -> Result<[KeptLoans; PORTS], AllocError>
+    ensures { IfOk result (λ kept. kept ≡ [] ∷ [] ∷ [] ∷ [] ∷ []) }
+{
+    let (first, second) = none_of_two(alloc)?;
+    match none_of_two(alloc) {
+        Ok((third, fourth)) => Ok([first, second, third, fourth]),
+        Err(error) => {
+            first.end();
+            second.end();
+            Err(error)
+        }
+    }
+}
+
+/// Ends the loans of all ports: their frames are lent to none.
+pub(crate) fn give_all_back(kept: &mut [KeptLoans; PORTS], table: &mut FrameTable)
+    requires { MayGoBack table.old kept.old }
+    ensures empty { (port : ℕ) → kept_at kept.new port ≡ [] }
+    ensures back { TakesBack table.old table.new (IsKeptIn kept.old) }
+{
+    for port in 0..PORTS {
+        kept[port].give_back(table);
+    }
+}
+
+/// Ends the lists, which have no loans.
+pub(crate) fn end_all(kept: [KeptLoans; PORTS])
+    requires { (port : ℕ) → kept_at kept port ≡ [] }
+{
+    let [first, second, third, fourth] = kept;
+    first.end();
+    second.end();
+    third.end();
+    fourth.end();
+}
