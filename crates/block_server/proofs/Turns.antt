@@ -7,7 +7,7 @@ use Rattle.host_boot.specs.Taken.{found_of}
 use Rattle.host_boot.specs.declared.Found.{Found}
 use Rattle.host_boot.specs.declared.Found.TheVariants.{Ready, Unserved}
 use Rattle.identify.specs.declared.DiskInfo.{DiskInfo}
-use Rattle.server_history.specs.Served.{ServePorts, ServesPort}
+use Rattle.server_history.specs.Turns.{ServePorts, ServesPort}
 use Rattle.server_history.specs.Server.{Server, IsSettled}
 
 -- a ready port is served, and then those after it

@@ -22,7 +22,8 @@ use Rattle.block_server.specs.View.{ServerView, server_of}
 use Rattle.dma_frames.specs.Table.{owner_of, lent_to}
 use Rattle.block_machine.specs.Due.{due_of}
 use Rattle.request_queue.specs.Entries.{asks_of}
-use Rattle.server_history.specs.Served.{Accepts, ServePorts, accepting}
+use Rattle.server_history.specs.Served.{Accepts, accepting}
+use Rattle.server_history.specs.Turns.{ServePorts}
 use Rattle.server_history.specs.Server.{mode_in, situation_of}
 
 -- only the adapter is another

@@ -84,7 +84,8 @@ impl<A: Adapter> Server<A> {
     ghost use Rattle.request_queue.specs.Entries.{Held};
     ghost use Rattle.server_history.specs.Histories.{Adds, store_said, load_said};
     ghost use Rattle.ata_types.specs.declared.request.Reply.{Reply};
-    ghost use Rattle.server_history.specs.Served.{AnswersDone, ServesPort};
+    ghost use Rattle.server_history.specs.Served.{AnswersDone};
+    ghost use Rattle.server_history.specs.Turns.{ServesPort};
     ghost use Rattle.server_history.specs.Server.{IsSettled, disk_of, mode_at, remembered_at, situation_of, state_of, sectors_of, trims_of};
     ghost use Rattle.hba_regs.specs.Bits.{bit};
     ghost use Rattle.agreement.specs.Slots.{IsOver};

@@ -180,8 +180,8 @@ served_there wanted (Unready state) port d s served = s.0.1
 -- a slot that was left as it was is used as a server without requests has it
 left_as : (ports found : List Found) (slots : List PortSlots) (uses : Uses) (port slot : ℕ) → found_of found port ≡ found_of ports port → used_for slots port slot ≡ None → IsLeft ports uses port slot
     → IsUsedAs (found_of found port) (used_for slots port slot) (uses port slot)
-left_as ports found slots uses port slot same none (inl free) = λ _. free ∙ sym (ap use_of none)
-left_as ports found slots uses port slot same none (inr (zero_is, own, dead)) = λ alive. absurd (alive (same ∙ dead))
+left_as ports found list uses port slot same none (inl free) = λ _. free ∙ sym (ap use_of none)
+left_as ports found list uses port slot same none (inr (zero_is, own, dead)) = λ alive. absurd (alive (same ∙ dead))
 
 -- where no request is kept, no loan is
 none_are_kept : (found : List Found) (kept : List (List Lending)) (requests : List Pending) → requests ≡ [] → ((port : ℕ) → kept_at kept port ≡ []) → AreKept found kept requests

@@ -101,7 +101,7 @@ module _ (laws : LawsBelow) where
     silent : (port : ℕ) → found_of s.ports port ≢ Unready Dead → SendsNone port Identify s.device new
     silent port other =
         access_sends_none k.stands.uses k.machine access s.device new port Identify k.reached k.stands.knows.agrees does refl
-        (not_own (found_of s.ports port) (used_for s.slots port 0) (k.stands.uses port 0) other (k.stands.used port 0))
+        (not_own (found_of s.ports port) (used_for s.slots port 0) (k.stands.uses port 0) Identify other (k.stands.used port 0))
 
     ports_on : (port : ℕ) → port < 4 → IsPortOf s.wanted s.ports port new
     ports_on port below =

@@ -115,7 +115,7 @@ pub kept_then : (s : Server) (device : Device) (table : Table) (slots : List Por
     → All (IsAccepted s.grants table) book → IsInOrder book → All (λ e. e.entry.id.0 ≤ last) book → All (λ e. state_of (found_of s.ports e.entry.port.0) ≡ ReadyState) book → (m : Machine) → IsReached m
     → IsMachineOf (record s { device = device; table = table; slots = slots; book = book; last = last }) m
     → IsKept (record s { device = device; table = table; slots = slots; book = book; last = last })
-kept_then s device table slots book last k on same behind owners four used kinds commands alone accepted ordered handed_out ready m reached is = record {
+kept_then s device table used_now book last k on same behind owners four used kinds commands alone accepted ordered handed_out ready m reached is = record {
   on = on;
   room = subst (λ (n : ℕ). 163840 ≤ n) (sym same.size) k.room;
   there = λ port served. let t = k.there port served in (t.0, ap (λ (pi : ℕ). bit pi port) same.pi ∙ t.1);

@@ -4,9 +4,10 @@ use Rattle.std.proofs.lemmas.Bool.{and_parts, cases_eq, eq-eqb, false≢true}
 use Rattle.std.proofs.lemmas.List.Folds.{list_any_at}
 use Rattle.std.specs.List.{All, Contains, list_any}
 use Rattle.ata_types.specs.declared.Port.{Port}
-use Rattle.ata_types.specs.declared.PortState.TheVariants.{Ready as ReadyState}
+use Rattle.ata_types.specs.declared.PortState.TheVariants.{Dead, Ready as ReadyState}
 use Rattle.ata_types.specs.declared.request.RequestId.{RequestId}
 use Rattle.adapter.specs.Device.{Device}
+use Rattle.adapter.specs.declared.command.Operation.{Operation}
 use Rattle.adapter.specs.declared.command.Operation.TheVariants.{Identify}
 use Rattle.block_machine.specs.Due.{IsDue, conflict, holds_back, is_plain}
 use Rattle.block_machine.specs.Events.{AllDevices, AllMay}
@@ -18,13 +19,14 @@ use Rattle.block_machine.specs.declared.due.Mode.{Mode}
 use Rattle.block_machine.specs.declared.due.Unanswered.{Unanswered}
 use Rattle.block_machine.proofs.HistoryLemmas.{reached_more}
 use Rattle.block_machine.proofs.Members.{into_map, map_in}
-use Rattle.agreement.specs.Driven.{known, IsDrivenBy}
+use Rattle.agreement.specs.Driven.{known, IsDrivenBy, SendsNone}
 use Rattle.agreement.specs.Driver.{EndsWith, IsBacked, serving}
-use Rattle.agreement.specs.Slots.{Free, Serves, Use, put}
+use Rattle.agreement.specs.Slots.{Free, Serves, Use, op_of, put}
 use Rattle.agreement.specs.Spares.{SparesBook}
 use Rattle.agreement.proofs.Driven.{driven_as}
 use Rattle.agreement.proofs.Sparing.{steps_spare}
 use Rattle.host_boot.specs.Taken.{found_of}
+use Rattle.host_boot.specs.declared.Found.TheVariants.{Unready}
 use Rattle.request_queue.specs.Entries.{Held, asks_of, at, has_id, issue}
 use Rattle.request_queue.specs.Machine.{IsBook, IsEntry}
 use Rattle.agreement.specs.Driven.{AgreesWith}
@@ -76,6 +78,15 @@ pub record IsIssue (port : Port) (id : RequestId) (old new : Server) (m : Machin
 pub issued_serves : (port : Port) (slot : ℕ) (old new : Device) → IsDrivenBy (IsIssuing port slot) old new → IsDrivenBy IsService old new
 issued_serves port slot old new driven = driven_as (IsIssuing port slot) IsService old new (issuing_serves port slot) driven
 
+-- in that no data comes for a command of the driver's own but on dead ports
+silent_issued : LawsBelow → (s : Server) (new : Device) (port : Port) (slot : ℕ) (mode : Mode) (r : Task) (frames : List Frame) (p : Pending) (k : IsKept s)
+    → IssuesTask port slot r frames s.device new → IsTaskOf port slot r frames mode p
+    → MayServe port slot mode p (record { uses = k.stands.uses; parked = k.stands.parked }) k.machine
+    → (q : ℕ) (o : Operation) → op_of o ≡ None → found_of s.ports q ≢ Unready Dead → SendsNone q o s.device new
+silent_issued laws s new port slot mode r frames p k issues its may q o own other =
+    laws.issuing_silent port slot r frames mode p s.device new (record { uses = k.stands.uses; parked = k.stands.parked }) k.machine issues its k.reached k.stands.knows may q o own
+    (not_own (found_of s.ports q) (used_for s.slots q 0) (k.stands.uses q 0) o other (k.stands.used q 0))
+
 -- on a ready port, that leaves what stands behind each
 behind_issued : LawsBelow → (s : Server) (new : Device) (port : Port) (slot : ℕ) (mode : Mode) (r : Task) (frames : List Frame) (p : Pending) (k : IsKept s) → state_of (found_of s.ports port.0) ≡ ReadyState
     → IssuesTask port slot r frames s.device new → IsTaskOf port slot r frames mode p
@@ -83,8 +94,7 @@ behind_issued : LawsBelow → (s : Server) (new : Device) (port : Port) (slot : 
 behind_issued laws s new port slot mode r frames p k ready issues its may =
     behind_served laws.looks s new port k ready (issued_serves port slot s.device new issues.driven)
     (λ q low other. apart laws.looks port (IsIssuing port slot) (laws.issuing_of port slot) q other s.device new k.on issues.driven)
-    (λ q other. laws.issuing_silent port slot r frames mode p s.device new (record { uses = k.stands.uses; parked = k.stands.parked }) k.machine issues its k.reached k.stands.knows may q Identify refl
-    (not_own (found_of s.ports q) (used_for s.slots q 0) (k.stands.uses q 0) other (k.stands.used q 0)))
+    (λ q other. silent_issued laws s new port slot mode r frames p k issues its may q Identify refl other)
 
 module _ (laws : LawsBelow) (s new : Server) (port : Port) (id : RequestId) (k : IsKept s) (one : IssuesOne port id s new) where
   abbrev e : Held
@@ -201,6 +211,11 @@ module _ (laws : LawsBelow) (s new : Server) (port : Port) (id : RequestId) (k :
       where
         waiting : e.entry.issued ≡ false
         waiting = not_true e.entry.issued (and_parts _ _ one.due.clear).0
+
+  pub issue_silent : (q : ℕ) (o : Operation) → op_of o ≡ None → found_of s.ports q ≢ Unready Dead → SendsNone q o s.device new.device
+  issue_silent =
+      silent_issued laws s new.device port slot mode r e.frames (p k.machine k.reached k.stands) k one.issues (its_transfer k.machine k.reached k.stands)
+      (free k.machine k.reached k.stands, may k.machine k.reached k.stands)
 
   in_list : port.0 < length s.slots
   in_list = let f = k.four in let l = low in omega (arith, f, l)

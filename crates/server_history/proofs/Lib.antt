@@ -30,3 +30,5 @@ pub mod Origins
 pub mod Coming
 pub mod Serving
 pub mod Keeping
+pub mod Silent
+pub mod Making

@@ -1,5 +1,5 @@
 -- A server goes on while a ready port is looked at, and while its transfer is looked for.
-use Rattle.std.proofs.Common.{ℕ, ◌≡◌, ◌≢◌, ◌<◌, true, inl, inr, refl, sym, ap, ◌∙◌, subst, List}
+use Rattle.std.proofs.Common.{ℕ, ◌≡◌, ◌≢◌, ◌<◌, true, None, inl, inr, refl, sym, ap, ◌∙◌, subst, List}
 use Rattle.std.proofs.lemmas.Bool.{and_parts}
 use Rattle.ata_types.specs.declared.Port.{Port}
 use Rattle.ata_types.specs.declared.PortState.TheVariants.{Dead, Ready as ReadyState}
@@ -9,10 +9,11 @@ use Rattle.hba_regs.specs.declared.reg.PortReg.TheVariants.{Is, Sact, Ci}
 use Rattle.adapter.specs.Access.{Access}
 use Rattle.adapter.specs.Access.Access.{Reading, Writing, Loading, Storing}
 use Rattle.adapter.specs.Device.{Device}
+use Rattle.adapter.specs.declared.command.Operation.{Operation}
 use Rattle.adapter.specs.declared.command.Operation.TheVariants.{Identify}
 use Rattle.agreement.specs.Agrees.{port_at}
 use Rattle.agreement.specs.Driven.{AnyUse, IsDrivenBy, IsFollowed, LeavesPort, NoneWrites, SendsNone}
-use Rattle.agreement.specs.Slots.{Uses}
+use Rattle.agreement.specs.Slots.{Uses, op_of}
 use Rattle.agreement.proofs.Driven.{driven_as, followed_adds, followed_silent}
 use Rattle.host_boot.specs.Taken.{found_of}
 use Rattle.host_boot.specs.declared.Found.TheVariants.{Unready}
@@ -48,6 +49,13 @@ behind_served laws s new port k ready driven left silent q low =
 -- ---- the server
 
 module _ (s : Server) (new : Device) (port : Port) (k : IsKept s) (ready : state_of (found_of s.ports port.0) ≡ ReadyState) where
+  -- in followed accesses that write neither PxCI nor PxSACT, no data comes for a command of the driver's own but on dead ports
+  silent_over : (May : Access → Type 0) → ((q : Port) → NoneWrites May (Px q Ci) × NoneWrites May (Px q Sact)) → IsFollowed May AnyUse s.device new
+      → (q : ℕ) (o : Operation) → op_of o ≡ None → found_of s.ports q ≢ Unready Dead → SendsNone q o s.device new
+  silent_over May none followed q o own other =
+      followed_silent followed k.stands.uses k.stands.parked k.machine tt k.reached k.stands.knows (port_at q) o own (none (port_at q)).0 (none (port_at q)).1
+      (not_own (found_of s.ports q) (used_for s.slots q 0) (k.stands.uses q 0) o other (k.stands.used q 0))
+
   -- followed accesses that serve the port, and write no PxCI
   kept_over : LawsBelow → (May : Access → Type 0) → ((access : Access) → May access → IsService access) → ((access : Access) (at : ℕ) (bytes : List ℕ) → May access → access ≡ Storing at bytes → ⊥) → ((q : Port) → NoneWrites May (Px q Ci) × NoneWrites May (Px q Sact))
       → ((q : ℕ) → q < 4 → q ≢ port.0 → LeavesPort (s.device.port q) (new.port q)) → IsFollowed May AnyUse s.device new → IsKept (record s { device = new })
@@ -58,8 +66,7 @@ module _ (s : Server) (new : Device) (port : Port) (k : IsKept s) (ready : state
       let x = (followed_adds followed uses k.stands.parked tt).adds k.machine k.reached k.stands.knows in
       kept_on s new k (services_on laws s.device new k.on driven) (services_same laws s.device new driven)
       (behind_served laws s new port k ready driven left
-      (λ q other. followed_silent followed uses k.stands.parked k.machine tt k.reached k.stands.knows (port_at q) Identify refl (none (port_at q)).0 (none (port_at q)).1
-      (not_own (found_of s.ports q) (used_for s.slots q 0) (uses q 0) other (k.stands.used q 0))))
+      (λ q other. silent_over May none followed q Identify refl other))
       (λ q n used is.
       let t = used_there s q n used k is in
       let h = k.commands q n used is in
@@ -95,6 +102,9 @@ module _ (s : Server) (new : Device) (port : Port) (k : IsKept s) (ready : state
   finding_stores : (access : Access) (at : ℕ) (bytes : List ℕ) → IsFinding port access → access ≡ Storing at bytes → ⊥
   finding_stores access at bytes is e = subst (IsFinding port) e is
 
+  pub looking_silent : IsFollowed (IsLooking port) AnyUse s.device new → (q : ℕ) (o : Operation) → op_of o ≡ None → found_of s.ports q ≢ Unready Dead → SendsNone q o s.device new
+  looking_silent followed = silent_over (IsLooking port) (λ q. (looking_spares q Ci (λ e. absurd cc), looking_spares q Sact (λ e. absurd cc))) followed
+
   pub looking_kept : LawsBelow → IsFollowed (IsLooking port) AnyUse s.device new → IsKept (record s { device = new })
   looking_kept laws followed =
       kept_over laws (IsLooking port) (looking_service port) looking_stores (λ q. (looking_spares q Ci (λ e. absurd cc), looking_spares q Sact (λ e. absurd cc))) (λ q low other. apart laws.looks port (IsLooking port) (looking_of port) q other s.device new k.on followed.driven) followed
@@ -105,6 +115,9 @@ module _ (s : Server) (new : Device) (port : Port) (k : IsKept s) (ready : state
         let followed = laws.finding_followed port mask done s.device new finds in
         kept_over laws (IsFinding port) (finding_serves port) finding_stores (λ q. (finding_spares q Ci, finding_spares q Sact))
         (λ q low other. apart laws.looks port (IsFinding port) (laws.finding_of port) q other s.device new k.on followed.driven) followed
+
+    pub finding_silent : (q : ℕ) (o : Operation) → op_of o ≡ None → found_of s.ports q ≢ Unready Dead → SendsNone q o s.device new
+    finding_silent = silent_over (IsFinding port) (λ q. (finding_spares q Ci, finding_spares q Sact)) (laws.finding_followed port mask done s.device new finds)
 
     -- the command of a slot that was found done is over, where only used slots were asked for
     pub found_over : IsMaskOf (slots_at s.slots port.0) mask → AreOver port done new

@@ -1,5 +1,5 @@
 -- Due requests of a port are issued one after another, and what is due then.
-use Rattle.std.proofs.Common.{ℕ, ◌≡◌, ◌≢◌, ◌⊎◌, ◌==◌, ◌||◌, Bool, true, false, not, List, [], ◌∷◌, ◌++◌, map, inl, inr, refl, sym, ap, ◌∙◌, subst, ⊎_elim, eqb-true, eq-eqb}
+use Rattle.std.proofs.Common.{ℕ, ◌≡◌, ◌≢◌, ◌⊎◌, ◌==◌, ◌||◌, Bool, true, false, not, List, [], ◌∷◌, ◌++◌, map, None, inl, inr, refl, sym, ap, ◌∙◌, subst, ⊎_elim, eqb-true, eq-eqb}
 use Rattle.std.specs.Prelude.{◌↔◌, if◌then◌else◌}
 use Rattle.std.specs.List.{Contains, list_any}
 use Rattle.std.proofs.lemmas.Bool.{cases_Bool, cases_eq, cond-true, cond-false, false≢true, or_cases, or_left, or_right, and_parts}
@@ -7,8 +7,11 @@ use Rattle.std.proofs.lemmas.List.Elements.{All-append}
 use Rattle.std.proofs.lemmas.List.{get_or-set_other}
 use Rattle.ata_types.specs.declared.Port.{Port}
 use Rattle.ata_types.specs.declared.request.RequestId.{RequestId}
+use Rattle.ata_types.specs.declared.PortState.TheVariants.{Dead}
+use Rattle.adapter.specs.declared.command.Operation.{Operation}
 use Rattle.adapter.proofs.Calls.{does_append}
-use Rattle.agreement.specs.Driven.{IsDrivenBy}
+use Rattle.agreement.specs.Driven.{IsDrivenBy, SendsNone}
+use Rattle.agreement.specs.Slots.{op_of}
 use Rattle.agreement.specs.Driver.{IsBacked}
 use Rattle.agreement.proofs.Adding.{backed_then, nothing_backed}
 use Rattle.agreement.proofs.Driven.{by_none, driven_as}
@@ -32,7 +35,10 @@ use Rattle.server_history.specs.Served.{IssuesAll, IssuesIn, IssuesEach, IssuesO
 use Rattle.server_history.specs.Server.{Server, IsKept, IsMachineOf, IsSettled, mode_at, mode_in, no_slots, slots_at}
 use Rattle.server_history.proofs.Asks.{same_book}
 use Rattle.server_history.proofs.Devices.{devices_last, not_handled}
-use Rattle.server_history.proofs.Issuing.{IsIssue, issue_kept, issue_one}
+use Rattle.server_history.proofs.Issuing.{IsIssue, issue_kept, issue_one, issue_silent}
+use Rattle.server_history.proofs.Silent.{silent_more, silent_none}
+use Rattle.host_boot.specs.Taken.{found_of}
+use Rattle.host_boot.specs.declared.Found.TheVariants.{Unready}
 
 pub not_true : (b : Bool) → not b ≡ true → b ≡ false
 not_true false is = refl
@@ -211,6 +217,14 @@ module _ (laws : LawsBelow) (port : Port) where
   pub each_kept : (ids : List RequestId) (old new : Server) → IsKept old → IssuesEach port ids old new → IsKept new
   each_kept [] old new k none = subst IsKept (sym none) k
   each_kept (first ∷ ids) old new k (mid, one, more) = each_kept ids mid new (issue_kept laws old mid port first k one) more
+
+  -- in that no data comes for a command of the driver's own but on dead ports
+  pub each_silent : (ids : List RequestId) (old new : Server) → IsKept old → IssuesEach port ids old new → (q : ℕ) (o : Operation) → op_of o ≡ None → found_of old.ports q ≢ Unready Dead
+      → SendsNone q o old.device new.device
+  each_silent [] old new k none q o own other = subst (λ (n : Server). SendsNone q o old.device n.device) (sym none) (silent_none q o old.device)
+  each_silent (first ∷ ids) old new k (mid, one, more) q o own other =
+      silent_more q o old.device mid.device new.device (issue_silent laws old mid port first k one q o own other)
+      (each_silent ids mid new (issue_kept laws old mid port first k one) more q o own (λ dead. other (ap (λ (n : Server). found_of n.ports q) (sym one.server) ∙ dead)))
 
   -- but for the device, the slots and the book, the server is as it was
   pub each_settings : (ids : List RequestId) (old new : Server) → IssuesEach port ids old new → new ≡ record old { device = new.device; slots = new.slots; book = new.book }

@@ -837,7 +837,8 @@ module _ (laws : LawsBelow) (s : Server) (start : IsSettled s) (old : Moment) (r
             let id_is : d.0.request.id ≡ h.now_is.request.id = d.2.entry.id ∙ sym (ap (λ (y : Reply). y.id) r.2) ∙ told.2 ∙ h.has.id_is in
             let w = ended_stood (after m b.before) b.ended early_may.1 d.0 d.1 in
             let l = found_before m.book (after m b.before).book d.0 (steps_spare m b.before b.first).book w in
-            let one : h.now_is ≡ l.0 = one_of h.now_is l.0 h.here l.1 (ap (λ (i : RequestId). i.0) (sym id_is ∙ ap (λ r. r.id) l.2.request)) in (
+            let ids : h.now_is.request.id ≡ l.0.request.id = sym id_is ∙ ap (λ r. r.id) l.2.request in
+            let one : h.now_is ≡ l.0 = one_of h.now_is l.0 h.here l.1 (ap (λ (i : RequestId). i.0) ids) in (
               d.0,
               l.2.request ∙ ap (λ (y : Pending). y.request) (sym one) ∙ h.same_as.request,
               Contains-append_left x.steps p.steps (Answer d.0 Ok) (subst (λ (steps : List Step). Contains steps (Answer d.0 Ok)) (sym b.steps_are)

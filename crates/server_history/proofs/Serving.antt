@@ -4,7 +4,7 @@ use Rattle.std.specs.Prelude.{◌↔◌}
 use Rattle.std.proofs.lemmas.Bool.{cases_eq, false≢true}
 use Rattle.std.specs.List.{Contains, list_any}
 use Rattle.ata_types.specs.declared.Port.{Port}
-use Rattle.ata_types.specs.declared.PortState.TheVariants.{Ready as ReadyState}
+use Rattle.ata_types.specs.declared.PortState.TheVariants.{Dead, Ready as ReadyState}
 use Rattle.ata_types.specs.declared.request.Outcome.TheVariants.{Ok}
 use Rattle.ata_types.specs.declared.request.Reply.{Reply}
 use Rattle.ata_types.specs.declared.request.RequestId.{RequestId}
@@ -15,7 +15,8 @@ use Rattle.adapter.specs.Access.{Access}
 use Rattle.adapter.specs.Access.Access.{Writing}
 use Rattle.adapter.specs.Commands.{is_queued}
 use Rattle.adapter.specs.Device.{Device}
-use Rattle.agreement.specs.Driven.{AnyUse, IsDrivenBy, IsFollowed}
+use Rattle.adapter.specs.declared.command.Operation.TheVariants.{ReadLog}
+use Rattle.agreement.specs.Driven.{AnyUse, IsDrivenBy, IsFollowed, SendsNone}
 use Rattle.agreement.specs.Driver.{IsBacked}
 use Rattle.agreement.specs.Facts.{RunsWell, Undisturbed}
 use Rattle.agreement.specs.Slots.{IsOver, Serves, ServesRequest, Stage}
@@ -47,16 +48,20 @@ use Rattle.request_queue.specs.Entries.{Held, asks_of, due_ids}
 use Rattle.slots.specs.Uses.{Uses as PortSlots}
 use Rattle.slots.specs.declared.Use.{Use as SlotUse}
 use Rattle.server_history.specs.Below.{LawsBelow}
-use Rattle.server_history.specs.Served.{AddsTurn, AnswersDone, AnswersEach, AnswersOne, HasNone, HasTurn, IsMaskOf, IssuesIn, IssuesOnly, IsAnsweredIn, ServesPort, answers_in, done_reply, is_used}
+use Rattle.server_history.specs.Served.{AnswersDone, AnswersEach, AnswersOne, HasNone, HasTurn, IsMaskOf, IssuesIn, IssuesOnly, IsAnsweredIn, answers_in, done_reply, is_used}
+use Rattle.server_history.specs.Turns.{ServesPort}
 use Rattle.server_history.specs.Server.{Server, IsKept, IsMachineOf, IsSettled, mode_in, slots_at, state_of, used_for, with_slot}
 use Rattle.server_history.proofs.Answering.{answer_kept}
 use Rattle.server_history.proofs.Asks.{none_issued}
 use Rattle.server_history.proofs.Coming.{bit_zero}
 use Rattle.server_history.proofs.Going.{machine_on}
-use Rattle.server_history.proofs.Looking.{finding_kept, found_over, looking_kept}
+use Rattle.server_history.proofs.Devices.{devices_last}
+use Rattle.server_history.proofs.Looking.{finding_kept, finding_silent, found_over, looking_kept, looking_silent}
+use Rattle.server_history.proofs.Making.{AddsTurn, none_last, serves}
+use Rattle.server_history.proofs.Silent.{silent_more}
 use Rattle.server_history.proofs.Placing.{placed_other, placed_same}
 use Rattle.server_history.proofs.Plain.{finding_serves}
-use Rattle.server_history.proofs.Rounds.{AreIssued, any_append, devices_issue_none, dues, dues_carried, each_driven, each_issued, or_none}
+use Rattle.server_history.proofs.Rounds.{AreIssued, any_append, devices_issue_none, dues, dues_carried, each_driven, each_issued, each_silent, last_on, or_none}
 use Rattle.server_history.proofs.Settling.{AreAnswered, answers_kept, answers_settings, each_answered, over_on, ready_on}
 use Rattle.server_history.proofs.Slots.{AreOver, ready_found, served_by, serves_used}
 
@@ -79,36 +84,37 @@ followed_steps s new followed m reached is =
     let x = (followed_adds followed is.uses is.parked tt).adds m reached is.knows in
     (x.0, x.1, machine_on s new m x.0 is x.3.only x.2, x.3.backed, x.3.only)
 
-nobody_answered : (s : Server) (new : Device) (port : Port) → IsSettled s → HasTurn port (slots_at s.slots port.0) [] s.device new → IsFollowed IsService AnyUse s.device new
+nobody_answered : LawsBelow → (s : Server) (new : Device) (port : Port) → IsSettled s → state_of (found_of s.ports port.0) ≡ ReadyState → HasTurn port (slots_at s.slots port.0) [] s.device new → IsFollowed IsService AnyUse s.device new
+    → ((q : ℕ) → state_of (found_of s.ports q) ≢ Dead → SendsNone q ReadLog s.device new)
     → (RunsWell (s.device.port port.0) → Undisturbed port.0 s.device new → (slot : ℕ) (used : SlotUse) → slot < 32 → used_for s.slots port.0 slot ≡ Some used
     → (s.device.port port.0).ci slot ≡ false → (s.device.port port.0).sact slot ≡ false → ⊥)
     → ServesPort port [] s (record s { device = new })
-nobody_answered s new port settled turn followed never = record {
-  turn = turn;
-  answers = inl (refl, refl);
-  adds = λ m reached is.
-      let x = followed_steps s new followed m reached is in
-      record {
-        steps = x.0;
-        may = x.1;
-        stands = x.2;
-        backed = x.3;
-        answers = record {
-          requests = [];
-          told = refl;
-          ordered = λ i j d lt below. absurd (omega (arith, lt, below));
-          ended = [];
-          each = tt;
-          later = [];
-          before = x.0;
-          steps_are = refl;
-          first = x.4;
-          last = tt;
-        };
-        issues = none_issued (record s { device = new }) (after m x.0) x.2 x.0 (λ id. devices_issue_none id x.0 x.4) (mode_in s port) port (settled.issued port);
+nobody_answered laws s new port settled ready turn followed silent never =
+    serves laws port [] s (record s { device = new }) settled ready turn (inl (refl, refl))
+    (λ m reached is.
+    let x = followed_steps s new followed m reached is in
+    record {
+      steps = x.0;
+      may = x.1;
+      stands = x.2;
+      backed = x.3;
+      answers = record {
+        requests = [];
+        told = refl;
+        ordered = λ i j d lt below. absurd (omega (arith, lt, below));
+        ended = [];
+        each = tt;
+        later = [];
+        before = x.0;
+        steps_are = refl;
+        first = x.4;
+        last = tt;
       };
-  answered = λ well calm slot used small its ci sact. absurd (never well calm slot used small its ci sact);
-}
+      last = devices_last x.0 x.4;
+      issues = none_issued (record s { device = new }) (after m x.0) x.2 x.0 (λ id. devices_issue_none id x.0 x.4) (mode_in s port) port (settled.issued port);
+    })
+    (λ well calm slot used small its ci sact. absurd (never well calm slot used small its ci sact))
+    silent
 
 -- ---- bits that are clear
 
@@ -219,19 +225,24 @@ module _ (s : Server) (seen : Device) (port : Port) (t : IsSettled s) (ready : s
   low : port.0 < 4
   low = (ready_found s port.0 k ready).0
 
+  -- a look brings no page of the log but on dead ports
+  seen_silent : (q : ℕ) → state_of (found_of s.ports q) ≢ Dead → SendsNone q ReadLog s.device seen
+  seen_silent q lives = looking_silent s seen port k ready looks q ReadLog refl (λ dead. lives (ap state_of dead))
+
   -- it was looked at, and that told of something
-  pub told_trouble : Laws → (look : Look) → LooksAt port look s.device seen → look ≢ Calm → ServesPort port [] s (record s { device = seen })
+  pub told_trouble : LawsBelow → (look : Look) → LooksAt port look s.device seen → look ≢ Calm → ServesPort port [] s (record s { device = seen })
   told_trouble laws look l told =
-      nobody_answered s seen port t
+      nobody_answered laws s seen port t ready
       (record { look = look; seen = seen; looks = l; told = λ _. (refl, refl); calm = λ calm. absurd (told calm) })
       (looks_serve port s.device seen looks)
-      (λ well calm slot used small its ci sact. told (seen_well laws port look s.device seen l k.on well calm).0)
+      seen_silent
+      (λ well calm slot used small its ci sact. told (seen_well laws.looks port look s.device seen l k.on well calm).0)
 
   module _ (l : LooksAt port Calm s.device seen) where
     -- no slot is used
-    pub idle : IsMaskOf (slots_at s.slots port.0) 0 → ServesPort port [] s (record s { device = seen })
-    idle its =
-        nobody_answered s seen port t
+    pub idle : LawsBelow → IsMaskOf (slots_at s.slots port.0) 0 → ServesPort port [] s (record s { device = seen })
+    idle laws its =
+        nobody_answered laws s seen port t ready
         (record {
           look = Calm;
           seen = seen;
@@ -240,6 +251,7 @@ module _ (s : Server) (seen : Device) (port : Port) (t : IsSettled s) (ready : s
           calm = λ _. record { mask = 0; its = its; idle = λ _. (refl, refl); checks = λ some. absurd (some (λ slot small. bit_zero slot)) };
         })
         (looks_serve port s.device seen looks)
+        seen_silent
         (λ well calm slot used small is ci sact. false≢true (sym (bit_zero slot) ∙ its slot small ∙ ap is_used is))
 
     module _ (laws : LawsBelow) (mask : ℕ) (its : IsMaskOf (slots_at s.slots port.0) mask) (some : HasNone mask → ⊥) where
@@ -247,10 +259,19 @@ module _ (s : Server) (seen : Device) (port : Port) (t : IsSettled s) (ready : s
       asked : (slot : ℕ) (used : SlotUse) → slot < 32 → used_for s.slots port.0 slot ≡ Some used → bit mask slot ≡ true
       asked slot used small is = its slot small ∙ ap is_used is
 
+      seen_kept : IsKept (record s { device = seen })
+      seen_kept = looking_kept s seen port k ready laws looks
+
+      -- nor does finding
+      found_silent : (new : Device) (done : ℕ) → ReadsDone port mask done seen new → (q : ℕ) → state_of (found_of s.ports q) ≢ Dead → SendsNone q ReadLog s.device new
+      found_silent new done reads q lives =
+          silent_more q ReadLog s.device seen new (seen_silent q lives)
+          (finding_silent (record s { device = seen }) new port seen_kept ready laws mask done reads q ReadLog refl (λ dead. lives (ap state_of dead)))
+
       -- none of what it has issued was found done
       pub unfinished : (new : Device) (done : ℕ) → ReadsDone port mask done seen new → SeesClear port mask done seen → HasNone done → ServesPort port [] s (record s { device = new })
       unfinished new done reads sees none =
-          nobody_answered s new port t
+          nobody_answered laws s new port t ready
           (record {
             look = Calm;
             seen = seen;
@@ -271,6 +292,7 @@ module _ (s : Server) (seen : Device) (port : Port) (t : IsSettled s) (ready : s
             };
           })
           (followed_then IsService AnyUse s.device seen new (looks_serve port s.device seen looks) (finds_serve laws port mask done seen new reads))
+          (found_silent new done reads)
           (λ well calm slot used small is ci sact.
           let c = still_clear s port k ready slot laws.looks seen looks.driven used is ci sact in
           false≢true (sym (none slot small) ∙ sees slot small (asked slot used small is) c.0 c.1))
@@ -283,9 +305,6 @@ module _ (s : Server) (seen : Device) (port : Port) (t : IsSettled s) (ready : s
 
         served : IsFollowed IsService AnyUse s.device found
         served = followed_then IsService AnyUse s.device seen found (looks_serve port s.device seen looks) (finds_serve laws port mask done seen found reads)
-
-        seen_kept : IsKept (record s { device = seen })
-        seen_kept = looking_kept s seen port k ready laws looks
 
         found_kept : IsKept from
         found_kept = finding_kept (record s { device = seen }) found port seen_kept ready laws mask done reads
@@ -324,6 +343,7 @@ module _ (s : Server) (seen : Device) (port : Port) (t : IsSettled s) (ready : s
             first = x.4;
             last = subst (λ (mode : Mode). IssuesOnly mode port z.steps) mode_is z.only;
           };
+          last = last_on (mode_in a.mid port) port z.steps base z.only z.last (none_last base none_in_base) (λ id late early. false≢true (sym (none_in_base id) ∙ early));
           issues = subst (λ (mode : Mode). IssuesDue mode (z.steps ++ base) (after m (z.steps ++ base)) port) mode_is (subst (λ (n : Machine). IssuesDue (mode_in a.mid port) (z.steps ++ base) n port) (sym (after-append m z.steps base))
               (dues_carried laws (mode_in a.mid port) z.steps (z.steps ++ base) (after (after m base) z.steps) (after (after m base) z.steps) port refl
               (λ u here own. sym (any_append (issues_it u.id) z.steps base ∙ ap (λ (b : Bool). list_any (issues_it u.id) z.steps || b) (none_in_base u.id) ∙ or_none (list_any (issues_it u.id) z.steps)))
@@ -383,30 +403,38 @@ module _ (s : Server) (seen : Device) (port : Port) (t : IsSettled s) (ready : s
                 (k.stands.knows.agrees.apart port.0 a port.0 b x.id
                 (serves_used s k.machine port.0 k.stands ready a x ax) (serves_used s k.machine port.0 k.stands ready b y by ∙ ap Serves (sym same))).1
 
+        -- no page of the log comes in all that but on dead ports
+        whole_silent : (q : ℕ) → state_of (found_of s.ports q) ≢ Dead → SendsNone q ReadLog s.device new.device
+        whole_silent q lives =
+            silent_more q ReadLog s.device found new.device (found_silent found done reads q lives)
+            (subst (λ (d : Device). SendsNone q ReadLog d new.device) mid_device
+            (each_silent laws port ids a.mid new mid_kept a.issued q ReadLog refl (λ dead. lives (ap (λ (n : Server). state_of (found_of n.ports q)) (sym (answers_settings laws port done a.requests from a.mid a.each)) ∙ ap state_of dead))))
+
         pub finished : ServesPort port replies s new
-        finished = record {
-          turn = record {
-            look = Calm;
-            seen = seen;
-            looks = l;
-            told = λ trouble. absurd (trouble refl);
-            calm = λ _. record {
-              mask = mask;
-              its = its;
-              idle = λ none. absurd (some none);
-              checks = λ _. record {
-                done = done;
-                read = found;
-                reads = reads;
-                exact = exactly;
-                running = λ none. absurd (was_done none);
-                over = last_issues;
+        finished =
+            serves laws port replies s new t ready
+            (record {
+              look = Calm;
+              seen = seen;
+              looks = l;
+              told = λ trouble. absurd (trouble refl);
+              calm = λ _. record {
+                mask = mask;
+                its = its;
+                idle = λ none. absurd (some none);
+                checks = λ _. record {
+                  done = done;
+                  read = found;
+                  reads = reads;
+                  exact = exactly;
+                  running = λ none. absurd (was_done none);
+                  over = last_issues;
+                };
               };
-            };
-          };
-          answers = inr (refl, some, a);
-          adds = turn_adds;
-          answered = λ well calm slot used small is ci sact.
-              let c = still_clear s port k ready slot laws.looks seen looks.driven used is ci sact in
-              (exactly slot used small is).0 (sees slot small (asked slot used small is) c.0 c.1);
-        }
+            })
+            (inr (refl, some, a))
+            turn_adds
+            (λ well calm slot used small is ci sact.
+            let c = still_clear s port k ready slot laws.looks seen looks.driven used is ci sact in
+            (exactly slot used small is).0 (sees slot small (asked slot used small is) c.0 c.1))
+            whole_silent

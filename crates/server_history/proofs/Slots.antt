@@ -16,7 +16,6 @@ use Rattle.adapter.specs.Commands.{Meaning}
 use Rattle.hba_regs.specs.Bits.{bit}
 use Rattle.adapter.specs.Device.{Device, PortState}
 use Rattle.adapter.specs.declared.command.Operation.{Operation}
-use Rattle.adapter.specs.declared.command.Operation.TheVariants.{Identify}
 use Rattle.block_machine.specs.Due.{IsDue, is_plain}
 use Rattle.block_machine.specs.Ports.{IsMode}
 use Rattle.block_machine.specs.State.{Machine, Pending, unanswered}
@@ -142,9 +141,9 @@ pub used_as : (found : Found) (used : Option SlotUse) (u : Use) → found ≢ Un
 used_as found used u other is = is other
 
 -- and has no command of the driver's own
-pub not_own : (found : Found) (used : Option SlotUse) (u : Use) → found ≢ Unready Dead → IsUsedAs found used u → u ≡ Own Identify → ⊥
-not_own found None u other is own = let z : Free ≡ Own Identify = sym (is other) ∙ own in cc
-not_own found (Some used) u other is own = let z : Serves used.id ≡ Own Identify = sym (is other) ∙ own in cc
+pub not_own : (found : Found) (used : Option SlotUse) (u : Use) (o : Operation) → found ≢ Unready Dead → IsUsedAs found used u → u ≡ Own o → ⊥
+not_own found None u o other is own = let z : Free ≡ Own o = sym (is other) ∙ own in cc
+not_own found (Some used) u o other is own = let z : Serves used.id ≡ Own o = sym (is other) ∙ own in cc
 
 -- no request is kept of a port that isn't dead
 pub none_kept : (s : Server) (m : Machine) (port : Port) → IsMachineOf s m → found_of s.ports port.0 ≢ Unready Dead → NoneKept m port

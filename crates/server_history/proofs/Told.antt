@@ -1,6 +1,7 @@
 -- The evidence of a call in which no port is stopped: it names each ready port that showed trouble when the call began.
 use Rattle.std.proofs.Common.{ℕ, ◌≡◌, ◌≢◌, ◌⊎◌, ◌<◌, ◌||◌, ◌&&◌, not, nat_eq, Bool, true, false, cond, eq-eqb, List, [], ◌∷◌, inl, inr, refl, sym, ap, ◌∙◌, subst, arith, ⊎_elim}
 use Rattle.std.specs.List.{All, Contains}
+use Rattle.std.proofs.lemmas.List.Elements.{All-cons, All-head, All-tail}
 use Rattle.std.proofs.lemmas.Bool.{cases_Bool, cases_eq, cond-true, cond-false, false≢true, or_cases, or_left, or_right, and_from, and_parts, ne_eqb}
 use Rattle.ata_types.specs.declared.Port.{Port}
 use Rattle.ata_types.specs.declared.PortState as shown
@@ -10,7 +11,7 @@ use Rattle.adapter.specs.Device.{PortState, Device}
 use Rattle.adapter.specs.declared.access.DeviceStep.{DeviceStep}
 use Rattle.agreement.specs.Agrees.{port_at}
 use Rattle.agreement.specs.Facts.{RunsWell}
-use Rattle.block_machine.specs.Events.{Ask, Said, Moment, AllGrounded, AllLawful, IsDisturbed, ServesReady}
+use Rattle.block_machine.specs.Events.{Ask, Said, Moment, AllLawful}
 use Rattle.block_machine.specs.Histories.{Instant}
 use Rattle.block_machine.specs.Ports.{Ports, Evidence, IsInterrupted}
 use Rattle.block_machine.specs.Steps.{Step, Again, Answer}
@@ -56,6 +57,16 @@ is_chosen is (first ∷ ports) port here so = ⊎_elim
     (contains_cases first ports port here)))
     (cases_Bool (is first))
 
+-- and they are among these
+pub chosen_of : (Such : Port → Type 0) (is : Port → Bool) (ports : List Port) → All Such ports → All Such (chosen is ports)
+unfolding chosen
+chosen_of Such is [] all = all
+chosen_of Such is (port ∷ ports) all = by (is port) (chosen_of Such is ports (All-tail Such port ports all))
+  where
+    by : (b : Bool) → All Such (chosen is ports) → All Such (cond b (port ∷ chosen is ports) (chosen is ports))
+    by true rest = All-cons Such port (chosen is ports) (All-head Such port ports all) rest
+    by false rest = rest
+
 pub four : List Port
 four = port_at 0 ∷ port_at 1 ∷ port_at 2 ∷ port_at 3 ∷ []
 
@@ -99,13 +110,17 @@ shows_loss p = p.serr_n || (p.serr_x || not (nat_eq p.ssts_det 3))
 abbrev pub ready_that : (PortState → Bool) → Device → Ports → Port → Bool
 ready_that shows d ports port = is_ready (ports.state port) && shows (d.port port.0)
 
--- what a call tells that began with this device and these ports
-abbrev pub told_by : Device → Ports → Evidence
-told_by d ports = record no_evidence {
-  gone = chosen (ready_that shows_loss d ports) four;
-  failed = chosen (ready_that shows_failure d ports) four;
-  fatal = chosen (ready_that shows_fatal d ports) four;
+-- what is told of these ports, where it began with this device, and ports were this
+abbrev pub told_of : List Port → Device → Ports → Evidence
+told_of list d ports = record no_evidence {
+  gone = chosen (ready_that shows_loss d ports) list;
+  failed = chosen (ready_that shows_failure d ports) list;
+  fatal = chosen (ready_that shows_fatal d ports) list;
 }
+
+-- so a call tells of all four
+abbrev pub told_by : Device → Ports → Evidence
+told_by d ports = told_of four d ports
 
 unfatal : (p : PortState) → shows_fatal p ≡ true → ShowsFatal p
 unfatal p h = ⊎_elim
@@ -158,48 +173,47 @@ module _ (p : PortState) (well : RunsWell p) where
   pub no_fatal : shows_fatal p ≡ true → ⊥
   no_fatal h = let f = unfatal p h in let low = f.from in let high = f.to in false≢true (sym (well.quiet.quiet f.place low (omega (arith, high))) ∙ f.set)
 
-  no_failure : shows_failure p ≡ true → ⊥
-  no_failure h = ⊎_elim no_fatal (λ a. false≢true (sym (well.quiet.quiet 30 (omega arith) (omega arith)) ∙ a)) (or_cases (shows_fatal p) (p.is 30) h)
-
 -- ---- what stands behind it
 
-module _ (d : Device) (ports : Ports) (shows : PortState → Bool) where
+module _ (list : List Port) (d : Device) (ports : Ports) (shows : PortState → Bool) where
   -- who is named is ready, and shows it
-  named_is : (port : Port) → Contains (chosen (ready_that shows d ports) four) port → (ports.state port ≡ Ready) × (shows (d.port port.0) ≡ true)
+  named_is : (port : Port) → Contains (chosen (ready_that shows d ports) list) port → (ports.state port ≡ Ready) × (shows (d.port port.0) ≡ true)
   named_is port here =
-      let both = and_parts (is_ready (ports.state port)) (shows (d.port port.0)) (chosen_is (ready_that shows d ports) four port here) in
+      let both = and_parts (is_ready (ports.state port)) (shows (d.port port.0)) (chosen_is (ready_that shows d ports) list port here) in
       (ready_is (ports.state port) both.0, both.1)
 
   -- and who is so is named
-  is_named : (port : Port) → port.0 < 4 → ports.state port ≡ Ready → shows (d.port port.0) ≡ true → Contains (chosen (ready_that shows d ports) four) port
+  is_named : (port : Port) → Contains list port → ports.state port ≡ Ready → shows (d.port port.0) ≡ true → Contains (chosen (ready_that shows d ports) list) port
   unfolding is_ready
-  is_named port low ready its =
-      is_chosen (ready_that shows d ports) four port (in_four port low) (and_from (is_ready (ports.state port)) (shows (d.port port.0)) (ap is_ready ready) its)
+  is_named port there ready its =
+      is_chosen (ready_that shows d ports) list port there (and_from (is_ready (ports.state port)) (shows (d.port port.0)) (ap is_ready ready) its)
 
-  -- a port that runs well isn't named
-  spares : ((p : PortState) → RunsWell p → shows p ≡ true → ⊥) → (port : Port) → RunsWell (d.port port.0) → Contains (chosen (ready_that shows d ports) four) port → ⊥
-  spares never port well here = never (d.port port.0) well (named_is port here).1
+-- what is told of such a port has that behind it
+pub evidenced_of : (list : List Port) (ask : Ask DeviceStep) (said : Said) (accesses : List Access) (old : Instant Device) (ports : Ports) (new : Device) (port : Port)
+    → (old.moment.ports.state port ≡ Ready → Contains list port) → All (LeavesEngine port) accesses
+    → IsEvidencedOf ask said accesses old ports new (told_of list old.device old.moment.ports) port
+evidenced_of list ask said accesses old ports new port there leaves = record {
+  lost = λ here. absurd (contains_none port here);
+  gone_all = λ ready loss. is_named list old.device old.moment.ports shows_loss port (there ready) ready (loss_shows (old.device.port port.0) (⊎_elim (λ change. inl change) (λ out. inr out.0) loss));
+  gone_only = λ here.
+      let x = named_is list old.device old.moment.ports shows_loss port here in
+      (x.0, ⊎_elim (λ change. inl change) (λ out. inr (inl out)) (unlost (old.device.port port.0) x.1));
+  failed_all = λ ready failure. is_named list old.device old.moment.ports shows_failure port (there ready) ready (failure_shows (old.device.port port.0) failure);
+  failed_only = λ here. let x = named_is list old.device old.moment.ports shows_failure port here in (x.0, inl (unfailed (old.device.port port.0) x.1));
+  fatal_all = λ ready fatal. is_named list old.device old.moment.ports shows_fatal port (there ready) ready (fatal_shows (old.device.port port.0) fatal);
+  fatal_only = λ here. let x = named_is list old.device old.moment.ports shows_fatal port here in (x.0, inl (unfatal (old.device.port port.0) x.1));
+  stopped_all = inl leaves;
+  stopped_only = λ here. absurd (contains_none port here);
+  stuck_only = λ here. absurd (contains_none port here);
+}
 
 pub evidenced : (ask : Ask DeviceStep) (said : Said) (accesses : List Access) (old : Instant Device) (ports : Ports) (new : Device)
     → ((port : Port) → old.moment.ports.state port ≡ Ready → port.0 < 4) → ((port : Port) → All (LeavesEngine port) accesses)
     → IsEvidenced ask said accesses old ports new (told_by old.device old.moment.ports)
-evidenced ask said accesses old ports new low leaves = record { faults = λ told here. absurd (contains_none told here); port = of }
-  where
-    of : (port : Port) → IsEvidencedOf ask said accesses old ports new (told_by old.device old.moment.ports) port
-    of port = record {
-      lost = λ here. absurd (contains_none port here);
-      gone_all = λ ready loss. is_named old.device old.moment.ports shows_loss port (low port ready) ready (loss_shows (old.device.port port.0) (⊎_elim (λ change. inl change) (λ out. inr out.0) loss));
-      gone_only = λ here.
-          let x = named_is old.device old.moment.ports shows_loss port here in
-          (x.0, ⊎_elim (λ change. inl change) (λ out. inr (inl out)) (unlost (old.device.port port.0) x.1));
-      failed_all = λ ready failure. is_named old.device old.moment.ports shows_failure port (low port ready) ready (failure_shows (old.device.port port.0) failure);
-      failed_only = λ here. let x = named_is old.device old.moment.ports shows_failure port here in (x.0, inl (unfailed (old.device.port port.0) x.1));
-      fatal_all = λ ready fatal. is_named old.device old.moment.ports shows_fatal port (low port ready) ready (fatal_shows (old.device.port port.0) fatal);
-      fatal_only = λ here. let x = named_is old.device old.moment.ports shows_fatal port here in (x.0, inl (unfatal (old.device.port port.0) x.1));
-      stopped_all = inl (leaves port);
-      stopped_only = λ here. absurd (contains_none port here);
-      stuck_only = λ here. absurd (contains_none port here);
-    }
+evidenced ask said accesses old ports new low leaves = record {
+  faults = λ told here. absurd (contains_none told here);
+  port = λ port. evidenced_of four ask said accesses old ports new port (λ ready. in_four port (low port ready)) (leaves port);
+}
 
 -- ---- what it changes of what is asked of a call
 
@@ -220,36 +234,3 @@ module _ (d : Device) (ports : Ports) where
   lawful_told old after (Answer e outcome.PortDead ∷ steps) l = (lawful_told old after steps l.0, l.1)
   lawful_told old after (Again e ∷ steps) l = (lawful_told old after steps l.0, l.1)
   lawful_told old after (step ∷ steps) l = lawful_told old after steps l
-
-  pub grounded_told : (steps : List Step) → AllGrounded no_evidence steps → AllGrounded told steps
-  grounded_told [] g = g
-  grounded_told (Again e ∷ steps) g = absurd (contains_none e.request.port g.1)
-  grounded_told (Answer e outcome.Ok ∷ steps) g = grounded_told steps g
-  grounded_told (Answer e (outcome.DeviceError status error) ∷ steps) g = absurd (contains_none e.request.port g.1)
-  grounded_told (Answer e outcome.Aborted ∷ steps) g = absurd (contains_none e.request.port g.1)
-  grounded_told (Answer e outcome.Unplugged ∷ steps) g = grounded_told steps g
-  grounded_told (Answer e outcome.PortDead ∷ steps) g = grounded_told steps g
-  grounded_told (step ∷ steps) g = grounded_told steps g
-
-  -- a port that runs well is heeded as without evidence
-  pub serves_told : (old new : Moment) (steps : List Step) (port : Port) → RunsWell (d.port port.0) → ServesReady old no_evidence steps new port → ServesReady old told steps new port
-  serves_told old new steps port well r = record {
-    ended = r.ended;
-    emptied = λ gone. absurd (not_gone gone);
-    told = λ gone. absurd (not_gone gone);
-    interrupts = λ trouble. absurd (⊎_elim not_failed not_gone trouble);
-    anew = λ trouble. absurd (⊎_elim not_failed (contains_none port) trouble);
-    single = r.single;
-    fatal = λ here. absurd (spares d ports shows_fatal no_fatal port well here);
-    disk = r.disk;
-    calm = ⊎_elim
-        (λ (disturbed : IsDisturbed no_evidence steps port). ⊎_elim (λ failed. absurd (contains_none port failed)) (λ more. ⊎_elim (λ gone. absurd (contains_none port gone)) (λ changes. inl (inr (inr changes))) more) disturbed)
-        (λ alone. inr (record { same = alone.same; told = alone.told; uninterrupted = uninterrupted port }))
-        r.calm;
-  }
-    where
-      not_gone : Contains told.gone port → ⊥
-      not_gone = spares d ports shows_loss no_loss port well
-
-      not_failed : Contains told.failed port → ⊥
-      not_failed = spares d ports shows_failure no_failure port well

@@ -241,12 +241,3 @@ pub record AnswersBy (mode : Mode) (port : Port) (replies : List Reply) (steps :
   pub steps_are : steps ≡ later ++ (answers_in ended ++ before)
   pub first : AllDevices before
   pub last : IssuesOnly mode port later
-
--- What a port's turn adds to a machine that stands for the server.
-pub record AddsTurn (port : Port) (replies : List Reply) (old new : Server) (m : Machine) : Type 0 where
-  pub steps : List Step
-  pub may : AllMay m steps
-  pub stands : IsMachineOf new (after m steps)
-  pub backed : IsBacked old.device new.device m steps
-  pub answers : AnswersBy (mode_in old port) port replies steps
-  pub issues : IssuesDue (mode_in old port) steps (after m steps) port

@@ -2,10 +2,10 @@ use Rattle.server_history.proofs.Serving.{finished, idle, told_trouble, unfinish
 use Rattle.server_history.proofs.laws.a_port_is_served.Goals as goal
 
 pub returns-clause-told : goal.returns-clause-told
-returns-clause-told c s seen port look t ready l looks told = told_trouble s seen port t ready looks c.the_laws_below_hold.ensures.looks look l told
+returns-clause-told c s seen port look t ready l looks told = told_trouble s seen port t ready looks c.the_laws_below_hold.ensures look l told
 
 pub returns-clause-idle : goal.returns-clause-idle
-returns-clause-idle c s seen port t ready l looks its = idle s seen port t ready looks l its
+returns-clause-idle c s seen port t ready l looks its = idle s seen port t ready looks l c.the_laws_below_hold.ensures its
 
 pub returns-clause-unfinished : goal.returns-clause-unfinished
 returns-clause-unfinished c s seen new port mask t ready l looks its some done reads sees none = unfinished s seen port t ready looks l c.the_laws_below_hold.ensures mask its some new done reads sees none

@@ -1,7 +1,8 @@
 use Rattle.std.proofs.Common.{[], append-nil, arith, length, sym, ap, subst}
 use Rattle.block_server.specs.Seen.{seen}
 use Rattle.block_server.specs.View.{ServerView, server_of}
-use Rattle.server_history.specs.Served.{IsMaskOf, ServesPort}
+use Rattle.server_history.specs.Served.{IsMaskOf}
+use Rattle.server_history.specs.Turns.{ServesPort}
 use Rattle.server_history.specs.Server.{slots_at}
 use Rattle.block_server.proofs.Finishing as finishing
 use Rattle.block_server.proofs.Serving as serving

@@ -2,7 +2,7 @@ use Rattle.std.proofs.Common.{◌≡◌, ◌++◌, List, append_assoc, arith, le
 use Rattle.ata_types.specs.declared.request.Reply.{Reply}
 use Rattle.block_server.specs.View.{ServerView, server_of}
 use Rattle.host_boot.specs.declared.Found.{Found}
-use Rattle.server_history.specs.Served.{ServePorts}
+use Rattle.server_history.specs.Turns.{ServePorts}
 use Rattle.server_history.specs.Server.{IsSettled}
 use Rattle.block_server.proofs.Turns.{all_served, one_served}
 use Rattle.block_server.proofs.server.Server.service_into.Goals as goal

@@ -1,6 +1,6 @@
 use Rattle.std.proofs.Common.{◌≡◌, ◌+◌, ◌≤◌, ◌++◌, List, drop, length}
 use Rattle.ata_types.specs.declared.request.Reply.{Reply}
-use Rattle.server_history.specs.Served.{ServePorts}
+use Rattle.server_history.specs.Turns.{ServePorts}
 use Rattle.server_history.specs.Server.{Server}
 use Rattle.block_server.specs.View.{server_of}
 use Rattle.block_server.proofs.server.Server.service_into.Given as goal
