@@ -15,14 +15,14 @@ use Rattle.adapter.specs.Device.{Device}
 use Rattle.adapter.specs.declared.access.DeviceStep.{DeviceStep}
 use Rattle.block_machine.specs.Due.{NoneDue, is_plain, of_port}
 use Rattle.block_machine.specs.Events as events
-use Rattle.block_machine.specs.Events.{Moment, Submit, Submitted, AllDevices, AllIssued, AllLawful, Belong, IsIssuedIn, IssuesLast, accepts_of, issues_it}
+use Rattle.block_machine.specs.Events.{Submit, Submitted, AllIssued, issues_it}
 use Rattle.block_machine.specs.Histories.{Instant, Happening, IsReached, now}
 use Rattle.block_machine.specs.Left.{after}
 use Rattle.block_machine.specs.Ports.{SamePorts}
 use Rattle.block_machine.specs.Refusals.{Situation, IsAcceptable}
 use Rattle.block_machine.specs.Rules.{IsNamed}
 use Rattle.block_machine.specs.State as machine
-use Rattle.block_machine.specs.State.{Machine, unanswered}
+use Rattle.block_machine.specs.State.{Machine}
 use Rattle.block_machine.specs.Steps.{Step, Accept, IsNew, after_step, lend}
 use Rattle.block_machine.specs.declared.due.Unanswered.{Unanswered}
 use Rattle.block_machine.proofs.EventLemmas.{after-append}
@@ -39,7 +39,6 @@ use Rattle.host_boot.specs.declared.Found.{Found}
 use Rattle.request_queue.specs.Entries.{Held, IsAccepted, IsEarlier, asks, asks_of, due_ids}
 use Rattle.driver_history.specs.Histories.{IssuesDue, IssuesOn}
 use Rattle.driver_history.specs.Trace.{LeavesEngine}
-use Rattle.driver_history.proofs.Calm.{untroubled}
 use Rattle.server_history.specs.Below.{LawsBelow}
 use Rattle.server_history.specs.Histories.{Adds, Leads}
 use Rattle.server_history.specs.Served.{IssuesIn, Accepts, IssuesAll, accepted_as, accepting}
@@ -192,7 +191,7 @@ module _ (laws : LawsBelow) (s : Server) (k : IsKept s) (r : Request) (acc : IsA
         (driven.all, (row, its_row, All-weaker (IssuesIn port) (IssuesOn row.port) (λ access here. subst (λ (p : Port). IssuesOn p access) (sym port_is) (issuing_is port port_low access here)) driven.accesses driven.only))
         (λ other. All-weaker (IssuesIn port) (LeavesEngine other) (issuing_leaves port other) driven.accesses driven.only)
         (λ other is_ready. due_now other)
-        (λ other healthy. record { finds = tt; faults = tt; tries = tt; boots = tt; trouble = untroubled (told_by s.device old.moment.ports) (with_device s.device old) (ports_of new) new.device other healthy; well = λ i. absurd (uninterrupted s.device old.moment.ports other i); heeds = uninterrupted s.device old.moment.ports other })
+        (λ other healthy. record { finds = tt; faults = tt; tries = tt; boots = tt; trouble = laws.untroubled (told_by s.device old.moment.ports) (with_device s.device old) (ports_of new) new.device other healthy; well = λ i. absurd (uninterrupted s.device old.moment.ports other i); heeds = uninterrupted s.device old.moment.ports other })
         (backed_then s.device s.device new.device m early x.steps (own_backed s.device m (Accept asked) (λ no. no)) x.backed)
         stands
       where

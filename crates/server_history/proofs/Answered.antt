@@ -1,23 +1,18 @@
 -- Steps that answer requests, and that answer none.
-use Rattle.std.proofs.Common.{◌≡◌, false, List, [], ◌∷◌, ◌++◌, map, refl, sym, ap, ◌∙◌, subst, inl, ⊎_elim}
-use Rattle.std.specs.List.{AllZip, Contains, list_any}
-use Rattle.std.proofs.lemmas.Bool.{or_from}
+use Rattle.std.proofs.Common.{◌≡◌, List, [], ◌∷◌, ◌++◌, map, refl, sym, ap, ◌∙◌, subst, ⊎_elim}
+use Rattle.std.specs.List.{AllZip, Contains}
 use Rattle.std.proofs.lemmas.List.Elements.{Contains-append_cases, Contains-append_left, Contains-append_right}
 use Rattle.ata_types.specs.declared.Port.{Port}
 use Rattle.ata_types.specs.declared.request.Outcome.{Outcome}
 use Rattle.ata_types.specs.declared.request.Outcome.TheVariants.{Ok}
 use Rattle.ata_types.specs.declared.request.Reply.{Reply}
-use Rattle.adapter.specs.Device.{Device}
 use Rattle.block_machine.specs.declared.due.Mode.{Mode}
 use Rattle.block_machine.specs.Events.{AllDevices, AllMay, IsDevices, answers_of, reply_of}
 use Rattle.block_machine.specs.Left.{after}
-use Rattle.block_machine.specs.Ports.{Ports, IsServiced}
 use Rattle.block_machine.specs.State.{Pending, Machine}
 use Rattle.block_machine.specs.Steps.{Step, Issue, Answer, May, after_step}
-use Rattle.block_machine.proofs.Calm.{is_refused}
 use Rattle.block_machine.proofs.EventLemmas.{after-append}
 use Rattle.block_machine.proofs.Members.{contains_cases, contains_here, contains_none, contains_there, without_in}
-use Rattle.server_history.proofs.Told.{told_by}
 use Rattle.request_queue.specs.Entries.{Held}
 use Rattle.server_history.specs.Served.{HasEnded, IssuesOnly, answers_in, done_reply}
 
@@ -29,23 +24,6 @@ may_parts m [] early may = (may, tt)
 may_parts m (step ∷ late) early may =
     let x = may_parts m late early may.0 in
     (x.0, (x.1, subst (λ (n : Machine). May n step) (after-append m late early) may.1))
-
-pub none_refused : (steps : List Step) → ((e : Pending) (o : Outcome) → Contains steps (Answer e o) → o ≡ Ok) → list_any is_refused steps ≡ false
-none_refused [] ok = refl
-none_refused (Answer e o ∷ before) ok =
-    or_from _ _ (ap (λ (x : Outcome). is_refused (Answer e x)) (ok e o (contains_here (Answer e o) before (Answer e o) refl)))
-    (none_refused before (λ x y h. ok x y (contains_there (Answer e o) before (Answer x y) h)))
-none_refused (step ∷ before) ok = none_refused before (λ x y h. ok x y (contains_there step before (Answer x y) h))
-
--- ports that stay what they are are as a service may leave them, where the evidence names none that is stuck
-pub serviced_same : (d : Device) (was old new : Ports) → old ≡ new → (port : Port) → IsServiced old (told_by d was) new port
-serviced_same d was old new is port = subst (λ (ports : Ports). IsServiced old (told_by d was) ports port) is (
-  λ dead. (refl, refl, refl, refl, refl, refl),
-  λ lives. (
-    record { served = refl; stuck = λ dead. absurd (lives dead); dies = λ h. absurd (contains_none port h); keeps = λ _. (refl, refl) },
-    inl (refl, refl, refl, refl, refl, refl),
-  ),
-)
 
 -- ---- answers
 

@@ -29,7 +29,7 @@ use Rattle.agreement.proofs.Lasting.{access_same}
 use Rattle.agreement.proofs.Paging.{access_sends_none}
 use Rattle.agreement.proofs.Permitting.{clients_are_free}
 use Rattle.agreement.proofs.Sparing.{steps_spare}
-use Rattle.block_machine.specs.Events.{Ask, Submit, StoreAt, LoadAt, Service, State, AllMay, AllDevices, Device as Told, Said, Submitted, Stored, Loaded, Shown, Stepped, IsAnswered, Moment}
+use Rattle.block_machine.specs.Events.{Ask, Submit, StoreAt, LoadAt, State, AllMay, Device as Told, Said, Submitted, Shown, Stepped, IsAnswered, Moment}
 use Rattle.block_machine.specs.Histories.{Instant, Happening, IsReached, now}
 use Rattle.block_machine.specs.Left.{after}
 use Rattle.block_machine.specs.Ports.{Evidence, Ports}
@@ -50,7 +50,6 @@ use Rattle.port_look.proofs.Serving.{services_on}
 use Rattle.driver_history.specs.Histories.{Begins, CameBy, Issues, Ties, TiesPort}
 use Rattle.driver_history.specs.Evidence.{StaysHealthy}
 use Rattle.driver_history.specs.Trace.{LeavesEngine}
-use Rattle.driver_history.proofs.Calm.{untroubled}
 use Rattle.server_history.specs.Histories.{Adds, Leads, Stands, load_said, store_said}
 use Rattle.server_history.specs.Server.{HasCommand, Server, IsKept, IsMachineOf, IsPortOf, IsSettled, mode_in, ports_of, situation_of, used_for}
 use Rattle.slots.specs.declared.Use.{Use as SlotUse}
@@ -151,7 +150,7 @@ module _ (laws : LawsBelow) where
           (refl, asked)
           (λ port. All-nil (LeavesEngine port))
           (λ port. tt)
-          (λ port healthy. record { finds = tt; faults = tt; tries = tt; boots = tt; trouble = untroubled (told_by s.device old.moment.ports) (with_device s.device old) (ports_of s) new port healthy; well = λ i. absurd (uninterrupted s.device old.moment.ports port i); heeds = uninterrupted s.device old.moment.ports port })
+          (λ port healthy. record { finds = tt; faults = tt; tries = tt; boots = tt; trouble = laws.untroubled (told_by s.device old.moment.ports) (with_device s.device old) (ports_of s) new port healthy; well = λ i. absurd (uninterrupted s.device old.moment.ports port i); heeds = uninterrupted s.device old.moment.ports port })
           x.3.backed
           (machine_on s new old.moment.machine steps m x.3.only x.2)
 
@@ -175,13 +174,13 @@ module _ (laws : LawsBelow) where
   undone_adds s step k =
       nothing_adds s (Told step) (Stepped false) k (λ m. (refl, refl))
       (λ old at evidence. (refl, ports_same old.moment.ports (ports_of s) at.ports_are)) (λ old was at port. tt)
-      (λ old port healthy. record { finds = tt; faults = tt; tries = tt; boots = tt; trouble = untroubled (told_by old.device old.moment.ports) old (ports_of s) s.device port healthy; well = λ i. absurd (uninterrupted old.device old.moment.ports port i); heeds = uninterrupted old.device old.moment.ports port })
+      (λ old port healthy. record { finds = tt; faults = tt; tries = tt; boots = tt; trouble = laws.untroubled (told_by old.device old.moment.ports) old (ports_of s) s.device port healthy; well = λ i. absurd (uninterrupted old.device old.moment.ports port i); heeds = uninterrupted old.device old.moment.ports port })
 
   pub state_adds : (s : Server) (port : Port) → IsSettled s → Adds s s (State port) (Shown ((ports_of s).state port))
   state_adds s port k =
       nothing_adds s (State port) (Shown ((ports_of s).state port)) k (λ m. (refl, refl))
       (λ old at evidence. (ap (λ (ports : Ports). ports.state port) (sym at.ports_are), refl, ports_same old.moment.ports (ports_of s) at.ports_are)) (λ old was at port. tt)
-      (λ old port healthy. record { finds = tt; faults = tt; tries = tt; boots = tt; trouble = untroubled (told_by old.device old.moment.ports) old (ports_of s) s.device port healthy; well = λ i. absurd (uninterrupted old.device old.moment.ports port i); heeds = uninterrupted old.device old.moment.ports port })
+      (λ old port healthy. record { finds = tt; faults = tt; tries = tt; boots = tt; trouble = laws.untroubled (told_by old.device old.moment.ports) old (ports_of s) s.device port healthy; well = λ i. absurd (uninterrupted old.device old.moment.ports port i); heeds = uninterrupted old.device old.moment.ports port })
 
   pub store_refused : (s : Server) (client : ClientId) (frame : Frame) (offset : ℕ) (bytes : List ℕ) (fault : MemFault) → IsSettled s
       → IsFirstMemFault (owner_of s.table) (lent_to s.table) client frame offset (length bytes) fault → Adds s s (StoreAt client frame offset bytes) (store_said (Err fault))
@@ -189,7 +188,7 @@ module _ (laws : LawsBelow) where
       nothing_adds s (StoreAt client frame offset bytes) (store_said (Err fault)) k (λ m. (refl, refl))
       (λ old at evidence. (as_told s old.moment.machine at.machine (λ owner lent. IsFirstMemFault owner lent client frame offset (length bytes) fault) is, refl, ports_same old.moment.ports (ports_of s) at.ports_are))
       (λ old was at port. tt)
-      (λ old port healthy. record { finds = tt; faults = tt; tries = tt; boots = tt; trouble = untroubled (told_by old.device old.moment.ports) old (ports_of s) s.device port healthy; well = λ i. absurd (uninterrupted old.device old.moment.ports port i); heeds = uninterrupted old.device old.moment.ports port })
+      (λ old port healthy. record { finds = tt; faults = tt; tries = tt; boots = tt; trouble = laws.untroubled (told_by old.device old.moment.ports) old (ports_of s) s.device port healthy; well = λ i. absurd (uninterrupted old.device old.moment.ports port i); heeds = uninterrupted old.device old.moment.ports port })
 
   pub load_refused : (s : Server) (client : ClientId) (frame : Frame) (offset count : ℕ) (bytes : List ℕ) (fault : MemFault) → IsSettled s
       → IsFirstMemFault (owner_of s.table) (lent_to s.table) client frame offset count fault → Adds s s (LoadAt client frame offset count) (load_said (Err fault) bytes)
@@ -197,7 +196,7 @@ module _ (laws : LawsBelow) where
       nothing_adds s (LoadAt client frame offset count) (load_said (Err fault) bytes) k (λ m. (refl, refl))
       (λ old at evidence. (as_told s old.moment.machine at.machine (λ owner lent. IsFirstMemFault owner lent client frame offset count fault) is, refl, ports_same old.moment.ports (ports_of s) at.ports_are))
       (λ old was at port. tt)
-      (λ old port healthy. record { finds = tt; faults = tt; tries = tt; boots = tt; trouble = untroubled (told_by old.device old.moment.ports) old (ports_of s) s.device port healthy; well = λ i. absurd (uninterrupted old.device old.moment.ports port i); heeds = uninterrupted old.device old.moment.ports port })
+      (λ old port healthy. record { finds = tt; faults = tt; tries = tt; boots = tt; trouble = laws.untroubled (told_by old.device old.moment.ports) old (ports_of s) s.device port healthy; well = λ i. absurd (uninterrupted old.device old.moment.ports port i); heeds = uninterrupted old.device old.moment.ports port })
 
   -- ---- what a request meets
 
@@ -218,7 +217,7 @@ module _ (laws : LawsBelow) where
       nothing_adds s (Submit r) (Submitted (Err refusal)) k (λ m. (refl, refl))
       (λ old at evidence. (subst (λ (x : Situation). IsFirstRefusal x r refusal) (sym (situation_is s old at)) is, refl, ports_same old.moment.ports (ports_of s) at.ports_are))
       (λ old was at port ready. none_issued s old.moment.machine at.machine [] (λ id. refl) (mode_in s port) port (k.issued port))
-      (λ old port healthy. record { finds = tt; faults = tt; tries = tt; boots = tt; trouble = untroubled (told_by old.device old.moment.ports) old (ports_of s) s.device port healthy; well = λ i. absurd (uninterrupted old.device old.moment.ports port i); heeds = uninterrupted old.device old.moment.ports port })
+      (λ old port healthy. record { finds = tt; faults = tt; tries = tt; boots = tt; trouble = laws.untroubled (told_by old.device old.moment.ports) old (ports_of s) s.device port healthy; well = λ i. absurd (uninterrupted old.device old.moment.ports port i); heeds = uninterrupted old.device old.moment.ports port })
 
   -- ---- clients' bytes
 
@@ -293,7 +292,7 @@ module _ (laws : LawsBelow) where
             ((new, loads, refl), refl)
             (λ port. All-cons (LeavesEngine port) (Loading (4096 * frame.0 + offset) bytes) [] (tt, tt) (All-nil (LeavesEngine port)))
             (λ port. tt)
-            (λ port healthy. record { finds = tt; faults = tt; tries = tt; boots = tt; trouble = untroubled (told_by s.device old.moment.ports) (with_device s.device old) (ports_of s) new port healthy; well = λ i. absurd (uninterrupted s.device old.moment.ports port i); heeds = uninterrupted s.device old.moment.ports port })
+            (λ port healthy. record { finds = tt; faults = tt; tries = tt; boots = tt; trouble = laws.untroubled (told_by s.device old.moment.ports) (with_device s.device old) (ports_of s) new port healthy; well = λ i. absurd (uninterrupted s.device old.moment.ports port i); heeds = uninterrupted s.device old.moment.ports port })
             x.0.backed x.1
 
     pub store_adds : Stores (4096 * frame.0 + offset) bytes s.device new → Adds s (record s { device = new }) (StoreAt client frame offset bytes) (store_said (Ok tt))
@@ -313,7 +312,7 @@ module _ (laws : LawsBelow) where
             ((new, stores, refl), refl)
             (λ port. All-cons (LeavesEngine port) (Storing (4096 * frame.0 + offset) bytes) [] (tt, tt) (All-nil (LeavesEngine port)))
             (λ port. tt)
-            (λ port healthy. record { finds = tt; faults = tt; tries = tt; boots = tt; trouble = untroubled (told_by s.device old.moment.ports) (with_device s.device old) (ports_of s) new port healthy; well = λ i. absurd (uninterrupted s.device old.moment.ports port i); heeds = uninterrupted s.device old.moment.ports port })
+            (λ port healthy. record { finds = tt; faults = tt; tries = tt; boots = tt; trouble = laws.untroubled (told_by s.device old.moment.ports) (with_device s.device old) (ports_of s) new port healthy; well = λ i. absurd (uninterrupted s.device old.moment.ports port i); heeds = uninterrupted s.device old.moment.ports port })
             x.0.backed x.1
 
   -- of so many bytes

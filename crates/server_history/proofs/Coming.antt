@@ -7,7 +7,6 @@ use Rattle.std.proofs.lemmas.List.Elements.{All-append, All-cons, All-nil, All-w
 use Rattle.ata_types.specs.declared.Port.{Port}
 use Rattle.ata_types.specs.declared.request.Reply.{Reply}
 use Rattle.hba_regs.specs.Bits.{bit}
-use Rattle.hba_regs.specs.declared.reg.Reg.{Reg}
 use Rattle.hba_regs.specs.declared.reg.Reg.TheVariants as reg
 use Rattle.hba_regs.specs.declared.reg.Reg.TheVariants.{Px}
 use Rattle.hba_regs.specs.declared.reg.PortReg.TheVariants.{Is, Cmd, Ssts, Sctl, Sact, Ci}
@@ -27,13 +26,13 @@ use Rattle.driver_history.specs.Trace.{IsDriversOwn, LeavesCommand, LeavesEngine
 use Rattle.server_history.specs.Below.{LawsBelow}
 use Rattle.server_history.specs.Served.{Checks, HasNone, HasTurn, IsMaskOf, IssuesIn, is_used}
 use Rattle.slots.specs.Uses.{Uses as PortSlots, use_at}
-use Rattle.server_history.proofs.Plain.{both_read, issues_serve, issuing_serves}
+use Rattle.server_history.proofs.Plain.{both_read, issues_serve}
 use Rattle.port_look.specs.Looks.{LooksAt}
 use Rattle.port_look.specs.Services.{IsService}
 use Rattle.port_look.specs.declared.Look.{Look}
 use Rattle.port_look.specs.declared.Look.TheVariants.{Lost, Broken, Failed, Undisturbed as Calm}
 use Rattle.port_look.proofs.Seeing.{seen_well}
-use Rattle.port_look.proofs.Serving.{spares_ghc, spares_port}
+use Rattle.port_look.proofs.Serving.{spares_port}
 
 -- ---- the device's steps
 

@@ -29,7 +29,7 @@ use Rattle.driver_history.specs.Evidence.{IsEvidenced, StaysHealthy}
 use Rattle.driver_history.specs.Histories.{Begins, CameBy, Issues, Ties, TiesPort}
 use Rattle.driver_history.specs.Trace.{LeavesEngine}
 use Rattle.driver_history.proofs.Instants.{history_fit, ready_low}
-use Rattle.server_history.specs.Histories.{Leads, Stands}
+use Rattle.server_history.specs.Histories.{Leads}
 use Rattle.request_queue.specs.Entries.{Held, IsAccepted, IsInOrder}
 use Rattle.request_queue.specs.Machine.{IsBook, IsEntry, range_of}
 use Rattle.slots.specs.Uses.{Uses as PortSlots}

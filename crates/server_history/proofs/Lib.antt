@@ -25,6 +25,9 @@ pub mod Answering
 pub mod Settling
 pub mod Answered
 pub mod Serviced
+pub mod Joined
+pub mod Progress
+pub mod Calmly
 pub mod Services
 pub mod Origins
 pub mod Coming

@@ -1,52 +1,45 @@
 -- A turn in which a ready port is left as it was is a part of a service: what it makes of a machine.
-use Rattle.std.proofs.Common.{ℕ, ◌≡◌, ◌≢◌, ◌<◌, ◌==◌, ◌||◌, Bool, true, false, cond, List, [], ◌∷◌, ◌++◌, map, Some, None, inl, inr, refl, sym, ap, ◌∙◌, subst, ⊎_elim, append_assoc, arith, suc}
+use Rattle.std.proofs.Common.{ℕ, ◌≡◌, ◌≢◌, ◌<◌, ◌||◌, Bool, true, false, List, [], ◌∷◌, ◌++◌, map, Some, inl, inr, refl, sym, ap, ◌∙◌, subst, ⊎_elim, append_assoc, arith, suc}
 use Rattle.std.specs.List.{All, AllPairs, AllZip, Contains, list_any}
 use Rattle.std.specs.List.Sorted.{IsPermutation}
-use Rattle.std.proofs.lemmas.Bool.{false≢true, or_cases, or_right}
-use Rattle.std.proofs.lemmas.List.Elements.{All-cons, All-contains, All-contains_itself, All-map, All-nil, All-weaker, Contains-append_cases}
+use Rattle.std.proofs.lemmas.Bool.{false≢true}
+use Rattle.std.proofs.lemmas.List.Elements.{All-cons, All-contains, All-contains_itself, All-map, All-nil, Contains-append_cases, Contains-append_right, Contains-get_or}
 use Rattle.std.proofs.lemmas.List.Kept.{AllPairs-cons}
 use Rattle.std.proofs.lemmas.List.{append-nil}
 use Rattle.std.proofs.lemmas.List.Sorted.{IsPermutation-append, IsPermutation-append_comm, IsPermutation-refl, IsPermutation-trans}
 use Rattle.ata_types.specs.declared.Port.{Port}
 use Rattle.ata_types.specs.declared.PortState.TheVariants.{Dead, Ready as ReadyState}
 use Rattle.ata_types.specs.declared.request.Outcome.{Outcome}
-use Rattle.ata_types.specs.declared.request.Outcome.TheVariants.{Ok, PortDead, Unplugged}
+use Rattle.ata_types.specs.declared.request.Outcome.TheVariants.{Ok, Unplugged}
 use Rattle.ata_types.specs.declared.request.Reply.{Reply}
 use Rattle.ata_types.specs.declared.request.RequestId.{RequestId}
-use Rattle.adapter.specs.Access.{Access}
-use Rattle.adapter.specs.Device.{Device, PortState}
+use Rattle.adapter.specs.Device.{PortState}
 use Rattle.adapter.specs.declared.access.DeviceStep.{DeviceStep}
 use Rattle.adapter.specs.declared.command.Operation.TheVariants.{ReadLog}
-use Rattle.agreement.specs.Driven.{IsOf, SendsNone}
+use Rattle.agreement.specs.Driven.{SendsNone}
 use Rattle.agreement.specs.Driver.{IsBacked}
 use Rattle.agreement.specs.Facts.{RunsWell, Undisturbed}
 use Rattle.agreement.proofs.Sparing.{found_before, steps_spare}
-use Rattle.block_machine.specs.Due.{of_port}
-use Rattle.block_machine.specs.Events.{AllDevices, AllGrounded, AllLawful, AllMay, Belong, IsDevices, IsIssuedIn, IsLawful, IssuesLast, IsServers, IsToldBefore, Moment, Served, Service, Tells, UnplugsAll, WasIssued, answers_of, handles, issues_it, reply_of}
+use Rattle.block_machine.specs.Events.{AllDevices, AllGrounded, AllLawful, AllMay, Belong, IsDevices, IsLawful, IssuesLast, IsToldBefore, Moment, Served, Service, Tells, answers_of, issues_it}
 use Rattle.block_machine.specs.Histories.{IsReached}
 use Rattle.block_machine.specs.Left.{after}
 use Rattle.block_machine.specs.Ports.{Evidence, IsServiced, Ports, SamePort}
 use Rattle.block_machine.specs.State.{Machine, Pending}
 use Rattle.block_machine.specs.Steps.{Step, Again, Answer, Issue}
 use Rattle.block_machine.specs.declared.due.Mode.{Mode}
-use Rattle.block_machine.proofs.Members.{contains_cases, contains_here, contains_none, contains_there}
 use Rattle.driver_history.specs.Evidence.{StaysHealthy}
 use Rattle.driver_history.specs.Histories.{IssuesDue}
-use Rattle.driver_history.specs.Trace.{IsDriversOwn, LeavesEngine}
 use Rattle.host_boot.specs.Taken.{found_of}
-use Rattle.host_boot.specs.declared.Found.{Found}
-use Rattle.port_look.specs.declared.Look.TheVariants.{Undisturbed as Calm}
 use Rattle.port_look.proofs.Seeing.{look_driven}
-use Rattle.request_queue.specs.Entries.{Held, IsEarlier, asks_of}
-use Rattle.slots.specs.Uses.{use_at}
+use Rattle.request_queue.specs.Entries.{Held, IsEarlier}
 use Rattle.slots.specs.declared.Use.{Use as SlotUse}
 use Rattle.server_history.specs.Below.{LawsBelow}
-use Rattle.server_history.specs.Served.{AnswersBy, AnswersTurn, Checks, HasEnded, HasTurn, IsAnsweredIn, IsMaskOf, IssuesOnly, SameSettings, answers_in, is_used}
+use Rattle.server_history.specs.Served.{AnswersBy, AnswersTurn, HasEnded, HasTurn, IsAnsweredIn, IssuesOnly, SameSettings, answers_in, is_used}
 use Rattle.server_history.specs.Server.{Server, IsMachineOf, IsSettled, mode_in, ports_of, remembered_at, slots_at, state_of, used_for}
-use Rattle.server_history.specs.Turns.{ServesPort, IsCalmTurn, IsChecked, IsOfTurn, LeavesOthers, MakesTurn, NamesOnly, moment_of}
+use Rattle.server_history.specs.Turns.{ServesPort, IsCalmTurn, IsOfTurn, LeavesOthers, MakesTurn, NamesOnly, moment_of}
 use Rattle.server_history.proofs.Answered.{answered_in, ended_stood, issuing_answers, may_parts, no_answer, no_answer_issuing, told_so, with_ok}
+use Rattle.server_history.proofs.Joined.{nowhere}
 use Rattle.server_history.proofs.Coming.{TurnList, turn_list}
-use Rattle.server_history.proofs.Rounds.{any_append, devices_issue_none}
 use Rattle.server_history.proofs.Settling.{turn_apart, turn_settings, turn_slots}
 use Rattle.server_history.proofs.Slots.{ready_found}
 use Rattle.server_history.proofs.Zips.{at_right}
@@ -74,7 +67,7 @@ answers_all : (P : List Step → Type 0) (ended : List Pending) (early : List St
 answers_all P [] early answer start = start
 answers_all P (e ∷ ended) early answer start =
     subst P (sym (append_assoc (answers_in ended) (Answer e Ok ∷ []) early))
-    (answers_all P ended (Answer e Ok ∷ early) (λ x base here. answer x base (contains_there e ended x here)) (answer e early (contains_here e ended e refl) start))
+    (answers_all P ended (Answer e Ok ∷ early) (λ x base here. answer x base (Contains-append_right (e ∷ []) ended x here)) (answer e early (Contains-get_or (e ∷ ended) 0 e (omega arith)) start))
 
 -- then those that issue
 issues_all : (P : List Step → Type 0) (mode : Mode) (port : Port) → ((step : Step) (base : List Step) → IsDevices step → P base → P (step ∷ base))
@@ -288,7 +281,7 @@ module _ (laws : LawsBelow) (port : Port) (replies : List Reply) (old new : Serv
         record {
           served = port_same.0;
           stuck = λ dead. absurd (lives (sym port_same.1 ∙ dead));
-          dies = λ stuck. absurd (contains_none port stuck);
+          dies = λ stuck. absurd (nowhere port stuck);
           keeps = λ _. (port_same.2, port_same.3);
         },
         inl port_same,
@@ -298,7 +291,7 @@ module _ (laws : LawsBelow) (port : Port) (replies : List Reply) (old new : Serv
     calm : StaysHealthy port.0 old.device new.device → IsCalmTurn port replies list.driven.accesses old new its x.steps
     calm well = record {
       same = port_same;
-      alone = λ i. ⊎_elim (contains_none port) (contains_none port) i;
+      alone = λ i. ⊎_elim (nowhere port) (nowhere port) i;
       answers = b;
       checked = λ slot used small its_use.
           let masks = list.masks (list.calm t.kept.on well.well well.undisturbed) (slot, small, ap is_used its_use) in
@@ -333,8 +326,8 @@ module _ (laws : LawsBelow) (port : Port) (replies : List Reply) (old new : Serv
       keeps = inl (port_same.2, port_same.3);
       issues = λ _. subst (λ (kind : Mode). IssuesDue kind x.steps (after m x.steps) port) (sym mode_same) x.issues;
       evidenced = evidenced_of (port ∷ []) Service (Served replies) list.driven.accesses (record { device = old.device; moment = began }) (ports_of new) new.device port
-          (λ _. contains_here port [] port refl) list.leaves;
-      faults = λ told here. absurd (contains_none told here);
+          (λ _. Contains-get_or (port ∷ []) 0 port (omega arith)) list.leaves;
+      faults = λ told here. absurd (nowhere told here);
       calm = calm;
     }
 

@@ -1,5 +1,5 @@
 -- Steps of a port's turn: which requests they leave, which they issue, and what they leave of other ports.
-use Rattle.std.proofs.Common.{eq-eqb, ◌≡◌, ◌≢◌, ◌==◌, true, List, [], ◌∷◌, map, refl, sym, ap, ◌∙◌, subst, inl, inr, ⊎_elim, eqb-true}
+use Rattle.std.proofs.Common.{eq-eqb, ◌≡◌, ◌≢◌, ◌==◌, true, List, [], ◌∷◌, map, refl, sym, ap, ◌∙◌, subst, ⊎_elim, eqb-true}
 use Rattle.std.specs.List.{All, Contains, list_any}
 use Rattle.std.proofs.lemmas.Bool.{false≢true, or_cases}
 use Rattle.std.proofs.lemmas.List.Elements.{All-head, All-tail}
@@ -13,7 +13,7 @@ use Rattle.block_machine.specs.Events.{AllMay, IsDevices, IsIssuedIn, handles, i
 use Rattle.block_machine.specs.Histories.{IsReached}
 use Rattle.block_machine.specs.Left.{after}
 use Rattle.block_machine.specs.State.{Machine, Pending}
-use Rattle.block_machine.specs.Steps.{Step, Again, Answer, Issue, after_step, at, issue, requeued, without}
+use Rattle.block_machine.specs.Steps.{Step, Again, Answer, Issue, after_step, at, issue, requeued}
 use Rattle.block_machine.proofs.HistoryLemmas.{reached_more}
 use Rattle.block_machine.proofs.Members.{at_cases, contains_cases, contains_none, into_map, map_in, without_in}
 use Rattle.block_machine.proofs.Standing.{standing}

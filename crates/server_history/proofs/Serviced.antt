@@ -1,5 +1,5 @@
 -- A service adds an event to a history.
-use Rattle.std.proofs.Common.{eqb-true, ◌==◌, ◌++◌, false, ◌⊎◌, ◌≤◌, ℕ, ◌≡◌, ◌≢◌, ◌<◌, ◌+◌, true, List, [], ◌∷◌, refl, sym, ap, ◌∙◌, subst, inl, inr, ⊎_elim, arith}
+use Rattle.std.proofs.Common.{eqb-true, ◌==◌, false, ◌⊎◌, ℕ, ◌≡◌, ◌≢◌, ◌+◌, true, List, [], ◌∷◌, refl, sym, ap, ◌∙◌, subst, inl, inr, ⊎_elim, arith}
 use Rattle.std.specs.List.{All, Contains, list_any}
 use Rattle.std.proofs.lemmas.Bool.{cases_Bool, cases_lt, false≢true, or_from}
 use Rattle.std.proofs.lemmas.List.Elements.{All-contains_itself, All-head, Contains-append_right}
@@ -37,7 +37,9 @@ use Rattle.server_history.proofs.Standing.{not_running}
 use Rattle.server_history.proofs.Told.{fatal_shows, loss_shows, no_fatal, no_loss}
 use Rattle.server_history.proofs.Slots.{of_ready}
 use Rattle.server_history.proofs.Zips.{at_right}
-use Rattle.server_history.proofs.Services.{IsCalm, IsDone, Progress, Whole, answered_was, begun, go, idle_done, ready_or_not, unready_same, unready_spared}
+use Rattle.server_history.proofs.Joined.{ready_or_not}
+use Rattle.server_history.proofs.Progress.{IsCalm, IsDone, Progress, answered_was, begun, idle_done, unready_same, unready_spared}
+use Rattle.server_history.proofs.Services.{Whole, go}
 
 -- where each of the port's requests is answered Ok, no fault of it is told
 tells_none : (q : Port) (steps : List Step) → ((e : Pending) (o : Outcome) → Contains steps (Answer e o) → e.request.port ≡ q → o ≡ Ok) → list_any (tells_fault q) steps ≡ false
@@ -81,10 +83,6 @@ module _ (laws : LawsBelow) (s new : Server) (replies : List Reply) (start : IsS
 
   is_ready : (port : Port) → old.ports.state port ≡ state_of (found_of s.ports port.0)
   is_ready port = ap (λ (ports : Ports). ports.state port) same
-
-  -- a ready port had its turn
-  counted : (port : Port) → old.ports.state port ≡ ReadyState → port.0 < ends.count
-  counted port ready = ⊎_elim (λ less. less) (λ most. absurd (ends.past port.0 most (sym (is_ready port) ∙ ready))) (cases_lt port.0 ends.count)
 
   -- what is so of each port at the end
   done : (port : Port) → IsDone laws s start old reached at same new p.accesses p.steps p.evidence port

@@ -136,11 +136,7 @@ queued_op mode Flush queued = absurd (false≢true (sym queued))
 
 -- ---- slots
 
--- but for a dead port's, a slot is used as the server has it
-pub used_as : (found : Found) (used : Option SlotUse) (u : Use) → found ≢ Unready Dead → IsUsedAs found used u → u ≡ use_of used
-used_as found used u other is = is other
-
--- and has no command of the driver's own
+-- but on a dead port, a slot has no command of the driver's own
 pub not_own : (found : Found) (used : Option SlotUse) (u : Use) (o : Operation) → found ≢ Unready Dead → IsUsedAs found used u → u ≡ Own o → ⊥
 not_own found None u o other is own = let z : Free ≡ Own o = sym (is other) ∙ own in cc
 not_own found (Some used) u o other is own = let z : Serves used.id ≡ Own o = sym (is other) ∙ own in cc

@@ -2,22 +2,21 @@
 use Rattle.std.proofs.Common.{Bool, eq-eqb, ◌||◌, if◌then◌else◌, ◌+◌, ◌⊎◌, ℕ, ◌≡◌, ◌≢◌, ◌≤◌, ◌<◌, ◌==◌, true, false, List, [], ◌∷◌, ◌++◌, refl, sym, ap, ◌∙◌, subst, inl, inr, ⊎_elim, arith}
 use Rattle.std.specs.List.{All, Contains, list_any}
 use Rattle.std.proofs.lemmas.Bool.{cases_eq, false≢true, ne_eqb, or_left, or_right}
-use Rattle.std.proofs.lemmas.List.Elements.{All-append, All-contains, All-head, All-nil, All-tail, All-weaker, Contains-append_cases}
+use Rattle.std.proofs.lemmas.List.Elements.{All-append, All-contains, All-head, All-nil, All-tail, All-weaker, Contains-append_cases, Contains-append_right, Contains-get_or}
 use Rattle.ata_types.specs.declared.Port.{Port}
 use Rattle.ata_types.specs.declared.request.Outcome.{Outcome}
 use Rattle.ata_types.specs.declared.request.Outcome.TheVariants.{Ok, DeviceError, Aborted, Unplugged, PortDead}
 use Rattle.ata_types.specs.declared.request.RequestId.{RequestId}
 use Rattle.adapter.specs.declared.access.DeviceStep.{DeviceStep}
 use Rattle.agreement.specs.Agrees.{port_at}
-use Rattle.block_machine.specs.Events.{Moment, Service, AllGrounded, AllLawful, AllMay, Belong, IsDevices, IsIssuedIn, IsLawful, IssuesLast, UnplugsAll, changes_disk, handles, issues_it}
+use Rattle.block_machine.specs.Events.{Moment, Service, AllGrounded, AllLawful, AllMay, Belong, IsIssuedIn, IsLawful, IssuesLast, UnplugsAll, changes_disk, handles}
 use Rattle.block_machine.specs.Histories.{IsReached}
 use Rattle.block_machine.specs.Left.{after}
 use Rattle.block_machine.specs.Ports.{Evidence, Ports}
 use Rattle.block_machine.specs.State.{Machine, Pending}
-use Rattle.block_machine.specs.Steps.{Step, Again, Answer, Issue, May, Replace, Unplug, after_step}
+use Rattle.block_machine.specs.Steps.{Step, Again, Answer, Issue, May, Replace, Unplug}
 use Rattle.block_machine.proofs.EventLemmas.{after-append}
 use Rattle.block_machine.proofs.HistoryLemmas.{reached_more}
-use Rattle.block_machine.proofs.Members.{contains_cases, contains_here, contains_none, contains_there}
 use Rattle.block_machine.proofs.Standing.{standing}
 use Rattle.server_history.specs.Turns.{IsOfTurn, IsStepOf}
 use Rattle.server_history.proofs.Origins.{IsSame, StandsIn, handled_own, issued_before, others_left, others_were, same_as, same_more, stood}
@@ -78,15 +77,15 @@ pub lawful_on : (old new : Moment) (evidence other : Evidence) (ports later : Po
     → AllLawful old evidence ports steps → AllLawful new other later steps
 lawful_on old new evidence other ports later [] each again a = tt
 lawful_on old new evidence other ports later (Answer e o ∷ steps) each again a = (
-  lawful_on old new evidence other ports later steps (λ x y h. each x y (contains_there (Answer e o) steps (Answer x y) h)) (λ x h. again x (contains_there (Answer e o) steps (Again x) h)) a.0,
-  each e o (contains_here (Answer e o) steps (Answer e o) refl) a.1,
+  lawful_on old new evidence other ports later steps (λ x y h. each x y (Contains-append_right ((Answer e o) ∷ []) steps (Answer x y) h)) (λ x h. again x (Contains-append_right ((Answer e o) ∷ []) steps (Again x) h)) a.0,
+  each e o (Contains-get_or ((Answer e o) ∷ steps) 0 (Answer e o) (omega arith)) a.1,
 )
 lawful_on old new evidence other ports later (Again e ∷ steps) each again a = (
-  lawful_on old new evidence other ports later steps (λ x y h. each x y (contains_there (Again e) steps (Answer x y) h)) (λ x h. again x (contains_there (Again e) steps (Again x) h)) a.0,
-  again e (contains_here (Again e) steps (Again e) refl) a.1,
+  lawful_on old new evidence other ports later steps (λ x y h. each x y (Contains-append_right ((Again e) ∷ []) steps (Answer x y) h)) (λ x h. again x (Contains-append_right ((Again e) ∷ []) steps (Again x) h)) a.0,
+  again e (Contains-get_or ((Again e) ∷ steps) 0 (Again e) (omega arith)) a.1,
 )
 lawful_on old new evidence other ports later (step ∷ steps) each again a =
-    lawful_on old new evidence other ports later steps (λ x y h. each x y (contains_there step steps (Answer x y) h)) (λ x h. again x (contains_there step steps (Again x) h)) a
+    lawful_on old new evidence other ports later steps (λ x y h. each x y (Contains-append_right (step ∷ []) steps (Answer x y) h)) (λ x h. again x (Contains-append_right (step ∷ []) steps (Again x) h)) a
 
 pub grounded_join : (evidence : Evidence) (late early : List Step) → AllGrounded evidence late → AllGrounded evidence early → AllGrounded evidence (late ++ early)
 grounded_join evidence [] early a b = b

@@ -29,7 +29,7 @@ use Rattle.agreement.specs.Driven.{AnyUse, IsDrivenBy, IsFollowed, IsOf, LeavesP
 use Rattle.agreement.specs.Driver.{EndsWith, Known, Knows}
 use Rattle.agreement.specs.Slots.{Armed, Free, Own, Uses, op_of}
 use Rattle.block_machine.specs.Due.{AreDueInTurn, IsDue, is_plain, IsInOrder as machine_in_order, due_of, of_port, with_issued, with_none}
-use Rattle.block_machine.specs.State.{Machine, Pending, unanswered}
+use Rattle.block_machine.specs.State.{Machine, Pending}
 use Rattle.block_machine.specs.Steps.{Accept, Issue, Answer, May, after_step, newly_accepted}
 use Rattle.block_machine.specs.State as machine
 use Rattle.block_machine.specs.Steps as steps

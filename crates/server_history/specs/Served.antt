@@ -8,22 +8,15 @@ use Rattle.ata_types.specs.declared.request.Reply.{Reply}
 use Rattle.ata_types.specs.declared.request.Request.{Request}
 use Rattle.ata_types.specs.declared.request.RequestId.{RequestId}
 use Rattle.adapter.specs.Device.{Device}
-use Rattle.agreement.specs.Agrees.{port_at}
 use Rattle.agreement.specs.Driven.{IsDrivenBy}
-use Rattle.agreement.specs.Driver.{IsBacked}
-use Rattle.agreement.specs.Facts.{RunsWell, Undisturbed}
 use Rattle.block_machine.specs.Due.{IsDue, is_plain}
 use Rattle.block_machine.specs.declared.due.Mode.{Mode}
-use Rattle.block_machine.specs.Events.{AllMay, AllDevices, IsDevices}
-use Rattle.block_machine.specs.Histories.{IsReached}
+use Rattle.block_machine.specs.Events.{AllDevices, IsDevices}
 use Rattle.block_machine.specs.Left.{after}
 use Rattle.block_machine.specs.Rules.{IsNamed}
-use Rattle.block_machine.specs.State.{Machine, Pending}
+use Rattle.block_machine.specs.State.{Pending}
 use Rattle.block_machine.specs.Steps.{Step, Answer, Issue, AllTouched}
 use Rattle.dma_frames.specs.Table.{Table, LendsOnly}
-use Rattle.driver_history.specs.Histories.{IssuesDue}
-use Rattle.host_boot.specs.declared.Found.{Found}
-use Rattle.host_boot.specs.declared.Found.TheVariants.{Ready}
 use Rattle.adapter.specs.Access.{Access}
 use Rattle.hba_regs.specs.Bits.{bit}
 use Rattle.ncq.specs.Masks.{ReadsDone}
@@ -32,7 +25,7 @@ use Rattle.agreement.specs.Readying.{IsStored}
 use Rattle.ncq.specs.declared.Task.{Task}
 use Rattle.request_queue.specs.Entries.{Held, IsEarlier, asks, asks_of, at, due_ids, issue, without}
 use Rattle.request_queue.specs.Machine.{IsEntry}
-use Rattle.server_history.specs.Server.{Server, IsSettled, IsMachineOf, mode_in, slots_at, used_for, with_slot}
+use Rattle.server_history.specs.Server.{Server, mode_in, slots_at, used_for, with_slot}
 use Rattle.slots.specs.Uses.{Uses as PortSlots, IsLowestFree, use_at}
 use Rattle.slots.specs.declared.Use.{Use as SlotUse}
 use Rattle.port_look.specs.Looks.{LooksAt}

@@ -16,7 +16,7 @@ use Rattle.block_machine.specs.Due.{of_port}
 use Rattle.block_machine.specs.Histories.{Instant, IsReached}
 use Rattle.block_machine.specs.Left.{after}
 use Rattle.block_machine.specs.Ports.{Evidence, Fault, IsInterrupted, IsServiced, SameDisk, SamePort}
-use Rattle.block_machine.specs.State.{Machine, Pending}
+use Rattle.block_machine.specs.State.{Machine}
 use Rattle.block_machine.specs.Steps.{Step, Again, Answer, Issue}
 use Rattle.driver_history.specs.Evidence.{BringsLog, HasFailed, IsEvidencedOf, StaysHealthy, TellsError}
 use Rattle.driver_history.specs.Histories.{IssuesDue}
