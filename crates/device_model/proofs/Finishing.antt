@@ -20,7 +20,7 @@ use Rattle.device_model.specs.Finishing.{HasDisk, HasMove, IsCovered, IsGoing, M
 use Rattle.device_model.specs.Sent.{SendsEnd}
 use Rattle.device_model.specs.Slots.{CanClear, HoldsAt, IsNext}
 use Rattle.device_model.specs.Trims.{HasClear, WillClear, next_uncleared, span, uncleared}
-use Rattle.device_model.specs.View.{Media, Takes, held_in, media_after, media_cleared, operation_of, taken_of, blank}
+use Rattle.device_model.specs.View.{Media, halt_of, held_in, media_after, media_cleared, operation_of, taken_of, blank}
 use Rattle.device_model.specs.Whole.{Outside, device_of, no_media, outside_of, outside_after, outside_cleared, outside_plugged}
 use Rattle.device_model.specs.declared.port.PortModel.{PortModel}
 use Rattle.device_model.specs.declared.hardware.Hardware.{Hardware}
@@ -32,7 +32,7 @@ use Rattle.device_model.proofs.Cleared.{cleared_tells}
 use Rattle.device_model.proofs.Posting.{end_rest}
 use Rattle.device_model.proofs.Trimming.{is_a_trim, moved_clears, next_below, none_left, some_uncleared, span_less}
 use Rattle.device_model.proofs.SlotLemmas.{slot_taken, taken_slot}
-use Rattle.device_model.proofs.Transfers.{is_taken, is_trim, still_tells, transfer_of}
+use Rattle.device_model.proofs.Transfers.{is_trim, still_tells, transfer_of}
 
 cleared : (queued : Bool) (p : PortState) (slot : ℕ) →
     (if queued then (if queued then changed p.sact slot false else p.sact) slot else (if queued then p.ci else changed p.ci slot false) slot) ≡ false
@@ -61,10 +61,10 @@ still_works p new o w cr present fresh halt broken = record {
 
 module _ (port slot sectors : ℕ) where
   -- it was just taken
-  just_fetched : (left clears : ℕ) (old new : Device) (m : Meaning) (places : List ℕ) → Takes m.operation → IsCovered (begun m places) old.size sectors left →
+  just_fetched : (left clears : ℕ) (old new : Device) (m : Meaning) (places : List ℕ) → IsCovered (begun m places) old.size sectors left →
       WillClear m.operation old.memory (begun m places) sectors clears → Can (Fetch port slot m places) old → DoesFetch port slot old new →
       IsGoing new port slot sectors left clears
-  just_fetched left clears old new m places takes covered clearing can f =
+  just_fetched left clears old new m places covered clearing can f =
       let p : PortState = old.port port in
       let state : PortState = with_fetch p slot f.meaning f.places in
       let meaning : f.meaning ≡ m = says_meaning old.memory p.bases.clb slot f.meaning m f.places places f.can.says can.says in
@@ -76,7 +76,6 @@ module _ (port slot sectors : ℕ) where
       let Q : ℕ → Type 0 = λ size. IsCovered (begun m places) size sectors left in
       record {
         t = begun m places;
-        takes = takes;
         covered = subst Q (sym (ap (λ (d : Device). d.size) f.effect)) covered;
         clearing = subst (λ (memory : ℕ → ℕ). WillClear m.operation memory (begun m places) sectors clears) (sym (ap (λ (d : Device). d.memory) f.effect)) clearing;
         works = subst P (sym there)
@@ -86,7 +85,7 @@ module _ (port slot sectors : ℕ) where
   -- it is taken, or was
   pub fetched_goes : (left clears : ℕ) (did : Bool) (old new : Device) → MayFinish old port slot sectors left clears → (did ≡ true → DoesFetch port slot old new) →
       (did ≡ false → new ≡ old) →
-      (did ≡ false → (m : Meaning) (places : List ℕ) → Takes m.operation → Can (Fetch port slot m places) old → ⊥) → IsGoing new port slot sectors left clears
+      (did ≡ false → (m : Meaning) (places : List ℕ) → Can (Fetch port slot m places) old → ⊥) → IsGoing new port slot sectors left clears
   fetched_goes left clears did old new ready fetched same only =
       by did refl ready.begins
     where
@@ -96,11 +95,11 @@ module _ (port slot sectors : ℕ) where
       by true e (inr (can, is)) =
           let P : Taken → Type 0 = λ t. IsCovered t old.size sectors left in
           let Q : Taken → Type 0 = λ t. WillClear t.meaning.operation old.memory t sectors clears in
-          just_fetched left clears old new ready.t.meaning ready.t.places ready.takes (subst P is ready.covered) (subst Q is ready.clearing) can (fetched e)
+          just_fetched left clears old new ready.t.meaning ready.t.places (subst P is ready.covered) (subst Q is ready.clearing) can (fetched e)
       by false e (inl works) =
           let P : Device → Type 0 = λ d. IsGoing d port slot sectors left clears in
-          subst P (sym (same e)) (record { t = ready.t; takes = ready.takes; covered = ready.covered; clearing = ready.clearing; works = works })
-      by false e (inr (can, is)) = absurd (only e ready.t.meaning ready.t.places ready.takes can)
+          subst P (sym (same e)) (record { t = ready.t; covered = ready.covered; clearing = ready.clearing; works = works })
+      by false e (inr (can, is)) = absurd (only e ready.t.meaning ready.t.places can)
 
   -- a piece of it is moved
   pub moved_goes : (left clears : ℕ) (old new : Device) → IsGoing old port slot sectors (suc left) clears → DoesMove port slot old new →
@@ -118,7 +117,6 @@ module _ (port slot sectors : ℕ) where
       let covered : IsCovered m.t old.size sectors (suc left) = subst Q (sym same) going.covered in
       record {
         t = u;
-        takes = subst (λ (x : Taken). Takes x.meaning.operation) (sym same) going.takes;
         clearing = subst (λ (memory : ℕ → ℕ). WillClear m.t.meaning.operation memory u sectors clears) (sym (ap (λ (d : Device). d.memory) m.effect))
             (moved_clears m.t.meaning.operation p.disk old.memory m.t m.bytes sectors clears m.can.left m.can.brings
             (subst (λ (x : Taken). WillClear x.meaning.operation old.memory x sectors clears) (sym same) going.clearing));
@@ -151,7 +149,6 @@ module _ (port slot sectors : ℕ) where
       let all : t.moved ≡ length t.places = omega (arith, going.covered.left_is) in
       record {
         t = u;
-        takes = going.takes;
         covered = record {
           left_is = going.covered.left_is;
           on_disk = going.covered.on_disk;
@@ -269,9 +266,9 @@ module _ (port slot sectors : ℕ) where
 -- ---- what a move and an end find
 
 -- a command that a port works on is one that its slot holds
-pub holds : (h : Hardware) (o : Outside) (port slot : ℕ) (t : Taken) (operation : Operation) → WorksOn ((device_of h o).port port) slot t operation →
+pub holds : (h : Hardware) (o : Outside) (port slot : ℕ) (t : Taken) → WorksOn ((device_of h o).port port) slot t t.meaning.operation →
     (r : TakenCommand) × HoldsAt (slice_index_or h.ports port blank) slot r × (t ≡ taken_of r)
-holds h o port slot t operation works =
+holds h o port slot t works =
     let p : PortModel = slice_index_or h.ports port blank in
     let w = taken_slot (held_in p.taken) slot t works.taken in (
       w.0,
@@ -283,7 +280,7 @@ holds h o port slot t operation works =
             running = works.working.running;
             present = works.working.present;
             fresh = works.working.fresh;
-            admitted = refl;
+            admitted = subst (λ (x : Taken). admits (halt_of p.halting) x.meaning.operation ≡ true) w.2 works.working.admitted;
             whole = refl;
           };
         };
@@ -304,7 +301,7 @@ pub move_fits : (h : Hardware) (o : Outside) (d : Device) (port slot : ℕ) (t :
 move_fits h o d port slot t at_zero same move =
     let P : Device → Type 0 = λ x. HasMove x port slot t in
     let on_port : HasMove (device_of h o) port slot t = subst P (sym same) move in
-    let w = holds h o port slot t t.meaning.operation on_port.works in
+    let w = holds h o port slot t on_port.works in
     let Q : Taken → Type 0 = λ x. HasMove (device_of h o) port slot x in
     let here : HasMove (device_of h o) port slot (taken_of w.0) = subst Q w.2 on_port in
     let R : ℕ → Type 0 = λ q. is_ranged (operation_of w.0.transfer) ≡ true → next_sector (taken_of w.0) < (o.media q).disk.size in
@@ -362,10 +359,10 @@ next_on_disk h o d port slot next r t at_zero same is move ranged =
     omega (arith, sector, at)
 
 -- where a move is possible, it has its place and its sector
-pub has_move : (d : Device) (port slot : ℕ) (t : Taken) (bytes : List ℕ) → Takes t.meaning.operation → HasDisk port t.meaning.operation → Can (Move port slot t bytes) d →
+pub has_move : (d : Device) (port slot : ℕ) (t : Taken) (bytes : List ℕ) → HasDisk port t.meaning.operation → Can (Move port slot t bytes) d →
     HasMove d port slot t
-has_move d port slot t bytes takes disk can =
-    let kind = transfer_of t.meaning.operation takes in
+has_move d port slot t bytes disk can =
+    let kind = transfer_of t.meaning.operation in
     let P : Operation → Type 0 = λ o. Brings (d.port port).disk d.memory t o bytes in
     record { works = can.works; left = can.left; inside = can.inside; on_disk = by kind.0 kind.1 (subst P kind.1 can.brings); has_disk = disk }
   where
@@ -378,14 +375,7 @@ has_move d port slot t bytes takes disk can =
     by transfer.Identify e brings ranged = true-false ranged (ap is_ranged e)
     by transfer.Flush e brings ranged = true-false ranged (ap is_ranged e)
     by transfer.Trim e brings ranged = true-false ranged (ap is_ranged e)
-
--- a command that the model's port works on is one that it takes
-pub works_takes : (h : Hardware) (o : Outside) (port slot : ℕ) (t : Taken) → WorksOn ((device_of h o).port port) slot t t.meaning.operation →
-    Takes t.meaning.operation
-works_takes h o port slot t works =
-    let w = holds h o port slot t t.meaning.operation works in
-    let P : Taken → Type 0 = λ x. Takes x.meaning.operation in
-    subst P (sym w.2) (is_taken w.0.transfer)
+    by transfer.ReadLog e brings ranged = true-false ranged (ap is_ranged e)
 
 -- where a move is left, one is possible
 pub going_has_move : (d : Device) (port slot left clears : ℕ) → port ≡ 0 → (going : IsGoing d port slot (d.port port).disk.size (suc left) clears) →
@@ -425,7 +415,7 @@ pub clear_fits : (h : Hardware) (o : Outside) (d : Device) (port slot most : ℕ
 clear_fits h o d port slot most t at_zero same clear =
     let P : Device → Type 0 = λ x. HasClear x port slot most t in
     let on_port : HasClear (device_of h o) port slot most t = subst P (sym same) clear in
-    let w = holds h o port slot t Trim on_port.works in
+    let w = holds h o port slot t (subst (λ (x : Operation). WorksOn ((device_of h o).port port) slot t x) (sym on_port.trim) on_port.works) in
     let Q : Taken → Type 0 = λ x. HasClear (device_of h o) port slot most x in
     let here : HasClear (device_of h o) port slot most (taken_of w.0) = subst Q w.2 on_port in
     let R : ℕ → Type 0 = λ q. next_uncleared (taken_of w.0) < (o.media q).disk.size in (

@@ -28,7 +28,7 @@ use Rattle.device_model.specs.Modelled.{device_at}
 use Rattle.device_model.specs.Sent.{SendsEnd}
 use Rattle.device_model.specs.Slots.{IsNext}
 use Rattle.device_model.specs.Trims.{HasClear}
-use Rattle.device_model.specs.View.{Takes, operation_of, taken_of}
+use Rattle.device_model.specs.View.{operation_of, taken_of}
 use Rattle.device_model.specs.Whole.{Outside, device_of}
 use Rattle.device_model.specs.declared.hardware.Hardware.{Hardware}
 use Rattle.device_model.specs.declared.model.Model.{Model}
@@ -55,7 +55,6 @@ is_page o places page = page.0
 pub has_ready : (d : Device) (slot sectors : ℕ) (has : HasIdentify d slot) → MayFinish d 0 slot sectors has.left 0
 has_ready d slot sectors has = record {
   t = has.ready.t;
-  takes = has.ready.takes;
   covered = record {
     left_is = has.ready.covered.left_is;
     on_disk = λ ranged. true-false ranged (ap is_ranged has.identifies);
@@ -241,16 +240,12 @@ fetched_taken : (slot : ℕ) (old new : Device) (f : DoesFetch 0 slot old new) �
 fetched_taken slot old new f =
     ap (λ (g : ℕ → Option Taken). g slot) (fetched_is slot old new f) ∙ changed_same (old.port 0).taken slot (Some (begun f.meaning f.places))
 
--- it is one that the model takes
-identify_takes : (d : Device) (slot : ℕ) (may : MayIdentify d slot) → Takes may.meaning.operation
-identify_takes d slot may = subst Takes (sym may.identifies) tt
-
 -- once it was taken, or was already, no other may be
 pub fetched_bars : (slot k : ℕ) (did : Bool) (old new : Device) → (did ≡ true → DoesFetch 0 slot old new) →
-    (did ≡ false → (m : Meaning) (places : List ℕ) → Takes m.operation → Can (Fetch 0 slot m places) old → ⊥) → (did ≡ false → new ≡ old) →
+    (did ≡ false → (m : Meaning) (places : List ℕ) → Can (Fetch 0 slot m places) old → ⊥) → (did ≡ false → new ≡ old) →
     MayIdentify old slot ⊎ HasIdentify old slot → MayIdentify new k → ⊥
 fetched_bars slot k true old new went never same there = let f = went refl in taken_bars new slot k (begun f.meaning f.places) (fetched_taken slot old new f)
-fetched_bars slot k false old new went never same (inl may) = absurd (never refl may.meaning may.places (identify_takes old slot may) may.can)
+fetched_bars slot k false old new went never same (inl may) = absurd (never refl may.meaning may.places may.can)
 fetched_bars slot k false old new went never same (inr has) = by has.ready.begins
   where
     t : Taken
@@ -258,7 +253,7 @@ fetched_bars slot k false old new went never same (inr has) = by has.ready.begin
 
     by : WorksOn (old.port 0) slot t t.meaning.operation ⊎ (Can (Fetch 0 slot t.meaning t.places) old × (t ≡ begun t.meaning t.places)) → MayIdentify new k → ⊥
     by (inl works) = taken_bars new slot k t (ap (λ (d : Device). (d.port 0).taken slot) (same refl) ∙ works.taken)
-    by (inr may) = absurd (never refl t.meaning t.places has.ready.takes may.0)
+    by (inr may) = absurd (never refl t.meaning t.places may.0)
 
 -- and what can be done to its end then, could before
 taken_has : (slot k : ℕ) (old new : Device) → DoesFetch 0 slot old new → HasIdentify new k → HasIdentify old slot
@@ -285,7 +280,6 @@ taken_has slot k old new f has = by has.ready.begins
                 left = has.left;
                 ready = record {
                   t = begun f.meaning f.places;
-                  takes = subst (λ (x : Taken). Takes x.meaning.operation) one has.ready.takes;
                   covered = subst R one (subst Q size has.ready.covered);
                   clearing = identify_clears f.meaning.operation old.memory (begun f.meaning f.places) 0
                       (ap (λ (x : Taken). x.meaning.operation) (sym one) ∙ has.identifies);
@@ -304,21 +298,21 @@ taken_has slot k old new f has = by has.ready.begins
         ]
 
 pub fetched_has : (slot k : ℕ) (did : Bool) (old new : Device) → (did ≡ true → DoesFetch 0 slot old new) →
-    (did ≡ false → (m : Meaning) (places : List ℕ) → Takes m.operation → Can (Fetch 0 slot m places) old → ⊥) →
+    (did ≡ false → (m : Meaning) (places : List ℕ) → Can (Fetch 0 slot m places) old → ⊥) →
     MayIdentify old slot → HasIdentify new k → HasIdentify old slot
 fetched_has slot k true old new went never may has = taken_has slot k old new (went refl) has
-fetched_has slot k false old new went never may has = absurd (never refl may.meaning may.places (identify_takes old slot may) may.can)
+fetched_has slot k false old new went never may has = absurd (never refl may.meaning may.places may.can)
 
 -- one that can be done to its end still can be once it is taken
 pub fetched_left : (slot : ℕ) (did : Bool) (old new : Device) (has : HasIdentify old slot) → (did ≡ true → DoesFetch 0 slot old new) →
-    (did ≡ false → new ≡ old) → (did ≡ false → (m : Meaning) (places : List ℕ) → Takes m.operation → Can (Fetch 0 slot m places) old → ⊥) →
+    (did ≡ false → new ≡ old) → (did ≡ false → (m : Meaning) (places : List ℕ) → Can (Fetch 0 slot m places) old → ⊥) →
     (now : HasIdentify new slot) × (now.left ≡ has.left)
 fetched_left slot did old new has went same never =
     let going = fetched_goes 0 slot 0 has.left 0 did old new has.ready went same never in
     let page = page_taken 0 slot did old new refl (λ e. goes_one (SendsEnd slot) 0 slot old new (inl (went e))) same has going.t going.works.taken in (
       record {
         left = has.left;
-        ready = record { t = going.t; takes = going.takes; covered = going.covered; clearing = going.clearing; begins = inl going.works };
+        ready = record { t = going.t; covered = going.covered; clearing = going.clearing; begins = inl going.works };
         identifies = page.0;
         low = page.1;
       },
@@ -430,8 +424,7 @@ has_noted d f n slot is has = record {
   left = has.left;
   ready = record {
     t = has.ready.t;
-    takes = has.ready.takes;
-    covered = has.ready.covered;
+      covered = has.ready.covered;
     clearing = has.ready.clearing;
     begins = by has.ready.begins;
   };

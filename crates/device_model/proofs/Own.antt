@@ -3,7 +3,7 @@ use Rattle.std.proofs.Common.{ℕ, Bool, zero, suc, true, false, ◌≡◌, ◌+
 use Rattle.std.proofs.lemmas.Bool.Decides.{eqb_tells}
 use Rattle.std.proofs.lemmas.List.Elements.{All-append, All-nil}
 use Rattle.std.specs.Prelude.{if◌then◌else◌, slice_index_or}
-use Rattle.adapter.specs.Asked.{DoesOne, DoesSome, GoesOn}
+use Rattle.adapter.specs.Asked.{DoesFault, DoesOne, DoesSome, GoesOn}
 use Rattle.adapter.specs.Commands.{Meaning, is_queued}
 use Rattle.adapter.specs.Device.{PortState, Device, Taken}
 use Rattle.adapter.specs.Memory.{changed}
@@ -11,7 +11,7 @@ use Rattle.adapter.specs.declared.command.Operation.{Operation}
 use Rattle.adapter.specs.declared.command.Operation.TheVariants.{Identify, Trim}
 use Rattle.device_model.proofs.Absurd.{some-none, some_one, true-false}
 use Rattle.adapter.proofs.Changed.{changed_other, changed_same}
-use Rattle.adapter.specs.Steps.{Step, Can, Steps, after, begun, block_after, with_clear, with_done, with_fetch, with_move}
+use Rattle.adapter.specs.Steps.{Step, Can, Steps, after, begun, block_after, with_clear, with_done, with_fault, with_fetch, with_move}
 use Rattle.adapter.proofs.Runs.{Steps-one, Steps-refl, Steps-trans}
 use Rattle.adapter.specs.Steps.Step.{Fetch, FetchFault, Move, Clear, Done, Fault, Fatal, Fall, FrFall, LinkUp, Unplug, Plug, ResetEnds, Scribble}
 use Rattle.device_model.specs.Held.{IsPortHeld, IsPortLoose}
@@ -74,6 +74,11 @@ one_keeps_present port slot old new (inr (inr (inr (most, c)))) =
 one_keeps_present port slot old new (inr (inr (inl e))) =
     ap (λ (d : Device). (d.port 0).present) (end_rest port slot e.done.flag e.done.t.meaning.operation e.mid new e.posts)
     ∙ (ap (λ (d : Device). (d.port 0).present) e.done.effect ∙ present_with old.port port (with_done (old.port port) slot e.done.flag e.done.t.meaning.operation) refl)
+
+pub fault_keeps_present : (port slot error : ℕ) (old new : Device) → DoesFault port slot error old new → (new.port 0).present ≡ (old.port 0).present
+fault_keeps_present port slot error old new f =
+    ap (λ (d : Device). (d.port 0).present) f.effect
+    ∙ present_with old.port port (with_fault (old.port port) (is_queued f.t.meaning.operation) error 0) refl
 
 pub some_keep_present : (n port slot : ℕ) (old new : Device) → DoesSome (SendsEnd slot) n port slot old new → (new.port 0).present ≡ (old.port 0).present
 some_keep_present zero port slot old new same = ap (λ (d : Device). (d.port 0).present) same

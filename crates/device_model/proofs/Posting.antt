@@ -1,7 +1,7 @@
 -- What the model sends is one of the device's own steps, and changes the memory alone.
 use Rattle.std.proofs.Common.{ℕ, Bool, true, false, zero, suc, ◌≡◌, ◌∙◌, ◌+◌, ◌≤◌, List, refl, sym, ap, inl, inr, arith}
 use Rattle.std.proofs.lemmas.Bool.Decides.{leb_tells}
-use Rattle.adapter.specs.Asked.{Asked, AskedOf, DoesOne, DoesSome, Ends, MayPost}
+use Rattle.adapter.specs.Asked.{Asked, DoesOne, DoneOf, DoesSome, Ends, MayPost}
 use Rattle.adapter.specs.Device.{PortState, Device}
 use Rattle.adapter.specs.Steps.{Step, Steps}
 use Rattle.adapter.specs.Steps.Step.{Fetch, FetchFault, Move, Clear, Done, Fault, Fatal, Fall, FrFall, LinkUp, Unplug, Plug, ResetEnds, Scribble}
@@ -35,7 +35,7 @@ end_may port slot flag operation.ReadQueued old new s = sent_may port 0x58 s.1.0
 end_may port slot flag operation.WriteQueued old new s = sent_may port 0x58 s.1.0 old new s.1.2
 end_may port slot flag operation.Flush old new s = sent_may port 0x40 s.1.0 old new s.1.2
 end_may port slot flag operation.Trim old new s = sent_may port 0x40 s.1.0 old new s.1.2
-end_may port slot flag operation.ReadLog old new s = sent_may port 0x40 s.1.0 old new s.1.2
+end_may port slot flag operation.ReadLog old new s = sent_may port 0x20 s.1.0 old new s.1.2
 
 after_may : (step : Step) (old new : Device) → SendsAfter step old new → (port : ℕ) × MayPost port 0 operation.Read old new
 after_may (Done port slot flag t) old new s = (port, end_may port slot flag t.meaning.operation old new s)
@@ -88,15 +88,19 @@ some_may : (n port slot : ℕ) (old new : Device) → DoesSome (SendsEnd slot) n
 some_may zero port slot old new e = e
 some_may (suc n) port slot old new s = (s.0, some_may n port slot old s.0 s.1, one_may port slot s.0 new s.2)
 
-pub asked_may : (s : DeviceStep) (old new : Device) → AskedOf (Sends s) s old new → Asked s old new
-asked_may (asked.Fetch p slot) old new did = did
-asked_may (asked.Move p slot) old new did = did
-asked_may (asked.Clear p slot most) old new did = did
-asked_may (asked.Done p slot) old new did = ends_may p.0 slot.0 old new did
-asked_may (asked.Finish p slot) old new did = (did.0, some_may (suc did.0) p.0 slot.0 old new did.1)
-asked_may (asked.Lie p page offset bits) old new did = did
-asked_may (asked.Truth p) old new did = did
-asked_may (asked.Hold p) old new did = did
-asked_may (asked.Release p) old new did = did
-asked_may (asked.Unplug p) old new did = did
-asked_may (asked.Plug p number) old new did = did
+done_may : (s : DeviceStep) (old new : Device) → DoneOf (Sends s) s old new → DoneOf MayPost s old new
+done_may (asked.Fetch p slot) old new did = did
+done_may (asked.Move p slot) old new did = did
+done_may (asked.Clear p slot most) old new did = did
+done_may (asked.Done p slot) old new did = ends_may p.0 slot.0 old new did
+done_may (asked.Finish p slot) old new did = (did.0, some_may (suc did.0) p.0 slot.0 old new did.1)
+done_may (asked.Fault p slot error) old new did = did
+done_may (asked.Lie p page offset bits) old new did = did
+done_may (asked.Truth p) old new did = did
+done_may (asked.Hold p) old new did = did
+done_may (asked.Release p) old new did = did
+done_may (asked.Unplug p) old new did = did
+done_may (asked.Plug p number) old new did = did
+
+pub asked_may : (s : DeviceStep) (old new : Device) → DoneOf (Sends s) s old new → Asked s old new
+asked_may s old new did = inl (done_may s old new did)

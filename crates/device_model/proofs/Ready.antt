@@ -9,7 +9,7 @@ use Rattle.adapter.specs.Commands.{is_ranged}
 use Rattle.adapter.specs.Commands.{Meaning}
 use Rattle.adapter.specs.Device.{Device, Taken}
 use Rattle.adapter.specs.Says.{Says, pieces, cut}
-use Rattle.adapter.specs.Steps.{Can, IsAlone, WorksOn, begun}
+use Rattle.adapter.specs.Steps.{Can, IsAlone, WorksOn, admits, begun}
 use Rattle.adapter.specs.Steps.Step.{Fetch}
 use Rattle.adapter.specs.declared.command.Operation.{Operation}
 use Rattle.adapter.specs.declared.command.Operation.TheVariants.{Identify}
@@ -19,8 +19,8 @@ use Rattle.adapter.proofs.SaysLemmas.{says_meaning, says_places, cut_length, cut
 use Rattle.device_model.specs.Finishing.{HasIdentify, Identifies, IsInside, AreInside, IsCovered, IsRest, MayFinish, MayIdentify}
 use Rattle.device_model.specs.Fetched.{IsNew, bytes_of}
 use Rattle.device_model.specs.Trims.{WillClear}
-use Rattle.device_model.specs.Slots.{MayTake, HasUntaken, HoldsAt}
-use Rattle.device_model.specs.View.{Media, operation_of, port_of, taken_of, blank}
+use Rattle.device_model.specs.Slots.{IsOpenTo, MayTake, HasUntaken, HoldsAt}
+use Rattle.device_model.specs.View.{Media, halt_of, operation_of, port_of, taken_of, blank}
 use Rattle.device_model.specs.Whole.{Outside, device_of}
 use Rattle.device_model.specs.declared.port.PortModel.{PortModel}
 use Rattle.device_model.specs.declared.port.TakenCommand.{TakenCommand}
@@ -31,7 +31,7 @@ use Rattle.device_model.proofs.Trimming.{identify_clears}
 use Rattle.device_model.proofs.Stepping.{fetch_takes, fetch_says}
 use Rattle.device_model.specs.declared.port.Transfer.{Transfer}
 use Rattle.device_model.specs.declared.port.Transfer.TheVariants as transfer
-use Rattle.device_model.proofs.Transfers.{is_identify, is_taken}
+use Rattle.device_model.proofs.Transfers.{is_identify}
 
 -- ---- pieces inside a memory
 
@@ -114,12 +114,12 @@ MayTakeNone p slot = (m : Media) (operation : Operation) → MayTake (port_of p 
 
 -- this command may be taken beside those that are
 abbrev pub IsBeside : PortModel → TakenCommand → Type 0
-IsBeside p r = (m : Media) → IsAlone (port_of p m) (operation_of r.transfer)
+IsBeside p r = IsOpenTo p (operation_of r.transfer)
 
 pub may_be_taken : (p : PortModel) (slot : ℕ) (r : TakenCommand) → HasUntaken p slot → IsBeside p r → (m : Media) →
     MayTake (port_of p m) slot (operation_of r.transfer)
 may_be_taken p slot r may beside m =
-    let w = may m (operation_of r.transfer) in record { fetchable = w.0; working = w.1; alone = beside m }
+    let w = may m (operation_of r.transfer) beside.0 in record { fetchable = w.0; working = w.1; alone = beside.1 m }
 
 module _ (h : Hardware) (o : Outside) (p port slot sectors left clears : ℕ) (e : p ≡ port) (ready : MayFinish (device_of h o) port slot sectors left clears) where
   abbrev state : PortModel
@@ -132,7 +132,7 @@ module _ (h : Hardware) (o : Outside) (p port slot sectors left clears : ℕ) (e
       by : WorksOn ((device_of h o).port port) slot ready.t ready.t.meaning.operation
           ⊎ (Can (Fetch port slot ready.t.meaning ready.t.places) (device_of h o) × (ready.t ≡ begun ready.t.meaning ready.t.places)) →
           Can (Fetch port slot ready.t.meaning ready.t.places) (device_of h o) × (ready.t ≡ begun ready.t.meaning ready.t.places)
-      by (inl works) = some-none (ap (λ (q : ℕ). ((device_of h o).port q).taken slot) e ∙ works.taken) (may (o.media p) ready.t.meaning.operation).0.free
+      by (inl works) = some-none (ap (λ (q : ℕ). ((device_of h o).port q).taken slot) e ∙ works.taken) (may (o.media p) ready.t.meaning.operation (ap (λ (q : ℕ). admits ((device_of h o).port q).halt ready.t.meaning.operation) e ∙ works.working.admitted)).0.free
       by (inr begins) = begins
 
   pub ready_said : HasUntaken state slot → Says (bytes_of h.memory.items) state.addresses.clb slot ready.t.meaning ready.t.places
@@ -146,7 +146,7 @@ module _ (h : Hardware) (o : Outside) (p port slot sectors left clears : ℕ) (e
           (r : TakenCommand) × HoldsAt state slot r × (ready.t ≡ taken_of r)
       by (inl works) =
           let P : ℕ → Type 0 = λ q. (r : TakenCommand) × HoldsAt (slice_index_or h.ports q blank) slot r × (ready.t ≡ taken_of r) in
-          subst P (sym e) (holds h o port slot ready.t ready.t.meaning.operation works)
+          subst P (sym e) (holds h o port slot ready.t works)
       by (inr begins) = absurd (never (o.media p) ready.t.meaning.operation (fetch_takes h o p port slot ready.t.meaning ready.t.places e begins.0))
 
 module _ (h : Hardware) (p port slot sectors : ℕ) (r : TakenCommand) (e : p ≡ port) where
@@ -157,14 +157,13 @@ module _ (h : Hardware) (p port slot sectors : ℕ) (r : TakenCommand) (e : p �
       (o : Outside) → MayFinish (device_of h o) port slot sectors left clears
   ready_to_take left clears rest new may beside says o =
       let P : ℕ → Type 0 = λ q. MayFinish (device_of h o) q slot sectors left clears in
-      let m = may (o.media p) (operation_of r.transfer) in
+      let m = may (o.media p) (operation_of r.transfer) beside.0 in
       subst P e
       (record {
         t = taken_of r;
-        takes = is_taken r.transfer;
         covered = rest.0;
         clearing = rest.1;
-        begins = inr (record { fetchable = m.0; working = m.1; alone = beside (o.media p); says = says }, new_begun r new);
+        begins = inr (record { fetchable = m.0; working = m.1; alone = beside.1 (o.media p); says = says }, new_begun r new);
       })
 
   -- and so is one that is taken
@@ -172,7 +171,7 @@ module _ (h : Hardware) (p port slot sectors : ℕ) (r : TakenCommand) (e : p �
       (o : Outside) → MayFinish (device_of h o) port slot sectors left clears
   ready_to_go left clears rest here o =
       let P : ℕ → Type 0 = λ q. MayFinish (device_of h o) q slot sectors left clears in
-      subst P e (record { t = taken_of r; takes = is_taken r.transfer; covered = rest.0; clearing = rest.1; begins = inl (here.works (o.media p)) })
+      subst P e (record { t = taken_of r; covered = rest.0; clearing = rest.1; begins = inl (here.works (o.media p)) })
 
   -- a command that is ready, as far as these are its moves and clears
   rest_back : (left clears : ℕ) (o : Outside) (ready : MayFinish (device_of h o) port slot sectors left clears) → ready.t ≡ taken_of r →
@@ -205,12 +204,15 @@ module _ (h : Hardware) (p port slot sectors : ℕ) (r : TakenCommand) (e : p �
   pub ready_beside : HasUntaken (slice_index_or h.ports p blank) slot → IsNew r →
       Says (bytes_of h.memory.items) (slice_index_or h.ports p blank).addresses.clb slot (taken_of r).meaning (taken_of r).places →
       (o : Outside) (left clears : ℕ) → MayFinish (device_of h o) port slot sectors left clears →
-      IsAlone (port_of (slice_index_or h.ports p blank) (o.media p)) (operation_of r.transfer)
+      (admits (halt_of (slice_index_or h.ports p blank).halting) (operation_of r.transfer) ≡ true)
+      × IsAlone (port_of (slice_index_or h.ports p blank) (o.media p)) (operation_of r.transfer)
   ready_beside may new says o left clears ready =
       let same = ready_is_one may new says o left clears ready in
-      let P : ℕ → Type 0 = λ q. IsAlone ((device_of h o).port q) ready.t.meaning.operation in
-      let alone = subst P (sym e) (ready_fetch h o p port slot sectors left clears e ready may).0.alone in
-      subst (λ (t : Taken). IsAlone (port_of (slice_index_or h.ports p blank) (o.media p)) t.meaning.operation) same alone
+      let P : ℕ → Type 0 = λ q. (admits ((device_of h o).port q).halt ready.t.meaning.operation ≡ true) × IsAlone ((device_of h o).port q) ready.t.meaning.operation in
+      let can = (ready_fetch h o p port slot sectors left clears e ready may).0 in
+      let both = subst P (sym e) (can.working.admitted, can.alone) in
+      subst (λ (t : Taken). (admits (halt_of (slice_index_or h.ports p blank).halting) t.meaning.operation ≡ true)
+      × IsAlone (port_of (slice_index_or h.ports p blank) (o.media p)) t.meaning.operation) same both
 
   -- where it is taken, the one that its slot holds
   pub ready_is_held : HoldsAt (slice_index_or h.ports p blank) slot r → MayTakeNone (slice_index_or h.ports p blank) slot →
@@ -247,15 +249,14 @@ module _ (h : Hardware) (slot size : ℕ) (sized : size ≡ vec_len h.memory) wh
   pub identify_said : (r : TakenCommand) → IsNew r → Says (bytes_of h.memory.items) port0.addresses.clb slot (taken_of r).meaning (taken_of r).places →
       r.transfer ≡ transfer.Identify → HasUntaken port0 slot → IsBeside port0 r → Ends r → (o : Outside) → HasIdentify (device_of h o) slot
   identify_said r new says kind may beside ends o =
-      let m = may (o.media 0) (operation_of r.transfer) in
+      let m = may (o.media 0) (operation_of r.transfer) beside.0 in
       record {
         left = ends.0;
         ready = record {
           t = taken_of r;
-          takes = is_taken r.transfer;
           covered = covers r ends.0 ends.1;
           clearing = clears r kind;
-          begins = inr (record { fetchable = m.0; working = m.1; alone = beside (o.media 0); says = says }, new_begun r new);
+          begins = inr (record { fetchable = m.0; working = m.1; alone = beside.1 (o.media 0); says = says }, new_begun r new);
         };
         identifies = ap operation_of kind;
         low = ends.2;
@@ -282,7 +283,6 @@ module _ (h : Hardware) (slot size : ℕ) (sized : size ≡ vec_len h.memory) wh
     left = ends.0;
     ready = record {
       t = taken_of r;
-      takes = is_taken r.transfer;
       covered = covers r ends.0 ends.1;
       clearing = clears r kind;
       begins = inl (held.works (o.media 0));
@@ -312,12 +312,12 @@ module _ (h : Hardware) (slot : ℕ) where
   pub may_identify : (r : TakenCommand) → Says (bytes_of h.memory.items) first.addresses.clb slot (taken_of r).meaning (taken_of r).places →
       r.transfer ≡ transfer.Identify → HasUntaken first slot → IsBeside first r → (o : Outside) → MayIdentify (device_of h o) slot
   may_identify r says kind may beside o =
-      let m = may (o.media 0) (operation_of r.transfer) in
+      let m = may (o.media 0) (operation_of r.transfer) beside.0 in
       record {
         meaning = (taken_of r).meaning;
         places = (taken_of r).places;
         identifies = ap operation_of kind;
-        can = record { fetchable = m.0; working = m.1; alone = beside (o.media 0); says = says };
+        can = record { fetchable = m.0; working = m.1; alone = beside.1 (o.media 0); says = says };
       }
 
   -- and so may one that can be done to its end, where one may be
@@ -330,9 +330,10 @@ module _ (h : Hardware) (slot : ℕ) where
   }
 
   -- none may be beside others that are taken
-  pub identify_crowded : (k : Transfer) → k ≡ transfer.Identify → ((m : Media) → IsAlone (port_of first m) (operation_of k) → ⊥) → (o : Outside) → MayIdentify (device_of h o) slot → ⊥
+  pub identify_crowded : (k : Transfer) → k ≡ transfer.Identify →
+      ((m : Media) → admits (halt_of first.halting) (operation_of k) ≡ true → IsAlone (port_of first m) (operation_of k) → ⊥) → (o : Outside) → MayIdentify (device_of h o) slot → ⊥
   identify_crowded k kind crowded o may =
-      crowded (o.media 0) (subst (λ (x : Operation). IsAlone (port_of first (o.media 0)) x) (may.identifies ∙ ap operation_of (sym kind)) may.can.alone)
+      crowded (o.media 0) (ap (λ (x : Operation). admits (halt_of first.halting) x) (sym (may.identifies ∙ ap operation_of (sym kind))) ∙ may.can.working.admitted) (subst (λ (x : Operation). IsAlone (port_of first (o.media 0)) x) (may.identifies ∙ ap operation_of (sym kind)) may.can.alone)
 
   -- none is said
   pub identify_unmeant : ((m : Meaning) (places : List ℕ) → m.operation ≡ Identify → Says (bytes_of h.memory.items) first.addresses.clb slot m places → ⊥) →

@@ -3,11 +3,11 @@
 use Rattle.std.specs.Prelude.{ℕ, Bool, true, false, ◌≡◌, ◌≢◌, ◌+◌, ◌^◌, ◌<◌, ◌≤◌, ◌⊎◌, List, [], ◌∷◌, ◌++◌, Option, None, Some, if◌then◌else◌, nat_eq}
 use Rattle.std.specs.Global.{Vec}
 use Rattle.std.specs.Vec.{vec_len, vec_capacity}
-use Rattle.adapter.specs.Asked.{AskedOf}
+use Rattle.adapter.specs.Asked.{DoneOf}
 use Rattle.adapter.specs.Commands.{Meaning, is_queued, is_ranged, reads_memory}
 use Rattle.adapter.specs.Device.{Device, Taken}
 use Rattle.adapter.specs.Steps.{Can, done_entry, next_sector}
-use Rattle.adapter.specs.Steps.Step.{Fetch, Done, Unplug}
+use Rattle.adapter.specs.Steps.Step.{Fetch, Done, Fault, Unplug}
 use Rattle.adapter.specs.declared.access.DeviceStep.{DeviceStep}
 use Rattle.adapter.specs.declared.access.DeviceStep.TheVariants as asked
 use Rattle.adapter.specs.declared.command.Operation.{Operation}
@@ -21,7 +21,6 @@ use Rattle.device_model.specs.Modelled.{device_at}
 use Rattle.device_model.specs.Paged.{GainsPages, lying, no_lies}
 use Rattle.device_model.specs.Sent.{Sends}
 use Rattle.device_model.specs.Trims.{HasClear, next_uncleared, span}
-use Rattle.device_model.specs.View.{Takes}
 use Rattle.device_model.specs.declared.disks.Inserted.{Inserted}
 use Rattle.device_model.specs.declared.disks.Which.{Which}
 use Rattle.device_model.specs.declared.disks.Which.TheVariants.{Disk0, Disk1}
@@ -38,11 +37,12 @@ use Rattle.device_model.specs.declared.model.Model.{Model}
 -- where each of its moves and clears is.
 abbrev pub Possible : DeviceStep → Device → Type 0
 Possible (asked.Fetch p s) d =
-    (p.0 < 4) × (s.0 < 32) × (meaning : Meaning) × (places : List ℕ) × Takes meaning.operation × Can (Fetch p.0 s.0 meaning places) d
+    (p.0 < 4) × (s.0 < 32) × (meaning : Meaning) × (places : List ℕ) × Can (Fetch p.0 s.0 meaning places) d
 Possible (asked.Move p s) d = (s.0 < 32) × (t : Taken) × HasMove d p.0 s.0 t
 Possible (asked.Clear p s most) d = (s.0 < 32) × (t : Taken) × HasClear d p.0 s.0 most t
 Possible (asked.Done p s) d = (p.0 < 4) × (s.0 < 32) × (flag : ℕ) × (t : Taken) × Can (Done p.0 s.0 flag t) d
 Possible (asked.Finish p s) d = (p.0 ≡ 0) × (s.0 < 32) × (left clears : ℕ) × MayFinish d p.0 s.0 (d.port 0).disk.size left clears
+Possible (asked.Fault p s error) d = (p.0 < 4) × (s.0 < 32) × (t : Taken) × Can (Fault p.0 s.0 error 0 t) d
 Possible (asked.Lie p page offset bits) d = offset < 512
 Possible (asked.Truth p) d = Unit {0}
 Possible (asked.Hold p) d = p.0 < 4
@@ -58,6 +58,7 @@ LacksMemory (asked.Clear p s most) d h plugged = HasRoom h 1 → ⊥
 LacksMemory (asked.Done p s) d h plugged = HasRoom h 1 → ⊥
 LacksMemory (asked.Finish p s) d h plugged =
     (left clears : ℕ) × MayFinish d p.0 s.0 (d.port 0).disk.size left clears × (HasRoom h (left + clears + 1) → ⊥)
+LacksMemory (asked.Fault p s error) d h plugged = HasRoom h 1 → ⊥
 LacksMemory (asked.Unplug p) d h plugged = HasRoom h 1 → ⊥
 LacksMemory (asked.Plug p number) d h plugged = HasRoom h 1 → vec_len plugged < vec_capacity plugged → ⊥
 LacksMemory step d h plugged = ⊥
@@ -84,11 +85,18 @@ NeedsAddresses step d = Unit {0}
 
 -- ---- what a step makes of a model
 
--- what the disks of port 0 say of themselves after a step: they lie once more, or not any more
-abbrev pub says_after : DeviceStep → Description → Description
-says_after (asked.Lie p page offset bits) says = if nat_eq p.0 0 then record says { lies = lying says.lies offset bits } else says
-says_after (asked.Truth p) says = if nat_eq p.0 0 then record says { lies = no_lies } else says
-says_after step says = says
+-- what the disks of port 0 say of themselves once a command that is taken in a slot has failed with an error: the log names it, if it is queued
+abbrev pub says_failed : Option Taken → (slot error : ℕ) → Description → Description
+says_failed None slot error says = says
+says_failed (Some t) slot error says =
+    if is_queued t.meaning.operation then record says { log = Some (record { tag = slot; error = error }) } else says
+
+-- and after a step on this device: they lie once more, or not any more, or a command failed
+abbrev pub says_after : DeviceStep → Device → Description → Description
+says_after (asked.Lie p page offset bits) d says = if nat_eq p.0 0 then lying page offset bits says else says
+says_after (asked.Truth p) d says = if nat_eq p.0 0 then record says { lies = no_lies; log_lies = no_lies } else says
+says_after (asked.Fault p s error) d says = says_failed ((d.port p.0).taken s.0) s.0 error says
+says_after step d says = says
 
 -- the disk that is in after a step, or was last: a disk that is put in
 abbrev pub which_after : DeviceStep → Which → Which
@@ -175,11 +183,11 @@ EndsIt step old new = Unit {0}
 -- where a sector is moved or cleared; the disks say of themselves what they say after it, and each page that the tape has gained is as the one that was in
 -- said before; and that nothing was left out for want of memory is told as it was.
 pub record Did {S : Type 0} (size : S → ℕ) (told : S → Option (ℕ → List ℕ)) (failures : S → Option Failures) (s : DeviceStep) (old new : Model S) : Type 0 where
-  pub asked : AskedOf (Sends s) s (device_at size told old) (device_at size told new)
+  pub asked : DoneOf (Sends s) s (device_at size told old) (device_at size told new)
   pub ends : StoreCuts s (failures old.disk) (failures new.disk) (device_at size told new)
       ⊎ (NoneFails failures old new × ((device_at size told old).size ≤ 2 ^ 32 → EndsIt s (device_at size told old) (device_at size told new)))
   pub held : new.held ≡ held_after s old.held
-  pub says : new.says ≡ says_after s old.says
+  pub says : new.says ≡ says_after s (device_at size told old) old.says
   pub which : new.which ≡ which_after s old.which
   pub pages : GainsPages size old new
   pub disks : (AsksStore s (device_at size told old) → ⊥) → (which : Which) → store_of new which ≡ store_of old which

@@ -11,7 +11,7 @@ use Rattle.adapter.specs.declared.command.Operation.TheVariants.{Identify}
 use Rattle.adapter.specs.declared.command.Prd.{Prd}
 use Rattle.device_model.specs.Trims.{WillClear}
 use Rattle.device_model.specs.Fetched.{bytes_of}
-use Rattle.device_model.specs.View.{Takes, operation_of, taken_of}
+use Rattle.device_model.specs.View.{operation_of, taken_of}
 use Rattle.device_model.specs.Whole.{Outside, device_of}
 use Rattle.device_model.specs.declared.hardware.Hardware.{Hardware}
 use Rattle.device_model.specs.declared.port.TakenCommand.{TakenCommand}
@@ -55,7 +55,6 @@ pub record HasMove (d : Device) (port slot : ℕ) (t : Taken) : Type 0 where
 -- the port works on a command of which so many moves, and then so many clears, are left, all of them possible
 pub record IsGoing (d : Device) (port slot sectors left clears : ℕ) : Type 0 where
   pub t : Taken
-  pub takes : Takes t.meaning.operation
   pub covered : IsCovered t d.size sectors left
   pub clearing : WillClear t.meaning.operation d.memory t sectors clears
   pub works : WorksOn (d.port port) slot t t.meaning.operation
@@ -63,7 +62,6 @@ pub record IsGoing (d : Device) (port slot sectors left clears : ℕ) : Type 0 w
 -- the same, or the command isn't taken yet, and may be
 pub record MayFinish (d : Device) (port slot sectors left clears : ℕ) : Type 0 where
   pub t : Taken
-  pub takes : Takes t.meaning.operation
   pub covered : IsCovered t d.size sectors left
   pub clearing : WillClear t.meaning.operation d.memory t sectors clears
   pub begins : WorksOn (d.port port) slot t t.meaning.operation ⊎ (Can (Fetch port slot t.meaning t.places) d × (t ≡ begun t.meaning t.places))

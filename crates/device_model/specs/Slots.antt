@@ -1,10 +1,10 @@
 -- What a port may do with its slots.
-use Rattle.std.specs.Prelude.{ℕ, ◌≡◌, ◌+◌, ◌^◌, ◌<◌, ◌≤◌, Some, length, slice_index, slice_index_or}
+use Rattle.std.specs.Prelude.{ℕ, true, ◌≡◌, ◌+◌, ◌^◌, ◌<◌, ◌≤◌, Some, length, slice_index, slice_index_or}
 use Rattle.adapter.specs.Device.{PortState}
 use Rattle.adapter.specs.Says.{pieces}
-use Rattle.adapter.specs.Steps.{IsFetchable, IsWorking, IsAlone, WorksOn, next_sector}
+use Rattle.adapter.specs.Steps.{IsFetchable, IsWorking, IsAlone, WorksOn, admits, next_sector}
 use Rattle.adapter.specs.declared.command.Operation.{Operation}
-use Rattle.device_model.specs.View.{Media, held_in, port_of, operation_of, taken_of, blank}
+use Rattle.device_model.specs.View.{Media, halt_of, held_in, port_of, operation_of, taken_of, blank}
 use Rattle.device_model.specs.declared.port.TakenCommand.{TakenCommand}
 use Rattle.device_model.specs.declared.port.PortModel.{PortModel}
 use Rattle.device_model.specs.declared.hardware.Hardware.{Hardware}
@@ -19,9 +19,14 @@ pub record MayTake (p : PortState) (slot : ℕ) (operation : Operation) : Type 0
   pub working : IsWorking p operation
   pub alone : IsAlone p operation
 
--- the slot has a command that is issued and not taken, on a port that works: it may be taken, if its bytes say one that may be beside those that are
+-- the slot has a command that is issued and not taken, on a port that works: it may be taken, if its bytes say one that may be now
 abbrev pub HasUntaken : PortModel → ℕ → Type 0
-HasUntaken p slot = (m : Media) (operation : Operation) → IsFetchable (port_of p m) slot × IsWorking (port_of p m) operation
+HasUntaken p slot =
+    (m : Media) (operation : Operation) → admits (halt_of p.halting) operation ≡ true → IsFetchable (port_of p m) slot × IsWorking (port_of p m) operation
+
+-- such a command may be now: no fault keeps it waiting, and it goes beside those that are taken
+abbrev pub IsOpenTo : PortModel → Operation → Type 0
+IsOpenTo p operation = (admits (halt_of p.halting) operation ≡ true) × ((m : Media) → IsAlone (port_of p m) operation)
 
 -- the port works on this command, which it has taken in this slot
 pub record HoldsAt (p : PortModel) (slot : ℕ) (t : TakenCommand) : Type 0 where

@@ -15,13 +15,13 @@ ghost use Rattle.adapter.specs.OneCommand.{IsFreeSlot};
 ghost use Rattle.device_model.specs.Disks.{disk_over, store_of};
 ghost use Rattle.device_model.specs.Finishing.{HasIdentify, HasMove, HasRoom, MayIdentify};
 ghost use Rattle.device_model.specs.Held.{IsPortLoose};
-ghost use Rattle.device_model.specs.Paged.{IsItsPage, IsTurned};
+ghost use Rattle.device_model.specs.Paged.{IsItsLog, IsItsPage, IsTurned};
 ghost use Rattle.device_model.specs.Does.{AnswersStep, GoesOnSo, HasCleared, NoneFails, StoreCuts, has_cleared};
 ghost use Rattle.device_model.specs.Tells.{disks_told};
 ghost use Rattle.device_model.specs.Queue.{BeginsAccess, DoesRead, DoesThen};
 ghost use Rattle.device_model.specs.Modelled.{device_at, cap_of, IsNewModel};
 ghost use Rattle.device_model.specs.Settled.{Identifies, IsSettled, LeadsOwn, LeavesOne, NoneIsLeft};
-ghost use Rattle.device_model.specs.View.{Takes, operation_of};
+ghost use Rattle.device_model.specs.View.{operation_of};
 
 use crate::clearing::Run;
 use crate::config::{ModelConfig, NoMemory};
@@ -33,7 +33,7 @@ use adapter::{Adapter, DeviceStep, DiskNumber, DiskPage, Entry, Stepped};
 use ata_types::{FEWEST_FRAMES, FRAME_BYTES, MOST_FRAMES, Port, Slot};
 use hba_regs::Reg;
 use sector_store::SectorStore;
-use sector_store::pages::Abilities;
+use sector_store::pages::{Abilities, FailedCommand, log_page};
 use std::alloc::Global;
 use std::mem;
 use std::snapshot::Snapshot;
@@ -61,17 +61,21 @@ struct Queued {
     step: DeviceStep,
 }
 
-/// What the disks of port 0 say of themselves by their pages of IDENTIFY DEVICE, beside their sizes and serial numbers.
+/// What the disks of port 0 say of themselves by their pages of IDENTIFY DEVICE, beside their sizes and serial numbers, and by the page of log 10h.
 #[derive(Clone, Copy, Debug)]
 pub struct Description {
     pub abilities: Abilities,
-    /// The bits of a page that are turned.
+    /// The queued command that failed last.
+    pub log: Option<FailedCommand>,
+    /// The bits of a page of IDENTIFY DEVICE that are turned.
     pub lies: [u8; PAGE_BYTES],
+    /// The bits of the log's page that are turned.
+    pub log_lies: [u8; PAGE_BYTES],
 }
 
 /// A modelled adapter. Port 0 has disk 0 at first, over the first store; it can be taken out, and put in again, or disk 1 in its place, over the
-/// second one. The others of ports 0 to 3 that there are have no device. Of all commands it takes READ DMA EXT, WRITE DMA EXT, READ FPDMA
-/// QUEUED, WRITE FPDMA QUEUED, FLUSH CACHE EXT, DATA SET MANAGEMENT with TRIM and IDENTIFY DEVICE alone: a step on another one answers `false`.
+/// second one. The others of ports 0 to 3 that there are have no device. It takes READ DMA EXT, WRITE DMA EXT, READ FPDMA
+/// QUEUED, WRITE FPDMA QUEUED, FLUSH CACHE EXT, DATA SET MANAGEMENT with TRIM, IDENTIFY DEVICE and READ LOG EXT.
 #[derive(Drop)]
 pub struct Model<S> {
     hardware: Hardware,
@@ -128,7 +132,9 @@ impl<S: SectorStore> Model<S> {
                     depth: config.depth,
                     trim: config.trim,
                 },
+                log: None,
                 lies: [0; PAGE_BYTES],
+                log_lies: [0; PAGE_BYTES],
             },
             plugged,
             which: Which::Disk0,
@@ -195,6 +201,23 @@ impl<S: SectorStore> Model<S> {
             return false;
         }
         self.hardware.done(port.0, slot.0)
+    }
+
+    /// Fails a slot's command, which is taken, with an error. The log names it, if it is queued.
+    fn fail(&mut self, port: Port, slot: Slot, error: u8) -> bool
+        ensures { AnswersStep S.size S.told S.failures (DeviceStep.Fault port slot error) result self.old self.new }
+    {
+        if port.0 >= 4 || slot.0 >= 32 {
+            return false;
+        }
+        let Some(queued) = self.hardware.fail(port.0, slot.0, error) else {
+            return false;
+        };
+        if queued {
+            let tag = slot.0;
+            self.says.log = Some(FailedCommand { tag, error });
+        }
+        true
     }
 
     /// Takes the disk out of port 0, which alone has one.
@@ -407,13 +430,15 @@ impl<S: SectorStore> Model<S> {
     fn lie(&mut self, port: Port, page: DiskPage, offset: u16, bits: u8) -> bool
         ensures { AnswersStep S.size S.told S.failures (DeviceStep.Lie port page offset bits) result self.old self.new }
     {
-        let DiskPage::Identity = page;
         let offset = usize::from(offset);
         if offset >= PAGE_BYTES {
             return false;
         }
         if port.0 == 0 {
-            self.says.lies[offset] ^= bits;
+            match page {
+                DiskPage::Identity => self.says.lies[offset] ^= bits,
+                DiskPage::Log => self.says.log_lies[offset] ^= bits,
+            }
         }
         true
     }
@@ -424,6 +449,7 @@ impl<S: SectorStore> Model<S> {
     {
         if port.0 == 0 {
             self.says.lies = [0; PAGE_BYTES];
+            self.says.log_lies = [0; PAGE_BYTES];
         }
         true
     }
@@ -451,6 +477,7 @@ impl<S: SectorStore> Model<S> {
             DeviceStep::Clear(port, slot, most) => slot.0 < 32 && self.clear(port, slot, most),
             DeviceStep::Done(port, slot) => self.done(port, slot),
             DeviceStep::Finish(port, slot) => slot.0 < 32 && self.finish(port, slot),
+            DeviceStep::Fault(port, slot, error) => self.fail(port, slot, error),
             DeviceStep::Lie(port, page, offset, bits) => self.lie(port, page, offset, bits),
             DeviceStep::Truth(port) => self.tell_truth(port),
             DeviceStep::Hold(port) => self.hold(port, true),
@@ -515,6 +542,7 @@ fn exchange<S: SectorStore>(
     ensures takes { result ≡ true → reads_memory (operation_of next.transfer) ≡ true → bytes.new ≡ bytes_at (bytes_of hardware.now.memory.items) next.address 512 }
     ensures same { is_ranged (operation_of next.transfer) ≡ false → disk.new ≡ disk.old }
     ensures page { result ≡ true → next.transfer ≡ Transfer.Identify → IsItsPage which (S.size disk.old) says.now bytes.new }
+    ensures log { result ≡ true → next.transfer ≡ Transfer.ReadLog → IsItsLog says.now bytes.new }
     ensures disk { result ≡ true → disk_over which (S.size disk.new) (S.told disk.new)
         ≡ disk_after (operation_of next.transfer) (disk_over which (S.size disk.old) (S.told disk.old)) next.sector bytes.new }
     ensures kept { result ≡ false → S.told disk.new ≡ S.told disk.old }
@@ -536,6 +564,11 @@ fn exchange<S: SectorStore>(
         Transfer::Identify => {
             *bytes = which.page(disk.sectors(), says.abilities);
             turn(bytes, &says.lies);
+            true
+        }
+        Transfer::ReadLog => {
+            *bytes = log_page(says.log);
+            turn(bytes, &says.log_lies);
             true
         }
         // A flush has no piece that could bring anything.

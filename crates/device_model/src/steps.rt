@@ -1,28 +1,28 @@
 // Steps that the hardware does when it is told.
 ghost use Rattle.std.specs.Prelude.{◌≡◌, ◌↔◌, IsTrue, ◌<◌, ◌≤◌, ◌+◌, ◌^◌, ◌++◌, ◌∷◌, [], true, false, ℕ, List, None, Some, IfSome, if◌then◌else◌, length, slice_index, slice_index_or};
 ghost use Rattle.std.specs.Vec.{vec_len, vec_capacity};
-ghost use Rattle.adapter.specs.Commands.{Meaning, is_ranged, reads_memory};
+ghost use Rattle.adapter.specs.Commands.{Meaning, is_queued, is_ranged, reads_memory};
 ghost use Rattle.adapter.specs.Device.{Disk, Taken};
 ghost use Rattle.adapter.specs.Memory.{patched};
 ghost use Rattle.adapter.specs.Says.{pieces};
 ghost use Rattle.adapter.specs.Steps.{Can, IsFinished, after, next_sector};
-ghost use Rattle.adapter.specs.Steps.Step.{Fetch as FetchStep, Move as MoveStep, Done as DoneStep, Unplug as UnplugStep, Plug as PlugStep};
-ghost use Rattle.adapter.specs.Asked.{DoesFetch, Ends};
+ghost use Rattle.adapter.specs.Steps.Step.{Fetch as FetchStep, Move as MoveStep, Done as DoneStep, Fault as FaultStep, Unplug as UnplugStep, Plug as PlugStep};
+ghost use Rattle.adapter.specs.Asked.{DoesFault, DoesFetch, Ends};
 ghost use Rattle.device_model.specs.Block.{brought};
 ghost use Rattle.device_model.specs.Fetched.{bytes_of};
 ghost use Rattle.device_model.specs.Finishing.{HasRoom, Identifies, IsInside, AreInside, IsBegun, IsCovered, IsPassed, IsRest, IsUnbegun};
 ghost use Rattle.device_model.specs.Sent.{SendsEnd};
 ghost use Rattle.device_model.specs.Slots.{HoldsAt, IsNext, HasUntaken};
-ghost use Rattle.device_model.specs.View.{Takes, operation_of, taken_of, blank};
+ghost use Rattle.device_model.specs.View.{held_in, operation_of, taken_of, blank};
 ghost use Rattle.device_model.specs.Whole.{Outside, device_of, outside_after, outside_plugged};
 ghost use Rattle.device_model.specs.declared.port.TakenCommand.{TakenCommand};
 
 use crate::fetch::{count_pieces, piece_at, read_as, read_command, read_into};
 use crate::hardware::{Hardware, put};
 use crate::port::{TakenCommand, Transfer};
-use crate::slots::{has_untaken, working_on};
+use crate::slots::{FAILED_STATUS, has_untaken, working_on};
 use crate::trims::{clears_of, is_finished};
-use adapter::{Done, Entry, Move, Prd};
+use adapter::{Done, Entry, Fault, Move, Prd};
 use ata_types::{Port, Slot};
 use std::snapshot::Snapshot;
 
@@ -190,7 +190,7 @@ impl Hardware {
         requires slot { slot < 32 }
         ensures did { result ≡ true → (o : Outside) → DoesFetch port slot (device_of self.old o) (device_of self.new o) }
         ensures refused { result ≡ false → (o : Outside) → device_of self.new o ≡ device_of self.old o }
-        ensures only { result ≡ false → (o : Outside) (m : Meaning) (places : List ℕ) → Takes m.operation → Can (FetchStep port slot m places) (device_of self.old o) → ⊥ }
+        ensures only { result ≡ false → (o : Outside) (m : Meaning) (places : List ℕ) → Can (FetchStep port slot m places) (device_of self.old o) → ⊥ }
         ensures tape { self.new.tape ≡ self.old.tape }
         ensures starved { self.new.starved ≡ self.old.starved }
     {
@@ -206,7 +206,7 @@ impl Hardware {
         requires may { HasUntaken (slice_index_or self.old.ports port blank) slot }
         ensures did { result ≡ true → (o : Outside) → DoesFetch port slot (device_of self.old o) (device_of self.new o) }
         ensures refused { result ≡ false → (o : Outside) → device_of self.new o ≡ device_of self.old o }
-        ensures only { result ≡ false → (o : Outside) (m : Meaning) (places : List ℕ) → Takes m.operation → Can (FetchStep port slot m places) (device_of self.old o) → ⊥ }
+        ensures only { result ≡ false → (o : Outside) (m : Meaning) (places : List ℕ) → Can (FetchStep port slot m places) (device_of self.old o) → ⊥ }
         ensures tape { self.new.tape ≡ self.old.tape }
         ensures starved { self.new.starved ≡ self.old.starved }
     {
@@ -215,7 +215,7 @@ impl Hardware {
         let Some(command) = read_command(&self.memory, list, slot) else {
             return false;
         };
-        if !self.ports[place].is_alone(command.transfer) {
+        if !self.ports[place].is_open_to(command.transfer) {
             return false;
         }
         self.ports[place].take(slot, command);
@@ -232,7 +232,7 @@ impl Hardware {
     {
         let list = self.ports[0].addresses.clb;
         let command = read_as(&self.memory, list, slot, Transfer::Identify)?;
-        if self.ports[0].is_alone(Transfer::Identify) {
+        if self.ports[0].is_open_to(Transfer::Identify) {
             Some(can_end(&command, self.memory.len()))
         } else {
             None
@@ -383,6 +383,48 @@ impl Hardware {
         true
     }
 
+    /// Whether a slot has a queued command that is taken, or a plain one, on an engine that hasn't fallen.
+    fn running_at(&self, port: u8, slot: u8) -> Option<bool>
+        requires port { port < 4 }
+        requires slot { slot < 32 }
+        ensures found { IfSome result (λ queued. (t : TakenCommand) × (held_in (slice_index_or self.now.ports port blank).taken slot ≡ Some t)
+            × ((slice_index_or self.now.ports port blank).cr ≡ true) × (queued ≡ is_queued (operation_of t.transfer))) }
+        ensures none { result ≡ None → (t : TakenCommand) → held_in (slice_index_or self.now.ports port blank).taken slot ≡ Some t →
+            (slice_index_or self.now.ports port blank).cr ≡ true → ⊥ }
+    {
+        let command = self.ports[usize::from(port)].taken.get(slot)?;
+        if self.ports[usize::from(port)].cr {
+            Some(command.transfer.is_queued())
+        } else {
+            None
+        }
+    }
+
+    /// Fails a slot's command, which is taken, with an error, and tells whether it is queued; `None` says that there is none, that the engine has fallen, or
+    /// that the tape found no memory.
+    pub fn fail(&mut self, port: u8, slot: u8, error: u8) -> Option<bool>
+        requires port { port < 4 }
+        requires slot { slot < 32 }
+        ensures did { IfSome result (λ queued. (o : Outside) → (f : DoesFault port slot error (device_of self.old o) (device_of self.new o))
+            × (queued ≡ is_queued f.t.meaning.operation)) }
+        ensures refused { result ≡ None → (o : Outside) → device_of self.new o ≡ device_of self.old o }
+        ensures left { result ≡ None → (o : Outside) → IsPassed self.old self.new ((t : Taken) × Can (FaultStep port slot error 0 t) (device_of self.old o)) }
+        ensures fed { IfSome result (λ _. self.new.starved ≡ self.old.starved) }
+    {
+        let queued = self.running_at(port, slot)?;
+        let entry = Entry::Fault(Fault {
+            port: Port(port),
+            slot: Slot(slot),
+            status: FAILED_STATUS,
+            error,
+        });
+        if !record(&mut self.tape, &mut self.starved, entry) {
+            return None;
+        }
+        self.ports[usize::from(port)].fail(queued, error);
+        Some(queued)
+    }
+
     /// Takes the command that the bytes of a slot say, which may be taken, where each of its moves and clears is possible on a disk of so many sectors and the
     /// tape finds memory for them and the end. Want of memory is told.
     #[inline(never)]
@@ -399,7 +441,7 @@ impl Hardware {
         if !read_into(&self.memory, list, slot, &mut command) {
             return None;
         }
-        if !self.ports[place].is_alone(command.transfer) {
+        if !self.ports[place].is_open_to(command.transfer) {
             return None;
         }
         let rest = rest_of(&command, &[], &self.memory, sectors)?;

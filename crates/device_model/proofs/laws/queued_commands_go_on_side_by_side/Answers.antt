@@ -4,11 +4,11 @@ use Rattle.device_model.proofs.SideBySide.{ended_leaves, fetched_leaves}
 use Rattle.device_model.proofs.laws.queued_commands_go_on_side_by_side.Goals as goal
 
 pub returns-clause-taken : goal.returns-clause-taken
-returns-clause-taken g c = λ old new p slot other m n xs ys small below apart port takes took first second here there. (
-  (port, small, m, xs, takes, here),
+returns-clause-taken g c = λ old new p slot other m n xs ys small below apart port first second here there. (
+  (port, small, m, xs, here),
   λ did.
       let still = fetched_leaves p.0 slot.0 other.0 apart (device_at g.S.SectorStore.size g.S.SectorStore.told old) (device_at g.S.SectorStore.size g.S.SectorStore.told new) m n xs ys first second here there did.asked in
-      (still, (port, below, n, ys, took, still)),
+      (still, (port, below, n, ys, still)),
 )
 
 pub returns-clause-ended : goal.returns-clause-ended

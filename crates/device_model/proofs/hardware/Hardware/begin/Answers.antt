@@ -73,7 +73,7 @@ returns-clause-begun c =
       ready = ready;
       going = λ o.
           fetched_goes c.args.port c.args.slot c.args.sectors rest.left rest.clears false (device_of h o) (device_of new o) (ready o) (λ never. true-false never refl) (λ _. same o)
-          (λ _ m places _ can.
+          (λ _ m places can.
           c.has_untaken.ensures.only c.if-has_untaken.false (o.media c.from-place.result) m.operation
           (fetch_takes h o c.from-place.result c.args.port c.args.slot m places c.from-place.ensures can));
       room = omega (arith, room, entries);

@@ -1,7 +1,7 @@
 use Rattle.std.proofs.Common.{rules, ◌<◌, length, Bool, Option, refl, slice_index_or, subst, sym}
-use Rattle.adapter.specs.Steps.{IsAlone}
 use Rattle.device_model.specs.Finishing.{Identifies}
-use Rattle.device_model.specs.View.{Media, operation_of, port_of, blank}
+use Rattle.device_model.specs.Slots.{IsOpenTo}
+use Rattle.device_model.specs.View.{operation_of, blank}
 use Rattle.device_model.specs.Whole.{device_of}
 use Rattle.device_model.specs.declared.port.Transfer.{Transfer}
 use Rattle.device_model.specs.declared.port.Transfer.TheVariants as transfer
@@ -9,14 +9,15 @@ use Rattle.device_model.proofs.Ready.{finds, identify_crowded, identify_said, id
 use Rattle.device_model.proofs.SlotLemmas.{at_port}
 use Rattle.device_model.proofs.hardware.Hardware.says_identify.Goals as goal
 
-pub returns-then-is_alone : goal.returns-then-is_alone
-returns-then-is_alone c = λ o.
+pub returns-then-is_open_to : goal.returns-then-is_open_to
+returns-then-is_open_to c = λ o.
     let h = c.args.self.now in
     let some : 0 < length c.args.self.now.ports = search rules in
     let said = rw (at_port h.ports 0 c.index-self-0.result some) at (rw c.deref.ensures.value at c.in_ok-command.ensures.found) in
     let kind = c.in_ok-command.ensures.kind in
-    let beside = λ (m : Media).
-    subst (λ (k : Transfer). IsAlone (port_of (slice_index_or h.ports 0 blank) m) (operation_of k)) (sym kind) (rw (at_port h.ports 0 c.index-self-0-2.result some) at (c.is_alone.ensures.alone c.if-is_alone.true m)) in
+    let beside =
+    subst (λ (k : Transfer). IsOpenTo (slice_index_or h.ports 0 blank) (operation_of k)) (sym kind)
+    (rw (at_port h.ports 0 c.index-self-0-2.result some) at (c.is_open_to.ensures.open c.if-is_open_to.true)) in
     finds (device_of h o) c.args.slot c.can_end.result
     (λ e. identify_said h c.args.slot c.len.result c.len.ensures c.in_ok-command.command said.0 said.1 kind c.requires.may beside (c.can_end.ensures.ends e) o)
     (λ e. (
@@ -29,7 +30,7 @@ pub returns : goal.returns
 returns c = λ o.
     let h = c.args.self.now in
     let some : 0 < length c.args.self.now.ports = search rules in
-    let never = identify_crowded h c.args.slot transfer.Identify refl (rw (at_port h.ports 0 c.index-self-0-2.result some) at (c.is_alone.ensures.only c.if-is_alone.false)) o in
+    let never = identify_crowded h c.args.slot transfer.Identify refl (rw (at_port h.ports 0 c.index-self-0-2.result some) at (c.is_open_to.ensures.only c.if-is_open_to.false)) o in
     (never, λ has. never (ready_may h c.args.slot c.requires.may o has))
 
 pub returns-in_err-command : goal.returns-in_err-command

@@ -144,7 +144,7 @@ loop-run-init g c =
 as_many : (h : Hardware) (o : Outside) (port slot sectors left clears most : ℕ) (going : IsGoing (device_of h o) port slot sectors left clears) →
     ((t : TakenCommand) → HoldsAt (slice_index_or h.ports port blank) slot t → most ≡ length (uncleared (taken_of t))) → most ≡ length (uncleared going.t)
 as_many h o port slot sectors left clears most going counted =
-    let w = holds h o port slot going.t going.t.meaning.operation going.works in
+    let w = holds h o port slot going.t going.works in
     counted w.0 w.1 ∙ ap (λ (t : Taken). length (uncleared t)) (sym w.2)
 
 pub loop-run-preserved : goal.loop-run-preserved

@@ -207,7 +207,8 @@ returns-clause-answers g c =
         which = refl;
         pages = gains_moved g.S.SectorStore.size m _ noted.0.transfer (move_of c.args.port.0 c.args.slot.0 (taken_of noted.0) c.exchange.new.bytes)
             (ap (λ (d : Device). d.tape) noted.2 ∙ ap (λ (d : Device). d.tape ++ entry ∷ []) (c.reserve-room.ensures.same o)) refl
-            (λ identify. c.exchange.ensures.page c.if-not-exchange.false (noted.1.transfer_is ∙ identify));
+            (λ identify. c.exchange.ensures.page c.if-not-exchange.false (noted.1.transfer_is ∙ identify))
+            (λ log. c.exchange.ensures.log c.if-not-exchange.false (noted.1.transfer_is ∙ log));
         disks = λ none.
             both_kept m (record m { hardware = c.move_bytes.new.self; disk = c.exchange.new.disk }) refl
             (c.exchange.ensures.same
