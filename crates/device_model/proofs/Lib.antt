@@ -23,6 +23,6 @@ pub mod Telling
 pub mod TwoDisks
 pub mod Doing
 pub mod Told
-pub mod Identifying
+pub mod Paging
 pub mod Waiting
 pub mod SideBySide

@@ -12,11 +12,10 @@ use Rattle.adapter.specs.Says.{Says, pieces, cut}
 use Rattle.adapter.specs.Steps.{Can, IsAlone, WorksOn, admits, begun}
 use Rattle.adapter.specs.Steps.Step.{Fetch}
 use Rattle.adapter.specs.declared.command.Operation.{Operation}
-use Rattle.adapter.specs.declared.command.Operation.TheVariants.{Identify}
 use Rattle.adapter.specs.declared.command.Prd.{Prd}
 use Rattle.device_model.proofs.Absurd.{some-none, some_one}
 use Rattle.adapter.proofs.SaysLemmas.{says_meaning, says_places, cut_length, cut_index}
-use Rattle.device_model.specs.Finishing.{HasIdentify, Identifies, IsInside, AreInside, IsCovered, IsRest, MayFinish, MayIdentify}
+use Rattle.device_model.specs.Finishing.{HasPage, FindsPage, IsInside, AreInside, IsCovered, IsRest, MayFinish, MayPage, sends_page}
 use Rattle.device_model.specs.Fetched.{IsNew, bytes_of}
 use Rattle.device_model.specs.Trims.{WillClear}
 use Rattle.device_model.specs.Slots.{IsOpenTo, MayTake, HasUntaken, HoldsAt}
@@ -27,11 +26,10 @@ use Rattle.device_model.specs.declared.port.TakenCommand.{TakenCommand}
 use Rattle.device_model.specs.declared.hardware.Hardware.{Hardware}
 use Rattle.device_model.proofs.Finishing.{holds}
 use Rattle.device_model.proofs.SlotLemmas.{new_begun}
-use Rattle.device_model.proofs.Trimming.{identify_clears}
+use Rattle.device_model.proofs.Trimming.{page_clears}
 use Rattle.device_model.proofs.Stepping.{fetch_takes, fetch_says}
 use Rattle.device_model.specs.declared.port.Transfer.{Transfer}
 use Rattle.device_model.specs.declared.port.Transfer.TheVariants as transfer
-use Rattle.device_model.proofs.Transfers.{is_identify}
 
 -- ---- pieces inside a memory
 
@@ -222,7 +220,7 @@ module _ (h : Hardware) (p port slot sectors : ℕ) (r : TakenCommand) (e : p �
       let same : r ≡ w.0 = some_one (sym here.held ∙ w.1.held) in
       rest_back left clears o ready (w.2 ∙ ap taken_of (sym same))
 
--- ---- IDENTIFY DEVICE
+-- ---- commands that send a page
 
 module _ (h : Hardware) (slot size : ℕ) (sized : size ≡ vec_len h.memory) where
   abbrev port0 : PortModel
@@ -238,17 +236,17 @@ module _ (h : Hardware) (slot size : ℕ) (sized : size ≡ vec_len h.memory) wh
   covers_back r left covered = let P : ℕ → Type 0 = λ n. IsCovered (taken_of r) n 0 left in subst P (sym memory_size) covered
 
   -- it clears nothing
-  clears : (r : TakenCommand) → r.transfer ≡ transfer.Identify → WillClear (operation_of r.transfer) (bytes_of h.memory.items) (taken_of r) 0 0
-  clears r kind = identify_clears (operation_of r.transfer) (bytes_of h.memory.items) (taken_of r) 0 (ap operation_of kind)
+  clears : (r : TakenCommand) → sends_page (operation_of r.transfer) ≡ true → WillClear (operation_of r.transfer) (bytes_of h.memory.items) (taken_of r) 0 0
+  clears r kind = page_clears (operation_of r.transfer) (bytes_of h.memory.items) (taken_of r) 0 kind
 
   -- a command that can be done to its end
   abbrev pub Ends : TakenCommand → Type 0
   Ends r = (left : ℕ) × IsCovered (taken_of r) size 0 left × AreInside (2 ^ 32) (pieces r.prds)
 
   -- one that may be taken
-  pub identify_said : (r : TakenCommand) → IsNew r → Says (bytes_of h.memory.items) port0.addresses.clb slot (taken_of r).meaning (taken_of r).places →
-      r.transfer ≡ transfer.Identify → HasUntaken port0 slot → IsBeside port0 r → Ends r → (o : Outside) → HasIdentify (device_of h o) slot
-  identify_said r new says kind may beside ends o =
+  pub page_said : (r : TakenCommand) → IsNew r → Says (bytes_of h.memory.items) port0.addresses.clb slot (taken_of r).meaning (taken_of r).places →
+      sends_page (operation_of r.transfer) ≡ true → HasUntaken port0 slot → IsBeside port0 r → Ends r → (o : Outside) → HasPage (device_of h o) slot
+  page_said r new says kind may beside ends o =
       let m = may (o.media 0) (operation_of r.transfer) beside.0 in
       record {
         left = ends.0;
@@ -258,28 +256,28 @@ module _ (h : Hardware) (slot size : ℕ) (sized : size ≡ vec_len h.memory) wh
           clearing = clears r kind;
           begins = inr (record { fetchable = m.0; working = m.1; alone = beside.1 (o.media 0); says = says }, new_begun r new);
         };
-        identifies = ap operation_of kind;
+        sends = kind;
         low = ends.2;
       }
 
   -- no other one may be
-  pub identify_unsaid : ((m : Meaning) (places : List ℕ) → m.operation ≡ Identify → Says (bytes_of h.memory.items) port0.addresses.clb slot m places → ⊥) →
-      HasUntaken port0 slot → (o : Outside) → HasIdentify (device_of h o) slot → ⊥
-  identify_unsaid none may o has =
-      none has.ready.t.meaning has.ready.t.places has.identifies (ready_said h o 0 0 slot 0 has.left 0 refl has.ready may)
+  pub page_unsaid : ((m : Meaning) (places : List ℕ) → sends_page m.operation ≡ true → Says (bytes_of h.memory.items) port0.addresses.clb slot m places → ⊥) →
+      HasUntaken port0 slot → (o : Outside) → HasPage (device_of h o) slot → ⊥
+  page_unsaid none may o has =
+      none has.ready.t.meaning has.ready.t.places has.sends (ready_said h o 0 0 slot 0 has.left 0 refl has.ready may)
 
   -- and where one may be taken, it is the one that is ready
-  pub identify_endless : (r : TakenCommand) → IsNew r → Says (bytes_of h.memory.items) port0.addresses.clb slot (taken_of r).meaning (taken_of r).places →
+  pub page_endless : (r : TakenCommand) → IsNew r → Says (bytes_of h.memory.items) port0.addresses.clb slot (taken_of r).meaning (taken_of r).places →
       HasUntaken port0 slot → ((left : ℕ) → IsCovered (taken_of r) size 0 left → AreInside (2 ^ 32) (pieces r.prds) → ⊥) → (o : Outside) →
-      HasIdentify (device_of h o) slot → ⊥
-  identify_endless r new says may never o has =
+      HasPage (device_of h o) slot → ⊥
+  page_endless r new says may never o has =
       let same = ready_is_one h 0 0 slot 0 r refl may new says o has.left 0 has.ready in
       never has.left (covers_back r has.left (ready_is_said h 0 0 slot 0 r refl may new says o has.left 0 has.ready).0)
       (subst (λ (t : Taken). AreInside (2 ^ 32) t.places) same has.low)
 
   -- one that is taken
-  pub identify_held : (r : TakenCommand) → HoldsAt port0 slot r → r.transfer ≡ transfer.Identify → Ends r → (o : Outside) → HasIdentify (device_of h o) slot
-  identify_held r held kind ends o = record {
+  pub page_held : (r : TakenCommand) → HoldsAt port0 slot r → sends_page (operation_of r.transfer) ≡ true → Ends r → (o : Outside) → HasPage (device_of h o) slot
+  page_held r held kind ends o = record {
     left = ends.0;
     ready = record {
       t = taken_of r;
@@ -287,20 +285,20 @@ module _ (h : Hardware) (slot size : ℕ) (sized : size ≡ vec_len h.memory) wh
       clearing = clears r kind;
       begins = inl (held.works (o.media 0));
     };
-    identifies = ap operation_of kind;
+    sends = kind;
     low = ends.2;
   }
 
-  pub identify_unheld : ((r : TakenCommand) → HoldsAt port0 slot r → r.transfer ≡ transfer.Identify → Ends r → ⊥) → MayTakeNone port0 slot → (o : Outside) →
-      HasIdentify (device_of h o) slot → ⊥
-  identify_unheld none never o has =
+  pub page_unheld : ((r : TakenCommand) → HoldsAt port0 slot r → sends_page (operation_of r.transfer) ≡ true → Ends r → ⊥) → MayTakeNone port0 slot → (o : Outside) →
+      HasPage (device_of h o) slot → ⊥
+  page_unheld none never o has =
       let w = ready_held h o 0 0 slot 0 has.left 0 refl has.ready never in
-      none w.0 w.1 (is_identify w.0.transfer (sym (ap (λ (t : Taken). t.meaning.operation) w.2) ∙ has.identifies))
+      none w.0 w.1 (sym (ap (λ (t : Taken). sends_page t.meaning.operation) w.2) ∙ has.sends)
       (has.left, covers_back w.0 has.left (rest_back h 0 0 slot 0 w.0 refl has.left 0 o has.ready w.2).0, subst (λ (t : Taken). AreInside (2 ^ 32) t.places) w.2 has.low)
 
 -- what a look at a slot finds, by whether it can be done to its end
-pub finds : (d : Device) (slot : ℕ) (ends : Bool) → (ends ≡ true → HasIdentify d slot) → (ends ≡ false → MayIdentify d slot × (HasIdentify d slot → ⊥)) →
-    Identifies d slot (Some ends)
+pub finds : (d : Device) (slot : ℕ) (ends : Bool) → (ends ≡ true → HasPage d slot) → (ends ≡ false → MayPage d slot × (HasPage d slot → ⊥)) →
+    FindsPage d slot (Some ends)
 finds d slot true has may = has refl
 finds d slot false has may = may refl
 
@@ -309,38 +307,44 @@ module _ (h : Hardware) (slot : ℕ) where
   first = slice_index_or h.ports 0 blank
 
   -- one that its slot's bytes say may be taken
-  pub may_identify : (r : TakenCommand) → Says (bytes_of h.memory.items) first.addresses.clb slot (taken_of r).meaning (taken_of r).places →
-      r.transfer ≡ transfer.Identify → HasUntaken first slot → IsBeside first r → (o : Outside) → MayIdentify (device_of h o) slot
-  may_identify r says kind may beside o =
+  pub may_page : (r : TakenCommand) → Says (bytes_of h.memory.items) first.addresses.clb slot (taken_of r).meaning (taken_of r).places →
+      sends_page (operation_of r.transfer) ≡ true → HasUntaken first slot → IsBeside first r → (o : Outside) → MayPage (device_of h o) slot
+  may_page r says kind may beside o =
       let m = may (o.media 0) (operation_of r.transfer) beside.0 in
       record {
         meaning = (taken_of r).meaning;
         places = (taken_of r).places;
-        identifies = ap operation_of kind;
+        sends = kind;
         can = record { fetchable = m.0; working = m.1; alone = beside.1 (o.media 0); says = says };
       }
 
   -- and so may one that can be done to its end, where one may be
-  pub ready_may : HasUntaken first slot → (o : Outside) → HasIdentify (device_of h o) slot → MayIdentify (device_of h o) slot
+  pub ready_may : HasUntaken first slot → (o : Outside) → HasPage (device_of h o) slot → MayPage (device_of h o) slot
   ready_may may o has = record {
     meaning = has.ready.t.meaning;
     places = has.ready.t.places;
-    identifies = has.identifies;
+    sends = has.sends;
     can = (ready_fetch h o 0 0 slot 0 has.left 0 refl has.ready may).0;
   }
 
   -- none may be beside others that are taken
-  pub identify_crowded : (k : Transfer) → k ≡ transfer.Identify →
-      ((m : Media) → admits (halt_of first.halting) (operation_of k) ≡ true → IsAlone (port_of first m) (operation_of k) → ⊥) → (o : Outside) → MayIdentify (device_of h o) slot → ⊥
-  identify_crowded k kind crowded o may =
-      crowded (o.media 0) (ap (λ (x : Operation). admits (halt_of first.halting) x) (sym (may.identifies ∙ ap operation_of (sym kind))) ∙ may.can.working.admitted) (subst (λ (x : Operation). IsAlone (port_of first (o.media 0)) x) (may.identifies ∙ ap operation_of (sym kind)) may.can.alone)
+  pub page_crowded : (r : TakenCommand) → Says (bytes_of h.memory.items) first.addresses.clb slot (taken_of r).meaning (taken_of r).places →
+      ((m : Media) → admits (halt_of first.halting) (operation_of r.transfer) ≡ true → IsAlone (port_of first m) (operation_of r.transfer) → ⊥) → (o : Outside) →
+      MayPage (device_of h o) slot → ⊥
+  page_crowded r says crowded o may =
+      let memory = bytes_of h.memory.items in
+      let there = fetch_says h o 0 0 slot may.meaning may.places refl may.can in
+      let meaning = says_meaning memory first.addresses.clb slot may.meaning (taken_of r).meaning may.places (taken_of r).places there says in
+      let same : may.meaning.operation ≡ operation_of r.transfer = ap (λ (x : Meaning). x.operation) meaning in
+      crowded (o.media 0) (subst (λ (x : Operation). admits (halt_of first.halting) x ≡ true) same may.can.working.admitted)
+      (subst (λ (x : Operation). IsAlone (port_of first (o.media 0)) x) same may.can.alone)
 
   -- none is said
-  pub identify_unmeant : ((m : Meaning) (places : List ℕ) → m.operation ≡ Identify → Says (bytes_of h.memory.items) first.addresses.clb slot m places → ⊥) →
-      (o : Outside) → MayIdentify (device_of h o) slot → ⊥
-  identify_unmeant none o may = none may.meaning may.places may.identifies (fetch_says h o 0 0 slot may.meaning may.places refl may.can)
+  pub page_unmeant : ((m : Meaning) (places : List ℕ) → sends_page m.operation ≡ true → Says (bytes_of h.memory.items) first.addresses.clb slot m places → ⊥) →
+      (o : Outside) → MayPage (device_of h o) slot → ⊥
+  page_unmeant none o may = none may.meaning may.places may.sends (fetch_says h o 0 0 slot may.meaning may.places refl may.can)
 
   -- none may be taken
-  pub identify_barred : MayTakeNone first slot → (o : Outside) → MayIdentify (device_of h o) slot → ⊥
-  identify_barred never o may =
+  pub page_barred : MayTakeNone first slot → (o : Outside) → MayPage (device_of h o) slot → ⊥
+  page_barred never o may =
       never (o.media 0) may.meaning.operation (fetch_takes h o 0 0 slot may.meaning may.places refl may.can)

@@ -12,7 +12,7 @@ use Rattle.adapter.proofs.Changed.{changed_same, changed_other, changed_each}
 use Rattle.adapter.proofs.SaysLemmas.{says_meaning}
 use Rattle.device_model.specs.Sent.{SendsEnd}
 use Rattle.device_model.proofs.Finishing.{done_port}
-use Rattle.device_model.proofs.Identifying.{cleared_other}
+use Rattle.device_model.proofs.Paging.{cleared_other}
 
 module _ (port slot other : ℕ) (apart : other ≢ slot) (old new : Device) where
   abbrev was : PortState

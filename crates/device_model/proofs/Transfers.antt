@@ -9,6 +9,7 @@ use Rattle.adapter.specs.Steps.{IsAlone, block_after, disk_after}
 use Rattle.adapter.specs.declared.command.Operation.{Operation}
 use Rattle.adapter.specs.declared.command.Operation.TheVariants.{Identify, Read, ReadQueued, Write, WriteQueued, Flush, Trim, ReadLog}
 use Rattle.device_model.proofs.Absurd.{true-false}
+use Rattle.device_model.specs.Finishing.{sends_page}
 use Rattle.device_model.specs.View.{operation_of}
 use Rattle.device_model.specs.declared.port.Transfer.{Transfer}
 use Rattle.device_model.specs.declared.port.Transfer.TheVariants as transfer
@@ -111,6 +112,20 @@ is_log transfer.Identify e = cc
 is_log transfer.Flush e = cc
 is_log transfer.Trim e = cc
 is_log transfer.ReadLog e = refl
+
+-- a command that sends a page names no sectors, and is plain
+pub page_unranged : (o : Operation) → sends_page o ≡ true → is_ranged o ≡ false
+page_unranged Identify e = refl
+page_unranged ReadLog e = refl
+page_unranged Flush e = refl
+page_unranged Trim e = refl
+page_unranged Read e = absurd (cc e)
+page_unranged Write e = absurd (cc e)
+page_unranged ReadQueued e = absurd (cc e)
+page_unranged WriteQueued e = absurd (cc e)
+
+pub page_plain : (o : Operation) → sends_page o ≡ true → is_queued o ≡ false
+page_plain o e = unranged_plain o (page_unranged o e)
 
 -- of two that are queued neither is a trim
 pub both_queued : (k l : Transfer) → is_queued (operation_of k) && is_queued (operation_of l) ≡ true → (k ≡ transfer.Trim → ⊥) × (l ≡ transfer.Trim → ⊥)

@@ -1,5 +1,5 @@
 -- A trim that is to be done to its end: its block is moved, its sectors are cleared, and it ends.
-use Rattle.std.proofs.Common.{ℕ, Bool, zero, suc, ◌≡◌, ◌<◌, ◌≤◌, ◌+◌, ◌-◌, List, [], ◌∷◌, length, drop, take, slice_index, All, min, refl, sym, ◌∙◌, ap, subst, inl, inr, arith, length-drop}
+use Rattle.std.proofs.Common.{ℕ, Bool, true, zero, suc, ◌≡◌, ◌<◌, ◌≤◌, ◌+◌, ◌-◌, List, [], ◌∷◌, length, drop, take, slice_index, All, min, refl, sym, ◌∙◌, ap, subst, inl, inr, arith, length-drop}
 use Rattle.std.specs.Prelude.{if◌then◌else◌}
 use Rattle.std.proofs.lemmas.Bool.{cases_lt, le-ltb, lt-ltb}
 use Rattle.std.proofs.lemmas.List.{take_all}
@@ -10,6 +10,7 @@ use Rattle.adapter.specs.Steps.{Brings, block_after, next_place}
 use Rattle.adapter.specs.Trim.{consecutive, trim_sectors}
 use Rattle.adapter.specs.declared.command.Operation.{Operation}
 use Rattle.adapter.specs.declared.command.Operation.TheVariants.{Identify, Read, ReadQueued, Write, WriteQueued, Flush, Trim, ReadLog}
+use Rattle.device_model.specs.Finishing.{sends_page}
 use Rattle.device_model.specs.Trims.{HasRuns, WillClear, block_ahead, next_uncleared, run_of, runs_of, span, uncleared}
 use Rattle.device_model.proofs.Runs.{all_behind_some, drop_twice, no_runs, one_less, run_below, run_long, some_runs, take_run}
 
@@ -40,12 +41,26 @@ moved_ahead memory t bytes left brings =
 
 -- ---- what a command is going to clear
 
--- IDENTIFY DEVICE clears nothing
-pub identify_clears : (o : Operation) (memory : ℕ → ℕ) (t : Taken) (sectors : ℕ) → o ≡ Identify → WillClear o memory t sectors 0
-identify_clears o memory t sectors is = subst (λ (x : Operation). WillClear x memory t sectors 0) (sym is) refl
+-- a command that sends a page clears nothing
+pub page_clears : (o : Operation) (memory : ℕ → ℕ) (t : Taken) (sectors : ℕ) → sends_page o ≡ true → WillClear o memory t sectors 0
+page_clears Identify memory t sectors is = refl
+page_clears ReadLog memory t sectors is = refl
+page_clears Read memory t sectors is = refl
+page_clears Write memory t sectors is = refl
+page_clears ReadQueued memory t sectors is = refl
+page_clears WriteQueued memory t sectors is = refl
+page_clears Flush memory t sectors is = refl
+page_clears Trim memory t sectors is = absurd (cc is)
 
-pub identify_cleared : (o : Operation) (memory : ℕ → ℕ) (t : Taken) (sectors clears : ℕ) → o ≡ Identify → WillClear o memory t sectors clears → clears ≡ 0
-identify_cleared o memory t sectors clears is will = let there : WillClear Identify memory t sectors clears = subst (λ (x : Operation). WillClear x memory t sectors clears) is will in there
+pub page_cleared : (o : Operation) (memory : ℕ → ℕ) (t : Taken) (sectors clears : ℕ) → sends_page o ≡ true → WillClear o memory t sectors clears → clears ≡ 0
+page_cleared Identify memory t sectors clears is will = will
+page_cleared ReadLog memory t sectors clears is will = will
+page_cleared Read memory t sectors clears is will = will
+page_cleared Write memory t sectors clears is will = will
+page_cleared ReadQueued memory t sectors clears is will = will
+page_cleared WriteQueued memory t sectors clears is will = will
+page_cleared Flush memory t sectors clears is will = will
+page_cleared Trim memory t sectors clears is will = absurd (cc is)
 
 -- a move changes none of that
 pub moved_clears : (o : Operation) (disk : Disk) (memory : ℕ → ℕ) (t : Taken) (bytes : List ℕ) (sectors clears : ℕ) → t.moved < length t.places →

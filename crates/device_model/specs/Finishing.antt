@@ -7,7 +7,7 @@ use Rattle.adapter.specs.Device.{Taken, Device}
 use Rattle.adapter.specs.Steps.{Can, WorksOn, begun, next_place, next_sector}
 use Rattle.adapter.specs.Steps.Step.{Fetch}
 use Rattle.adapter.specs.declared.command.Operation.{Operation}
-use Rattle.adapter.specs.declared.command.Operation.TheVariants.{Identify}
+use Rattle.adapter.specs.declared.command.Operation.TheVariants.{Identify, ReadLog}
 use Rattle.adapter.specs.declared.command.Prd.{Prd}
 use Rattle.device_model.specs.Trims.{WillClear}
 use Rattle.device_model.specs.Fetched.{bytes_of}
@@ -66,26 +66,32 @@ pub record MayFinish (d : Device) (port slot sectors left clears : ℕ) : Type 0
   pub clearing : WillClear t.meaning.operation d.memory t sectors clears
   pub begins : WorksOn (d.port port) slot t t.meaning.operation ⊎ (Can (Fetch port slot t.meaning t.places) d × (t ≡ begun t.meaning t.places))
 
--- port 0 has an IDENTIFY DEVICE in this slot, taken or not, which can be done to its end; its pieces have addresses of 32 bits
-pub record HasIdentify (d : Device) (slot : ℕ) : Type 0 where
+-- IDENTIFY DEVICE or READ LOG EXT, which send a page to the driver itself
+abbrev pub sends_page : Operation → Bool
+sends_page Identify = true
+sends_page ReadLog = true
+sends_page _ = false
+
+-- port 0 has such a command in this slot, taken or not, which can be done to its end; its pieces have addresses of 32 bits
+pub record HasPage (d : Device) (slot : ℕ) : Type 0 where
   pub left : ℕ
   pub ready : MayFinish d 0 slot 0 left 0
-  pub identifies : ready.t.meaning.operation ≡ Identify
+  pub sends : sends_page ready.t.meaning.operation ≡ true
   pub low : AreInside (2 ^ 32) ready.t.places
 
--- an IDENTIFY DEVICE that is issued in this slot of port 0 may be taken, wherever its page is to go
-pub record MayIdentify (d : Device) (slot : ℕ) : Type 0 where
+-- one that is issued in this slot of port 0 may be taken, wherever its page is to go
+pub record MayPage (d : Device) (slot : ℕ) : Type 0 where
   pub meaning : Meaning
   pub places : List ℕ
-  pub identifies : meaning.operation ≡ Identify
+  pub sends : sends_page meaning.operation ≡ true
   pub can : Can (Fetch 0 slot meaning places) d
 
--- What a look at a slot of port 0 finds: an IDENTIFY DEVICE that can be done to its end; or one that may be taken, but can't be done to its end; or
--- neither.
-abbrev pub Identifies : Device → ℕ → Option Bool → Type 0
-Identifies d slot (Some true) = HasIdentify d slot
-Identifies d slot (Some false) = MayIdentify d slot × (HasIdentify d slot → ⊥)
-Identifies d slot None = (MayIdentify d slot → ⊥) × (HasIdentify d slot → ⊥)
+-- What a look at a slot of port 0 finds: a command that sends a page and can be done to its end; or one that may be taken, but can't be done to its end;
+-- or neither.
+abbrev pub FindsPage : Device → ℕ → Option Bool → Type 0
+FindsPage d slot (Some true) = HasPage d slot
+FindsPage d slot (Some false) = MayPage d slot × (HasPage d slot → ⊥)
+FindsPage d slot None = (MayPage d slot → ⊥) × (HasPage d slot → ⊥)
 
 -- ---- a command that is to be done to its end
 

@@ -7,6 +7,7 @@ ghost use Rattle.adapter.specs.declared.command.Command.{Command};
 ghost use Rattle.adapter.specs.Spelling.{AreZero, SpellsCommand, SpellsHeader, SpellsPrd};
 ghost use Rattle.byteorder.specs.Endian.{little_from};
 ghost use Rattle.device_model.specs.Fetched.{ArePrds, IsNew, bytes_of};
+ghost use Rattle.device_model.specs.Finishing.{sends_page};
 ghost use Rattle.device_model.specs.View.{operation_of, taken_of};
 
 use crate::port::{TakenCommand, Transfer};
@@ -383,15 +384,19 @@ fn decode_command(
     true
 }
 
-/// The command that the bytes of a slot say, if it is such a one.
-pub fn read_as(memory: &[u8], list: u32, slot: u8, transfer: Transfer) -> Option<TakenCommand>
+/// The command that the bytes of a slot say, if it is one that sends a page: its code tells.
+pub fn read_page(memory: &[u8], list: u32, slot: u8) -> Option<TakenCommand>
     requires { slot < 32 }
     ensures found { IfSome result (λ t. IsNew t × Says (bytes_of memory.now) list slot (taken_of t).meaning (taken_of t).places) }
-    ensures kind { IfSome result (λ t. t.transfer ≡ transfer) }
-    ensures only { result ≡ None → (m : Meaning) (places : List ℕ) → m.operation ≡ operation_of transfer → Says (bytes_of memory.now) list slot m places → ⊥ }
+    ensures kind { IfSome result (λ t. sends_page (operation_of t.transfer) ≡ true) }
+    ensures only { result ≡ None → (m : Meaning) (places : List ℕ) → sends_page m.operation ≡ true → Says (bytes_of memory.now) list slot m places → ⊥ }
 {
     let header = header_bytes(memory, header_place(list, slot));
     let fis = fis_bytes(memory, &header);
+    let transfer = transfer_coded(fis[2])?;
+    if !transfer.sends_page() {
+        return None;
+    }
     let mut command = TakenCommand::room();
     if decode_command(memory, &header, &fis, slot, transfer, &mut command) {
         Some(command)

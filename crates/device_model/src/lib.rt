@@ -1,5 +1,5 @@
 //! A modelled AHCI adapter: registers, memory, and two disks for port 0, each over a store of sectors. Its device does what it is told,
-//! and by itself ends a reset, lets engines fall, brings the link up, and does IDENTIFY DEVICE, but not on a port that is
+//! and by itself ends a reset, lets engines fall, brings the link up, and does IDENTIFY DEVICE and READ LOG EXT, but not on a port that is
 //! held. It takes READ DMA EXT, WRITE DMA EXT, READ FPDMA QUEUED, WRITE FPDMA QUEUED, FLUSH CACHE EXT, DATA SET MANAGEMENT with TRIM, IDENTIFY
 //! DEVICE and READ LOG EXT, and fails them when it is told.
 #![tactic(auto)]

@@ -10,17 +10,16 @@ ghost use Rattle.adapter.specs.Steps.{Steps, disk_after, disk_cleared, next_plac
 ghost use Rattle.adapter.specs.Asked.{Asked};
 ghost use Rattle.sector_store.specs.Stores.{FailsOn};
 ghost use Rattle.device_model.specs.Fetched.{bytes_of};
-ghost use Rattle.adapter.specs.declared.command.Operation.TheVariants.{Identify};
 ghost use Rattle.adapter.specs.OneCommand.{IsFreeSlot};
 ghost use Rattle.device_model.specs.Disks.{disk_over, store_of};
-ghost use Rattle.device_model.specs.Finishing.{HasIdentify, HasMove, HasRoom, MayIdentify};
+ghost use Rattle.device_model.specs.Finishing.{HasPage, HasMove, HasRoom, MayPage, sends_page};
 ghost use Rattle.device_model.specs.Held.{IsPortLoose};
 ghost use Rattle.device_model.specs.Paged.{IsItsLog, IsItsPage, IsTurned};
 ghost use Rattle.device_model.specs.Does.{AnswersStep, GoesOnSo, HasCleared, NoneFails, StoreCuts, has_cleared};
 ghost use Rattle.device_model.specs.Tells.{disks_told};
 ghost use Rattle.device_model.specs.Queue.{BeginsAccess, DoesRead, DoesThen};
 ghost use Rattle.device_model.specs.Modelled.{device_at, cap_of, IsNewModel};
-ghost use Rattle.device_model.specs.Settled.{Identifies, IsSettled, LeadsOwn, LeavesOne, NoneIsLeft};
+ghost use Rattle.device_model.specs.Settled.{SendsPages, IsSettled, LeadsOwn, LeavesOne, NoneIsLeft};
 ghost use Rattle.device_model.specs.View.{operation_of};
 
 use crate::clearing::Run;
@@ -266,7 +265,7 @@ impl<S: SectorStore> Model<S> {
         requires { slot.0 < 32 }
         ensures answers { AnswersStep S.size S.told S.failures (DeviceStep.Move port slot) result self.old self.new }
         ensures left { (n : ℕ) → HasRoom self.old.hardware (n + 1) → HasRoom self.new.hardware n }
-        ensures page { (t : Taken) → ((device_at S.size S.told self.old).port port.0).taken slot.0 ≡ Some t → t.meaning.operation ≡ Identify →
+        ensures page { (t : Taken) → ((device_at S.size S.told self.old).port port.0).taken slot.0 ≡ Some t → sends_page t.meaning.operation ≡ true →
             result ≡ false → HasMove (device_at S.size S.told self.old) port.0 slot.0 t → next_place t < 2 ^ 32 → HasRoom self.old.hardware 1 → ⊥ }
     {
         // No other port has a disk.
@@ -352,7 +351,7 @@ impl<S: SectorStore> Model<S> {
     fn finish(&mut self, port: Port, slot: Slot) -> bool
         requires { slot.0 < 32 }
         ensures answers { AnswersStep S.size S.told S.failures (DeviceStep.Finish port slot) result self.old self.new }
-        ensures identifies { port.0 ≡ 0 → (has : HasIdentify (device_at S.size S.told self.old) slot.0) →
+        ensures sends { port.0 ≡ 0 → (has : HasPage (device_at S.size S.told self.old) slot.0) →
             (result ≡ true → IsFreeSlot ((device_at S.size S.told self.new).port 0) slot.0)
             × (result ≡ false → (self.new.hardware.starved ≡ true) × (HasRoom self.new.hardware (has.left + 1) → ⊥)) }
     {
@@ -381,17 +380,17 @@ impl<S: SectorStore> Model<S> {
         self.hardware.done(port.0, slot.0) || did
     }
 
-    /// Takes the IDENTIFY DEVICE of a slot of port 0, unless it is taken. No other one may be taken then.
-    fn take_identify(&mut self, slot: u8)
+    /// Takes the IDENTIFY DEVICE or READ LOG EXT of a slot of port 0, unless it is taken. No other one may be taken then.
+    fn take_page(&mut self, slot: u8)
         requires small { slot < 32 }
-        requires there { MayIdentify (device_at S.size S.told self.old) slot ⊎ HasIdentify (device_at S.size S.told self.old) slot }
-        ensures own { (held : List Bool) → IsPortLoose held 0 → LeadsOwn (Identifies held) (device_at S.size S.told self.old) (device_at S.size S.told self.new) }
+        requires there { MayPage (device_at S.size S.told self.old) slot ⊎ HasPage (device_at S.size S.told self.old) slot }
+        ensures own { (held : List Bool) → IsPortLoose held 0 → LeadsOwn (SendsPages held) (device_at S.size S.told self.old) (device_at S.size S.told self.new) }
         ensures settled { (held : List Bool) → IsSettled held (device_at S.size S.told self.old) → IsSettled held (device_at S.size S.told self.new) }
-        ensures none { (other : ℕ) → MayIdentify (device_at S.size S.told self.new) other → ⊥ }
-        ensures stuck { MayIdentify (device_at S.size S.told self.old) slot → (other : ℕ) → HasIdentify (device_at S.size S.told self.new) other →
-            HasIdentify (device_at S.size S.told self.old) slot }
-        ensures left { (has : HasIdentify (device_at S.size S.told self.old) slot) →
-            (now : HasIdentify (device_at S.size S.told self.new) slot) × (now.left ≡ has.left) }
+        ensures none { (other : ℕ) → MayPage (device_at S.size S.told self.new) other → ⊥ }
+        ensures stuck { MayPage (device_at S.size S.told self.old) slot → (other : ℕ) → HasPage (device_at S.size S.told self.new) other →
+            HasPage (device_at S.size S.told self.old) slot }
+        ensures left { (has : HasPage (device_at S.size S.told self.old) slot) →
+            (now : HasPage (device_at S.size S.told self.new) slot) × (now.left ≡ has.left) }
         ensures rest { GoesOnSo S.size self.old self.new }
         ensures room { (n : ℕ) → HasRoom self.new.hardware n → HasRoom self.old.hardware n }
         ensures starved { self.new.hardware.starved ≡ self.old.hardware.starved }
@@ -400,11 +399,11 @@ impl<S: SectorStore> Model<S> {
         let _taken = self.hardware.fetch(0, slot);
     }
 
-    /// Does each IDENTIFY DEVICE of port 0 that can be done to its end, the lowest slot's first, unless the port is held. The page that one sends may
+    /// Does each IDENTIFY DEVICE and READ LOG EXT of port 0 that can be done to its end, the lowest slot's first, unless the port is held. The page that one sends may
     /// stand where another's bytes are, so they are looked for anew after each. One that may be taken, and can't be done to its end, or for which the tape
     /// has no memory, is taken, and no more; the others wait for it. Beside another command none is taken.
-    fn identify(&mut self)
-        ensures own { LeadsOwn (Identifies self.old.held) (device_at S.size S.told self.old) (device_at S.size S.told self.new) }
+    fn send_pages(&mut self)
+        ensures own { LeadsOwn (SendsPages self.old.held) (device_at S.size S.told self.old) (device_at S.size S.told self.new) }
         ensures settled { (held : List Bool) → IsSettled held (device_at S.size S.told self.old) → IsSettled held (device_at S.size S.told self.new) }
         ensures left { NoneIsLeft self.new.held self.new.hardware.starved (device_at S.size S.told self.new) }
         ensures rest { GoesOnSo S.size self.old self.new }
@@ -414,13 +413,13 @@ impl<S: SectorStore> Model<S> {
         if self.held[0] {
             return;
         }
-        while let Some(found) = self.hardware.next_identify() {
+        while let Some(found) = self.hardware.next_page() {
             if !found.ends {
-                self.take_identify(found.slot);
+                self.take_page(found.slot);
                 return;
             }
             if !self.finish(Port(0), Slot(found.slot)) {
-                self.take_identify(found.slot);
+                self.take_page(found.slot);
                 return;
             }
         }
@@ -609,7 +608,7 @@ impl<S: SectorStore> Adapter for Model<S> {
     ghost device = { λ m. device_at S.size S.told m };
 
     /// Before the value is read, a pending reset ends unless all four ports are held, and ends all holds; and on each port that isn't
-    /// held, CR and FR fall if they may, and the link comes up if it may. Then each IDENTIFY DEVICE of port 0 is done that can be done to
+    /// held, CR and FR fall if they may, and the link comes up if it may. Then each IDENTIFY DEVICE and READ LOG EXT of port 0 is done that can be done to
     /// its end, and one that can't, but may be taken, is taken, unless that port is held. A held port does nothing by itself until a reset
     /// ends.
     fn read(&mut self, r: Reg) -> u32
@@ -621,7 +620,7 @@ impl<S: SectorStore> Adapter for Model<S> {
     {
         self.do_queued();
         self.hardware.settle(&mut self.held);
-        self.identify();
+        self.send_pages();
         let value = self.hardware.shown(r);
         self.hardware.note(r, value);
         value

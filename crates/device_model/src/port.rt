@@ -2,6 +2,7 @@
 ghost use Rattle.std.specs.Prelude.{◌≡◌, ◌↔◌, [], unwrap_or, IfOk, IsTrue};
 ghost use Rattle.adapter.specs.Commands.{direction_of, is_queued, is_ranged, pieces_moved, reads_memory};
 ghost use Rattle.adapter.specs.Idle.{IsIdlePort};
+ghost use Rattle.device_model.specs.Finishing.{sends_page};
 ghost use Rattle.device_model.specs.Modelled.{IsReset};
 ghost use Rattle.device_model.specs.View.{Media, cause_of, operation_of, port_of};
 
@@ -147,6 +148,13 @@ impl Transfer {
             Transfer::Read | Transfer::Write | Transfer::ReadQueued | Transfer::WriteQueued => true,
             Transfer::Identify | Transfer::Flush | Transfer::Trim | Transfer::ReadLog => false,
         }
+    }
+
+    /// Whether it sends a page to the driver itself.
+    pub fn sends_page(self) -> bool
+        ensures { result ≡ sends_page (operation_of self) }
+    {
+        matches!(self, Transfer::Identify | Transfer::ReadLog)
     }
 
     /// Whether it clears the sectors of a block that it moves.

@@ -10,14 +10,14 @@ ghost use Rattle.adapter.specs.Steps.Step.{Fetch as FetchStep, Move as MoveStep,
 ghost use Rattle.adapter.specs.Asked.{DoesFault, DoesFetch, Ends};
 ghost use Rattle.device_model.specs.Block.{brought};
 ghost use Rattle.device_model.specs.Fetched.{bytes_of};
-ghost use Rattle.device_model.specs.Finishing.{HasRoom, Identifies, IsInside, AreInside, IsBegun, IsCovered, IsPassed, IsRest, IsUnbegun};
+ghost use Rattle.device_model.specs.Finishing.{HasRoom, FindsPage, IsInside, AreInside, IsBegun, IsCovered, IsPassed, IsRest, IsUnbegun};
 ghost use Rattle.device_model.specs.Sent.{SendsEnd};
 ghost use Rattle.device_model.specs.Slots.{HoldsAt, IsNext, HasUntaken};
 ghost use Rattle.device_model.specs.View.{held_in, operation_of, taken_of, blank};
 ghost use Rattle.device_model.specs.Whole.{Outside, device_of, outside_after, outside_plugged};
 ghost use Rattle.device_model.specs.declared.port.TakenCommand.{TakenCommand};
 
-use crate::fetch::{count_pieces, piece_at, read_as, read_command, read_into};
+use crate::fetch::{count_pieces, piece_at, read_command, read_into, read_page};
 use crate::hardware::{Hardware, put};
 use crate::port::{TakenCommand, Transfer};
 use crate::slots::{FAILED_STATUS, has_untaken, working_on};
@@ -49,9 +49,9 @@ pub struct Begun {
     pub was_taken: bool,
 }
 
-/// An IDENTIFY DEVICE of port 0 that the model goes on with by itself.
+/// An IDENTIFY DEVICE or READ LOG EXT of port 0 that the model goes on with by itself.
 #[derive(Clone, Copy, Debug)]
-pub struct FoundIdentify {
+pub struct FoundPage {
     pub slot: u8,
     /// Whether it can be done to its end. Else it may be taken, and no more.
     pub ends: bool,
@@ -149,7 +149,7 @@ fn entries_of(rest: Rest) -> usize
     rest.left as usize + rest.clears as usize + 1
 }
 
-/// Whether an IDENTIFY DEVICE can be done to its end: whether each of its pieces has a place in a memory of this size, and
+/// Whether a command that sends a page can be done to its end: whether each of its pieces has a place in a memory of this size, and
 /// an address of 32 bits.
 fn can_end(command: &TakenCommand, size: usize) -> bool
     ensures ends { result ≡ true → (left : ℕ) × IsCovered (taken_of command.now) size 0 left × AreInside (2 ^ 32) (pieces command.now.prds) }
@@ -222,57 +222,55 @@ impl Hardware {
         true
     }
 
-    /// Whether the IDENTIFY DEVICE that the bytes of a slot of port 0 say, which may be taken, can be done to its end; `None` where they say none, or
-    /// another command is taken.
+    /// Whether the IDENTIFY DEVICE or READ LOG EXT that the bytes of a slot of port 0 say, which may be taken, can be done to its end; `None` where they say
+    /// none, or a fault or another command keeps it waiting.
     #[inline(never)]
-    fn says_identify(&self, slot: u8) -> Option<bool>
+    fn says_page(&self, slot: u8) -> Option<bool>
         requires slot { slot < 32 }
         requires may { HasUntaken (slice_index_or self.now.ports 0 blank) slot }
-        ensures { (o : Outside) → Identifies (device_of self.now o) slot result }
+        ensures { (o : Outside) → FindsPage (device_of self.now o) slot result }
     {
         let list = self.ports[0].addresses.clb;
-        let command = read_as(&self.memory, list, slot, Transfer::Identify)?;
-        if self.ports[0].is_open_to(Transfer::Identify) {
+        let command = read_page(&self.memory, list, slot)?;
+        if self.ports[0].is_open_to(command.transfer) {
             Some(can_end(&command, self.memory.len()))
         } else {
             None
         }
     }
 
-    /// Whether the IDENTIFY DEVICE of a slot of port 0 can be done to its end; `None` where the slot has none that may be taken, and none that is taken
+    /// Whether the IDENTIFY DEVICE or READ LOG EXT of a slot of port 0 can be done to its end; `None` where the slot has none that may be taken, and none that is taken
     /// and worked on and can be done to its end.
-    fn has_identify(&self, slot: u8) -> Option<bool>
+    fn has_page(&self, slot: u8) -> Option<bool>
         requires { slot < 32 }
-        ensures { (o : Outside) → Identifies (device_of self.now o) slot result }
+        ensures { (o : Outside) → FindsPage (device_of self.now o) slot result }
     {
         if has_untaken(&self.ports, 0, slot) {
-            return self.says_identify(slot);
+            return self.says_page(slot);
         }
         let command = working_on(&self.ports, 0, slot)?;
-        match command.transfer {
-            Transfer::Identify => {
-                if can_end(command, self.memory.len()) {
-                    Some(true)
-                } else {
-                    None
-                }
-            }
-            _ => None,
+        if !command.transfer.sends_page() {
+            return None;
+        }
+        if can_end(command, self.memory.len()) {
+            Some(true)
+        } else {
+            None
         }
     }
 
-    /// The first slot of port 0 with an IDENTIFY DEVICE that may be taken, or can be done to its end. There is none where no command is issued or taken.
-    pub fn next_identify(&self) -> Option<FoundIdentify>
+    /// The first slot of port 0 with an IDENTIFY DEVICE or READ LOG EXT that may be taken, or can be done to its end. There is none where no command is issued or taken.
+    pub fn next_page(&self) -> Option<FoundPage>
         ensures small { IfSome result (λ found. found.slot < 32) }
-        ensures found { IfSome result (λ found. (o : Outside) → Identifies (device_of self.now o) found.slot (Some found.ends)) }
-        ensures none { result ≡ None → (o : Outside) (slot : ℕ) → slot < 32 → Identifies (device_of self.now o) slot None }
+        ensures found { IfSome result (λ found. (o : Outside) → FindsPage (device_of self.now o) found.slot (Some found.ends)) }
+        ensures none { result ≡ None → (o : Outside) (slot : ℕ) → slot < 32 → FindsPage (device_of self.now o) slot None }
     {
         if self.ports[0].ci == 0 && self.ports[0].taken.is_empty() {
             return None;
         }
         for slot in 0..32 {
-            if let Some(ends) = self.has_identify(slot) {
-                return Some(FoundIdentify { slot, ends });
+            if let Some(ends) = self.has_page(slot) {
+                return Some(FoundPage { slot, ends });
             }
         }
         None

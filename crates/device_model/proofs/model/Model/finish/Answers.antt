@@ -1,8 +1,7 @@
 use Rattle.std.proofs.Common.{ℕ, suc, ◌≡◌, ◌<◌, ◌≤◌, length, slice_index_or, ◌+◌, ◌-◌, ◌∙◌, true, false, inl, inr, refl, sym, ap, subst, arith}
-use Rattle.adapter.specs.Commands.{is_queued}
 use Rattle.adapter.specs.Device.{Device, Taken}
 use Rattle.adapter.specs.declared.access.DeviceStep.TheVariants as asked
-use Rattle.device_model.specs.Finishing.{HasIdentify, HasMove, HasRoom, IsGoing, MayFinish}
+use Rattle.device_model.specs.Finishing.{HasPage, HasMove, HasRoom, IsGoing, MayFinish}
 use Rattle.device_model.specs.Does.{IsLeftOut, has_cleared}
 use Rattle.device_model.specs.Modelled.{device_at, outside_at}
 use Rattle.device_model.specs.Sent.{SendsEnd}
@@ -17,10 +16,11 @@ use Rattle.adapter.proofs.Going.{goes_one, goes_next}
 use Rattle.device_model.proofs.TwoDisks.{in_kept}
 use Rattle.device_model.proofs.Doing.{answered_true, cut_inside, cut_short, did_it, left_it, left_same, meanwhile_on}
 use Rattle.adapter.specs.OneCommand.{IsFreeSlot}
-use Rattle.device_model.proofs.Identifying.{finish_clears, finish_moves, has_ready, page_asks_none, page_taken}
+use Rattle.device_model.proofs.Paging.{finish_clears, finish_moves, has_ready, page_asks_none, page_taken}
 use Rattle.device_model.proofs.Finishing.{cleared_goes, fetched_size, going_has_clear, holds, moved_goes, going_has_move, going_may_end, done_ended, done_frees, no_more_going}
 use Rattle.device_model.proofs.Telling.{gains_none, gains_done}
 use Rattle.device_model.proofs.Told.{on_hardware}
+use Rattle.device_model.proofs.Transfers.{page_plain}
 use Rattle.device_model.proofs.model.Model.finish.Given.{Over}
 use Rattle.device_model.proofs.model.Model.finish.Goals as goal
 
@@ -323,8 +323,8 @@ returns-in_default-clause-answers g c =
 -- ---- an IDENTIFY DEVICE, for which no store is asked
 
 -- a move that is left, and for which there is memory, isn't refused
-pub returns-then-not-move_piece-clause-identifies : goal.returns-then-not-move_piece-clause-identifies
-returns-then-not-move_piece-clause-identifies g c = λ zero has.
+pub returns-then-not-move_piece-clause-sends : goal.returns-then-not-move_piece-clause-sends
+returns-then-not-move_piece-clause-sends g c = λ zero has.
     let m = c.loop-piece.self in
     let is = c.loop-piece.invariant in
     let d : Device = device_at g.S.SectorStore.size g.S.SectorStore.told m in
@@ -345,8 +345,8 @@ returns-then-not-move_piece-clause-identifies g c = λ zero has.
     let low = page.1 t.moved found.1.left in
     absurd (c.move_piece.ensures.page t taken page.0 c.if-not-move_piece.true found.1 (omega (arith, low)) (omega (arith, is.room)))
 
-pub returns-then-done-clause-identifies : goal.returns-then-done-clause-identifies
-returns-then-done-clause-identifies g c = λ zero has.
+pub returns-then-done-clause-sends : goal.returns-then-done-clause-sends
+returns-then-done-clause-sends g c = λ zero has.
     let m = c.loop-run.self in
     let o : Outside = outside_at g.S.SectorStore.size g.S.SectorStore.told m in
     let P : ℕ → Type 0 = λ n. IsGoing (device_at g.S.SectorStore.size g.S.SectorStore.told m) c.args.port.0 c.args.slot.0 c.sectors-sectors.result 0 n in
@@ -355,18 +355,18 @@ returns-then-done-clause-identifies g c = λ zero has.
     let going = subst P none c.loop-run.invariant.going in
     let page = page_taken c.args.port.0 c.args.slot.0 c.loop-run.did _ _ zero c.loop-run.invariant.did c.loop-run.invariant.refused has going.t going.works.taken in (
       λ _. subst Q zero
-          (done_frees c.args.port.0 c.args.slot.0 c.sectors-sectors.result _ _ going (ap is_queued page.0) (c.done.ensures.did c.if-done.true o)),
+          (done_frees c.args.port.0 c.args.slot.0 c.sectors-sectors.result _ _ going (page_plain _ page.0) (c.done.ensures.did c.if-done.true o)),
       λ never. true-false c.if-done.true never,
     )
 
-pub returns-else-done-clause-identifies : goal.returns-else-done-clause-identifies
-returns-else-done-clause-identifies g c = λ _ _. absurd (end_is_done g c)
+pub returns-else-done-clause-sends : goal.returns-else-done-clause-sends
+returns-else-done-clause-sends g c = λ _ _. absurd (end_is_done g c)
 
-pub returns-then-port-ne0-clause-identifies : goal.returns-then-port-ne0-clause-identifies
-returns-then-port-ne0-clause-identifies g c = λ zero. absurd (c.if-port-ne0.true zero)
+pub returns-then-port-ne0-clause-sends : goal.returns-then-port-ne0-clause-sends
+returns-then-port-ne0-clause-sends g c = λ zero. absurd (c.if-port-ne0.true zero)
 
-pub returns-in_default-clause-identifies : goal.returns-in_default-clause-identifies
-returns-in_default-clause-identifies g c = λ zero has.
+pub returns-in_default-clause-sends : goal.returns-in_default-clause-sends
+returns-in_default-clause-sends g c = λ zero has.
     let m = c.args.self.now in
     let o : Outside = outside_at g.S.SectorStore.size g.S.SectorStore.told m in
     let P : ℕ → Type 0 = λ q. MayFinish (device_of m.hardware o) q c.args.slot.0 c.sectors-sectors.result has.left 0 in
@@ -381,16 +381,16 @@ returns-in_default-clause-identifies g c = λ zero has.
     ]
 
 -- it clears nothing
-no_clears : (d : Device) (port slot sectors left clears : ℕ) → port ≡ 0 → HasIdentify d slot → MayFinish d port slot sectors left clears → 1 ≤ clears → ⊥
+no_clears : (d : Device) (port slot sectors left clears : ℕ) → port ≡ 0 → HasPage d slot → MayFinish d port slot sectors left clears → 1 ≤ clears → ⊥
 no_clears d port slot sectors left clears zero has may some =
     let P : ℕ → Type 0 = λ q. MayFinish d q slot sectors left clears in page_asks_none d slot sectors left clears has (subst P zero may) (inr some)
 
-pub returns-in-Left-clause-identifies : goal.returns-in-Left-clause-identifies
-returns-in-Left-clause-identifies g c = λ zero has.
+pub returns-in-Left-clause-sends : goal.returns-in-Left-clause-sends
+returns-in-Left-clause-sends g c = λ zero has.
     let o : Outside = outside_at g.S.SectorStore.size g.S.SectorStore.told c.args.self.now in
     absurd (no_clears _ c.args.port.0 c.args.slot.0 c.sectors-sectors.result _ _ zero has (c.in-Some.ensures.begun.ready o) (omega (arith, c.loop-run-test.true)))
 
-pub returns-in-Part-clause-identifies : goal.returns-in-Part-clause-identifies
-returns-in-Part-clause-identifies g c = λ zero has.
+pub returns-in-Part-clause-sends : goal.returns-in-Part-clause-sends
+returns-in-Part-clause-sends g c = λ zero has.
     let o : Outside = outside_at g.S.SectorStore.size g.S.SectorStore.told c.args.self.now in
     absurd (no_clears _ c.args.port.0 c.args.slot.0 c.sectors-sectors.result _ _ zero has (c.in-Some.ensures.begun.ready o) (omega (arith, c.loop-run-test.true)))

@@ -21,9 +21,10 @@ use Rattle.device_model.specs.declared.port.TakenCommand.{TakenCommand}
 use Rattle.device_model.proofs.TwoDisks.{both_kept, keeps_with, kept_in}
 use Rattle.device_model.proofs.Doing.{left_same}
 use Rattle.device_model.proofs.Finishing.{move_fits, no_move, next_has_move, next_on_disk, outside_moved, sector_small}
-use Rattle.device_model.proofs.Identifying.{next_identifies, next_unranged}
+use Rattle.device_model.proofs.Paging.{next_sends, next_unranged}
 use Rattle.device_model.proofs.Stepping.{may_move}
 use Rattle.device_model.proofs.Telling.{gains_moved}
+use Rattle.device_model.proofs.Transfers.{page_unranged}
 use Rattle.device_model.proofs.model.Model.move_piece.Given.{Over}
 use Rattle.device_model.proofs.model.Model.move_piece.Goals as goal
 
@@ -207,7 +208,7 @@ returns-clause-answers g c =
         which = refl;
         pages = gains_moved g.S.SectorStore.size m _ noted.0.transfer (move_of c.args.port.0 c.args.slot.0 (taken_of noted.0) c.exchange.new.bytes)
             (ap (λ (d : Device). d.tape) noted.2 ∙ ap (λ (d : Device). d.tape ++ entry ∷ []) (c.reserve-room.ensures.same o)) refl
-            (λ identify. c.exchange.ensures.page c.if-not-exchange.false (noted.1.transfer_is ∙ identify))
+            (λ send_pages. c.exchange.ensures.page c.if-not-exchange.false (noted.1.transfer_is ∙ send_pages))
             (λ log. c.exchange.ensures.log c.if-not-exchange.false (noted.1.transfer_is ∙ log));
         disks = λ none.
             both_kept m (record m { hardware = c.move_bytes.new.self; disk = c.exchange.new.disk }) refl
@@ -239,13 +240,13 @@ returns-clause-left g c = λ n room. c.move_bytes.ensures.left n (c.reserve-room
 -- ---- a page, for which no store is asked
 
 pub returns-then-port-ne0-clause-page : goal.returns-then-port-ne0-clause-page
-returns-then-port-ne0-clause-page g c = λ t taken identifies _ move _ _.
+returns-then-port-ne0-clause-page g c = λ t taken sends _ move _ _.
     let m = c.args.self.now in
     no_move m.hardware (disk_over m.which (g.S.SectorStore.size m.disk) (g.S.SectorStore.told m.disk)) (g.S.SectorStore.told m.other) _ c.args.port.0 c.args.slot.0 t
     c.if-port-ne0.true move
 
 pub returns-in_default-clause-page : goal.returns-in_default-clause-page
-returns-in_default-clause-page g c = λ t taken identifies _ move low _.
+returns-in_default-clause-page g c = λ t taken sends _ move low _.
     let m = c.args.self.now in
     let o : Outside = outside_at g.S.SectorStore.size g.S.SectorStore.told m in
     let found = move_fits c.reserve-room.new.self o _ c.args.port.0 c.args.slot.0 t c.if-port-ne0.false (c.reserve-room.ensures.same o) move in
@@ -256,21 +257,21 @@ returns-in_default-clause-page g c = λ t taken identifies _ move low _.
     (sector_small found.r (g.S.SectorStore.size m.disk) sectors found.on_disk)
 
 pub returns-then-not-room-clause-page : goal.returns-then-not-room-clause-page
-returns-then-not-room-clause-page g c = λ t taken identifies _ _ _ room. true-false (c.reserve-room.ensures.enough room) c.if-not-room.true
+returns-then-not-room-clause-page g c = λ t taken sends _ _ _ room. true-false (c.reserve-room.ensures.enough room) c.if-not-room.true
 
 pub returns-then-not-is_on-clause-page : goal.returns-then-not-is_on-clause-page
-returns-then-not-is_on-clause-page g c = λ t taken identifies.
+returns-then-not-is_on-clause-page g c = λ t taken sends.
     let o : Outside = outside_at g.S.SectorStore.size g.S.SectorStore.told c.args.self.now in
-    let kind = next_identifies c.reserve-room.new.self o _ c.args.port.0 c.args.slot.0 c.in-Some.next c.in-Some.ensures.found.0 t (c.reserve-room.ensures.same o)
-    c.in-Some.ensures.found.1 taken identifies in
-    λ _ _ _ _. true-false (c.is_on.ensures.1 (λ ranged. true-false ranged (ap (λ (k : Transfer). is_ranged (operation_of k)) kind))) c.if-not-is_on.true
+    let kind = next_sends c.reserve-room.new.self o _ c.args.port.0 c.args.slot.0 c.in-Some.next c.in-Some.ensures.found.0 t (c.reserve-room.ensures.same o)
+    c.in-Some.ensures.found.1 taken sends in
+    λ _ _ _ _. true-false (c.is_on.ensures.1 (λ ranged. true-false ranged (page_unranged _ kind))) c.if-not-is_on.true
 
 pub returns-then-not-exchange-clause-page : goal.returns-then-not-exchange-clause-page
-returns-then-not-exchange-clause-page g c = λ t taken identifies.
+returns-then-not-exchange-clause-page g c = λ t taken sends.
     let o : Outside = outside_at g.S.SectorStore.size g.S.SectorStore.told c.args.self.now in
-    let kind = next_identifies c.reserve-room.new.self o _ c.args.port.0 c.args.slot.0 c.in-Some.next c.in-Some.ensures.found.0 t (c.reserve-room.ensures.same o)
-    c.in-Some.ensures.found.1 taken identifies in
-    λ _ _ _ _. true-false (c.exchange.ensures.ranged c.if-not-exchange.true) (ap (λ (k : Transfer). is_ranged (operation_of k)) kind)
+    let kind = next_sends c.reserve-room.new.self o _ c.args.port.0 c.args.slot.0 c.in-Some.next c.in-Some.ensures.found.0 t (c.reserve-room.ensures.same o)
+    c.in-Some.ensures.found.1 taken sends in
+    λ _ _ _ _. true-false (c.exchange.ensures.ranged c.if-not-exchange.true) (page_unranged _ kind)
 
 pub returns-clause-page : goal.returns-clause-page
-returns-clause-page g c = λ t taken identifies never. absurd (let e : true ≡ false = never in cc)
+returns-clause-page g c = λ t taken sends never. absurd (let e : true ≡ false = never in cc)
