@@ -21,7 +21,7 @@ use Rattle.ata_types.specs.declared.Port.{Port}
 use Rattle.ata_types.specs.declared.Slot.{Slot}
 use Rattle.adapter.specs.declared.access.DeviceStep.TheVariants as asked
 use Rattle.sector_store.specs.declared.store.Failures.{Failures}
-use Rattle.device_model.specs.Does.{AnswersStep, AsksFor, AsksStore}
+use Rattle.device_model.specs.Does.{AnswersStep, AsksFor, AsksStore, Completes, Did, FailsOnSector, FailsToClear, FailsToMove}
 use Rattle.device_model.specs.Finishing.{AreInside, HasPage, HasMove, FindsPage, IsCovered, MayFinish, MayPage, sends_page}
 use Rattle.device_model.specs.Modelled.{device_at}
 use Rattle.device_model.specs.Sent.{SendsEnd}
@@ -30,6 +30,7 @@ use Rattle.device_model.specs.Trims.{HasClear}
 use Rattle.device_model.specs.View.{operation_of, taken_of}
 use Rattle.device_model.specs.Whole.{Outside, device_of}
 use Rattle.device_model.specs.declared.hardware.Hardware.{Hardware}
+use Rattle.device_model.specs.declared.model.Description.{Description}
 use Rattle.device_model.specs.declared.model.Model.{Model}
 use Rattle.device_model.specs.declared.port.TakenCommand.{TakenCommand}
 use Rattle.device_model.specs.declared.port.Transfer.{Transfer}
@@ -50,23 +51,10 @@ IsPage operation places = (sends_page operation ≡ true) × AreInside (2 ^ 32) 
 pub is_page : (o : Operation) (places : List ℕ) → IsPage o places → sends_page o ≡ true
 is_page o places page = page.0
 
--- how many sectors the disk has is of no matter to it
-pub has_ready : (d : Device) (slot sectors : ℕ) (has : HasPage d slot) → MayFinish d 0 slot sectors has.left 0
-has_ready d slot sectors has = record {
-  t = has.ready.t;
-  covered = record {
-    left_is = has.ready.covered.left_is;
-    on_disk = λ ranged. true-false ranged (page_unranged _ has.sends);
-    inside = has.ready.covered.inside;
-  };
-  clearing = page_clears has.ready.t.meaning.operation d.memory has.ready.t sectors has.sends;
-  begins = has.ready.begins;
-}
-
 -- whatever may be done to its end in a slot, no other command is taken there, or may be
-pub only_of : (P : Operation → List ℕ → Type 0) (d : Device) (port slot sectors left clears : ℕ) (may : MayFinish d port slot sectors left clears) →
+pub only_of : (P : Operation → List ℕ → Type 0) (d : Device) (port slot left clears : ℕ) (may : MayFinish d port slot left clears) →
     P may.t.meaning.operation may.t.places → IsOnly P d port slot
-only_of P d port slot sectors left clears may holds = by may.begins
+only_of P d port slot left clears may holds = by may.begins
   where
     t : Taken
     t = may.t
@@ -88,7 +76,7 @@ only_of P d port slot sectors left clears may holds = by may.begins
     }
 
 pub has_only : (d : Device) (slot : ℕ) → HasPage d slot → IsOnly IsPage d 0 slot
-has_only d slot has = only_of IsPage d 0 slot 0 has.left 0 has.ready (has.sends, has.low)
+has_only d slot has = only_of IsPage d 0 slot has.left 0 has.ready (has.sends, has.low)
 
 -- nor afterwards
 pub page_taken : (port slot : ℕ) (did : Bool) (old new : Device) → port ≡ 0 → (did ≡ true → GoesOn (SendsEnd slot) port slot old new) → (did ≡ false → new ≡ old) →
@@ -108,9 +96,9 @@ abbrev IsUnranged : Operation → List ℕ → Type 0
 IsUnranged operation places = is_ranged operation ≡ false
 
 -- a Finish of it asks for none
-pub page_asks_none : (d : Device) (slot sectors left clears : ℕ) → HasPage d slot → (may : MayFinish d 0 slot sectors left clears) →
+pub page_asks_none : (d : Device) (slot left clears : ℕ) → HasPage d slot → (may : MayFinish d 0 slot left clears) →
     AsksFor may.t.meaning.operation left clears → ⊥
-page_asks_none d slot sectors left clears has may asks = by asks
+page_asks_none d slot left clears has may asks = by asks
   where
     t : Taken
     t = may.t
@@ -123,71 +111,73 @@ page_asks_none d slot sectors left clears has may asks = by asks
     by : AsksFor t.meaning.operation left clears → ⊥
     by (inl moves) = true-false moves.0 (page_unranged _ (kind may.begins))
     by (inr some) =
-        let none = page_cleared t.meaning.operation d.memory t sectors clears (kind may.begins) may.clearing in absurd (omega (arith, some, none))
+        let none = page_cleared t.meaning.operation d.memory t clears (kind may.begins) may.clearing in absurd (omega (arith, some, none))
+
+-- so it comes to no sector on which it fails
+page_whole : (slot : ℕ) (was now : Option Failures) (says later : Description) (old new : Device) → HasPage old slot →
+    FailsOnSector (asked.Finish (record { 0 = 0 }) (record { 0 = slot })) was now says later old new → ⊥
+page_whole slot was now says later old new has (mid, before, fails) = by before fails
+  where
+    page : (mid ≡ old) ⊎ GoesOn (SendsEnd slot) 0 slot old mid → (t : Taken) → (mid.port 0).taken slot ≡ Some t → IsPage t.meaning.operation t.places
+    page (inl same) = page_taken 0 slot false old mid refl (λ never. absurd (let no : false ≡ true = never in cc)) (λ _. same) has
+    page (inr went) = page_taken 0 slot true old mid refl (λ _. went) (λ never. absurd (let no : true ≡ false = never in cc)) has
+
+    by : (mid ≡ old) ⊎ GoesOn (SendsEnd slot) 0 slot old mid →
+        FailsToMove 0 slot was now says later mid new ⊎ FailsToClear 0 slot was now says later mid new → ⊥
+    by gone (inl moves) = true-false moves.ranged (page_unranged _ (page gone moves.t moves.move.works.taken).0)
+    by gone (inr clears) = true-false (page gone clears.t clears.clear.works.taken).0 (ap sends_page clears.clear.trim)
+
+pub page_completes : {S : Type 0} (size : S → ℕ) (told : S → Option (ℕ → List ℕ)) (failures : S → Option Failures) (old new : Model S) (slot : ℕ) →
+    Did size told failures (asked.Finish (record { 0 = 0 }) (record { 0 = slot })) old new → HasPage (device_at size told old) slot →
+    Completes size told failures (asked.Finish (record { 0 = 0 }) (record { 0 = slot })) old new
+page_completes size told failures old new slot did has =
+    elim did.came [
+      | inl whole ↦ whole
+      | inr failed ↦ absurd (page_whole slot (failures old.disk) (failures new.disk) old.says new.says _ _ has failed)
+    ]
 
 pub finish_keeps : {S : Type 0} (size : S → ℕ) (told : S → Option (ℕ → List ℕ)) (failures : S → Option Failures) (old new : Model S) (slot : ℕ) (answer : Bool) →
     AnswersStep size told failures (asked.Finish (record { 0 = 0 }) (record { 0 = slot })) answer old new → HasPage (device_at size told old) slot →
     new.disk ≡ old.disk
 finish_keeps size told failures old new slot true a has =
-    in_kept (λ s. s) old new a.1.which (a.1.disks (λ asks. page_asks_none (device_at size told old) slot _ _ _ has asks.4 asks.5))
-finish_keeps size told failures old new slot false a has =
-    elim a.why [
-      | inl f ↦
-          elim f [
-            | inl moves ↦
-                let P : Device → Type 0 = λ d. HasMove d 0 slot moves.t in
-                let taken = (subst P a.device moves.move).works.taken in
-                true-false moves.ranged (page_unranged _ ((has_only (device_at size told old) slot has).taken moves.t taken).0)
-            | inr clears ↦
-                let P : Device → Type 0 = λ d. HasClear d 0 slot 1 clears.t in
-                let taken = (subst P a.device clears.clear).works.taken in
-                true-false ((has_only (device_at size told old) slot has).taken clears.t taken).0 (ap sends_page clears.clear.trim)
-          ]
-      | inr left ↦ in_kept (λ s. s) old new a.which left.0
-    ]
+    in_kept (λ s. s) old new a.1.which (a.1.disks (λ asks. page_asks_none (device_at size told old) slot _ _ has asks.4 asks.5))
+finish_keeps size told failures old new slot false a has = in_kept (λ s. s) old new a.which a.disks
 
 -- a Move of what a Finish has begun asks for one only where the Finish does
-pub finish_moves : (p : Port) (s : Slot) (did : Bool) (old new : Device) (sectors left clears : ℕ) → p.0 ≡ 0 → sectors ≡ (old.port 0).disk.size → 1 ≤ left →
-    (did ≡ true → GoesOn (SendsEnd s.0) p.0 s.0 old new) → (did ≡ false → new ≡ old) → MayFinish old p.0 s.0 sectors left clears →
+pub finish_moves : (p : Port) (s : Slot) (did : Bool) (old new : Device) (left clears : ℕ) → p.0 ≡ 0 → 1 ≤ left →
+    (did ≡ true → GoesOn (SendsEnd s.0) p.0 s.0 old new) → (did ≡ false → new ≡ old) → MayFinish old p.0 s.0 left clears →
     AsksStore (asked.Move p s) new → AsksStore (asked.Finish p s) old
-finish_moves p s did old new sectors left clears here same some went stayed ready moves = by (is_ranged may.t.meaning.operation) refl
+finish_moves p s did old new left clears here some went stayed may moves = by (is_ranged may.t.meaning.operation) refl
   where
-    may : MayFinish old p.0 s.0 (old.port 0).disk.size left clears
-    may = let P : ℕ → Type 0 = λ n. MayFinish old p.0 s.0 n left clears in subst P same ready
-
     by : (b : Bool) → is_ranged may.t.meaning.operation ≡ b → AsksStore (asked.Finish p s) old
     by true e = (here, moves.0, left, clears, may, inl (e, some))
     by false e =
-        let only = only_of IsUnranged old p.0 s.0 (old.port 0).disk.size left clears may e in
+        let only = only_of IsUnranged old p.0 s.0 left clears may e in
         let gone = only_gone IsUnranged (λ o places none. unranged_plain o none) p.0 s.0 did old new went stayed only in
         true-false moves.3 (gone.taken moves.1 moves.2.works.taken)
 
 -- and so does a Finish that has a clear left
-pub finish_clears : (p : Port) (s : Slot) (old : Device) (sectors left clears : ℕ) → p.0 ≡ 0 → s.0 < 32 → sectors ≡ (old.port 0).disk.size → 1 ≤ clears →
-    MayFinish old p.0 s.0 sectors left clears → AsksStore (asked.Finish p s) old
-finish_clears p s old sectors left clears here small same some ready =
-    let P : ℕ → Type 0 = λ n. MayFinish old p.0 s.0 n left clears in
-    (here, small, left, clears, subst P same ready, inr some)
+pub finish_clears : (p : Port) (s : Slot) (old : Device) (left clears : ℕ) → p.0 ≡ 0 → s.0 < 32 → 1 ≤ clears → MayFinish old p.0 s.0 left clears →
+    AsksStore (asked.Finish p s) old
+finish_clears p s old left clears here small some ready = (here, small, left, clears, ready, inr some)
 
--- what the hardware moves next, where it is on the disk, is a sector only where a Move moves one
+-- what the hardware moves next is a sector only where a Move moves one
 pub next_moves : (h : Hardware) (o : Outside) (d : Device) (p : Port) (s : Slot) (next : NextMove) (r : TakenCommand) → p.0 ≡ 0 → s.0 < 32 →
-    device_of h o ≡ d → IsNext h p.0 s.0 next r → (is_ranged (operation_of next.transfer) ≡ true → next.sector < (o.media 0).disk.size) →
-    is_ranged (operation_of next.transfer) ≡ true → AsksStore (asked.Move p s) d
-next_moves h o d p s next r here small same is on ranged = (
+    device_of h o ≡ d → IsNext h p.0 s.0 next r → is_ranged (operation_of next.transfer) ≡ true → AsksStore (asked.Move p s) d
+next_moves h o d p s next r here small same is ranged = (
   small,
   taken_of r,
-  next_has_move h o d p.0 s.0 next r here same is on,
+  next_has_move h o d p.0 s.0 next r here same is,
   ap (λ (k : Transfer). is_ranged (operation_of k)) (sym is.transfer_is) ∙ ranged,
 )
 
 -- and else it is none
 pub next_unranged : (h : Hardware) (o : Outside) (d : Device) (p : Port) (s : Slot) (next : NextMove) (r : TakenCommand) → p.0 ≡ 0 → s.0 < 32 →
-    device_of h o ≡ d → IsNext h p.0 s.0 next r → (is_ranged (operation_of next.transfer) ≡ true → next.sector < (o.media 0).disk.size) →
-    (AsksStore (asked.Move p s) d → ⊥) → is_ranged (operation_of next.transfer) ≡ false
-next_unranged h o d p s next r here small same is on none = by (is_ranged (operation_of next.transfer)) refl
+    device_of h o ≡ d → IsNext h p.0 s.0 next r → (AsksStore (asked.Move p s) d → ⊥) → is_ranged (operation_of next.transfer) ≡ false
+next_unranged h o d p s next r here small same is none = by (is_ranged (operation_of next.transfer)) refl
   where
     by : (b : Bool) → is_ranged (operation_of next.transfer) ≡ b → is_ranged (operation_of next.transfer) ≡ false
-    by true e = absurd (none (next_moves h o d p s next r here small same is on e))
+    by true e = absurd (none (next_moves h o d p s next r here small same is e))
     by false e = e
 
 -- the hardware's next move is of it
@@ -215,7 +205,7 @@ may_only d slot may = record {
 
 pub found_only : (d : Device) (slot : ℕ) → MayPage d slot ⊎ HasPage d slot → IsOnly BringsPage d 0 slot
 found_only d slot (inl may) = may_only d slot may
-found_only d slot (inr has) = only_of BringsPage d 0 slot 0 has.left 0 has.ready has.sends
+found_only d slot (inr has) = only_of BringsPage d 0 slot has.left 0 has.ready has.sends
 
 -- what a look at a slot has found
 pub found_ends : (d : Device) (slot : ℕ) (ends : Bool) → not ends ≡ false → FindsPage d slot (Some ends) → HasPage d slot
@@ -272,14 +262,14 @@ taken_has slot k old new f has = by has.ready.begins
           | inl here ↦
               let P : ℕ → Type 0 = λ q. (new.port 0).taken q ≡ Some t in
               let one : t ≡ begun f.meaning f.places = some_one (sym (subst P here.1 works.taken) ∙ fetched_taken slot old new f) in
-              let Q : ℕ → Type 0 = λ n. IsCovered t n 0 has.left in
-              let R : Taken → Type 0 = λ x. IsCovered x old.size 0 has.left in
+              let Q : ℕ → Type 0 = λ n. IsCovered t n has.left in
+              let R : Taken → Type 0 = λ x. IsCovered x old.size has.left in
               record {
                 left = has.left;
                 ready = record {
                   t = begun f.meaning f.places;
                   covered = subst R one (subst Q size has.ready.covered);
-                  clearing = page_clears f.meaning.operation old.memory (begun f.meaning f.places) 0
+                  clearing = page_clears f.meaning.operation old.memory (begun f.meaning f.places)
                       (ap (λ (x : Taken). sends_page x.meaning.operation) (sym one) ∙ has.sends);
                   begins = inr (f.can, refl);
                 };
@@ -306,7 +296,7 @@ pub fetched_left : (slot : ℕ) (did : Bool) (old new : Device) (has : HasPage o
     (did ≡ false → new ≡ old) → (did ≡ false → (m : Meaning) (places : List ℕ) → Can (Fetch 0 slot m places) old → ⊥) →
     (now : HasPage new slot) × (now.left ≡ has.left)
 fetched_left slot did old new has went same never =
-    let going = fetched_goes 0 slot 0 has.left 0 did old new has.ready went same never in
+    let going = fetched_goes 0 slot has.left 0 did old new has.ready went same never in
     let page = page_taken 0 slot did old new refl (λ e. goes_one (SendsEnd slot) 0 slot old new (inl (went e))) same has going.t going.works.taken in (
       record {
         left = has.left;

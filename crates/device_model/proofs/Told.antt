@@ -42,7 +42,8 @@ module _ {S : Type 0} (size : S → ℕ) (told : S → Option (ℕ → List ℕ)
     held = refl;
     says = refl;
     which = refl;
-    why = inr ((λ _. refl), λ _ may. absurd (never.0 (forth may)));
+    disks = λ _. refl;
+    why = λ _ may. absurd (never.0 (forth may));
     keeps = on_hardware;
     starved_on = λ yes. ap (λ (x : Hardware). x.starved) never.1 ∙ yes;
     starved_since = λ yes. inl (sym (ap (λ (x : Hardware). x.starved) never.1) ∙ yes);
@@ -52,7 +53,8 @@ module _ {S : Type 0} (size : S → ℕ) (told : S → Option (ℕ → List ℕ)
     held = refl;
     says = refl;
     which = refl;
-    why = inr ((λ _. refl), λ _ may. (lacks missed.1, missed.2));
+    disks = λ _. refl;
+    why = λ _ may. (lacks missed.1, missed.2);
     keeps = on_hardware;
     starved_on = λ _. missed.2;
     starved_since = λ _. inr (back missed.0, lacks missed.1);
@@ -66,10 +68,8 @@ module _ {S : Type 0} (size : S → ℕ) (told : S → Option (ℕ → List ℕ)
       let f = done refl in (
         (port, slot, f.meaning, f.places, f.can),
         record {
-          asked = f;
-          ends = inr ((λ _. refl), λ _. tt);
+          came = inl (record { asked = f; fine = λ _. refl; says = refl; ends = λ _. tt });
           held = refl;
-          says = refl;
           which = refl;
           pages = gains_none size m new (ap (λ (v : Vec Entry). v.items) tape);
           disks = λ _ _. refl;
@@ -82,7 +82,8 @@ module _ {S : Type 0} (size : S → ℕ) (told : S → Option (ℕ → List ℕ)
     held = refl;
     says = refl;
     which = refl;
-    why = inr ((λ _. refl), λ _ may. absurd (only refl may.2 may.3 may.4));
+    disks = λ _. refl;
+    why = λ _ may. absurd (only refl may.2 may.3 may.4);
     keeps = on_hardware;
     starved_on = λ yes. starved ∙ yes;
     starved_since = λ yes. inl (sym starved ∙ yes);
@@ -96,10 +97,8 @@ module _ {S : Type 0} (size : S → ℕ) (told : S → Option (ℕ → List ℕ)
       let d = done refl in (
         (port, slot, d.done.flag, d.done.t, d.done.can),
         record {
-          asked = d;
-          ends = inr ((λ _. refl), λ _. tt);
+          came = inl (record { asked = d; fine = λ _. refl; says = refl; ends = λ _. tt });
           held = refl;
-          says = refl;
           which = refl;
           pages = gains_done size behind p.0 s.0 m new d;
           disks = λ _ _. refl;
@@ -118,10 +117,13 @@ module _ {S : Type 0} (size : S → ℕ) (told : S → Option (ℕ → List ℕ)
   fail_answers p s error says port slot f is starved = (
     (port, slot, f.t, f.can),
     record {
-      asked = f;
-      ends = inr ((λ _. refl), λ _. tt);
+      came = inl (record {
+        asked = f;
+        fine = λ _. refl;
+        says = is ∙ ap (λ (t : Option Taken). says_failed t s.0 error m.says) (sym f.can.taken);
+        ends = λ _. tt;
+      });
       held = refl;
-      says = is ∙ ap (λ (t : Option Taken). says_failed t s.0 error m.says) (sym f.can.taken);
       which = refl;
       pages = gains_one size m (record new { says = says }) (fault_entry p.0 s.0 error 0) (ap (λ (x : Device). x.tape) f.effect) (λ x e. absurd (cc e));
       disks = λ _ _. refl;
@@ -146,10 +148,8 @@ module _ {S : Type 0} (size : S → ℕ) (told : S → Option (ℕ → List ℕ)
       let P : ℕ → Type 0 = λ q. DoesUnplug q (device_of m.hardware behind) (device_of h behind) in (
         (zero, d.0),
         record {
-          asked = subst P (sym zero) (record { can = d.0; effect = d.1 });
-          ends = inr ((λ _. refl), λ _. tt);
+          came = inl (record { asked = subst P (sym zero) (record { can = d.0; effect = d.1 }); fine = λ _. refl; says = refl; ends = λ _. tt });
           held = refl;
-          says = refl;
           which = refl;
           pages = gains_one size m new (entry.Unplug (record { 0 = 0 })) (ap (λ (x : Device). x.tape) d.1) (λ x e. absurd (cc e));
           disks = λ _ _. refl;

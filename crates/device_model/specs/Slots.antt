@@ -33,20 +33,19 @@ pub record HoldsAt (p : PortModel) (slot : ℕ) (t : TakenCommand) : Type 0 wher
   pub held : held_in p.taken slot ≡ Some t
   pub works : (m : Media) → WorksOn (port_of p m) slot (taken_of t) (operation_of t.transfer)
 
--- so many of the next sectors of this command can be cleared, on a disk of so many: a trim whose block was moved, and of which as many are left, one at least
-pub record CanClear (t : TakenCommand) (most sectors : ℕ) : Type 0 where
+-- so many of the next sectors of this command can be cleared: a trim whose block was moved, and of which as many are left, one at least
+pub record CanClear (t : TakenCommand) (most : ℕ) : Type 0 where
   pub trim : t.transfer ≡ Trim
   pub moved : t.moved ≡ length (pieces t.prds)
   pub some : 1 ≤ most
   pub enough : most ≤ length (uncleared (taken_of t))
-  pub on_disk : next_uncleared (taken_of t) < sectors
 
 -- these sectors of it are cleared at once
-pub record IsNextRun (h : Hardware) (port slot most sectors : ℕ) (run : Run) (t : TakenCommand) : Type 0 where
+pub record IsNextRun (h : Hardware) (port slot most : ℕ) (run : Run) (t : TakenCommand) : Type 0 where
   pub holds : HoldsAt (slice_index_or h.ports port blank) slot t
-  pub can : CanClear t most sectors
+  pub can : CanClear t most
   pub first_is : run.first ≡ next_uncleared (taken_of t)
-  pub count_is : run.count ≡ span sectors most (taken_of t)
+  pub count_is : run.count ≡ span most (taken_of t)
   pub fits : t.cleared + run.count < 2 ^ 32
 
 -- the next piece of this command goes to or from this address, and is this sector, if it is one

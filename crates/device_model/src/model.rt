@@ -15,7 +15,7 @@ ghost use Rattle.device_model.specs.Disks.{disk_over, store_of};
 ghost use Rattle.device_model.specs.Finishing.{HasPage, HasMove, HasRoom, MayPage, sends_page};
 ghost use Rattle.device_model.specs.Held.{IsPortLoose};
 ghost use Rattle.device_model.specs.Paged.{IsItsLog, IsItsPage, IsTurned};
-ghost use Rattle.device_model.specs.Does.{AnswersStep, GoesOnSo, HasCleared, NoneFails, StoreCuts, has_cleared};
+ghost use Rattle.device_model.specs.Does.{AnswersStep, Completes, GoesOnSo, HasCleared, HasFailed, answer_of};
 ghost use Rattle.device_model.specs.Tells.{disks_told};
 ghost use Rattle.device_model.specs.Queue.{BeginsAccess, DoesRead, DoesThen};
 ghost use Rattle.device_model.specs.Modelled.{device_at, cap_of, IsNewModel};
@@ -42,16 +42,34 @@ const PAGE_BYTES: usize = 512;
 /// A sector that was cleared.
 const ZEROS: [u8; 512] = [0; 512];
 
-/// What came of the sectors that were to be cleared.
+/// What came of a move or a clear that was to be done.
 #[derive(Clone, Copy, Debug)]
-enum Clearing {
-    /// None is cleared.
+enum Outcome {
+    /// It is left, and nothing is another.
     Left,
-    /// Some are: the store failed at the next one.
-    Part,
-    /// All are that could be at once.
-    Whole,
+    /// Its command failed on a sector.
+    Failed,
+    /// It is done.
+    Done,
 }
+
+impl Outcome {
+    /// Whether something came of it.
+    fn is_told(self) -> bool
+        ensures { result ≡ answer_of self }
+    {
+        match self {
+            Outcome::Left => false,
+            Outcome::Failed | Outcome::Done => true,
+        }
+    }
+}
+
+/// The error of a sector that is past the disk: IDNF (ACS-3, 6.2).
+const PAST_THE_DISK: u8 = 0x10;
+
+/// The error of a sector on which the store failed: UNC.
+const STORE_FAILED: u8 = 0x40;
 
 /// A step that is done before the access with this number.
 #[derive(Clone, Copy, Debug)]
@@ -260,29 +278,33 @@ impl<S: SectorStore> Model<S> {
         true
     }
 
-    /// Moves the next piece of a slot's command. The memory is taken to end at 4 GiB.
-    fn move_piece(&mut self, port: Port, slot: Slot) -> bool
+    /// Moves the next piece of a slot's command, or fails it, if that is a sector on which the store fails, or one past the disk. The memory is taken to end
+    /// at 4 GiB.
+    fn move_piece(&mut self, port: Port, slot: Slot) -> Outcome
         requires { slot.0 < 32 }
-        ensures answers { AnswersStep S.size S.told S.failures (DeviceStep.Move port slot) result self.old self.new }
-        ensures left { (n : ℕ) → HasRoom self.old.hardware (n + 1) → HasRoom self.new.hardware n }
+        ensures answers { AnswersStep S.size S.told S.failures (DeviceStep.Move port slot) (answer_of result) self.old self.new }
+        ensures whole { result ≡ Outcome.Done → Completes S.size S.told S.failures (DeviceStep.Move port slot) self.old self.new }
+        ensures failed { result ≡ Outcome.Failed → HasFailed S.size S.told S.failures (DeviceStep.Move port slot) self.old self.new }
+        ensures left { result ≡ Outcome.Done → (n : ℕ) → HasRoom self.old.hardware (n + 1) → HasRoom self.new.hardware n }
         ensures page { (t : Taken) → ((device_at S.size S.told self.old).port port.0).taken slot.0 ≡ Some t → sends_page t.meaning.operation ≡ true →
-            result ≡ false → HasMove (device_at S.size S.told self.old) port.0 slot.0 t → next_place t < 2 ^ 32 → HasRoom self.old.hardware 1 → ⊥ }
+            result ≡ Outcome.Left → HasMove (device_at S.size S.told self.old) port.0 slot.0 t → next_place t < 2 ^ 32 → HasRoom self.old.hardware 1 → ⊥ }
     {
         // No other port has a disk.
         if port.0 != 0 {
-            return false;
+            return Outcome::Left;
         }
         // A sector that was written can't be taken back, so the memory of its entry is found first.
         let room = self.hardware.reserve(1);
         let Some(next) = self.hardware.next_move(port.0, slot.0) else {
-            return false;
+            return Outcome::Left;
         };
-        if !next.is_on(self.disk.sectors()) {
-            return false;
-        }
         if !room {
             self.hardware.starved = true;
-            return false;
+            return Outcome::Left;
+        }
+        if !next.is_on(self.disk.sectors()) {
+            let _failed = self.fail(port, slot, PAST_THE_DISK);
+            return Outcome::Failed;
         }
         let mut bytes = [0; 512];
         if !exchange(
@@ -293,61 +315,50 @@ impl<S: SectorStore> Model<S> {
             next,
             &mut bytes,
         ) {
-            return false;
+            let _failed = self.fail(port, slot, STORE_FAILED);
+            return Outcome::Failed;
         }
         self.hardware.move_bytes(port.0, slot.0, next, &bytes);
-        true
+        Outcome::Done
     }
 
-    /// Clears the next sectors of a slot's trim, so many at the most.
-    fn clear_run(&mut self, port: Port, slot: Slot, most: u32) -> Clearing
+    /// Clears the next sectors of a slot's trim, so many at the most: those that follow one another. It fails on the first one past the disk, or on which the
+    /// store fails, once those before it are cleared.
+    fn clear_run(&mut self, port: Port, slot: Slot, most: u32) -> Outcome
         requires { slot.0 < 32 }
-        ensures answers { AnswersStep S.size S.told S.failures (DeviceStep.Clear port slot most) (has_cleared result) self.old self.new }
-        ensures part { result ≡ Clearing.Part → StoreCuts (DeviceStep.Clear port slot most) (S.failures self.old.disk) (S.failures self.new.disk) (device_at S.size S.told self.new) }
-        ensures whole { result ≡ Clearing.Whole → HasCleared (device_at S.size S.told self.old) (device_at S.size S.told self.new) port.0 slot.0 most × NoneFails S.failures self.old self.new }
-        ensures left { (n : ℕ) → HasRoom self.old.hardware (n + 1) → HasRoom self.new.hardware n }
+        ensures answers { AnswersStep S.size S.told S.failures (DeviceStep.Clear port slot most) (answer_of result) self.old self.new }
+        ensures whole { result ≡ Outcome.Done → HasCleared (device_at S.size S.told self.old) (device_at S.size S.told self.new) port.0 slot.0 most
+            × Completes S.size S.told S.failures (DeviceStep.Clear port slot most) self.old self.new }
+        ensures failed { result ≡ Outcome.Failed → HasFailed S.size S.told S.failures (DeviceStep.Clear port slot most) self.old self.new }
+        ensures left { result ≡ Outcome.Done → (n : ℕ) → HasRoom self.old.hardware (n + 1) → HasRoom self.new.hardware n }
     {
         // No other port has a disk.
         if port.0 != 0 {
-            return Clearing::Left;
+            return Outcome::Left;
         }
-        // A sector that was cleared can't be taken back, so the memory of the entry is found first.
-        let room = self.hardware.reserve(1);
-        let sectors = self.disk.sectors();
-        let Some(run) = self.hardware.run_to_clear(port.0, slot.0, most, sectors) else {
-            return Clearing::Left;
+        // A sector that was cleared can't be taken back, so the memory of the entries is found first.
+        let room = self.hardware.reserve(2);
+        let Some(run) = self.hardware.run_to_clear(port.0, slot.0, most) else {
+            return Outcome::Left;
         };
         if !room {
             self.hardware.starved = true;
-            return Clearing::Left;
+            return Outcome::Left;
         }
-        let count = clear_sectors(&mut self.disk, self.which, run);
-        if count == 0 {
-            return Clearing::Left;
-        }
+        let on_disk = run.cut(self.disk.sectors());
+        let count = clear_sectors(&mut self.disk, self.which, on_disk);
         let first = run.first;
         self.hardware.clear(port.0, slot.0, Run { first, count });
-        if count < run.count {
-            Clearing::Part
-        } else {
-            Clearing::Whole
+        if count == run.count {
+            return Outcome::Done;
         }
+        let error = if count < on_disk.count { STORE_FAILED } else { PAST_THE_DISK };
+        let _failed = self.fail(port, slot, error);
+        Outcome::Failed
     }
 
-    /// Clears the next sectors of a slot's trim, so many at the most: those that follow one another and are on the disk, up to the one at which the store
-    /// fails.
-    fn clear(&mut self, port: Port, slot: Slot, most: u32) -> bool
-        requires { slot.0 < 32 }
-        ensures { AnswersStep S.size S.told S.failures (DeviceStep.Clear port slot most) result self.old self.new }
-    {
-        match self.clear_run(port, slot, most) {
-            Clearing::Left => false,
-            Clearing::Part | Clearing::Whole => true,
-        }
-    }
-
-    /// Takes a slot's command if it isn't taken, moves and clears all that is left of it, and ends it. The tape's memory is found first. A store
-    /// that fails cuts it short.
+    /// Takes a slot's command if it isn't taken, moves and clears all that is left of it, and ends it. The tape's memory is found first. A sector on which
+    /// the store fails, or that is past the disk, fails it.
     fn finish(&mut self, port: Port, slot: Slot) -> bool
         requires { slot.0 < 32 }
         ensures answers { AnswersStep S.size S.told S.failures (DeviceStep.Finish port slot) result self.old self.new }
@@ -358,23 +369,23 @@ impl<S: SectorStore> Model<S> {
         if port.0 != 0 {
             return false;
         }
-        let sectors = self.disk.sectors();
-        let Some(Begun { rest, was_taken }) = self.hardware.begin(port.0, slot.0, sectors) else {
+        let Some(Begun { rest, was_taken }) = self.hardware.begin(port.0, slot.0) else {
             return false;
         };
         let mut did = was_taken;
         for _piece in 0..rest.left {
-            if !self.move_piece(port, slot) {
-                return did;
+            match self.move_piece(port, slot) {
+                Outcome::Left => return did,
+                Outcome::Failed => return true,
+                Outcome::Done => did = true,
             }
-            did = true;
         }
         for _run in 0..rest.clears {
             let most = self.hardware.count_uncleared(port.0, slot.0);
             match self.clear_run(port, slot, most) {
-                Clearing::Left => return did,
-                Clearing::Part => return true,
-                Clearing::Whole => did = true,
+                Outcome::Left => return did,
+                Outcome::Failed => return true,
+                Outcome::Done => did = true,
             }
         }
         self.hardware.done(port.0, slot.0) || did
@@ -472,8 +483,10 @@ impl<S: SectorStore> Model<S> {
     {
         match *s {
             DeviceStep::Fetch(port, slot) => self.fetch(port, slot),
-            DeviceStep::Move(port, slot) => slot.0 < 32 && self.move_piece(port, slot),
-            DeviceStep::Clear(port, slot, most) => slot.0 < 32 && self.clear(port, slot, most),
+            DeviceStep::Move(port, slot) => slot.0 < 32 && self.move_piece(port, slot).is_told(),
+            DeviceStep::Clear(port, slot, most) => {
+                slot.0 < 32 && self.clear_run(port, slot, most).is_told()
+            }
             DeviceStep::Done(port, slot) => self.done(port, slot),
             DeviceStep::Finish(port, slot) => slot.0 < 32 && self.finish(port, slot),
             DeviceStep::Fault(port, slot, error) => self.fail(port, slot, error),

@@ -136,6 +136,7 @@ pub fn working_on(ports: &[PortModel; 4], port: usize, slot: u8) -> Option<&Take
     requires port { port < 4 }
     requires slot { slot < 32 }
     ensures found { IfSome result (λ t. HoldsAt (slice_index_or ports.now port blank) slot t.now) }
+    ensures low { IfSome result (λ t. t.now.first < 2 ^ 48) }
     ensures none { result ≡ None → (t : TakenCommand) → HoldsAt (slice_index_or ports.now port blank) slot t → ⊥ }
 {
     let command = ports[port].taken.get(slot)?;

@@ -104,41 +104,28 @@ fn are_inside(prds: &[Prd], size: usize) -> bool
     true
 }
 
-/// Whether a command with so many pieces names sectors among so many alone, if it names some.
-fn is_on_disk(command: &TakenCommand, pieces: u32, sectors: u64) -> bool
-    ensures { IsTrue result ↔ (is_ranged (operation_of command.now.transfer) ≡ true → command.now.first + pieces ≤ sectors) }
-{
-    if !command.transfer.is_ranged() {
-        return true;
-    }
-    let end = command.first.checked_add(u64::from(pieces));
-    end.is_some_and(|end| end <= sectors)
-}
-
-/// How many moves are left of a command, if each of its pieces has a place in a memory of this size, and each sector that
-/// it names is one of so many.
-fn left_of(command: &TakenCommand, size: usize, sectors: u64) -> Option<u32>
-    ensures covered { IfSome result (λ left. IsCovered (taken_of command.now) size sectors left) }
-    ensures only { (left : ℕ) → IsCovered (taken_of command.now) size sectors left → result ≡ Some left }
+/// How many moves are left of a command, if each of its pieces has a place in a memory of this size.
+fn left_of(command: &TakenCommand, size: usize) -> Option<u32>
+    ensures covered { IfSome result (λ left. IsCovered (taken_of command.now) size left) }
+    ensures only { (left : ℕ) → IsCovered (taken_of command.now) size left → result ≡ Some left }
 {
     let prds = command.prds.as_slice();
-    let pieces = count_pieces(prds);
-    if !is_on_disk(command, pieces, sectors) || !are_inside(prds, size) {
+    if !are_inside(prds, size) {
         return None;
     }
-    pieces.checked_sub(command.moved)
+    count_pieces(prds).checked_sub(command.moved)
 }
 
-/// What is left of a command, whose block is this, if each of its moves has a place in the memory, and each sector that it moves or clears is one of so many.
-fn rest_of(command: &TakenCommand, block: &[u8], memory: &[u8], sectors: u64) -> Option<Rest>
+/// What is left of a command, whose block is this, if each of its moves has a place in the memory.
+fn rest_of(command: &TakenCommand, block: &[u8], memory: &[u8]) -> Option<Rest>
     requires block { block.now ≡ brought command.now.block }
     requires few { length block.now ≤ 512 }
-    ensures rest { IfSome result (λ rest. IsRest command.now memory.now sectors rest.left rest.clears) }
-    ensures only { (left clears : ℕ) → IsRest command.now memory.now sectors left clears → result ≡ Some (record { left = left; clears = clears }) }
+    ensures rest { IfSome result (λ rest. IsRest command.now memory.now rest.left rest.clears) }
+    ensures only { (left clears : ℕ) → IsRest command.now memory.now left clears → result ≡ Some (record { left = left; clears = clears }) }
 {
     Some(Rest {
-        left: left_of(command, memory.len(), sectors)?,
-        clears: clears_of(command, block, memory, sectors)?,
+        left: left_of(command, memory.len())?,
+        clears: clears_of(command, block, memory)?,
     })
 }
 
@@ -152,24 +139,25 @@ fn entries_of(rest: Rest) -> usize
 /// Whether a command that sends a page can be done to its end: whether each of its pieces has a place in a memory of this size, and
 /// an address of 32 bits.
 fn can_end(command: &TakenCommand, size: usize) -> bool
-    ensures ends { result ≡ true → (left : ℕ) × IsCovered (taken_of command.now) size 0 left × AreInside (2 ^ 32) (pieces command.now.prds) }
-    ensures only { result ≡ false → (left : ℕ) → IsCovered (taken_of command.now) size 0 left → AreInside (2 ^ 32) (pieces command.now.prds) → ⊥ }
+    ensures ends { result ≡ true → (left : ℕ) × IsCovered (taken_of command.now) size left × AreInside (2 ^ 32) (pieces command.now.prds) }
+    ensures only { result ≡ false → (left : ℕ) → IsCovered (taken_of command.now) size left → AreInside (2 ^ 32) (pieces command.now.prds) → ⊥ }
 {
-    match left_of(command, size, 0) {
+    match left_of(command, size) {
         Some(_left) => are_inside(command.prds.as_slice(), 1 << 32),
         None => false,
     }
 }
 
 /// The sector that a command moves next, 0 where it names none.
-fn sector_of(command: &TakenCommand) -> Option<u64>
-    ensures found { IfSome result (λ s. s ≡ next_sector (taken_of command.now)) }
-    ensures none { result ≡ None → next_sector (taken_of command.now) < 2 ^ 64 → ⊥ }
+fn sector_of(command: &TakenCommand) -> u64
+    requires { command.now.first < 2 ^ 48 }
+    ensures { result ≡ next_sector (taken_of command.now) }
 {
-    if !command.transfer.is_ranged() {
-        return Some(0);
+    if command.transfer.is_ranged() {
+        command.first + u64::from(command.moved)
+    } else {
+        0
     }
-    command.first.checked_add(u64::from(command.moved))
 }
 
 /// Puts the bytes of a move into memory, unless it takes them from there.
@@ -282,19 +270,17 @@ impl Hardware {
         requires slot { slot < 32 }
         ensures found { IfSome result (λ n. (t : TakenCommand) × IsNext self.now port slot n t) }
         ensures none { result ≡ None → (t : TakenCommand) → HoldsAt (slice_index_or self.now.ports port blank) slot t → t.moved < length (pieces t.prds) →
-            slice_index (pieces t.prds) t.moved < 2 ^ 32 → slice_index (pieces t.prds) t.moved + 512 ≤ length self.now.memory.items →
-            next_sector (taken_of t) < 2 ^ 64 → ⊥ }
+            slice_index (pieces t.prds) t.moved < 2 ^ 32 → slice_index (pieces t.prds) t.moved + 512 ≤ length self.now.memory.items → ⊥ }
     {
         let command = working_on(&self.ports, usize::from(port), slot)?;
         let address = piece_at(command.prds.as_slice(), command.moved)?;
-        let sector = sector_of(command)?;
         let address = u32::try_from(address).ok()?;
         if address as usize + 512 > self.memory.len() {
             return None;
         }
         Some(NextMove {
             transfer: command.transfer,
-            sector,
+            sector: sector_of(command),
             address,
         })
     }
@@ -341,18 +327,18 @@ impl Hardware {
         }
     }
 
-    /// What is left of a slot's command that is taken, if each move and each clear is possible on a disk of so many sectors.
-    fn rest_at(&self, port: u8, slot: u8, sectors: u64) -> Option<Rest>
+    /// What is left of a slot's command that is taken, if each move and each clear is possible.
+    fn rest_at(&self, port: u8, slot: u8) -> Option<Rest>
         requires port { port < 4 }
         requires slot { slot < 32 }
         ensures found { IfSome result (λ rest. (t : TakenCommand) × HoldsAt (slice_index_or self.now.ports port blank) slot t
-            × IsRest t self.now.memory.items sectors rest.left rest.clears) }
+            × IsRest t self.now.memory.items rest.left rest.clears) }
         ensures only { (t : TakenCommand) (left clears : ℕ) → HoldsAt (slice_index_or self.now.ports port blank) slot t →
-            IsRest t self.now.memory.items sectors left clears → result ≡ Some (record { left = left; clears = clears }) }
+            IsRest t self.now.memory.items left clears → result ≡ Some (record { left = left; clears = clears }) }
     {
         let command = working_on(&self.ports, usize::from(port), slot)?;
         let block = self.ports[usize::from(port)].taken.block(slot);
-        rest_of(command, block, &self.memory, sectors)
+        rest_of(command, block, &self.memory)
     }
 
     /// Ends a slot's command, of which nothing is left to move or to clear, and sends its FIS; `false` says that there is none, or that the tape found no memory.
@@ -423,15 +409,15 @@ impl Hardware {
         Some(queued)
     }
 
-    /// Takes the command that the bytes of a slot say, which may be taken, where each of its moves and clears is possible on a disk of so many sectors and the
-    /// tape finds memory for them and the end. Want of memory is told.
+    /// Takes the command that the bytes of a slot say, which may be taken, where each of its moves and clears is possible and the tape finds memory for
+    /// them and the end. Want of memory is told.
     #[inline(never)]
-    fn begin_said(&mut self, port: u8, slot: u8, sectors: u64) -> Option<Begun>
+    fn begin_said(&mut self, port: u8, slot: u8) -> Option<Begun>
         requires port { port < 4 }
         requires slot { slot < 32 }
         requires may { HasUntaken (slice_index_or self.old.ports port blank) slot }
-        ensures begun { IfSome result (λ b. IsBegun port slot sectors b.rest.left b.rest.clears b.was_taken self.old self.new) }
-        ensures left { result ≡ None → IsUnbegun port slot sectors self.old self.new }
+        ensures begun { IfSome result (λ b. IsBegun port slot b.rest.left b.rest.clears b.was_taken self.old self.new) }
+        ensures left { result ≡ None → IsUnbegun port slot self.old self.new }
     {
         let place = usize::from(port);
         let list = self.ports[place].addresses.clb;
@@ -442,7 +428,7 @@ impl Hardware {
         if !self.ports[place].is_open_to(command.transfer) {
             return None;
         }
-        let rest = rest_of(&command, &[], &self.memory, sectors)?;
+        let rest = rest_of(&command, &[], &self.memory)?;
         if self.tape.reserve(entries_of(rest)).is_err() {
             self.starved = true;
             return None;
@@ -454,19 +440,19 @@ impl Hardware {
         })
     }
 
-    /// Begins to do a slot's command to its end, where each move and each clear that it has left is possible on a disk of so many sectors: the tape finds memory for them
-    /// and the end, and the command is taken, unless it is already. Want of memory is told.
-    pub fn begin(&mut self, port: u8, slot: u8, sectors: u64) -> Option<Begun>
+    /// Begins to do a slot's command to its end, where each move and each clear that it has left is possible: the tape finds memory for them and the end,
+    /// and the command is taken, unless it is already. Want of memory is told.
+    pub fn begin(&mut self, port: u8, slot: u8) -> Option<Begun>
         requires port { port < 4 }
         requires slot { slot < 32 }
-        ensures begun { IfSome result (λ b. IsBegun port slot sectors b.rest.left b.rest.clears b.was_taken self.old self.new) }
-        ensures left { result ≡ None → IsUnbegun port slot sectors self.old self.new }
+        ensures begun { IfSome result (λ b. IsBegun port slot b.rest.left b.rest.clears b.was_taken self.old self.new) }
+        ensures left { result ≡ None → IsUnbegun port slot self.old self.new }
     {
         let place = usize::from(port);
         if has_untaken(&self.ports, place, slot) {
-            return self.begin_said(port, slot, sectors);
+            return self.begin_said(port, slot);
         }
-        let rest = self.rest_at(port, slot, sectors)?;
+        let rest = self.rest_at(port, slot)?;
         if self.tape.reserve(entries_of(rest)).is_err() {
             self.starved = true;
             return None;

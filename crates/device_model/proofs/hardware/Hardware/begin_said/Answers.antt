@@ -29,7 +29,7 @@ returns-then-not-read_into-clause-left c = λ _.
       λ o left clears ready.
           let P : ℕ → Type 0 = λ q. HasUntaken (slice_index_or c.args.self.now.ports q blank) c.args.slot in
           let may = subst P (sym c.from-place.ensures) c.requires.may in
-          let says = ready_said c.args.self.now o c.from-place.result c.args.port c.args.slot c.args.sectors left clears c.from-place.ensures ready may in
+          let says = ready_said c.args.self.now o c.from-place.result c.args.port c.args.slot left clears c.from-place.ensures ready may in
           let small : c.from-place.result < length c.args.self.now.ports = search rules in
           (rw (at_port c.args.self.now.ports c.from-place.result c.index-self-place.result small) at (c.read_into.ensures.only c.if-not-read_into.true ready.t.meaning ready.t.places))
           (rw (← c.deref.ensures.value) at says),
@@ -44,7 +44,7 @@ returns-in_err-rest-clause-left c = λ _.
           let may = subst P (sym c.from-place.ensures) c.requires.may in
           let small : c.from-place.result < length c.args.self.now.ports = search rules in
           let said = c.read_into.ensures.found c.if-not-read_into.false in
-          let rest = ready_is_said c.args.self.now c.from-place.result c.args.port c.args.slot c.args.sectors c.read_into.new.command
+          let rest = ready_is_said c.args.self.now c.from-place.result c.args.port c.args.slot c.read_into.new.command
           c.from-place.ensures may said.0 (rw (at_port c.args.self.now.ports c.from-place.result c.index-self-place.result small) at (rw c.deref.ensures.value at said.1)) o left clears ready in
           some-none ((rw c.deref-2.ensures.value at (c.rest_of.ensures.only left clears)) rest) c.in_err-rest.was,
       refl,
@@ -65,11 +65,11 @@ returns-then-is_err-clause-left c = λ _.
     inr (record {
       left = rest.left;
       clears = rest.clears;
-      ready = ready_to_take h c.from-place.result c.args.port c.args.slot c.args.sectors c.read_into.new.command c.from-place.ensures rest.left rest.clears
+      ready = ready_to_take h c.from-place.result c.args.port c.args.slot c.read_into.new.command c.from-place.ensures rest.left rest.clears
           (rw c.deref-2.ensures.value at c.in_ok-rest.ensures.rest) said.0 may (rw (at_port c.args.self.now.ports c.from-place.result c.index-self-place-2.result small) at (c.is_open_to.ensures.open c.if-not-is_open_to.false)) says;
       only = λ o n m ready.
           let one = some_one (sym ((rw c.deref-2.ensures.value at (c.rest_of.ensures.only n m))
-          (ready_is_said h c.from-place.result c.args.port c.args.slot c.args.sectors c.read_into.new.command c.from-place.ensures may said.0 says o n m ready)) ∙ c.in_ok-rest.was) in
+          (ready_is_said h c.from-place.result c.args.port c.args.slot c.read_into.new.command c.from-place.ensures may said.0 says o n m ready)) ∙ c.in_ok-rest.was) in
           (ap (λ (x : Rest). x.left) one, ap (λ (x : Rest). x.clears) one);
       lacked = λ room. absurd (omega (arith, over, room, entries));
       lacks = λ room. absurd (omega (arith, still, room, entries));
@@ -91,8 +91,8 @@ returns-clause-begun c =
     let room : vec_len c.reserve.new.self + c.entries_of.result ≤ vec_capacity c.reserve.new.self = search rules in
     let entries = c.entries_of.ensures in
     let kept : (o : Outside) → device_of held o ≡ device_of h o = λ o. ap (λ (items : List Entry). record (device_of h o) { tape = items }) c.reserve.ensures.items in
-    let ready : (o : Outside) → MayFinish (device_of h o) c.args.port c.args.slot c.args.sectors rest.left rest.clears =
-    ready_to_take h c.from-place.result c.args.port c.args.slot c.args.sectors c.read_into.new.command c.from-place.ensures rest.left rest.clears
+    let ready : (o : Outside) → MayFinish (device_of h o) c.args.port c.args.slot rest.left rest.clears =
+    ready_to_take h c.from-place.result c.args.port c.args.slot c.read_into.new.command c.from-place.ensures rest.left rest.clears
     (rw c.deref-2.ensures.value at c.in_ok-rest.ensures.rest) said.0 may alone says in
     let new : Hardware = record held { ports = slice_set h.ports c.from-place.result c.take.new.self } in
     let taken = may_be_taken (slice_index_or h.ports c.from-place.result blank) c.args.slot c.read_into.new.command may alone in
@@ -104,7 +104,7 @@ returns-clause-begun c =
     record {
       ready = ready;
       going = λ o.
-          fetched_goes c.args.port c.args.slot c.args.sectors rest.left rest.clears true (device_of h o) (device_of new o) (ready o) (λ _. did o) (λ never. true-false refl never)
+          fetched_goes c.args.port c.args.slot rest.left rest.clears true (device_of h o) (device_of new o) (ready o) (λ _. did o) (λ never. true-false refl never)
           (λ never. true-false refl never);
       room = omega (arith, room, entries);
       did = λ _ o. did o;
@@ -122,7 +122,7 @@ returns-then-not-is_open_to-clause-left c = λ _.
           let may = subst P (sym c.from-place.ensures) c.requires.may in
           let small : c.from-place.result < length c.args.self.now.ports = search rules in
           let said = c.read_into.ensures.found c.if-not-read_into.false in
-          let both = ready_beside c.args.self.now c.from-place.result c.args.port c.args.slot c.args.sectors c.read_into.new.command c.from-place.ensures may
+          let both = ready_beside c.args.self.now c.from-place.result c.args.port c.args.slot c.read_into.new.command c.from-place.ensures may
           said.0 (rw (at_port c.args.self.now.ports c.from-place.result c.index-self-place.result small) at (rw c.deref.ensures.value at said.1)) o left clears ready in
           (rw (at_port c.args.self.now.ports c.from-place.result c.index-self-place-2.result small) at (c.is_open_to.ensures.only c.if-not-is_open_to.true (o.media c.from-place.result)))
           both.0 both.1,

@@ -8,7 +8,7 @@ use Rattle.device_model.specs.Modelled.{device_at, outside_at}
 use Rattle.device_model.specs.Sent.{SendsEnd}
 use Rattle.device_model.proofs.Doing.{did_it, finish_goes_so, goes_so_on, goes_so_same, left_it}
 use Rattle.device_model.proofs.GoingOn.{gone_settled}
-use Rattle.device_model.proofs.Paging.{IsPage, fewer_left, finish_keeps, found_ends, found_stuck, has_only, is_page}
+use Rattle.device_model.proofs.Paging.{page_completes, IsPage, fewer_left, finish_keeps, found_ends, found_stuck, has_only, is_page}
 use Rattle.device_model.proofs.Own.{own_gone, own_none, own_on}
 use Rattle.device_model.proofs.model.Model.send_pages.Goals as goal
 
@@ -53,11 +53,11 @@ loop-found-preserved g c =
     let old : Device = device_at g.S.SectorStore.size g.S.SectorStore.told m in
     let new : Device = device_at g.S.SectorStore.size g.S.SectorStore.told c.finish.new.self in
     let step = asked.Finish (record { 0 = 0 }) (record { 0 = c.in-Some.found.slot }) in
+    let has = found_ends old c.in-Some.found.slot c.in-Some.found.ends c.if-not-found.false (c.in-Some.ensures.found (outside_at g.S.SectorStore.size g.S.SectorStore.told m)) in
     let went : c.finish.result ≡ true → GoesOn (SendsEnd c.in-Some.found.slot) 0 c.in-Some.found.slot old new =
-    λ (e : c.finish.result ≡ true). (did_it g.S.SectorStore.size g.S.SectorStore.told g.S.SectorStore.failures step m c.finish.new.self c.finish.result c.finish.ensures.answers e).asked in
+    λ (e : c.finish.result ≡ true). (page_completes g.S.SectorStore.size g.S.SectorStore.told g.S.SectorStore.failures m c.finish.new.self c.in-Some.found.slot (did_it g.S.SectorStore.size g.S.SectorStore.told g.S.SectorStore.failures step m c.finish.new.self c.finish.result c.finish.ensures.answers e) has).asked in
     let same : c.finish.result ≡ false → new ≡ old =
     λ (e : c.finish.result ≡ false). (left_it g.S.SectorStore.size g.S.SectorStore.told g.S.SectorStore.failures step m c.finish.new.self c.finish.result c.finish.ensures.answers e).device in
-    let has = found_ends old c.in-Some.found.slot c.in-Some.found.ends c.if-not-found.false (c.in-Some.ensures.found (outside_at g.S.SectorStore.size g.S.SectorStore.told m)) in
     let is = c.loop-found.invariant in
     let loose : slice_index_or c.args.self.now.held 0 false ≡ false = search rules in
     record {
@@ -65,7 +65,8 @@ loop-found-preserved g c =
           (own_gone IsPage is_page c.args.self.now.held 0 c.in-Some.found.slot loose c.finish.result old new went same (has_only old c.in-Some.found.slot has)).0;
       settled = λ held s. gone_settled 0 c.in-Some.found.slot c.finish.result old new went same held (is.settled held s);
       rest = goes_so_on g.S.SectorStore.size g.S.SectorStore.told g.S.SectorStore.failures _ _ _ is.rest
-          (finish_goes_so g.S.SectorStore.size g.S.SectorStore.told g.S.SectorStore.failures (record { 0 = 0 }) (record { 0 = c.in-Some.found.slot }) c.finish.result m c.finish.new.self c.finish.ensures.answers);
+          (finish_goes_so g.S.SectorStore.size g.S.SectorStore.told g.S.SectorStore.failures (record { 0 = 0 }) (record { 0 = c.in-Some.found.slot }) c.finish.result m c.finish.new.self c.finish.ensures.answers
+          (λ e. (page_completes g.S.SectorStore.size g.S.SectorStore.told g.S.SectorStore.failures m c.finish.new.self c.in-Some.found.slot (did_it g.S.SectorStore.size g.S.SectorStore.told g.S.SectorStore.failures step m c.finish.new.self c.finish.result c.finish.ensures.answers e) has).says));
       starved = (did_it g.S.SectorStore.size g.S.SectorStore.told g.S.SectorStore.failures step m c.finish.new.self c.finish.result c.finish.ensures.answers c.if-not-finish.false).starved ∙ is.starved;
       disk = finish_keeps g.S.SectorStore.size g.S.SectorStore.told g.S.SectorStore.failures m c.finish.new.self c.in-Some.found.slot c.finish.result c.finish.ensures.answers has ∙ is.disk;
     }
@@ -78,7 +79,7 @@ loop-found-smaller g c =
     let step = asked.Finish (record { 0 = 0 }) (record { 0 = c.in-Some.found.slot }) in
     let has = found_ends old c.in-Some.found.slot c.in-Some.found.ends c.if-not-found.false (c.in-Some.ensures.found (outside_at g.S.SectorStore.size g.S.SectorStore.told m)) in
     fewer_left c.in-Some.found.slot old new c.in-Some.ensures.small has
-    (did_it g.S.SectorStore.size g.S.SectorStore.told g.S.SectorStore.failures step m c.finish.new.self c.finish.result c.finish.ensures.answers c.if-not-finish.false).asked
+    (page_completes g.S.SectorStore.size g.S.SectorStore.told g.S.SectorStore.failures m c.finish.new.self c.in-Some.found.slot (did_it g.S.SectorStore.size g.S.SectorStore.told g.S.SectorStore.failures step m c.finish.new.self c.finish.result c.finish.ensures.answers c.if-not-finish.false) has).asked
     ((c.finish.ensures.sends refl has).0 c.if-not-finish.false)
 
 pub returns-then-not-found : goal.returns-then-not-found
@@ -108,11 +109,11 @@ returns-then-not-finish g c =
     let old : Device = device_at g.S.SectorStore.size g.S.SectorStore.told m in
     let new : Device = device_at g.S.SectorStore.size g.S.SectorStore.told c.finish.new.self in
     let step = asked.Finish (record { 0 = 0 }) (record { 0 = c.in-Some.found.slot }) in
+    let has = found_ends old c.in-Some.found.slot c.in-Some.found.ends c.if-not-found.false (c.in-Some.ensures.found (outside_at g.S.SectorStore.size g.S.SectorStore.told m)) in
     let went : c.finish.result ≡ true → GoesOn (SendsEnd c.in-Some.found.slot) 0 c.in-Some.found.slot old new =
-    λ (e : c.finish.result ≡ true). (did_it g.S.SectorStore.size g.S.SectorStore.told g.S.SectorStore.failures step m c.finish.new.self c.finish.result c.finish.ensures.answers e).asked in
+    λ (e : c.finish.result ≡ true). (page_completes g.S.SectorStore.size g.S.SectorStore.told g.S.SectorStore.failures m c.finish.new.self c.in-Some.found.slot (did_it g.S.SectorStore.size g.S.SectorStore.told g.S.SectorStore.failures step m c.finish.new.self c.finish.result c.finish.ensures.answers e) has).asked in
     let same : c.finish.result ≡ false → new ≡ old =
     λ (e : c.finish.result ≡ false). (left_it g.S.SectorStore.size g.S.SectorStore.told g.S.SectorStore.failures step m c.finish.new.self c.finish.result c.finish.ensures.answers e).device in
-    let has = found_ends old c.in-Some.found.slot c.in-Some.found.ends c.if-not-found.false (c.in-Some.ensures.found (outside_at g.S.SectorStore.size g.S.SectorStore.told m)) in
     let is = c.loop-found.invariant in
     let loose : slice_index_or c.args.self.now.held 0 false ≡ false = search rules in
     let t = c.take_page-then-not-finish.ensures in
@@ -128,7 +129,8 @@ returns-then-not-finish g c =
       left = record { taken = λ k small may. absurd (t.none k may); done = λ k small there. inr (t.starved ∙ lacks.0) };
       rest = goes_so_on g.S.SectorStore.size g.S.SectorStore.told g.S.SectorStore.failures _ _ _
           (goes_so_on g.S.SectorStore.size g.S.SectorStore.told g.S.SectorStore.failures _ _ _ is.rest
-          (finish_goes_so g.S.SectorStore.size g.S.SectorStore.told g.S.SectorStore.failures (record { 0 = 0 }) (record { 0 = c.in-Some.found.slot }) c.finish.result m c.finish.new.self c.finish.ensures.answers))
+          (finish_goes_so g.S.SectorStore.size g.S.SectorStore.told g.S.SectorStore.failures (record { 0 = 0 }) (record { 0 = c.in-Some.found.slot }) c.finish.result m c.finish.new.self c.finish.ensures.answers
+          (λ e. (page_completes g.S.SectorStore.size g.S.SectorStore.told g.S.SectorStore.failures m c.finish.new.self c.in-Some.found.slot (did_it g.S.SectorStore.size g.S.SectorStore.told g.S.SectorStore.failures step m c.finish.new.self c.finish.result c.finish.ensures.answers e) has).says)))
           t.rest;
       told = λ _.
           let R : ℕ → Type 0 = λ n. HasRoom c.take_page-then-not-finish.new.self.hardware (n + 1) in
