@@ -81,6 +81,10 @@ fault_keeps_present port slot error old new f =
     ap (λ (d : Device). (d.port 0).present) f.effect
     ∙ present_with old.port port (with_fault (old.port port) (is_queued f.t.meaning.operation) error 0) refl
 
+pub senseless_keeps_present : (port slot : ℕ) (old new : Device) → new ≡ after (FetchFault port slot false 0) old → (new.port 0).present ≡ (old.port 0).present
+senseless_keeps_present port slot old new effect =
+    ap (λ (d : Device). (d.port 0).present) effect ∙ present_with old.port port (with_fault (old.port port) false 4 0) refl
+
 pub some_keep_present : (n port slot : ℕ) (old new : Device) → DoesSome (SendsEnd slot) n port slot old new → (new.port 0).present ≡ (old.port 0).present
 some_keep_present zero port slot old new same = ap (λ (d : Device). (d.port 0).present) same
 some_keep_present (suc n) port slot old new s = one_keeps_present port slot s.0 new s.2 ∙ some_keep_present n port slot old s.0 s.1

@@ -21,7 +21,7 @@ use Rattle.ata_types.specs.declared.Port.{Port}
 use Rattle.ata_types.specs.declared.Slot.{Slot}
 use Rattle.adapter.specs.declared.access.DeviceStep.TheVariants as asked
 use Rattle.sector_store.specs.declared.store.Failures.{Failures}
-use Rattle.device_model.specs.Does.{AnswersStep, AsksFor, AsksStore, Completes, Did, FailsOnSector, FailsToClear, FailsToMove}
+use Rattle.device_model.specs.Does.{AnswersStep, AsksFor, AsksStore, Completes, Did, StepFails, FailsToClear, FailsToMove}
 use Rattle.device_model.specs.Finishing.{AreInside, HasPage, HasMove, FindsPage, IsCovered, MayFinish, MayPage, sends_page}
 use Rattle.device_model.specs.Modelled.{device_at}
 use Rattle.device_model.specs.Sent.{SendsEnd}
@@ -115,7 +115,7 @@ page_asks_none d slot left clears has may asks = by asks
 
 -- so it comes to no sector on which it fails
 page_whole : (slot : ℕ) (was now : Option Failures) (says later : Description) (old new : Device) → HasPage old slot →
-    FailsOnSector (asked.Finish (record { 0 = 0 }) (record { 0 = slot })) was now says later old new → ⊥
+    StepFails (asked.Finish (record { 0 = 0 }) (record { 0 = slot })) was now says later old new → ⊥
 page_whole slot was now says later old new has (mid, before, fails) = by before fails
   where
     page : (mid ≡ old) ⊎ GoesOn (SendsEnd slot) 0 slot old mid → (t : Taken) → (mid.port 0).taken slot ≡ Some t → IsPage t.meaning.operation t.places

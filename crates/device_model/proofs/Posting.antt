@@ -11,7 +11,7 @@ use Rattle.adapter.specs.declared.command.Operation.{Operation}
 use Rattle.adapter.specs.declared.command.Operation.TheVariants as operation
 use Rattle.adapter.proofs.Going.{post_steps}
 use Rattle.sector_store.specs.declared.store.Failures.{Failures}
-use Rattle.device_model.specs.Does.{Did, FailsOnSector, FailsToClear, FailsToMove}
+use Rattle.device_model.specs.Does.{Did, StepFails, FailsToClear, FailsToMove}
 use Rattle.device_model.specs.Modelled.{device_at}
 use Rattle.device_model.specs.Sent.{IsSent, Sends, SendsAfter, SendsEnd, is_received}
 use Rattle.device_model.specs.declared.model.Description.{Description}
@@ -107,7 +107,7 @@ done_may (asked.Release p) old new did = did
 done_may (asked.Unplug p) old new did = did
 done_may (asked.Plug p number) old new did = did
 
--- a fault on a sector is one of the device's own
+-- a fault in the place of a step, or on its way, is one of the device's own
 moving_fails : (port slot : ℕ) (was now : Option Failures) (says later : Description) (old new : Device) (f : FailsToMove port slot was now says later old new) →
     DoesFault port slot f.error old new
 moving_fails port slot was now says later old new f = record { t = f.t; can = f.can; effect = f.effect }
@@ -122,31 +122,31 @@ fails_after_may port slot error Part More more old mid new (inl same) fault = re
 fails_after_may port slot error Part More more old mid new (inr some) fault =
     record { mid = mid; before = inr (more old mid some); error = error; fault = fault }
 
-sector_may : (s : DeviceStep) (was now : Option Failures) (says later : Description) (old new : Device) → FailsOnSector s was now says later old new → Asked s old new
-sector_may (asked.Move p s) was now says later old new f = inr (f.error, moving_fails p.0 s.0 was now says later old new f)
-sector_may (asked.Clear p s most) was now says later old new (mid, before, f) =
+fails_may : (s : DeviceStep) (was now : Option Failures) (says later : Description) (old new : Device) → StepFails s was now says later old new → Asked s old new
+fails_may (asked.Fetch p s) was now says later old new f = inr (record { queued = false; can = f.can; effect = f.effect })
+fails_may (asked.Move p s) was now says later old new f = inr (f.error, moving_fails p.0 s.0 was now says later old new f)
+fails_may (asked.Clear p s most) was now says later old new (mid, before, f) =
     inr (fails_after_may p.0 s.0 f.error (DoesClear p.0 s.0 most) (DoesClear p.0 s.0 most) (λ a b some. some) old mid new before
     (clearing_fails p.0 s.0 was now says later mid new f))
-sector_may (asked.Finish p s) was now says later old new (mid, before, inl f) =
+fails_may (asked.Finish p s) was now says later old new (mid, before, inl f) =
     inr (fails_after_may p.0 s.0 f.error (GoesOn (SendsEnd s.0) p.0 s.0) (GoesOn MayPost p.0 s.0) (λ a b g. (g.0, some_may (suc g.0) p.0 s.0 a b g.1)) old mid new before
     (moving_fails p.0 s.0 was now says later mid new f))
-sector_may (asked.Finish p s) was now says later old new (mid, before, inr f) =
+fails_may (asked.Finish p s) was now says later old new (mid, before, inr f) =
     inr (fails_after_may p.0 s.0 f.error (GoesOn (SendsEnd s.0) p.0 s.0) (GoesOn MayPost p.0 s.0) (λ a b g. (g.0, some_may (suc g.0) p.0 s.0 a b g.1)) old mid new before
     (clearing_fails p.0 s.0 was now says later mid new f))
-sector_may (asked.Fetch p s) was now says later old new f = absurd f
-sector_may (asked.Done p s) was now says later old new f = absurd f
-sector_may (asked.Fault p s error) was now says later old new f = absurd f
-sector_may (asked.Lie p page offset bits) was now says later old new f = absurd f
-sector_may (asked.Truth p) was now says later old new f = absurd f
-sector_may (asked.Hold p) was now says later old new f = absurd f
-sector_may (asked.Release p) was now says later old new f = absurd f
-sector_may (asked.Unplug p) was now says later old new f = absurd f
-sector_may (asked.Plug p number) was now says later old new f = absurd f
+fails_may (asked.Done p s) was now says later old new f = absurd f
+fails_may (asked.Fault p s error) was now says later old new f = absurd f
+fails_may (asked.Lie p page offset bits) was now says later old new f = absurd f
+fails_may (asked.Truth p) was now says later old new f = absurd f
+fails_may (asked.Hold p) was now says later old new f = absurd f
+fails_may (asked.Release p) was now says later old new f = absurd f
+fails_may (asked.Unplug p) was now says later old new f = absurd f
+fails_may (asked.Plug p number) was now says later old new f = absurd f
 
 pub did_may : {S : Type 0} (size : S → ℕ) (told : S → Option (ℕ → List ℕ)) (failures : S → Option Failures) (s : DeviceStep) (old new : Model S) →
     Did size told failures s old new → Asked s (device_at size told old) (device_at size told new)
 did_may size told failures s old new did =
     elim did.came [
       | inl whole ↦ inl (done_may s _ _ whole.asked)
-      | inr failed ↦ sector_may s (failures old.disk) (failures new.disk) old.says new.says _ _ failed
+      | inr failed ↦ fails_may s (failures old.disk) (failures new.disk) old.says new.says _ _ failed
     ]

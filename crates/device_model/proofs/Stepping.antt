@@ -6,18 +6,19 @@ use Rattle.adapter.specs.Commands.{Meaning, direction_of, is_queued, is_ranged, 
 use Rattle.adapter.specs.Device.{Disk, Device, IsSector}
 use Rattle.adapter.specs.Memory.{patched, bytes_at}
 use Rattle.adapter.specs.Says.{Says}
-use Rattle.adapter.specs.Steps.{after, IsFinished, MayBeDone, MayFault, MayFetch, MayMove, Brings, recorded, with_clear, with_fault, with_fetch, with_move, with_done, clear_entry, done_entry, fault_entry, move_of, noted_bytes, memory_after, next_place, next_sector}
-use Rattle.adapter.specs.Steps.Step.{Clear, Move, Unplug, Plug}
+use Rattle.adapter.specs.Steps.{admits, after, IsFinished, MayBeDone, MayFault, MayFetch, MayFetchFault, MayMove, Brings, recorded, with_clear, with_fault, with_fetch, with_move, with_done, clear_entry, done_entry, fault_entry, move_of, noted_bytes, memory_after, next_place, next_sector}
+use Rattle.adapter.specs.Steps.Step.{Clear, FetchFault, Move, Unplug, Plug}
 use Rattle.adapter.specs.declared.command.Direction.{Direction}
 use Rattle.adapter.specs.declared.command.Operation.{Operation}
+use Rattle.adapter.specs.declared.command.Operation.TheVariants.{Identify}
 use Rattle.adapter.specs.declared.tape.Entry.{Entry}
 use Rattle.adapter.specs.declared.tape.Entry.TheVariants as entry
 use Rattle.adapter.specs.declared.tape.Move as tape_move
 use Rattle.adapter.specs.Asked.{DoesFault, DoesFetch, Ends}
 use Rattle.device_model.specs.Fetched.{bytes_of}
 use Rattle.device_model.specs.Sent.{SendsEnd}
-use Rattle.device_model.specs.Slots.{MayTake, HoldsAt, IsNext}
-use Rattle.device_model.specs.View.{Media, cause_of, held_in, media_after, media_cleared, operation_of, port_of, taken_of, blank}
+use Rattle.device_model.specs.Slots.{HasUntaken, MayTake, HoldsAt, IsNext}
+use Rattle.device_model.specs.View.{Media, cause_of, halt_of, held_in, media_after, media_cleared, operation_of, port_of, taken_of, blank}
 use Rattle.device_model.specs.Whole.{Outside, device_of, outside_after, outside_cleared, outside_plugged}
 use Rattle.device_model.specs.declared.port.TakenCommand.{TakenCommand}
 use Rattle.device_model.specs.declared.port.Transfer.{Transfer}
@@ -122,6 +123,25 @@ port_ends h o p port slot new t tape last e small holds all is more sends =
       };
       posts = sends;
     })
+
+-- what is issued and means no command may fail for that, where no fault keeps it waiting
+pub may_fail_senseless : (h : Hardware) (o : Outside) (p port slot : ℕ) → p ≡ port → HasUntaken (slice_index_or h.ports p blank) slot →
+    admits (halt_of (slice_index_or h.ports p blank).halting) Identify ≡ true →
+    ((m : Meaning) (places : List ℕ) → Says (bytes_of h.memory.items) (slice_index_or h.ports p blank).addresses.clb slot m places → ⊥) →
+    MayFetchFault (device_of h o) port slot 0
+may_fail_senseless h o p port slot e may admitted none =
+    let w = may (o.media p) Identify admitted in
+    let P : ℕ → Type 0 = λ q. MayFetchFault (device_of h o) q slot 0 in
+    subst P e (record { fetchable = w.0; working = w.1; says_nothing = none; kept = refl })
+
+-- and it does
+pub port_fails_senseless : (h : Hardware) (o : Outside) (p port slot : ℕ) (new : PortModel) (tape : Vec Entry) → p ≡ port → p < length h.ports →
+    port_of new (o.media p) ≡ with_fault (port_of (slice_index_or h.ports p blank) (o.media p)) false 4 0 →
+    tape.items ≡ h.tape.items ++ fault_entry port slot 4 0 ∷ [] →
+    device_of (record h { ports = slice_set h.ports p new; tape = tape }) o ≡ after (FetchFault port slot false 0) (device_of h o)
+port_fails_senseless h o p port slot new tape e small is more =
+    let P : ℕ → Type 0 = λ q. device_of (record h { ports = slice_set h.ports p new; tape = tape }) o ≡ after (FetchFault q slot false 0) (device_of h o) in
+    subst P e (set_port_recorded h o p new _ tape (fault_entry p slot 4 0) small is (rw (← e) at more))
 
 -- a command that is taken may fail, while the engine runs
 pub may_fail : (h : Hardware) (o : Outside) (port slot error : ℕ) (t : TakenCommand) → error < 256 → held_in (slice_index_or h.ports port blank).taken slot ≡ Some t →

@@ -5,7 +5,7 @@ use Rattle.adapter.specs.Asked.{DoesFault, DoesFetch, DoesUnplug, Ends}
 use Rattle.adapter.specs.Commands.{Meaning}
 use Rattle.adapter.specs.Device.{Device, Taken}
 use Rattle.adapter.specs.Steps.{Can, after, fault_entry}
-use Rattle.adapter.specs.Steps.Step.{Fetch, Done, Fault, Unplug}
+use Rattle.adapter.specs.Steps.Step.{Fetch, FetchFault, Done, Fault, Unplug}
 use Rattle.adapter.specs.declared.access.DeviceStep.{DeviceStep}
 use Rattle.adapter.specs.declared.access.DeviceStep.TheVariants as asked
 use Rattle.adapter.specs.declared.tape.Entry.{Entry}
@@ -13,7 +13,7 @@ use Rattle.adapter.specs.declared.tape.Entry.TheVariants as entry
 use Rattle.ata_types.specs.declared.Port.{Port}
 use Rattle.ata_types.specs.declared.Slot.{Slot}
 use Rattle.sector_store.specs.declared.store.Failures.{Failures}
-use Rattle.device_model.specs.Does.{AnswersStep, IsLeftOut, StepKeeps, LacksMemory, Possible, says_failed}
+use Rattle.device_model.specs.Does.{AnswersStep, IsLeftOut, MayBeFetched, StepKeeps, LacksMemory, Possible, says_failed}
 use Rattle.device_model.specs.Finishing.{HasRoom, IsPassed}
 use Rattle.device_model.specs.Modelled.{device_at, outside_at}
 use Rattle.device_model.specs.Sent.{SendsEnd}
@@ -60,34 +60,74 @@ module _ {S : Type 0} (size : S → ℕ) (told : S → Option (ℕ → List ℕ)
     starved_since = λ _. inr (back missed.0, lacks missed.1);
   }
 
-  pub fetch_answers : (p : Port) (s : Slot) (did : Bool) → p.0 < 4 → s.0 < 32 →
-      (did ≡ true → DoesFetch p.0 s.0 (device_of m.hardware behind) (device_of h behind)) → (did ≡ false → device_of h behind ≡ device_of m.hardware behind) →
-      (did ≡ false → (g : Meaning) (places : List ℕ) → Can (Fetch p.0 s.0 g places) (device_of m.hardware behind) → ⊥) →
-      h.tape ≡ m.hardware.tape → h.starved ≡ m.hardware.starved → AnswersStep size told failures (asked.Fetch p s) did m new
-  fetch_answers p s true port slot done same only tape starved =
-      let f = done refl in (
-        (port, slot, f.meaning, f.places, f.can),
-        record {
-          came = inl (record { asked = f; fine = λ _. refl; says = refl; ends = λ _. tt });
-          held = refl;
-          which = refl;
-          pages = gains_none size m new (ap (λ (v : Vec Entry). v.items) tape);
-          disks = λ _ _. refl;
-          keeps = on_hardware;
-          starved = starved;
-        },
-      )
-  fetch_answers p s false port slot done same only tape starved = record {
-    device = same refl;
+  -- nothing was taken, and nothing failed
+  fetch_left : (p : Port) (s : Slot) → p.0 < 4 → s.0 < 32 → ((g : Meaning) (places : List ℕ) → Can (Fetch p.0 s.0 g places) (device_of m.hardware behind) → ⊥) →
+      device_of h behind ≡ device_of m.hardware behind → IsPassed m.hardware h (Can (FetchFault p.0 s.0 false 0) (device_of m.hardware behind)) →
+      IsLeftOut size told failures (asked.Fetch p s) m new
+  fetch_left p s port slot only same (inl never) = record {
+    device = same;
     held = refl;
     says = refl;
     which = refl;
     disks = λ _. refl;
-    why = λ _ may. absurd (only refl may.2 may.3 may.4);
+    why = λ _ may. absurd (none may.2);
     keeps = on_hardware;
-    starved_on = λ yes. starved ∙ yes;
-    starved_since = λ yes. inl (sym starved ∙ yes);
+    starved_on = λ yes. ap (λ (x : Hardware). x.starved) never.1 ∙ yes;
+    starved_since = λ yes. inl (sym (ap (λ (x : Hardware). x.starved) never.1) ∙ yes);
   }
+    where
+      none : MayBeFetched (device_of m.hardware behind) p.0 s.0 → ⊥
+      none (inl may) = only may.0 may.1 may.2
+      none (inr may) = never.0 may
+  fetch_left p s port slot only same (inr missed) = record {
+    device = same;
+    held = refl;
+    says = refl;
+    which = refl;
+    disks = λ _. refl;
+    why = λ _ _. ((missed.0, missed.1), missed.2);
+    keeps = on_hardware;
+    starved_on = λ _. missed.2;
+    starved_since = λ _. inr ((port, slot, inr missed.0), (missed.0, missed.1));
+  }
+
+  -- a command was taken
+  pub fetch_answers : (p : Port) (s : Slot) → p.0 < 4 → s.0 < 32 → (f : DoesFetch p.0 s.0 (device_of m.hardware behind) (device_of h behind)) →
+      h.tape ≡ m.hardware.tape → h.starved ≡ m.hardware.starved → AnswersStep size told failures (asked.Fetch p s) true m new
+  fetch_answers p s port slot f tape starved = (
+    (port, slot, inl (f.meaning, f.places, f.can)),
+    record {
+      came = inl (record { asked = f; fine = λ _. refl; says = refl; ends = λ _. tt });
+      held = refl;
+      which = refl;
+      pages = gains_none size m new (ap (λ (v : Vec Entry). v.items) tape);
+      disks = λ _ _. refl;
+      keeps = on_hardware;
+      starved = starved;
+    },
+  )
+
+  -- or what is issued means none, and it failed for that; or neither
+  pub senseless_answers : (p : Port) (s : Slot) (did : Bool) → p.0 < 4 → s.0 < 32 →
+      ((g : Meaning) (places : List ℕ) → Can (Fetch p.0 s.0 g places) (device_of m.hardware behind) → ⊥) →
+      (did ≡ true → Can (FetchFault p.0 s.0 false 0) (device_of m.hardware behind) × (device_of h behind ≡ after (FetchFault p.0 s.0 false 0) (device_of m.hardware behind))) →
+      (did ≡ false → device_of h behind ≡ device_of m.hardware behind) → (did ≡ false → IsPassed m.hardware h (Can (FetchFault p.0 s.0 false 0) (device_of m.hardware behind))) →
+      (did ≡ true → h.starved ≡ m.hardware.starved) → AnswersStep size told failures (asked.Fetch p s) did m new
+  senseless_answers p s true port slot only done same passed starved =
+      let d = done refl in (
+        (port, slot, inr d.0),
+        record {
+          came = inr (record { can = d.0; effect = d.1; stores = refl; log = refl });
+          held = refl;
+          which = refl;
+          pages = gains_one size m new (fault_entry p.0 s.0 4 0) (ap (λ (x : Device). x.tape) d.1) (λ x e. absurd (cc e));
+          disks = λ _ _. refl;
+          keeps = on_hardware;
+          starved = starved refl;
+        },
+      )
+  senseless_answers p s false port slot only done same passed starved =
+      fetch_left p s port slot only (same refl) (passed refl)
 
   pub done_answers : (p : Port) (s : Slot) (did : Bool) → p.0 < 4 → s.0 < 32 →
       (did ≡ true → Ends (SendsEnd s.0) p.0 s.0 (device_of m.hardware behind) (device_of h behind)) → (did ≡ false → device_of h behind ≡ device_of m.hardware behind) →

@@ -11,7 +11,7 @@ use Rattle.adapter.specs.declared.access.DeviceStep.{DeviceStep}
 use Rattle.adapter.specs.declared.access.DeviceStep.TheVariants as asked
 use Rattle.sector_store.specs.declared.store.Failures.{Failures}
 use Rattle.device_model.specs.Disks.{disk_number, store_of}
-use Rattle.device_model.specs.Does.{AnswersStep, AsksStore, FailsOnSector, FailsToClear, FailsToMove, Possible, PutsIn, which_after}
+use Rattle.device_model.specs.Does.{AnswersStep, AsksStore, StepFails, FailsToClear, FailsToMove, Possible, PutsIn, which_after}
 use Rattle.device_model.specs.Finishing.{HasMove}
 use Rattle.device_model.specs.Modelled.{device_at}
 use Rattle.device_model.specs.Queue.{DoesEach}
@@ -21,7 +21,7 @@ use Rattle.device_model.specs.declared.disks.Which.{Which}
 use Rattle.device_model.specs.declared.disks.Which.TheVariants.{Disk0, Disk1}
 use Rattle.device_model.specs.declared.model.Description.{Description}
 use Rattle.device_model.specs.declared.model.Model.{Model}
-use Rattle.device_model.proofs.Own.{fault_keeps_present, one_keeps_present, some_keep_present}
+use Rattle.device_model.proofs.Own.{fault_keeps_present, one_keeps_present, senseless_keeps_present, some_keep_present}
 
 named_by : (w : Which) (number : ℕ) → number < 2 → w ≡ (if nat_eq number 0 then Disk0 else Disk1) → number ≡ disk_number w
 named_by w zero small e = sym (ap disk_number e)
@@ -68,9 +68,9 @@ clearing_keeps : (port slot : ℕ) (was now : Option Failures) (says later : Des
 clearing_keeps port slot was now says later old new f =
     fault_keeps_present port slot f.error old new (record { t = f.t; can = f.can; effect = f.effect })
 
--- nor does a fault on a sector
+-- nor does a fault
 still_failed : (s : DeviceStep) (was now : Option Failures) (says later : Description) (old new : Device) → (old.port 0).present ≡ false →
-    FailsOnSector s was now says later old new → (new.port 0).present ≡ false
+    StepFails s was now says later old new → (new.port 0).present ≡ false
 still_failed (asked.Move p s) was now says later old new empty f = moving_keeps p.0 s.0 was now says later old new f ∙ empty
 still_failed (asked.Clear p s most) was now says later old new empty (mid, before, f) =
     clearing_keeps p.0 s.0 was now says later mid new f ∙ (by before ∙ empty)
@@ -87,7 +87,7 @@ still_failed (asked.Finish p s) was now says later old new empty (mid, before, f
     by : FailsToMove p.0 s.0 was now says later mid new ⊎ FailsToClear p.0 s.0 was now says later mid new → (new.port 0).present ≡ (mid.port 0).present
     by (inl moves) = moving_keeps p.0 s.0 was now says later mid new moves
     by (inr clears) = clearing_keeps p.0 s.0 was now says later mid new clears
-still_failed (asked.Fetch p s) was now says later old new empty f = absurd f
+still_failed (asked.Fetch p s) was now says later old new empty f = senseless_keeps_present p.0 s.0 old new f.effect ∙ empty
 still_failed (asked.Done p s) was now says later old new empty f = absurd f
 still_failed (asked.Fault p s error) was now says later old new empty f = absurd f
 still_failed (asked.Lie p page offset bits) was now says later old new empty f = absurd f

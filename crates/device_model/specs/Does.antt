@@ -7,7 +7,7 @@ use Rattle.adapter.specs.Asked.{DoesClear, DoneOf, GoesOn}
 use Rattle.adapter.specs.Commands.{Meaning, is_queued, is_ranged, reads_memory}
 use Rattle.adapter.specs.Device.{Device, Taken}
 use Rattle.adapter.specs.Steps.{Can, after, done_entry, next_sector}
-use Rattle.adapter.specs.Steps.Step.{Fetch, Done, Fault, Unplug}
+use Rattle.adapter.specs.Steps.Step.{Fetch, FetchFault, Done, Fault, Unplug}
 use Rattle.adapter.specs.declared.access.DeviceStep.{DeviceStep}
 use Rattle.adapter.specs.declared.access.DeviceStep.TheVariants as asked
 use Rattle.adapter.specs.declared.command.Operation.{Operation}
@@ -32,12 +32,16 @@ use Rattle.device_model.specs.declared.model.Outcome.TheVariants.{Left}
 
 -- ---- when a step is possible
 
+-- A command that is issued in the slot may be taken, or its bytes mean none, and it may fail for that, as a plain one.
+abbrev pub MayBeFetched : Device → (port slot : ℕ) → Type 0
+MayBeFetched d port slot =
+    ((meaning : Meaning) × (places : List ℕ) × Can (Fetch port slot meaning places) d) ⊎ Can (FetchFault port slot false 0) d
+
 -- The step may be done now, memory to note it aside. There are ports 0 to 3 with slots 0 to 31, of which port 0 alone has disks; what is said of a
 -- page of any other port says nothing, and is done; a page has 512 bytes; and disks 0 and 1 can be put in, where no disk is. A Finish is possible
 -- where each of its moves and clears is. A sector may be past the disk: its command fails then.
 abbrev pub Possible : DeviceStep → Device → Type 0
-Possible (asked.Fetch p s) d =
-    (p.0 < 4) × (s.0 < 32) × (meaning : Meaning) × (places : List ℕ) × Can (Fetch p.0 s.0 meaning places) d
+Possible (asked.Fetch p s) d = (p.0 < 4) × (s.0 < 32) × MayBeFetched d p.0 s.0
 Possible (asked.Move p s) d = (s.0 < 32) × (t : Taken) × HasMove d p.0 s.0 t
 Possible (asked.Clear p s most) d = (s.0 < 32) × (t : Taken) × HasClear d p.0 s.0 most t
 Possible (asked.Done p s) d = (p.0 < 4) × (s.0 < 32) × (flag : ℕ) × (t : Taken) × Can (Done p.0 s.0 flag t) d
@@ -51,8 +55,9 @@ Possible (asked.Unplug p) d = (p.0 ≡ 0) × Can (Unplug 0) d
 Possible (asked.Plug p number) d = (p.0 ≡ 0) × (number.0 < 2) × ((d.port 0).present ≡ false)
 
 -- Without growing, the tape has no room for what the step notes there, or, for a Plug, the list of the disks that were put in has none. A Finish notes
--- each of its moves and clears, and the end; a Clear what it clears, and a fault. The other steps note nothing.
+-- each of its moves and clears, and the end; a Clear what it clears, and a fault; and a Fetch a fault alone. The other steps note nothing.
 abbrev pub LacksMemory : {S : Type 0} → DeviceStep → Device → Hardware → Vec (Inserted S) → Type 0
+LacksMemory (asked.Fetch p s) d h plugged = Can (FetchFault p.0 s.0 false 0) d × (HasRoom h 1 → ⊥)
 LacksMemory (asked.Move p s) d h plugged = HasRoom h 1 → ⊥
 LacksMemory (asked.Clear p s most) d h plugged = HasRoom h 2 → ⊥
 LacksMemory (asked.Done p s) d h plugged = HasRoom h 1 → ⊥
@@ -123,6 +128,13 @@ abbrev pub IsCause : (writes : Bool) (sector size error : ℕ) → (was now : Op
 IsCause writes sector size error was now =
     ((size ≤ sector) × (error ≡ 0x10) × (now ≡ was)) ⊎ ((sector < size) × (error ≡ 0x40) × FailsOn writes sector was now)
 
+-- What is issued in the slot fails as it is to be taken, since its bytes mean no command: with 04h, aborted. It is told as a plain one.
+pub record FailsToFetch (port slot : ℕ) (was now : Option Failures) (says after_it : Description) (old new : Device) : Type 0 where
+  pub can : Can (FetchFault port slot false 0) old
+  pub effect : new ≡ after (FetchFault port slot false 0) old
+  pub stores : now ≡ was
+  pub log : after_it ≡ says
+
 -- the slot's command fails on the sector that it moves next;
 pub record FailsToMove (port slot : ℕ) (was now : Option Failures) (says after_it : Description) (old new : Device) : Type 0 where
   pub t : Taken
@@ -148,15 +160,16 @@ pub record FailsToClear (port slot : ℕ) (was now : Option Failures) (says afte
 abbrev pub After : (Part Fails : Device → Device → Type 0) → Device → Device → Type 0
 After Part Fails old new = (mid : Device) × ((mid ≡ old) ⊎ Part old mid) × Fails mid new
 
--- A step that moves or clears comes to a sector on which its command fails: a Move as it begins, and a Clear and a Finish once they have done what comes
--- before it. What the disks say after it tells of the command, if it is queued.
-abbrev pub FailsOnSector : DeviceStep → (was now : Option Failures) → (says after_it : Description) → Device → Device → Type 0
-FailsOnSector (asked.Move p s) was now says after_it old new = FailsToMove p.0 s.0 was now says after_it old new
-FailsOnSector (asked.Clear p s most) was now says after_it old new =
+-- The command of a step fails in its place, or on the way: a Fetch since it means none; and a Move, a Clear and a Finish as they come to a sector on which it
+-- fails, a Move as it begins, and the others once they have done what comes before it. What the disks say after it tells of a queued one.
+abbrev pub StepFails : DeviceStep → (was now : Option Failures) → (says after_it : Description) → Device → Device → Type 0
+StepFails (asked.Fetch p s) was now says after_it old new = FailsToFetch p.0 s.0 was now says after_it old new
+StepFails (asked.Move p s) was now says after_it old new = FailsToMove p.0 s.0 was now says after_it old new
+StepFails (asked.Clear p s most) was now says after_it old new =
     After (DoesClear p.0 s.0 most) (FailsToClear p.0 s.0 was now says after_it) old new
-FailsOnSector (asked.Finish p s) was now says after_it old new =
+StepFails (asked.Finish p s) was now says after_it old new =
     After (GoesOn (SendsEnd s.0) p.0 s.0) (λ mid last. FailsToMove p.0 s.0 was now says after_it mid last ⊎ FailsToClear p.0 s.0 was now says after_it mid last) old new
-FailsOnSector step was now says after_it old new = ⊥
+StepFails step was now says after_it old new = ⊥
 
 -- no call has failed, on either store
 abbrev pub NoneFails : {S : Type 0} → (S → Option Failures) → Model S → Model S → Type 0
@@ -198,10 +211,10 @@ pub record Completes {S : Type 0} (size : S → ℕ) (told : S → Option (ℕ �
   pub says : new.says ≡ says_after s (device_at size told old) old.says
   pub ends : (device_at size told old).size ≤ 2 ^ 32 → EndsIt s (device_at size told old) (device_at size told new)
 
--- its command fails on a sector
+-- its command fails
 abbrev pub HasFailed : {S : Type 0} → (S → ℕ) → (S → Option (ℕ → List ℕ)) → (S → Option Failures) → DeviceStep → Model S → Model S → Type 0
 HasFailed size told failures s old new =
-    FailsOnSector s (failures old.disk) (failures new.disk) old.says new.says (device_at size told old) (device_at size told new)
+    StepFails s (failures old.disk) (failures new.disk) old.says new.says (device_at size told old) (device_at size told new)
 
 -- A step that is done: whole, or as far as its command has come that fails. The ports are held that are held after it; the disk is in, or was last, that is
 -- after it, and each disk has the sectors that it had, but where a sector is moved or cleared; each page that the tape has gained is as the disk that was in

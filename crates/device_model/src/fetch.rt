@@ -459,3 +459,13 @@ pub fn read_command(memory: &[u8], list: u32, slot: u8) -> Option<TakenCommand>
         None
     }
 }
+
+/// Whether the bytes of a slot say a command.
+pub fn says_command(memory: &[u8], list: u32, slot: u8) -> bool
+    requires { slot < 32 }
+    ensures said { result ≡ true → (m : Meaning) × (places : List ℕ) × Says (bytes_of memory.now) list slot m places }
+    ensures none { result ≡ false → (m : Meaning) (places : List ℕ) → Says (bytes_of memory.now) list slot m places → ⊥ }
+{
+    let mut command = TakenCommand::room();
+    read_into(memory, list, slot, &mut command)
+}

@@ -200,14 +200,14 @@ impl<S: SectorStore> Model<S> {
             .map_err(|_full| NoMemory)
     }
 
-    /// Takes the command that is issued in a slot, if it is one that the model takes.
+    /// Takes the command that is issued in a slot; what means none fails for that.
     fn fetch(&mut self, port: Port, slot: Slot) -> bool
         ensures { AnswersStep S.size S.told S.failures (DeviceStep.Fetch port slot) result self.old self.new }
     {
         if port.0 >= 4 || slot.0 >= 32 {
             return false;
         }
-        self.hardware.fetch(port.0, slot.0)
+        self.hardware.fetch(port.0, slot.0) || self.hardware.fail_senseless(port.0, slot.0)
     }
 
     /// Ends a slot's command, of which nothing is left to move or to clear.

@@ -1,6 +1,6 @@
 // The slots of a port: which command is taken, and how it goes on.
 ghost use Rattle.std.specs.Prelude.{◌≡◌, ◌<◌, ◌^◌, ◌+◌, ℕ, None, Some, true, false, slice_index_or, IfSome, List};
-ghost use Rattle.adapter.specs.Steps.{IsAlone, IsWorking, admits, with_clear, with_done, with_fault, with_fetch, with_move};
+ghost use Rattle.adapter.specs.Steps.{IsAlone, IsFetchable, IsWorking, admits, with_clear, with_done, with_fault, with_fetch, with_move};
 ghost use Rattle.adapter.specs.declared.command.Operation.{Operation};
 ghost use Rattle.device_model.specs.Fetched.{IsNew};
 ghost use Rattle.device_model.specs.Slots.{IsOpenTo, MayTake, HasUntaken, HoldsAt};
@@ -122,6 +122,8 @@ pub fn has_untaken(ports: &[PortModel; 4], port: usize, slot: u8) -> bool
     requires slot { slot < 32 }
     ensures may { result ≡ true → HasUntaken (slice_index_or ports.now port blank) slot }
     ensures only { result ≡ false → (m : Media) (operation : Operation) → MayTake (port_of (slice_index_or ports.now port blank) m) slot operation → ⊥ }
+    ensures none { result ≡ false → (m : Media) (operation : Operation) → IsFetchable (port_of (slice_index_or ports.now port blank) m) slot →
+        IsWorking (port_of (slice_index_or ports.now port blank) m) operation → ⊥ }
 {
     ports[port].st
         && ports[port].cr

@@ -6,7 +6,7 @@ ghost use Rattle.adapter.specs.Device.{Disk, Taken};
 ghost use Rattle.adapter.specs.Memory.{patched};
 ghost use Rattle.adapter.specs.Says.{pieces};
 ghost use Rattle.adapter.specs.Steps.{Can, IsFinished, after, next_sector};
-ghost use Rattle.adapter.specs.Steps.Step.{Fetch as FetchStep, Move as MoveStep, Done as DoneStep, Fault as FaultStep, Unplug as UnplugStep, Plug as PlugStep};
+ghost use Rattle.adapter.specs.Steps.Step.{Fetch as FetchStep, FetchFault as FetchFaultStep, Move as MoveStep, Done as DoneStep, Fault as FaultStep, Unplug as UnplugStep, Plug as PlugStep};
 ghost use Rattle.adapter.specs.Asked.{DoesFault, DoesFetch, Ends};
 ghost use Rattle.device_model.specs.Block.{brought};
 ghost use Rattle.device_model.specs.Fetched.{bytes_of};
@@ -17,7 +17,7 @@ ghost use Rattle.device_model.specs.View.{held_in, operation_of, taken_of, blank
 ghost use Rattle.device_model.specs.Whole.{Outside, device_of, outside_after, outside_plugged};
 ghost use Rattle.device_model.specs.declared.port.TakenCommand.{TakenCommand};
 
-use crate::fetch::{count_pieces, piece_at, read_command, read_into, read_page};
+use crate::fetch::{count_pieces, piece_at, read_command, read_into, read_page, says_command};
 use crate::hardware::{Hardware, put};
 use crate::port::{TakenCommand, Transfer};
 use crate::slots::{FAILED_STATUS, has_untaken, working_on};
@@ -25,6 +25,9 @@ use crate::trims::{clears_of, is_finished};
 use adapter::{Done, Entry, Fault, Move, Prd};
 use ata_types::{Port, Slot};
 use std::snapshot::Snapshot;
+
+/// The error of what means no command: ABRT (ACS-3, 6.2).
+const ABORTED: u8 = 0x04;
 
 /// What a command moves next: a sector, or 0 where it names none, and the address that the bytes go to or come from.
 #[derive(Clone, Copy, Debug)]
@@ -177,7 +180,7 @@ impl Hardware {
         requires port { port < 4 }
         requires slot { slot < 32 }
         ensures did { result ≡ true → (o : Outside) → DoesFetch port slot (device_of self.old o) (device_of self.new o) }
-        ensures refused { result ≡ false → (o : Outside) → device_of self.new o ≡ device_of self.old o }
+        ensures refused { result ≡ false → self.new ≡ self.old }
         ensures only { result ≡ false → (o : Outside) (m : Meaning) (places : List ℕ) → Can (FetchStep port slot m places) (device_of self.old o) → ⊥ }
         ensures tape { self.new.tape ≡ self.old.tape }
         ensures starved { self.new.starved ≡ self.old.starved }
@@ -193,7 +196,7 @@ impl Hardware {
         requires slot { slot < 32 }
         requires may { HasUntaken (slice_index_or self.old.ports port blank) slot }
         ensures did { result ≡ true → (o : Outside) → DoesFetch port slot (device_of self.old o) (device_of self.new o) }
-        ensures refused { result ≡ false → (o : Outside) → device_of self.new o ≡ device_of self.old o }
+        ensures refused { result ≡ false → self.new ≡ self.old }
         ensures only { result ≡ false → (o : Outside) (m : Meaning) (places : List ℕ) → Can (FetchStep port slot m places) (device_of self.old o) → ⊥ }
         ensures tape { self.new.tape ≡ self.old.tape }
         ensures starved { self.new.starved ≡ self.old.starved }
@@ -407,6 +410,42 @@ impl Hardware {
         }
         self.ports[usize::from(port)].fail(queued, error);
         Some(queued)
+    }
+
+    /// Fails what is issued in a slot, and may be taken, if its bytes mean no command that there is (AHCI 1.3.1, 6.2.2; ACS-3, 6.2): with ABRT. `false` says that
+    /// they mean one, that there is none, or that the tape found no memory.
+    #[inline(never)]
+    pub fn fail_senseless(&mut self, port: u8, slot: u8) -> bool
+        requires port { port < 4 }
+        requires slot { slot < 32 }
+        ensures did { result ≡ true → (o : Outside) → Can (FetchFaultStep port slot false 0) (device_of self.old o)
+            × (device_of self.new o ≡ after (FetchFaultStep port slot false 0) (device_of self.old o)) }
+        ensures refused { result ≡ false → (o : Outside) → device_of self.new o ≡ device_of self.old o }
+        ensures left { result ≡ false → (o : Outside) → IsPassed self.old self.new (Can (FetchFaultStep port slot false 0) (device_of self.old o)) }
+        ensures fed { result ≡ true → self.new.starved ≡ self.old.starved }
+    {
+        let place = usize::from(port);
+        if !has_untaken(&self.ports, place, slot) {
+            return false;
+        }
+        if !self.ports[place].halting.admits(Transfer::Identify) {
+            return false;
+        }
+        let list = self.ports[place].addresses.clb;
+        if says_command(&self.memory, list, slot) {
+            return false;
+        }
+        let entry = Entry::Fault(Fault {
+            port: Port(port),
+            slot: Slot(slot),
+            status: FAILED_STATUS,
+            error: ABORTED,
+        });
+        if !record(&mut self.tape, &mut self.starved, entry) {
+            return false;
+        }
+        self.ports[place].fail(false, ABORTED);
+        true
     }
 
     /// Takes the command that the bytes of a slot say, which may be taken, where each of its moves and clears is possible and the tape finds memory for

@@ -5,10 +5,10 @@ use Rattle.device_model.proofs.laws.queued_commands_go_on_side_by_side.Goals as 
 
 pub returns-clause-taken : goal.returns-clause-taken
 returns-clause-taken g c = λ old new p slot other m n xs ys small below apart port first second here there. (
-  (port, small, m, xs, here),
+  (port, small, inl (m, xs, here)),
   λ did.
-      let still = fetched_leaves p.0 slot.0 other.0 apart (device_at g.S.SectorStore.size g.S.SectorStore.told old) (device_at g.S.SectorStore.size g.S.SectorStore.told new) m n xs ys first second here there (elim did.came [ inl whole ↦ whole.asked | inr never ↦ absurd never ]) in
-      (still, (port, below, n, ys, still)),
+      let still = fetched_leaves p.0 slot.0 other.0 apart (device_at g.S.SectorStore.size g.S.SectorStore.told old) (device_at g.S.SectorStore.size g.S.SectorStore.told new) m n xs ys first second here there (elim did.came [ inl whole ↦ whole.asked | inr failed ↦ absurd (failed.can.says_nothing m xs here.says) ]) in
+      (still, (port, below, inl (n, ys, still))),
 )
 
 pub returns-clause-ended : goal.returns-clause-ended
