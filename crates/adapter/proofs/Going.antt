@@ -1,13 +1,13 @@
 -- Steps of one slot's command, one after another.
-use Rattle.std.proofs.Common.{ℕ, Bool, true, false, zero, suc, ◌≡◌, refl, sym, subst, inl, inr}
+use Rattle.std.proofs.Common.{ℕ, Bool, true, false, zero, suc, ◌≡◌, ◌⊎◌, refl, sym, subst, inl, inr}
 use Rattle.adapter.specs.Device.{Device}
 use Rattle.adapter.specs.Steps.{Steps}
-use Rattle.adapter.specs.Steps.Step.{Fetch, Move, Clear, Done, Unplug, Plug, Scribble}
+use Rattle.adapter.specs.Steps.Step.{Fetch, FetchFault, Move, Clear, Done, Fault, Unplug, Plug, Scribble}
 use Rattle.adapter.specs.declared.command.Operation.{Operation}
 use Rattle.adapter.specs.declared.access.DeviceStep.{DeviceStep}
 use Rattle.adapter.specs.declared.access.DeviceStep.TheVariants as asked
 use Rattle.adapter.proofs.Runs.{Steps-refl, Steps-one, Steps-trans}
-use Rattle.adapter.specs.Asked.{DoesClear, DoesOne, DoesSome, GoesOn, MayPost, Asked}
+use Rattle.adapter.specs.Asked.{DoesClear, DoesFault, DoesOne, DoesSome, FailsAfter, FailsOf, GoesOn, MayPost, Asked, DoneOf}
 
 module _ (Posts : (port flag : ℕ) → Operation → Device → Device → Type 0) where
   pub goes_one : (port slot : ℕ) (old new : Device) → DoesOne Posts port slot old new → GoesOn Posts port slot old new
@@ -43,18 +43,52 @@ some_steps : (n port slot : ℕ) (old new : Device) → DoesSome MayPost n port 
 some_steps zero port slot old new e = let P : Device → Type 0 = λ d. Steps old d in subst P (sym e) (Steps-refl old)
 some_steps (suc n) port slot old new s = Steps-trans (some_steps n port slot old s.0 s.1) (one_steps port slot s.0 new s.2)
 
+fault_steps : (port slot error : ℕ) (old new : Device) → DoesFault port slot error old new → Steps old new
+fault_steps port slot error old new f = Steps-one (Fault port slot error 0 f.t) old new f.can f.effect
+
+-- a command failed after some steps, or none
+fails_steps : (Some : Device → Device → Type 0) → ((old new : Device) → Some old new → Steps old new) → (port slot : ℕ) (old new : Device) →
+    FailsAfter Some port slot old new → Steps old new
+fails_steps Some steps port slot old new f = Steps-trans (before f.before) (fault_steps port slot f.error f.mid new f.fault)
+  where
+    before : (f.mid ≡ old) ⊎ Some old f.mid → Steps old f.mid
+    before (inl same) = let P : Device → Type 0 = λ d. Steps old d in subst P (sym same) (Steps-refl old)
+    before (inr some) = steps old f.mid some
+
+goes_steps : (port slot : ℕ) (old new : Device) → GoesOn MayPost port slot old new → Steps old new
+goes_steps port slot old new did = some_steps (suc did.0) port slot old new did.1
+
+done_steps : (s : DeviceStep) (old new : Device) → DoneOf MayPost s old new → Steps old new
+done_steps (asked.Fetch p slot) old new did = one_steps p.0 slot.0 old new (inl did)
+done_steps (asked.Move p slot) old new did = one_steps p.0 slot.0 old new (inr (inl did))
+done_steps (asked.Clear p slot most) old new did = clear_steps p.0 slot.0 most old new did
+done_steps (asked.Done p slot) old new did = one_steps p.0 slot.0 old new (inr (inr (inl did)))
+done_steps (asked.Finish p slot) old new did = goes_steps p.0 slot.0 old new did
+done_steps (asked.Fault p slot error) old new did = fault_steps p.0 slot.0 error old new did
+done_steps (asked.Lie p page offset bits) old new did = let P : Device → Type 0 = λ d. Steps old d in subst P (sym did) (Steps-refl old)
+done_steps (asked.Truth p) old new did = let P : Device → Type 0 = λ d. Steps old d in subst P (sym did) (Steps-refl old)
+done_steps (asked.Hold p) old new did = let P : Device → Type 0 = λ d. Steps old d in subst P (sym did) (Steps-refl old)
+done_steps (asked.Release p) old new did = let P : Device → Type 0 = λ d. Steps old d in subst P (sym did) (Steps-refl old)
+done_steps (asked.Unplug p) old new did = Steps-one (Unplug p.0) old new did.can did.effect
+done_steps (asked.Plug p number) old new did = Steps-one (Plug p.0 did.disk) old new did.can did.effect
+
+failed_steps : (s : DeviceStep) (old new : Device) → FailsOf MayPost s old new → Steps old new
+failed_steps (asked.Fetch p slot) old new f = Steps-one (FetchFault p.0 slot.0 f.queued 0) old new f.can f.effect
+failed_steps (asked.Move p slot) old new f = fault_steps p.0 slot.0 f.0 old new f.1
+failed_steps (asked.Clear p slot most) old new f = fails_steps (DoesClear p.0 slot.0 most) (clear_steps p.0 slot.0 most) p.0 slot.0 old new f
+failed_steps (asked.Finish p slot) old new f = fails_steps (GoesOn MayPost p.0 slot.0) (goes_steps p.0 slot.0) p.0 slot.0 old new f
+failed_steps (asked.Done p slot) old new f = absurd f
+failed_steps (asked.Fault p slot error) old new f = absurd f
+failed_steps (asked.Lie p page offset bits) old new f = absurd f
+failed_steps (asked.Truth p) old new f = absurd f
+failed_steps (asked.Hold p) old new f = absurd f
+failed_steps (asked.Release p) old new f = absurd f
+failed_steps (asked.Unplug p) old new f = absurd f
+failed_steps (asked.Plug p number) old new f = absurd f
+
 pub asked_steps : (s : DeviceStep) (old new : Device) → Asked s old new → Steps old new
-asked_steps (asked.Fetch p slot) old new did = one_steps p.0 slot.0 old new (inl did)
-asked_steps (asked.Move p slot) old new did = one_steps p.0 slot.0 old new (inr (inl did))
-asked_steps (asked.Clear p slot most) old new did = clear_steps p.0 slot.0 most old new did
-asked_steps (asked.Done p slot) old new did = one_steps p.0 slot.0 old new (inr (inr (inl did)))
-asked_steps (asked.Finish p slot) old new did = some_steps (suc did.0) p.0 slot.0 old new did.1
-asked_steps (asked.Lie p page offset bits) old new did = let P : Device → Type 0 = λ d. Steps old d in subst P (sym did) (Steps-refl old)
-asked_steps (asked.Truth p) old new did = let P : Device → Type 0 = λ d. Steps old d in subst P (sym did) (Steps-refl old)
-asked_steps (asked.Hold p) old new did = let P : Device → Type 0 = λ d. Steps old d in subst P (sym did) (Steps-refl old)
-asked_steps (asked.Release p) old new did = let P : Device → Type 0 = λ d. Steps old d in subst P (sym did) (Steps-refl old)
-asked_steps (asked.Unplug p) old new did = Steps-one (Unplug p.0) old new did.can did.effect
-asked_steps (asked.Plug p number) old new did = Steps-one (Plug p.0 did.disk) old new did.can did.effect
+asked_steps s old new (inl did) = done_steps s old new did
+asked_steps s old new (inr failed) = failed_steps s old new failed
 
 -- what was asked was done, or nothing
 pub step_steps : (result : Bool) (s : DeviceStep) (old new : Device) → (result ≡ true → Asked s old new) → (result ≡ false → new ≡ old) → Steps old new

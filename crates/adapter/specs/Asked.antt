@@ -1,11 +1,12 @@
--- What was asked of the device, and done. A command that ends may end with a FIS in the received FIS area of its port.
-use Rattle.std.specs.Prelude.{ℕ, zero, suc, ◌≡◌, ◌+◌, ◌<◌, ◌≤◌, ◌⊎◌, true, List, length, All}
+-- What was asked of the device, and done; or a command that failed as it was to be done. A command that ends may end with a FIS in the received FIS
+-- area of its port.
+use Rattle.std.specs.Prelude.{ℕ, Bool, zero, suc, ◌≡◌, ◌+◌, ◌<◌, ◌≤◌, ◌⊎◌, true, List, length, All}
 use Rattle.ata_types.specs.declared.memory.TheConstants.{RECEIVED_BYTES}
 use Rattle.adapter.specs.Commands.{Meaning}
 use Rattle.adapter.specs.Device.{Disk, Taken, Device}
 use Rattle.adapter.specs.Memory.{patched}
 use Rattle.adapter.specs.Steps.{Can, after}
-use Rattle.adapter.specs.Steps.Step.{Fetch, Move, Clear, Done, Unplug, Plug}
+use Rattle.adapter.specs.Steps.Step.{Fetch, FetchFault, Move, Clear, Done, Fault, Unplug, Plug}
 use Rattle.adapter.specs.declared.command.Operation.{Operation}
 use Rattle.adapter.specs.declared.access.DeviceStep.{DeviceStep}
 use Rattle.adapter.specs.declared.access.DeviceStep.TheVariants as asked
@@ -77,6 +78,25 @@ DoesSome Posts (suc n) port slot old new = (mid : Device) × DoesSome Posts n po
 abbrev pub GoesOn : ((port flag : ℕ) → Operation → Device → Device → Type 0) → ℕ → ℕ → Device → Device → Type 0
 GoesOn Posts port slot old new = (n : ℕ) × DoesSome Posts (suc n) port slot old new
 
+-- the slot's command failed with this error; BSY and DRQ are clear (ACS-3, 6.2 and 6.3)
+pub record DoesFault (port slot error : ℕ) (old new : Device) : Type 0 where
+  pub t : Taken
+  pub can : Can (Fault port slot error 0 t) old
+  pub effect : new ≡ after (Fault port slot error 0 t) old
+
+-- what is issued in the slot failed as it was to be taken, since its bytes mean no command; BSY and DRQ are clear
+pub record DoesFetchFault (port slot : ℕ) (old new : Device) : Type 0 where
+  pub queued : Bool
+  pub can : Can (FetchFault port slot queued 0) old
+  pub effect : new ≡ after (FetchFault port slot queued 0) old
+
+-- so much was done, or nothing, and then the slot's command failed
+pub record FailsAfter (Some : Device → Device → Type 0) (port slot : ℕ) (old new : Device) : Type 0 where
+  pub mid : Device
+  pub before : (mid ≡ old) ⊎ Some old mid
+  pub error : ℕ
+  pub fault : DoesFault port slot error mid new
+
 -- the disk was taken out
 pub record DoesUnplug (port : ℕ) (old new : Device) : Type 0 where
   pub can : Can (Unplug port) old
@@ -89,21 +109,34 @@ pub record DoesPlug (port number : ℕ) (old new : Device) : Type 0 where
   pub can : Can (Plug port disk) old
   pub effect : new ≡ after (Plug port disk) old
 
--- What was asked of the device, where this is posted as commands end. What its disks will say of themselves, and on which ports it does nothing
--- by itself, is no part of its state.
-abbrev pub AskedOf : ((port flag : ℕ) → Operation → Device → Device → Type 0) → DeviceStep → Device → Device → Type 0
-AskedOf Posts (asked.Fetch p s) old new = DoesFetch p.0 s.0 old new
-AskedOf Posts (asked.Move p s) old new = DoesMove p.0 s.0 old new
-AskedOf Posts (asked.Clear p s most) old new = DoesClear p.0 s.0 most old new
-AskedOf Posts (asked.Done p s) old new = Ends Posts p.0 s.0 old new
-AskedOf Posts (asked.Finish p s) old new = GoesOn Posts p.0 s.0 old new
-AskedOf Posts (asked.Lie p page offset bits) old new = new ≡ old
-AskedOf Posts (asked.Truth p) old new = new ≡ old
-AskedOf Posts (asked.Hold p) old new = new ≡ old
-AskedOf Posts (asked.Release p) old new = new ≡ old
-AskedOf Posts (asked.Unplug p) old new = DoesUnplug p.0 old new
-AskedOf Posts (asked.Plug p number) old new = DoesPlug p.0 number.0 old new
+-- What was asked of the device, and nothing else, where this is posted as commands end. What its disks will say of themselves, and on which ports it
+-- does nothing by itself, is no part of its state.
+abbrev pub DoneOf : ((port flag : ℕ) → Operation → Device → Device → Type 0) → DeviceStep → Device → Device → Type 0
+DoneOf Posts (asked.Fetch p s) old new = DoesFetch p.0 s.0 old new
+DoneOf Posts (asked.Move p s) old new = DoesMove p.0 s.0 old new
+DoneOf Posts (asked.Clear p s most) old new = DoesClear p.0 s.0 most old new
+DoneOf Posts (asked.Done p s) old new = Ends Posts p.0 s.0 old new
+DoneOf Posts (asked.Finish p s) old new = GoesOn Posts p.0 s.0 old new
+DoneOf Posts (asked.Fault p s error) old new = DoesFault p.0 s.0 error old new
+DoneOf Posts (asked.Lie p page offset bits) old new = new ≡ old
+DoneOf Posts (asked.Truth p) old new = new ≡ old
+DoneOf Posts (asked.Hold p) old new = new ≡ old
+DoneOf Posts (asked.Release p) old new = new ≡ old
+DoneOf Posts (asked.Unplug p) old new = DoesUnplug p.0 old new
+DoneOf Posts (asked.Plug p number) old new = DoesPlug p.0 number.0 old new
 
--- what was asked of the device, and any FIS as a command ended, or none
+-- Or the command failed in its place: as it was taken, as its next piece was to be moved, or after some of what was asked, or none.
+abbrev pub FailsOf : ((port flag : ℕ) → Operation → Device → Device → Type 0) → DeviceStep → Device → Device → Type 0
+FailsOf Posts (asked.Fetch p s) old new = DoesFetchFault p.0 s.0 old new
+FailsOf Posts (asked.Move p s) old new = (error : ℕ) × DoesFault p.0 s.0 error old new
+FailsOf Posts (asked.Clear p s most) old new = FailsAfter (DoesClear p.0 s.0 most) p.0 s.0 old new
+FailsOf Posts (asked.Finish p s) old new = FailsAfter (GoesOn Posts p.0 s.0) p.0 s.0 old new
+FailsOf Posts step old new = ⊥
+
+-- the one or the other
+abbrev pub AskedOf : ((port flag : ℕ) → Operation → Device → Device → Type 0) → DeviceStep → Device → Device → Type 0
+AskedOf Posts step old new = DoneOf Posts step old new ⊎ FailsOf Posts step old new
+
+-- what was asked of the device, or a fault in its place, and any FIS as a command ended, or none
 abbrev pub Asked : DeviceStep → Device → Device → Type 0
 Asked step old new = AskedOf MayPost step old new

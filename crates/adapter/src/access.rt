@@ -47,6 +47,8 @@ pub trait Adapter {
 pub enum DiskPage {
     /// What IDENTIFY DEVICE brings.
     Identity,
+    /// What READ LOG EXT brings of log 10h: which queued command failed, and with which status and error.
+    Log,
 }
 
 /// Which disk is put into a port, of those that there are for it: disk 0 is the one that it has at first.
@@ -67,6 +69,8 @@ pub enum DeviceStep {
     /// What is left of the slot's command: take it, move, clear, end it. An adapter may stop short of the end, after one of these
     /// at least.
     Finish(Port, Slot),
+    /// Fail the slot's command, which is taken, with this error (ACS-3, 6.2). The port is halted then.
+    Fault(Port, Slot, u8),
     /// Tell lies: from now on the disk of the port sends the byte of this page at this offset, below 512, with these bits turned. This
     /// is for tests; nothing changes until the page is sent.
     Lie(Port, DiskPage, u16, u8),
@@ -84,8 +88,8 @@ pub enum DeviceStep {
 
 /// An adapter whose device does what it is told, if that is possible then.
 pub trait Stepped: Adapter {
-    /// Has the device do a step. `true` says that it was done, and nothing else; `false` that it wasn't, and that nothing
-    /// changed.
+    /// Has the device do a step. `true` says that it was done, and nothing else, or that its command failed in its place or on the way: since its bytes
+    /// mean none, or a disk failed. `false` says that it wasn't done, and that nothing changed.
     fn step(&mut self, s: &DeviceStep) -> bool
         ensures asked { result ≡ true → Asked s.now (Self.device self.old) (Self.device self.new) }
         ensures steps { Steps (Self.device self.old) (Self.device self.new) }

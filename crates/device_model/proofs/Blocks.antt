@@ -1,6 +1,7 @@
 -- The one block of a port stays that of its trim, as commands are taken, go on and end.
-use Rattle.std.proofs.Common.{ℕ, ◌+◌, ◌≡◌, ◌≢◌, ◌<◌, ◌⊎◌, inl, inr, List, Option, None, Some, length, refl, sym, ◌∙◌, ap, subst, get_or-set_same, get_or-set_other}
-use Rattle.std.specs.Prelude.{is_some, slice_index_or, slice_set}
+use Rattle.std.proofs.Common.{Bor, ℕ, ◌+◌, ◌≡◌, ◌≢◌, ◌<◌, ◌^◌, ◌⊎◌, arith, inl, inr, List, Option, None, Some, length, refl, sym, ◌∙◌, ap, subst, get_or-set_same, get_or-set_other}
+use Rattle.std.specs.Prelude.{IfSome, is_some, slice_index_or, slice_set}
+use Rattle.std.specs.Option.{option_copied}
 use Rattle.std.specs.declared.snapshot.Snapshot.{Snapshot}
 use Rattle.std.proofs.lemmas.Bool.Decides.{eqb_tells}
 use Rattle.adapter.specs.Steps.{noted_bytes}
@@ -27,14 +28,15 @@ pub block_gone : (items : List (Option TakenCommand)) (block : List ℕ) → ((k
 block_gone items block none = record {
   alone = λ slot other t u here there trim. some-none here (none slot);
   is = λ slot t b here brought. some-none here (none slot);
+  low = λ slot t here. some-none here (none slot);
 }
 
 module _ (items : List (Option TakenCommand)) (block : List ℕ) (slot : ℕ) (small : slot < length items) (has : HasBlock items block) where
   -- a command is taken beside those that are
-  pub block_put : (command : TakenCommand) → command.block ≡ None →
+  pub block_put : (command : TakenCommand) → command.block ≡ None → command.first < 2 ^ 48 →
       ((other : ℕ) (u : TakenCommand) → other ≢ slot → held_in items other ≡ Some u → (command.transfer ≡ Trim → ⊥) × (u.transfer ≡ Trim → ⊥)) →
       HasBlock (slice_set items slot (Some command)) block
-  block_put command new beside = record {
+  block_put command new low beside = record {
     alone = λ a b t u here there trim.
         elim (at_set items slot (Some command) a t small here) [
           | inl first ↦
@@ -55,6 +57,11 @@ module _ (items : List (Option TakenCommand)) (block : List ℕ) (slot : ℕ) (s
           | inl first ↦ some-none brought (ap (λ (x : TakenCommand). x.block) (sym (some_one first.1)) ∙ new)
           | inr first ↦ has.is a t b first.1 brought
         ];
+    low = λ a t here.
+        elim (at_set items slot (Some command) a t small here) [
+          | inl first ↦ subst (λ (x : TakenCommand). x.first < 2 ^ 48) (some_one first.1) low
+          | inr first ↦ has.low a t first.1
+        ];
   }
 
   -- one is taken no more
@@ -71,9 +78,20 @@ module _ (items : List (Option TakenCommand)) (block : List ℕ) (slot : ℕ) (s
         ];
     is = λ a t b here brought.
         elim (at_set items slot None a t small here) [ inl first ↦ absurd (cc first.1) | inr first ↦ has.is a t b first.1 brought ];
+    low = λ a t here. elim (at_set items slot None a t small here) [ inl first ↦ absurd (cc first.1) | inr first ↦ has.low a t first.1 ];
   }
 
-  module _ (old new : TakenCommand) (held : slice_index_or items slot None ≡ Some old) (kind : new.transfer ≡ old.transfer) where
+  module _ (old new : TakenCommand) (held : slice_index_or items slot None ≡ Some old) (kind : new.transfer ≡ old.transfer) (number : new.first ≡ old.first) where
+    goes_low : (a : ℕ) (t : TakenCommand) → slice_index_or (slice_set items slot (Some new)) a None ≡ Some t → t.first < 2 ^ 48
+    goes_low a t here =
+        elim (at_set items slot (Some new) a t small here) [
+          | inl first ↦
+              let one : t.first ≡ new.first = ap (λ (x : TakenCommand). x.first) (sym (some_one first.1)) in
+              let was = has.low slot old held in
+              omega (arith, one, number, was)
+          | inr first ↦ has.low a t first.1
+        ]
+
     goes_alone : (a b : ℕ) (t u : TakenCommand) → slice_index_or (slice_set items slot (Some new)) a None ≡ Some t →
         slice_index_or (slice_set items slot (Some new)) b None ≡ Some u → t.transfer ≡ Trim → b ≡ a
     goes_alone a b t u here there trim =
@@ -95,6 +113,7 @@ module _ (items : List (Option TakenCommand)) (block : List ℕ) (slot : ℕ) (s
     pub block_on : new.block ≡ old.block → HasBlock (slice_set items slot (Some new)) block
     block_on same = record {
       alone = goes_alone;
+      low = goes_low;
       is = λ a t b here brought.
           elim (at_set items slot (Some new) a t small here) [
             | inl first ↦
@@ -109,6 +128,7 @@ module _ (items : List (Option TakenCommand)) (block : List ℕ) (slot : ℕ) (s
     pub block_moved : (bytes : List ℕ) → old.transfer ≡ Trim → new.block ≡ Some (noted_bytes bytes) → HasBlock (slice_set items slot (Some new)) bytes
     block_moved bytes trim is_new = record {
       alone = goes_alone;
+      low = goes_low;
       is = λ a t b here brought.
           elim (at_set items slot (Some new) a t small here) [
             | inl first ↦
@@ -131,7 +151,7 @@ moved_block items block slot new small has counted stays = by (held_in items slo
         subst (λ x. HasBlock (slice_set items slot x) block) (sym gone) (block_removed items block slot small has)
     by (Some t) e =
         subst (λ x. HasBlock (slice_set items slot x) block) (sym (counted t e))
-        (block_on items block slot small has t (record t { moved = t.moved + 1 }) e refl refl)
+        (block_on items block slot small has t (record t { moved = t.moved + 1 }) e refl refl refl)
 
 -- and so many more sectors of it were cleared
 pub cleared_block : (items : List (Option TakenCommand)) (block : List ℕ) (slot count : ℕ) (new : Option TakenCommand) → slot < length items → HasBlock items block →
@@ -145,7 +165,7 @@ cleared_block items block slot count new small has counted stays = by (held_in i
         subst (λ x. HasBlock (slice_set items slot x) block) (sym gone) (block_removed items block slot small has)
     by (Some t) e =
         subst (λ x. HasBlock (slice_set items slot x) block) (sym (counted t e))
-        (block_on items block slot small has t (record t { cleared = t.cleared + count }) e refl refl)
+        (block_on items block slot small has t (record t { cleared = t.cleared + count }) e refl refl refl)
 
 -- a trim has brought its block
 pub brought_block : (items : List (Option TakenCommand)) (block bytes : List ℕ) (slot : ℕ) (new : Option TakenCommand) (t : TakenCommand) → slot < length items →
@@ -153,4 +173,10 @@ pub brought_block : (items : List (Option TakenCommand)) (block bytes : List ℕ
     HasBlock (slice_set items slot new) bytes
 brought_block items block bytes slot new t small has held trim is =
     subst (λ x. HasBlock (slice_set items slot x) bytes) (sym is)
-    (block_moved items block slot small has t (record t { moved = t.moved + 1; block = Some (noted_bytes bytes) }) held refl bytes trim refl)
+    (block_moved items block slot small has t (record t { moved = t.moved + 1; block = Some (noted_bytes bytes) }) held refl refl bytes trim refl)
+
+-- what holds of a command that is there holds of what is seen of it
+pub low_copied : (o : Option (Bor TakenCommand)) (held : Option TakenCommand) → option_copied o ≡ held → ((t : TakenCommand) → held ≡ Some t → t.first < 2 ^ 48) →
+    IfSome o (λ command. command.now.first < 2 ^ 48)
+low_copied None held same low = tt
+low_copied (Some command) held same low = low command.now (sym same)

@@ -1,9 +1,12 @@
 -- A clear that a model makes, or leaves.
-use Rattle.std.proofs.Common.{ℕ, ◌≡◌, ◌<◌, ◌≤◌, ◌+◌, ◌⊎◌, List, [], ◌∷◌, Option, Some, length, refl, sym, ◌∙◌, ap, subst, inl, inr, arith, zero, suc, slice_index, drop, take}
-use Rattle.std.specs.Prelude.{map}
+use Rattle.std.proofs.Common.{ℕ, Bool, true, false, ◌≡◌, ◌<◌, ◌≤◌, ◌+◌, ◌-◌, min, ◌⊎◌, List, [], ◌∷◌, Option, Some, length, refl, sym, ◌∙◌, ap, subst, inl, inr, arith, zero, suc, slice_index, drop, take}
+use Rattle.std.proofs.lemmas.Bool.{cases_lt}
+use Rattle.std.specs.Prelude.{if◌then◌else◌, map}
+use Rattle.adapter.specs.Asked.{DoesClear}
+use Rattle.adapter.specs.Commands.{is_queued}
 use Rattle.adapter.specs.Device.{Disk, PortState, Taken, Device}
-use Rattle.adapter.specs.Steps.{IsWorking, MayClear, after, clear_entry, disk_cleared, with_clear}
-use Rattle.adapter.specs.Steps.Step.{Clear}
+use Rattle.adapter.specs.Steps.{Can, IsWorking, MayClear, after, clear_entry, disk_cleared, with_clear}
+use Rattle.adapter.specs.Steps.Step.{Clear, Fault}
 use Rattle.adapter.specs.Trim.{consecutive}
 use Rattle.adapter.specs.declared.access.DeviceStep.TheVariants as asked
 use Rattle.adapter.specs.declared.command.Operation.TheVariants.{Trim}
@@ -11,9 +14,10 @@ use Rattle.ata_types.specs.declared.Port.{Port}
 use Rattle.ata_types.specs.declared.Slot.{Slot}
 use Rattle.sector_store.specs.declared.store.Failures.{Failures}
 use Rattle.device_model.specs.Disks.{disk_over}
-use Rattle.device_model.specs.Does.{Did, HasCleared, NoneFails, Possible, StoreCuts}
+use Rattle.device_model.specs.Does.{HasCleared, HasFailed, IsCause}
 use Rattle.device_model.specs.Modelled.{device_at, outside_at}
-use Rattle.device_model.specs.Slots.{CanClear, IsNextRun}
+use Rattle.device_model.specs.Paged.{GainsPages}
+use Rattle.device_model.specs.Slots.{IsNextRun}
 use Rattle.device_model.specs.Trims.{HasClear, next_uncleared, span, uncleared}
 use Rattle.device_model.specs.View.{taken_of}
 use Rattle.device_model.specs.Whole.{Outside, device_of, outside_cleared, outside_of}
@@ -21,70 +25,59 @@ use Rattle.device_model.specs.declared.clearing.Run.{Run}
 use Rattle.device_model.specs.declared.hardware.Hardware.{Hardware}
 use Rattle.device_model.specs.declared.model.Model.{Model}
 use Rattle.device_model.specs.declared.port.TakenCommand.{TakenCommand}
-use Rattle.device_model.proofs.Finishing.{here_after, taken_after, next_has_clear, outside_zeros, still_works}
-use Rattle.device_model.proofs.Telling.{gains_one}
-use Rattle.device_model.proofs.Trimming.{next_on, next_one, span_sectors}
-use Rattle.device_model.proofs.TwoDisks.{keeps_with}
+use Rattle.device_model.proofs.Finishing.{here_after, taken_after, next_has_clear, outside_zeros, sized_zero, still_works}
+use Rattle.device_model.proofs.Doing.{IsFailed}
+use Rattle.device_model.proofs.Telling.{gains_none, gains_one}
+use Rattle.device_model.proofs.Trimming.{next_on, next_one, span_most, span_sectors}
 
--- where sectors can be cleared, each number of them that can be cleared at once may be
+-- where sectors can be cleared, each number of them that can be cleared at once, and is on the disk, may be
 pub may_clear : (d : Device) (port slot most first count : ℕ) (t : Taken) → HasClear d port slot most t → first ≡ next_uncleared t →
-    count ≤ span (d.port port).disk.size most t → MayClear d port slot t first count
-may_clear d port slot most first count t has start few =
+    count ≤ span most t → first + count ≤ (d.port port).disk.size → MayClear d port slot t first count
+may_clear d port slot most first count t has start few on_disk =
     let some = has.some in
     let enough = has.enough in
-    let below = has.on_disk in
     record {
       works = has.works;
       trim = has.trim;
       moved = has.moved;
       next = next_one t (omega (arith, some, enough)) ∙ ap (λ (k : ℕ). k ∷ []) (sym start);
-      sectors = span_sectors (d.port port).disk.size most count t few enough ∙ ap (λ (k : ℕ). consecutive k count) (sym start);
-      inside = inr (omega (arith, few, start, below));
+      sectors = span_sectors most count t few enough ∙ ap (λ (k : ℕ). consecutive k count) (sym start);
+      inside = inr on_disk;
     }
 
 -- and where a clear may be made, sectors can be cleared
-pub can_clear : (d : Device) (port slot first count : ℕ) (t : Taken) → 1 ≤ count → MayClear d port slot t first count → HasClear d port slot count t
-can_clear d port slot first count t some can = record {
+pub can_clear : (h : Hardware) (disk : Disk) (other : Option (ℕ → List ℕ)) (plugged : List Disk) (port slot first count : ℕ) (t : Taken) → 1 ≤ count →
+    MayClear (device_of h (outside_of disk other plugged)) port slot t first count → HasClear (device_of h (outside_of disk other plugged)) port slot count t
+can_clear h disk other plugged port slot first count t some can = record {
+  has_disk = elim can.inside [
+    | inl none ↦ absurd (omega (arith, some, none))
+    | inr fits ↦ sized_zero disk other plugged port first (omega (arith, fits, some))
+  ];
   works = can.works;
   trim = can.trim;
   moved = can.moved;
   some = some;
   enough = by count (uncleared t) first can.sectors;
-  on_disk = elim can.inside [ inl none ↦ absurd (omega (arith, some, none)) | inr fits ↦ omega (arith, start, fits, some) ];
 }
   where
-    start : next_uncleared t ≡ first
-    start = head (uncleared t) can.next
-      where
-        head : (xs : List ℕ) → take 1 xs ≡ first ∷ [] → slice_index xs 0 ≡ first
-        head [] same = absurd (cc same)
-        head (x ∷ xs) same = ap (λ (l : List ℕ). slice_index l 0) same
-
     by : (n : ℕ) (xs : List ℕ) (a : ℕ) → take n xs ≡ consecutive a n → n ≤ length xs
     by zero xs a same = omega arith
     by (suc n) [] a same = absurd (cc same)
     by (suc n) (x ∷ xs) a same = let rest = by n xs (suc a) (ap (λ (l : List ℕ). drop 1 l) same) in omega (arith, rest)
 
--- one sector can be cleared, where more can
-pub has_one : (d : Device) (port slot most : ℕ) (t : Taken) → HasClear d port slot most t → HasClear d port slot 1 t
-has_one d port slot most t has =
-    let some = has.some in
-    let enough = has.enough in
-    record { works = has.works; trim = has.trim; moved = has.moved; some = omega arith; enough = omega (arith, some, enough); on_disk = has.on_disk }
-
 module _ (old new : Device) (port slot most first count : ℕ) (t : Taken) (has : HasClear old port slot most t)
     (effect : new ≡ after (Clear port slot t first count) old) where
-  abbrev then : Taken
-  then = record t { cleared = t.cleared + count }
+  abbrev further : Taken
+  further = record t { cleared = t.cleared + count }
 
   cleared_port : new.port port ≡ with_clear (old.port port) slot t first count
   cleared_port = ap (λ (d : Device). d.port port) effect ∙ here_after old port (with_clear (old.port port) slot t first count)
 
-  cleared_taken : (new.port port).taken slot ≡ Some then
-  cleared_taken = ap (λ (p : PortState). p.taken slot) cleared_port ∙ taken_after (old.port port) slot (Some then)
+  cleared_taken : (new.port port).taken slot ≡ Some further
+  cleared_taken = ap (λ (p : PortState). p.taken slot) cleared_port ∙ taken_after (old.port port) slot (Some further)
 
   -- all that could be is cleared
-  pub all_cleared : count ≡ span (old.port port).disk.size most t → HasCleared old new port slot most
+  pub all_cleared : count ≡ span most t → HasCleared old new port slot most
   all_cleared whole = record {
     t = t;
     was = has.works.taken;
@@ -92,14 +85,12 @@ module _ (old new : Device) (port slot most first count : ℕ) (t : Taken) (has 
   }
 
   -- or the next one still can be
-  pub more_clear : count < span (old.port port).disk.size most t → HasClear new port slot 1 then
+  pub more_clear : count < span most t → HasClear new port slot 1 further
   more_clear more =
-      let next = next_on (old.port port).disk.size most count t more has.enough in
-      let size : (new.port port).disk.size ≡ (old.port port).disk.size = ap (λ (p : PortState). p.disk.size) cleared_port in
+      let next = next_on most count t more has.enough in
       let P : PortState → Type 0 = λ p. IsWorking p Trim in
-      let some = next.0 in
-      let at = next.1 in
       record {
+        has_disk = has.has_disk;
         works = record {
           taken = cleared_taken;
           working = subst P (sym cleared_port) (still_works (old.port port) (with_clear (old.port port) slot t first count) Trim has.works.working refl refl refl refl refl);
@@ -107,21 +98,28 @@ module _ (old new : Device) (port slot most first count : ℕ) (t : Taken) (has 
         trim = has.trim;
         moved = has.moved;
         some = omega arith;
-        enough = some;
-        on_disk = omega (arith, at, size, more);
+        enough = next.0;
       }
 
-  pub more_next : count < span (old.port port).disk.size most t → next_uncleared then ≡ next_uncleared t + count
-  more_next more = (next_on (old.port port).disk.size most count t more has.enough).1
+  pub cleared_size : (new.port port).disk.size ≡ (old.port port).disk.size
+  cleared_size = ap (λ (p : PortState). p.disk.size) cleared_port
 
 -- what the hardware has found to clear can be, on port 0
-pub found_clear : (h : Hardware) (o : Outside) (d : Device) (port slot most sectors : ℕ) (run : Run) (r : TakenCommand) → port ≡ 0 → device_of h o ≡ d →
-    sectors ≡ (o.media 0).disk.size → IsNextRun h port slot most sectors run r → HasClear d port slot most (taken_of r)
-found_clear h o d port slot most sectors run r at_zero same size is =
-    next_has_clear h o d port slot most r at_zero same is.holds (subst (λ (n : ℕ). CanClear r most n) size is.can)
+pub found_clear : (h : Hardware) (o : Outside) (d : Device) (port slot most : ℕ) (run : Run) (r : TakenCommand) → port ≡ 0 → device_of h o ≡ d →
+    IsNextRun h port slot most run r → HasClear d port slot most (taken_of r)
+found_clear h o d port slot most run r at_zero same is = next_has_clear h o d port slot most r at_zero same is.holds is.can
+
+-- So many of the next sectors of a trim are cleared, or none: the rest is as it was, and the next one, if there is one, can be cleared.
+pub record IsPart {S : Type 0} (size : S → ℕ) (told : S → Option (ℕ → List ℕ)) (p : Port) (slot : Slot) (most first count : ℕ) (t : Taken) (old new : Model S) : Type 0 where
+  pub before : (device_at size told new ≡ device_at size told old) ⊎ DoesClear p.0 slot.0 most (device_at size told old) (device_at size told new)
+  pub whole : 1 ≤ count → DoesClear p.0 slot.0 most (device_at size told old) (device_at size told new)
+  pub all : 1 ≤ count → count ≡ span most t → HasCleared (device_at size told old) (device_at size told new) p.0 slot.0 most
+  pub more : count < span most t → HasClear (device_at size told new) p.0 slot.0 1 (record t { cleared = t.cleared + count })
+  pub disk_size : ((device_at size told new).port p.0).disk.size ≡ ((device_at size told old).port p.0).disk.size
+  pub pages : GainsPages size old new
 
 module _ {S : Type 0} (size : S → ℕ) (told : S → Option (ℕ → List ℕ)) (failures : S → Option Failures) (p : Port) (slot : Slot) (most : ℕ) (m : Model S)
-    (h new : Hardware) (disk : S) (first count : ℕ) (r : TakenCommand) (small : slot.0 < 32) (at_zero : p.0 ≡ 0) (same : (o : Outside) → device_of h o ≡ device_of m.hardware o) where
+    (h new : Hardware) (disk : S) (first count : ℕ) (r : TakenCommand) (at_zero : p.0 ≡ 0) (same : (o : Outside) → device_of h o ≡ device_of m.hardware o) where
   abbrev old_device : Device
   old_device = device_at size told m
 
@@ -131,37 +129,119 @@ module _ {S : Type 0} (size : S → ℕ) (told : S → Option (ℕ → List ℕ)
   pub size_is : (old_device.port p.0).disk.size ≡ size m.disk
   size_is = ap (λ (q : ℕ). (old_device.port q).disk.size) at_zero
 
+  abbrev was : List Disk
+  was = map (λ s. disk_over s.which (size s.store.value) (told s.store.value)) m.plugged.items
+
   module _ (cleared : (o : Outside) → device_of new (outside_cleared o p.0 first count) ≡ after (Clear p.0 slot.0 (taken_of r) first count) (device_of h o))
       (zeros : disk_over m.which (size disk) (told disk) ≡ disk_cleared (disk_over m.which (size m.disk) (told m.disk)) first count) where
-    pub clear_effect : device_at size told then_model ≡ after (Clear p.0 slot.0 (taken_of r) first count) old_device
+    clear_effect : device_at size told then_model ≡ after (Clear p.0 slot.0 (taken_of r) first count) old_device
     clear_effect =
         let o : Outside = outside_at size told m in
-        let was : List Disk = map (λ s. disk_over s.which (size s.store.value) (told s.store.value)) m.plugged.items in
         let behind : outside_of (disk_over m.which (size disk) (told disk)) (told m.other) was ≡ outside_cleared o p.0 first count =
         outside_zeros (disk_over m.which (size m.disk) (told m.disk)) (disk_over m.which (size disk) (told disk)) (told m.other) was first count zeros
         ∙ ap (λ (q : ℕ). outside_cleared o q first count) (sym at_zero) in
         ap (λ (x : Outside). device_of new x) behind ∙ (cleared o ∙ ap (λ (d : Device). after (Clear p.0 slot.0 (taken_of r) first count) d) (same o))
 
-    -- the sectors are cleared, as far as the store has let them be
-    pub did_clear : HasClear old_device p.0 slot.0 most (taken_of r) → first ≡ next_uncleared (taken_of r) → 1 ≤ count → count ≤ span (size m.disk) most (taken_of r) → count ≤ most →
-        size disk ≡ size m.disk → new.starved ≡ m.hardware.starved →
-        (StoreCuts (asked.Clear p slot most) (failures m.disk) (failures disk) (device_at size told then_model)
-        ⊎ (NoneFails failures m then_model × HasCleared old_device (device_at size told then_model) p.0 slot.0 most)) →
-        Possible (asked.Clear p slot most) old_device × Did size told failures (asked.Clear p slot most) m then_model
-    did_clear has start some few fewer sectors starved ends = (
-      (small, taken_of r, has),
+    some_part : HasClear old_device p.0 slot.0 most (taken_of r) → first ≡ next_uncleared (taken_of r) → 1 ≤ count → count ≤ span most (taken_of r) →
+        first + count ≤ size m.disk → IsPart size told p slot most first count (taken_of r) m then_model
+    some_part has start some few on_disk =
+        let end : first + count ≤ (old_device.port p.0).disk.size = let is = size_is in omega (arith, on_disk, is) in
+        let limit = span_most most (taken_of r) in
+        let did : DoesClear p.0 slot.0 most old_device (device_at size told then_model) = record {
+          t = taken_of r;
+          first = first;
+          count = count;
+          some = some;
+          few = omega (arith, few, limit);
+          can = may_clear old_device p.0 slot.0 most first count (taken_of r) has start few end;
+          effect = clear_effect;
+        } in
+        record {
+          before = inr did;
+          whole = λ _. did;
+          all = λ _ is. all_cleared old_device _ p.0 slot.0 most first count (taken_of r) has clear_effect is;
+          more = λ fewer. more_clear old_device _ p.0 slot.0 most first count (taken_of r) has clear_effect fewer;
+          disk_size = cleared_size old_device _ p.0 slot.0 most first count (taken_of r) has clear_effect;
+          pages = gains_one size m then_model (clear_entry p.0 slot.0 first count) (ap (λ (d : Device). d.tape) clear_effect) (λ x e. absurd (cc e));
+        }
+
+  -- none is
+  none_part : count ≡ 0 → new ≡ h → told disk ≡ told m.disk → size disk ≡ size m.disk → HasClear old_device p.0 slot.0 most (taken_of r) →
+      IsPart size told p slot most first count (taken_of r) m then_model
+  none_part none left tells sizes has =
+      let kept : device_at size told then_model ≡ old_device =
+      (λ i. device_of (left i) (outside_of (disk_over m.which (sizes i) (tells i)) (told m.other) was)) ∙ same (outside_at size told m) in
+      let t : Taken = taken_of r in
+      let here : t ≡ record t { cleared = t.cleared + count } =
+      let number : t.cleared ≡ t.cleared + count = omega (arith, none) in ap (λ (n : ℕ). record t { cleared = n }) number in
+      let some = has.some in
+      let enough = has.enough in
+      let P : Device → Type 0 = λ d. HasClear d p.0 slot.0 1 t in
       record {
-        asked = record { t = taken_of r; first = first; count = count; some = some; few = fewer; can = may_clear old_device p.0 slot.0 most first count (taken_of r) has start fits; effect = clear_effect };
-        ends = elim ends [ inl cut ↦ inl cut | inr whole ↦ inr (whole.0, λ _. whole.1) ];
-        held = refl;
-        says = refl;
-        which = refl;
-        pages = gains_one size m then_model (clear_entry p.0 slot.0 first count) (ap (λ (d : Device). d.tape) clear_effect) (λ x e. absurd (cc e));
-        disks = λ none. absurd (none (small, taken_of r, has));
-        keeps = keeps_with size m new disk sectors;
-        starved = starved;
-      },
-    )
-      where
-        fits : count ≤ span (old_device.port p.0).disk.size most (taken_of r)
-        fits = rw size_is few
+        before = inl kept;
+        whole = λ some. absurd (omega (arith, some, none));
+        all = λ some. absurd (omega (arith, some, none));
+        more = λ fewer.
+            subst (λ (x : Taken). HasClear (device_at size told then_model) p.0 slot.0 1 x) here
+            (subst P (sym kept)
+            (record { has_disk = has.has_disk; works = has.works; trim = has.trim; moved = has.moved; some = omega arith; enough = omega (arith, some, enough) }));
+        disk_size = ap (λ (d : Device). (d.port p.0).disk.size) kept;
+        pages = gains_none size m then_model (ap (λ (d : Device). d.tape) kept);
+      }
+
+  -- as many as the store has cleared
+  pub is_part : HasClear old_device p.0 slot.0 most (taken_of r) → first ≡ next_uncleared (taken_of r) → count ≤ span most (taken_of r) →
+      (1 ≤ count → first + count ≤ size m.disk) → (count ≡ 0 → new ≡ h) → (count ≡ 0 → told disk ≡ told m.disk) → size disk ≡ size m.disk →
+      (1 ≤ count → (o : Outside) → device_of new (outside_cleared o p.0 first count) ≡ after (Clear p.0 slot.0 (taken_of r) first count) (device_of h o)) →
+      (1 ≤ count → disk_over m.which (size disk) (told disk) ≡ disk_cleared (disk_over m.which (size m.disk) (told m.disk)) first count) →
+      IsPart size told p slot most first count (taken_of r) m then_model
+  is_part has start few on_disk left tells sizes cleared zeros =
+      elim (cases_lt 0 count) [
+        | inl some ↦ some_part (cleared (omega (arith, some))) (zeros (omega (arith, some))) has start (omega (arith, some)) few (on_disk (omega (arith, some)))
+        | inr none ↦ let zero : count ≡ 0 = omega (arith, none) in none_part zero (left zero) (tells zero) sizes has
+      ]
+
+  -- of a run that the hardware has found, as far as it is on the disk
+  pub cut_part : (run on : Run) (sectors : ℕ) → first ≡ run.first → IsNextRun h p.0 slot.0 most run r → sectors ≡ size m.disk → on.first + on.count ≤ sectors →
+      on.count ≡ min run.count (sectors - run.first) → (1 ≤ on.count → on.first ≡ run.first) → count ≤ on.count →
+      disk_over m.which (size disk) (told disk) ≡ disk_cleared (disk_over m.which (size m.disk) (told m.disk)) on.first count →
+      (count ≡ 0 → told disk ≡ told m.disk) → size disk ≡ size m.disk → (count ≡ 0 → new ≡ h) →
+      (1 ≤ count → (o : Outside) → device_of new (outside_cleared o p.0 first count) ≡ after (Clear p.0 slot.0 (taken_of r) first count) (device_of h o)) →
+      IsPart size told p slot most first count (taken_of r) m then_model
+  cut_part run on sectors at is listed inside cut begins few zeros tells sizes left cleared =
+      let whole : run.count ≡ span most (taken_of r) = is.count_is in
+      let start : first ≡ next_uncleared (taken_of r) = at ∙ is.first_is in
+      let on_first : 1 ≤ count → on.first ≡ first = λ (some : 1 ≤ count). begins (omega (arith, some, few)) ∙ sym at in
+      is_part (found_clear h (outside_at size told m) old_device p.0 slot.0 most run r at_zero (same (outside_at size told m)) is) start (omega (arith, few, cut, whole))
+      (λ some. let here = on_first some in omega (arith, here, inside, listed, few)) left tells sizes cleared
+      (λ some. zeros ∙ ap (λ (k : ℕ). disk_cleared (disk_over m.which (size m.disk) (told m.disk)) k count) (on_first some))
+
+  -- the next one can't be: its command fails on it
+  pub part_fails : (small : slot.0 < 32) → HasClear old_device p.0 slot.0 most (taken_of r) → IsPart size told p slot most first count (taken_of r) m then_model →
+      count < span most (taken_of r) → (error : ℕ) → (last : Model S) → last.which ≡ m.which → failures last.disk ≡ failures disk →
+      IsCause true (first + count) (size m.disk) error (failures m.disk) (failures disk) → first ≡ next_uncleared (taken_of r) →
+      IsFailed size told failures p slot error (record (taken_of r) { cleared = r.cleared + count }) then_model last →
+      HasFailed size told failures (asked.Clear p slot most) m last
+  part_fails small has part fewer error last which fine cause start failed =
+      let t : Taken = record (taken_of r) { cleared = r.cleared + count } in
+      let more = part.more fewer in
+      let next : next_uncleared t ≡ next_uncleared (taken_of r) + count = (next_on most count (taken_of r) fewer has.enough).1 in
+      let sector : first + count ≡ next_uncleared t = (let same : first + count ≡ next_uncleared (taken_of r) + count = ap (λ (k : ℕ). k + count) start in same) ∙ sym next in
+      let sizes : size m.disk ≡ ((device_at size told then_model).port p.0).disk.size = sym size_is ∙ sym part.disk_size in
+      let P : Option Failures → Type 0 = λ now. IsCause true (next_uncleared t) ((device_at size told then_model).port p.0).disk.size error (failures m.disk) now in
+      let Q : ℕ → Type 0 = λ n. IsCause true (next_uncleared t) n error (failures m.disk) (failures disk) in
+      let R : ℕ → Type 0 = λ k. IsCause true k (size m.disk) error (failures m.disk) (failures disk) in
+      let plain : is_queued t.meaning.operation ≡ false = ap is_queued has.trim in
+      let one : failed.fault.t ≡ t = failed.same in (
+        device_at size told then_model,
+        part.before,
+        record {
+          t = t;
+          clear = more;
+          error = error;
+          cause = subst P (sym fine) (subst Q sizes (subst R sector cause));
+          can = subst (λ (x : Taken). Can (Fault p.0 slot.0 error 0 x) (device_at size told then_model)) one failed.fault.can;
+          effect = failed.fault.effect ∙ ap (λ (x : Taken). after (Fault p.0 slot.0 error 0 x) (device_at size told then_model)) one;
+          log = failed.says ∙ ap (λ (b : Bool). if b then record m.says { log = Some (record { tag = slot.0; error = error }) } else m.says) plain;
+        },
+      )

@@ -1,6 +1,6 @@
 -- What a model makes of a step that it is told.
-use Rattle.std.proofs.Common.{ℕ, Bool, true, false, ◌≡◌, ◌≤◌, ◌^◌, ◌∙◌, List, Option, Some, refl, sym, ap, subst, inl, inr}
-use Rattle.adapter.specs.Asked.{GoesOn}
+use Rattle.std.proofs.Common.{ℕ, Bool, true, false, ◌≡◌, ◌<◌, ◌≤◌, ◌^◌, ◌⊎◌, ◌∙◌, List, Option, Some, refl, sym, ap, subst, inl, inr}
+use Rattle.adapter.specs.Asked.{DoesClear, DoesFault, GoesOn}
 use Rattle.adapter.specs.declared.access.DeviceStep.TheVariants as asked
 use Rattle.ata_types.specs.declared.Port.{Port}
 use Rattle.ata_types.specs.declared.Slot.{Slot}
@@ -8,15 +8,18 @@ use Rattle.adapter.specs.Device.{Device, Taken}
 use Rattle.adapter.specs.declared.access.DeviceStep.{DeviceStep}
 use Rattle.adapter.proofs.Going.{asked_steps, goes_next}
 use Rattle.adapter.proofs.Runs.{Steps-refl}
-use Rattle.adapter.specs.Steps.{Steps}
+use Rattle.adapter.specs.Steps.{Can, Steps}
+use Rattle.adapter.specs.Steps.Step.{Fault}
 use Rattle.sector_store.specs.declared.store.Failures.{Failures}
-use Rattle.device_model.specs.Does.{AnswersStep, AsksStore, Did, FailsAt, FailsToClear, GoesOnSo, IsLeftOut, LacksMemory, NeedsAddresses, NoneFails, StepKeeps, StoreStops, Possible}
+use Rattle.device_model.specs.Does.{AnswersStep, AsksStore, Did, FailsToClear, FailsToMove, GoesOnSo, HasFailed, IsLeftOut, LacksMemory, NeedsAddresses, NoneFails, StepKeeps, Possible, says_failed}
 use Rattle.device_model.specs.Disks.{store_of}
 use Rattle.device_model.specs.Modelled.{device_at}
 use Rattle.device_model.specs.Paged.{GainsPages}
 use Rattle.device_model.proofs.TwoDisks.{in_kept}
 use Rattle.device_model.specs.Sent.{SendsEnd}
-use Rattle.device_model.proofs.Posting.{asked_may}
+use Rattle.device_model.proofs.Posting.{did_may}
+use Rattle.device_model.proofs.Absurd.{some_one}
+use Rattle.device_model.specs.Finishing.{HasRoom}
 use Rattle.device_model.proofs.Telling.{gains_none, gains_on}
 use Rattle.device_model.specs.declared.disks.Which.{Which}
 use Rattle.device_model.specs.declared.model.Model.{Model}
@@ -67,7 +70,8 @@ module _ {S : Type 0} (size : S → ℕ) (told : S → Option (ℕ → List ℕ)
     held = refl;
     says = refl;
     which = refl;
-    why = inr ((λ _. refl), λ _ possible. absurd (never possible));
+    disks = λ _. refl;
+    why = λ _ possible. absurd (never possible);
     keeps = keeps_same m;
     starved_on = λ yes. yes;
     starved_since = λ yes. inl yes;
@@ -92,7 +96,7 @@ module _ {S : Type 0} (size : S → ℕ) (told : S → Option (ℕ → List ℕ)
     did_or_left_keeps false a = a.keeps
 
     pub answers_steps : (answer : Bool) → AnswersStep size told failures s answer old new → Steps (device_at size told old) (device_at size told new)
-    answers_steps true a = asked_steps s _ _ (asked_may s _ _ a.1.asked)
+    answers_steps true a = asked_steps s _ _ (did_may size told failures s old new a.1)
     answers_steps false a = let P : Device → Type 0 = λ d. Steps (device_at size told old) d in subst P (sym a.device) (Steps-refl (device_at size told old))
 
   -- the same, whatever is queued
@@ -104,10 +108,11 @@ module _ {S : Type 0} (size : S → ℕ) (told : S → Option (ℕ → List ℕ)
   answers_queued s true old new q a = (
     a.0,
     record {
-      asked = a.1.asked;
-      ends = a.1.ends;
+      came = elim a.1.came [
+        | inl whole ↦ inl (record { asked = whole.asked; fine = whole.fine; says = whole.says; ends = whole.ends })
+        | inr failed ↦ inr failed
+      ];
       held = a.1.held;
-      says = a.1.says;
       which = a.1.which;
       pages = record { gained = a.1.pages.gained; tape = a.1.pages.tape; pages = a.1.pages.pages };
       disks = a.1.disks;
@@ -120,38 +125,25 @@ module _ {S : Type 0} (size : S → ℕ) (told : S → Option (ℕ → List ℕ)
     held = a.held;
     says = a.says;
     which = a.which;
+    disks = a.disks;
     why = a.why;
     keeps = keeps_queued old new q a.keeps;
     starved_on = a.starved_on;
     starved_since = a.starved_since;
   }
 
-  -- A Finish came to a step that was left, for which there was room, and which was possible. So a call failed on its sector, or it has no address.
+  -- A Finish came to a step that was left, for which there was room, and which was possible. So it has no address.
   pub cut_short : (s : DeviceStep) (p : Port) (slot : Slot) (did : Bool) (old mid new : Model S) → Possible (asked.Finish p slot) (device_at size told old) →
       (did ≡ true → GoesOn (SendsEnd slot.0) p.0 slot.0 (device_at size told old) (device_at size told mid)) → (did ≡ false → device_at size told mid ≡ device_at size told old) →
       Meanwhile size old mid → ((AsksStore (asked.Finish p slot) (device_at size told old) → ⊥) → (which : Which) → store_of mid which ≡ store_of old which) →
       (did ≡ false → (which : Which) → store_of mid which ≡ store_of old which) → NoneFails failures old mid → IsLeftOut size told failures s mid new →
-      (StoreStops s (failures mid.disk) (failures new.disk) (device_at size told new) →
-      FailsAt p.0 slot.0 (failures mid.disk) (failures new.disk) (device_at size told new) × AsksStore (asked.Finish p slot) (device_at size told old)) →
       ((device_at size told old).size ≤ 2 ^ 32 → NeedsAddresses s (device_at size told mid)) → Possible s (device_at size told mid) →
       (LacksMemory s (device_at size told mid) mid.hardware mid.plugged → ⊥) → (t : Taken) → ((device_at size told mid).port p.0).taken slot.0 ≡ Some t →
       AnswersStep size told failures (asked.Finish p slot) did old new
-  cut_short s p slot did old mid new may went stayed meanwhile same untouched none step stops needs possible room t taken = by did went stayed untouched
+  cut_short s p slot did old mid new may went stayed meanwhile same untouched none step needs possible room t taken = by did went stayed untouched
     where
-      fine : failures mid.disk ≡ failures old.disk
-      fine = in_kept failures old mid meanwhile.which none
-
-      -- where no store is another, it has no address
-      unserved : (NeedsAddresses s (device_at size told mid) → Possible s (device_at size told mid) →
-          LacksMemory s (device_at size told mid) mid.hardware mid.plugged × (new.hardware.starved ≡ true)) → (device_at size told old).size ≤ 2 ^ 32 → ⊥
-      unserved why small_enough = room (why (needs small_enough) possible).0
-
-      failed : FailsAt p.0 slot.0 (failures mid.disk) (failures new.disk) (device_at size told new) →
-          FailsAt p.0 slot.0 (failures old.disk) (failures new.disk) (device_at size told new)
-      failed f = subst (λ was. FailsAt p.0 slot.0 was (failures new.disk) (device_at size told new)) fine f
-
-      disks : (AsksStore (asked.Finish p slot) (device_at size told old) → ⊥) → (which : Which) → store_of new which ≡ store_of old which
-      disks never which = elim step.why [ inl f ↦ absurd (never (stops f).1) | inr left ↦ left.0 which ∙ same never which ]
+      unserved : (device_at size told old).size ≤ 2 ^ 32 → ⊥
+      unserved small_enough = room (step.why (needs small_enough) possible).0
 
       told_before : new.hardware.starved ≡ true → mid.hardware.starved ≡ true
       told_before now = elim (step.starved_since now) [ inl before ↦ before | inr lacks ↦ absurd (room lacks.1) ]
@@ -169,66 +161,127 @@ module _ {S : Type 0} (size : S → ℕ) (told : S → Option (ℕ → List ℕ)
       by : (b : Bool) → (b ≡ true → GoesOn (SendsEnd slot.0) p.0 slot.0 (device_at size told old) (device_at size told mid)) →
           (b ≡ false → device_at size told mid ≡ device_at size told old) → (b ≡ false → (which : Which) → store_of mid which ≡ store_of old which) →
           AnswersStep size told failures (asked.Finish p slot) b old new
-      by true on same first = (
+      by true on stays first = (
         may,
         record {
-          asked = subst (λ (d : Device). GoesOn (SendsEnd slot.0) p.0 slot.0 (device_at size told old) d) (sym step.device) (on refl);
-          ends = elim step.why [
-            | inl f ↦ inl (failed (stops f).0)
-            | inr left ↦ inr ((λ which. ap failures (left.0 which) ∙ none which), λ small_enough. absurd (unserved left.1 small_enough))
-          ];
+          came = inl (record {
+            asked = subst (λ (d : Device). GoesOn (SendsEnd slot.0) p.0 slot.0 (device_at size told old) d) (sym step.device) (on refl);
+            fine = λ which. ap failures (step.disks which) ∙ none which;
+            says = all.says;
+            ends = λ small_enough. absurd (unserved small_enough);
+          });
           held = all.held;
-          says = all.says;
           which = all.which;
           pages = all.pages;
-          disks = disks;
+          disks = λ never which. step.disks which ∙ same never which;
           keeps = all.keeps;
           starved = all.starved;
         },
       )
-      by false on same first = record {
-        device = step.device ∙ same refl;
+      by false on stays first = record {
+        device = step.device ∙ stays refl;
         held = all.held;
         says = all.says;
         which = all.which;
-        why = elim step.why [
-          | inl f ↦ inl (failed (stops f).0)
-          | inr left ↦ inr (
-            (λ which. left.0 which ∙ first refl which),
-            λ served _.
-                let there = ap (λ (d : Device). (d.port p.0).taken slot.0) (sym (same refl)) ∙ taken in
-                absurd (unserved left.1 (served t there)),
-          )
-        ];
+        disks = λ which. step.disks which ∙ first refl which;
+        why = λ served _.
+            let there = ap (λ (d : Device). (d.port p.0).taken slot.0) (sym (stays refl)) ∙ taken in
+            absurd (unserved (served t there));
         keeps = all.keeps;
         starved_on = λ yes. all.starved ∙ yes;
         starved_since = λ yes. inl (sym all.starved ∙ yes);
       }
 
-  -- A Finish came to a Clear that the store cut short.
-  pub cut_inside : (p : Port) (slot : Slot) (did : Bool) (old mid new : Model S) (most : ℕ) → Possible (asked.Finish p slot) (device_at size told old) →
-      (did ≡ true → GoesOn (SendsEnd slot.0) p.0 slot.0 (device_at size told old) (device_at size told mid)) → (did ≡ false → device_at size told mid ≡ device_at size told old) →
-      Meanwhile size old mid → AsksStore (asked.Finish p slot) (device_at size told old) → NoneFails failures old mid →
-      Did size told failures (asked.Clear p slot most) mid new →
-      FailsToClear p.0 slot.0 (failures mid.disk) (failures new.disk) (device_at size told new) → AnswersStep size told failures (asked.Finish p slot) true old new
-  cut_inside p slot did old mid new most may went stayed meanwhile asks none step fails =
-      let fine : failures mid.disk ≡ failures old.disk = in_kept failures old mid meanwhile.which none in
-      let all : Meanwhile size old new =
-      meanwhile_on old mid new meanwhile
-      (record { held = step.held; says = step.says; which = step.which; pages = step.pages; keeps = step.keeps; starved = step.starved }) in (
-        may,
-        record {
-          asked = goes_next (SendsEnd slot.0) p.0 slot.0 _ _ _ did went stayed (inr (inr (inr (most, step.asked))));
-          ends = inl (inr (subst (λ was. FailsToClear p.0 slot.0 was (failures new.disk) (device_at size told new)) fine fails));
-          held = all.held;
-          says = all.says;
-          which = all.which;
-          pages = all.pages;
-          disks = λ never. absurd (never asks);
-          keeps = all.keeps;
-          starved = all.starved;
-        },
-      )
+  -- what is before a fault of a Finish
+  before_it : (p : Port) (slot : Slot) (did : Bool) (old mid : Device) → (did ≡ true → GoesOn (SendsEnd slot.0) p.0 slot.0 old mid) → (did ≡ false → mid ≡ old) →
+      (mid ≡ old) ⊎ GoesOn (SendsEnd slot.0) p.0 slot.0 old mid
+  before_it p slot true old mid went stayed = inr (went refl)
+  before_it p slot false old mid went stayed = inl (stayed refl)
+
+  module _ (p : Port) (slot : Slot) (did : Bool) (old mid new : Model S) (may : Possible (asked.Finish p slot) (device_at size told old))
+      (went : did ≡ true → GoesOn (SendsEnd slot.0) p.0 slot.0 (device_at size told old) (device_at size told mid))
+      (stayed : did ≡ false → device_at size told mid ≡ device_at size told old) (meanwhile : Meanwhile size old mid)
+      (asks : AsksStore (asked.Finish p slot) (device_at size told old)) (none : NoneFails failures old mid) where
+    fine : failures mid.disk ≡ failures old.disk
+    fine = in_kept failures old mid meanwhile.which none
+
+    -- a Finish came to a sector on which its command failed
+    fails_finish : new.held ≡ mid.held → new.which ≡ mid.which → GainsPages size mid new → StepKeeps size mid new → new.hardware.starved ≡ mid.hardware.starved →
+        HasFailed size told failures (asked.Finish p slot) old new → AnswersStep size told failures (asked.Finish p slot) true old new
+    fails_finish held which pages keeps starved failed = (
+      may,
+      record {
+        came = inr failed;
+        held = held ∙ meanwhile.held;
+        which = which ∙ meanwhile.which;
+        pages = gains_on size old mid new meanwhile.says meanwhile.which (in_kept size old mid meanwhile.which meanwhile.keeps.sectors) meanwhile.pages pages;
+        disks = λ never. absurd (never asks);
+        keeps = keeps_on old mid new meanwhile.which meanwhile.keeps keeps;
+        starved = starved ∙ meanwhile.starved;
+      },
+    )
+
+    pub move_fails : Did size told failures (asked.Move p slot) mid new → HasFailed size told failures (asked.Move p slot) mid new →
+        AnswersStep size told failures (asked.Finish p slot) true old new
+    move_fails step f =
+        fails_finish step.held step.which step.pages step.keeps step.starved (
+          device_at size told mid,
+          before_it p slot did _ _ went stayed,
+          inl (subst (λ was. FailsToMove p.0 slot.0 was (failures new.disk) old.says new.says (device_at size told mid) (device_at size told new)) fine
+          (subst (λ says. FailsToMove p.0 slot.0 (failures mid.disk) (failures new.disk) says new.says (device_at size told mid) (device_at size told new)) meanwhile.says f)),
+        )
+
+    pub clear_fails : (most : ℕ) → Did size told failures (asked.Clear p slot most) mid new → HasFailed size told failures (asked.Clear p slot most) mid new →
+        AnswersStep size told failures (asked.Finish p slot) true old new
+    clear_fails most step (last, cleared, f) =
+        fails_finish step.held step.which step.pages step.keeps step.starved (
+          last,
+          on cleared,
+          inr (subst (λ was. FailsToClear p.0 slot.0 was (failures new.disk) old.says new.says last (device_at size told new)) fine
+          (subst (λ says. FailsToClear p.0 slot.0 (failures mid.disk) (failures new.disk) says new.says last (device_at size told new)) meanwhile.says f)),
+        )
+      where
+        on : (last ≡ device_at size told mid) ⊎ DoesClear p.0 slot.0 most (device_at size told mid) last →
+            (last ≡ device_at size told old) ⊎ GoesOn (SendsEnd slot.0) p.0 slot.0 (device_at size told old) last
+        on (inl same) =
+            subst (λ (d : Device). (d ≡ device_at size told old) ⊎ GoesOn (SendsEnd slot.0) p.0 slot.0 (device_at size told old) d) (sym same)
+            (before_it p slot did _ _ went stayed)
+        on (inr more) = inr (goes_next (SendsEnd slot.0) p.0 slot.0 _ _ last did went stayed (inr (inr (inr (most, more)))))
+
+  -- ---- a command that is taken fails
+
+  -- it is done, where the tape has memory for it
+  pub record IsFailed (p : Port) (slot : Slot) (error : ℕ) (t : Taken) (old new : Model S) : Type 0 where
+    pub fault : DoesFault p.0 slot.0 error (device_at size told old) (device_at size told new)
+    pub same : fault.t ≡ t
+    pub says : new.says ≡ says_failed (Some t) slot.0 error old.says
+    pub held : new.held ≡ old.held
+    pub which : new.which ≡ old.which
+    pub pages : GainsPages size old new
+    pub stores : (which : Which) → store_of new which ≡ store_of old which
+    pub keeps : StepKeeps size old new
+    pub starved : new.hardware.starved ≡ old.hardware.starved
+
+  pub is_failed : (p : Port) (slot : Slot) (error : ℕ) (t : Taken) (answer : Bool) (old new : Model S) → AnswersStep size told failures (asked.Fault p slot error) answer old new →
+      p.0 < 4 → slot.0 < 32 → Can (Fault p.0 slot.0 error 0 t) (device_at size told old) → HasRoom old.hardware 1 → IsFailed p slot error t old new
+  is_failed p slot error t true old new a port small can room =
+      elim a.1.came [
+        | inr never ↦ absurd never
+        | inl whole ↦
+            let one : whole.asked.t ≡ t = some_one (sym whole.asked.can.taken ∙ can.taken) in
+            record {
+              fault = whole.asked;
+              same = one;
+              says = whole.says ∙ ap (λ (x : Option Taken). says_failed x slot.0 error old.says) can.taken;
+              held = a.1.held;
+              which = a.1.which;
+              pages = a.1.pages;
+              stores = a.1.disks (λ never. never);
+              keeps = a.1.keeps;
+              starved = a.1.starved;
+            }
+      ]
+  is_failed p slot error t false old new a port small can room = absurd ((a.why tt (port, small, t, can)).0 room)
 
   -- ---- what the model does by itself
 
@@ -246,10 +299,10 @@ module _ {S : Type 0} (size : S → ℕ) (told : S → Option (ℕ → List ℕ)
   }
 
   pub finish_goes_so : (p : Port) (slot : Slot) (answer : Bool) (old new : Model S) → AnswersStep size told failures (asked.Finish p slot) answer old new →
-      GoesOnSo size old new
-  finish_goes_so p slot true old new a =
-      record { held = a.1.held; says = a.1.says; which = a.1.which; pages = a.1.pages; keeps = a.1.keeps; starved_on = λ yes. a.1.starved ∙ yes }
-  finish_goes_so p slot false old new a = record {
+      (answer ≡ true → new.says ≡ old.says) → GoesOnSo size old new
+  finish_goes_so p slot true old new a says =
+      record { held = a.1.held; says = says refl; which = a.1.which; pages = a.1.pages; keeps = a.1.keeps; starved_on = λ yes. a.1.starved ∙ yes }
+  finish_goes_so p slot false old new a says = record {
     held = a.held;
     says = a.says;
     which = a.which;

@@ -19,8 +19,8 @@ use Rattle.device_model.specs.Does.{HasCleared, HasEnded}
 use Rattle.device_model.specs.Finishing.{HasDisk, HasMove, IsCovered, IsGoing, MayFinish}
 use Rattle.device_model.specs.Sent.{SendsEnd}
 use Rattle.device_model.specs.Slots.{CanClear, HoldsAt, IsNext}
-use Rattle.device_model.specs.Trims.{HasClear, WillClear, next_uncleared, span, uncleared}
-use Rattle.device_model.specs.View.{Media, Takes, held_in, media_after, media_cleared, operation_of, taken_of, blank}
+use Rattle.device_model.specs.Trims.{HasClear, WillClear, span, uncleared}
+use Rattle.device_model.specs.View.{Media, halt_of, held_in, media_after, media_cleared, operation_of, taken_of, blank}
 use Rattle.device_model.specs.Whole.{Outside, device_of, no_media, outside_of, outside_after, outside_cleared, outside_plugged}
 use Rattle.device_model.specs.declared.port.PortModel.{PortModel}
 use Rattle.device_model.specs.declared.hardware.Hardware.{Hardware}
@@ -30,9 +30,9 @@ use Rattle.device_model.specs.declared.port.Transfer.TheVariants as transfer
 use Rattle.device_model.specs.declared.steps.NextMove.{NextMove}
 use Rattle.device_model.proofs.Cleared.{cleared_tells}
 use Rattle.device_model.proofs.Posting.{end_rest}
-use Rattle.device_model.proofs.Trimming.{is_a_trim, moved_clears, next_below, none_left, some_uncleared, span_less}
+use Rattle.device_model.proofs.Trimming.{is_a_trim, moved_clears, none_left, some_uncleared, span_less}
 use Rattle.device_model.proofs.SlotLemmas.{slot_taken, taken_slot}
-use Rattle.device_model.proofs.Transfers.{is_taken, is_trim, still_tells, transfer_of}
+use Rattle.device_model.proofs.Transfers.{is_trim, still_tells, transfer_of}
 
 cleared : (queued : Bool) (p : PortState) (slot : ℕ) →
     (if queued then (if queued then changed p.sact slot false else p.sact) slot else (if queued then p.ci else changed p.ci slot false) slot) ≡ false
@@ -59,12 +59,12 @@ still_works p new o w cr present fresh halt broken = record {
   whole = broken ∙ w.whole;
 }
 
-module _ (port slot sectors : ℕ) where
+module _ (port slot : ℕ) where
   -- it was just taken
-  just_fetched : (left clears : ℕ) (old new : Device) (m : Meaning) (places : List ℕ) → Takes m.operation → IsCovered (begun m places) old.size sectors left →
-      WillClear m.operation old.memory (begun m places) sectors clears → Can (Fetch port slot m places) old → DoesFetch port slot old new →
-      IsGoing new port slot sectors left clears
-  just_fetched left clears old new m places takes covered clearing can f =
+  just_fetched : (left clears : ℕ) (old new : Device) (m : Meaning) (places : List ℕ) → IsCovered (begun m places) old.size left →
+      WillClear m.operation old.memory (begun m places) clears → Can (Fetch port slot m places) old → DoesFetch port slot old new →
+      IsGoing new port slot left clears
+  just_fetched left clears old new m places covered clearing can f =
       let p : PortState = old.port port in
       let state : PortState = with_fetch p slot f.meaning f.places in
       let meaning : f.meaning ≡ m = says_meaning old.memory p.bases.clb slot f.meaning m f.places places f.can.says can.says in
@@ -73,38 +73,37 @@ module _ (port slot sectors : ℕ) where
       let taken : state.taken slot ≡ Some (begun m places) =
       changed_same p.taken slot (Some (begun f.meaning f.places)) ∙ (λ i. Some (begun (meaning i) (same i))) in
       let P : PortState → Type 0 = λ x. WorksOn x slot (begun m places) m.operation in
-      let Q : ℕ → Type 0 = λ size. IsCovered (begun m places) size sectors left in
+      let Q : ℕ → Type 0 = λ size. IsCovered (begun m places) size left in
       record {
         t = begun m places;
-        takes = takes;
         covered = subst Q (sym (ap (λ (d : Device). d.size) f.effect)) covered;
-        clearing = subst (λ (memory : ℕ → ℕ). WillClear m.operation memory (begun m places) sectors clears) (sym (ap (λ (d : Device). d.memory) f.effect)) clearing;
+        clearing = subst (λ (memory : ℕ → ℕ). WillClear m.operation memory (begun m places) clears) (sym (ap (λ (d : Device). d.memory) f.effect)) clearing;
         works = subst P (sym there)
             (record { taken = taken; working = still_works p state m.operation can.working refl refl refl refl refl });
       }
 
   -- it is taken, or was
-  pub fetched_goes : (left clears : ℕ) (did : Bool) (old new : Device) → MayFinish old port slot sectors left clears → (did ≡ true → DoesFetch port slot old new) →
+  pub fetched_goes : (left clears : ℕ) (did : Bool) (old new : Device) → MayFinish old port slot left clears → (did ≡ true → DoesFetch port slot old new) →
       (did ≡ false → new ≡ old) →
-      (did ≡ false → (m : Meaning) (places : List ℕ) → Takes m.operation → Can (Fetch port slot m places) old → ⊥) → IsGoing new port slot sectors left clears
+      (did ≡ false → (m : Meaning) (places : List ℕ) → Can (Fetch port slot m places) old → ⊥) → IsGoing new port slot left clears
   fetched_goes left clears did old new ready fetched same only =
       by did refl ready.begins
     where
       by : (b : Bool) → did ≡ b → WorksOn (old.port port) slot ready.t ready.t.meaning.operation
-          ⊎ (Can (Fetch port slot ready.t.meaning ready.t.places) old × (ready.t ≡ begun ready.t.meaning ready.t.places)) → IsGoing new port slot sectors left clears
+          ⊎ (Can (Fetch port slot ready.t.meaning ready.t.places) old × (ready.t ≡ begun ready.t.meaning ready.t.places)) → IsGoing new port slot left clears
       by true e (inl works) = some-none works.taken (fetched e).can.fetchable.free
       by true e (inr (can, is)) =
-          let P : Taken → Type 0 = λ t. IsCovered t old.size sectors left in
-          let Q : Taken → Type 0 = λ t. WillClear t.meaning.operation old.memory t sectors clears in
-          just_fetched left clears old new ready.t.meaning ready.t.places ready.takes (subst P is ready.covered) (subst Q is ready.clearing) can (fetched e)
+          let P : Taken → Type 0 = λ t. IsCovered t old.size left in
+          let Q : Taken → Type 0 = λ t. WillClear t.meaning.operation old.memory t clears in
+          just_fetched left clears old new ready.t.meaning ready.t.places (subst P is ready.covered) (subst Q is ready.clearing) can (fetched e)
       by false e (inl works) =
-          let P : Device → Type 0 = λ d. IsGoing d port slot sectors left clears in
-          subst P (sym (same e)) (record { t = ready.t; takes = ready.takes; covered = ready.covered; clearing = ready.clearing; works = works })
-      by false e (inr (can, is)) = absurd (only e ready.t.meaning ready.t.places ready.takes can)
+          let P : Device → Type 0 = λ d. IsGoing d port slot left clears in
+          subst P (sym (same e)) (record { t = ready.t; covered = ready.covered; clearing = ready.clearing; works = works })
+      by false e (inr (can, is)) = absurd (only e ready.t.meaning ready.t.places can)
 
   -- a piece of it is moved
-  pub moved_goes : (left clears : ℕ) (old new : Device) → IsGoing old port slot sectors (suc left) clears → DoesMove port slot old new →
-      IsGoing new port slot sectors left clears
+  pub moved_goes : (left clears : ℕ) (old new : Device) → IsGoing old port slot (suc left) clears → DoesMove port slot old new →
+      IsGoing new port slot left clears
   moved_goes left clears old new going m =
       let p : PortState = old.port port in
       let t : Taken = going.t in
@@ -114,17 +113,15 @@ module _ (port slot sectors : ℕ) where
       let there : new.port port ≡ state = ap (λ (d : Device). d.port port) m.effect ∙ changed_same old.port port state in
       let size : new.size ≡ old.size = ap (λ (d : Device). d.size) m.effect in
       let P : PortState → Type 0 = λ x. WorksOn x slot u m.t.meaning.operation in
-      let Q : Taken → Type 0 = λ x. IsCovered x old.size sectors (suc left) in
-      let covered : IsCovered m.t old.size sectors (suc left) = subst Q (sym same) going.covered in
+      let Q : Taken → Type 0 = λ x. IsCovered x old.size (suc left) in
+      let covered : IsCovered m.t old.size (suc left) = subst Q (sym same) going.covered in
       record {
         t = u;
-        takes = subst (λ (x : Taken). Takes x.meaning.operation) (sym same) going.takes;
-        clearing = subst (λ (memory : ℕ → ℕ). WillClear m.t.meaning.operation memory u sectors clears) (sym (ap (λ (d : Device). d.memory) m.effect))
-            (moved_clears m.t.meaning.operation p.disk old.memory m.t m.bytes sectors clears m.can.left m.can.brings
-            (subst (λ (x : Taken). WillClear x.meaning.operation old.memory x sectors clears) (sym same) going.clearing));
+        clearing = subst (λ (memory : ℕ → ℕ). WillClear m.t.meaning.operation memory u clears) (sym (ap (λ (d : Device). d.memory) m.effect))
+            (moved_clears m.t.meaning.operation p.disk old.memory m.t m.bytes clears m.can.left m.can.brings
+            (subst (λ (x : Taken). WillClear x.meaning.operation old.memory x clears) (sym same) going.clearing));
         covered = record {
           left_is = omega (arith, covered.left_is);
-          on_disk = covered.on_disk;
           inside = λ k small. omega (arith, size, covered.inside k small);
         };
         works = subst P (sym there)
@@ -135,30 +132,27 @@ module _ (port slot sectors : ℕ) where
       }
 
   -- a run of its sectors is cleared
-  pub cleared_goes : (clears : ℕ) (old new : Device) → sectors ≡ (old.port port).disk.size → (going : IsGoing old port slot sectors 0 (suc clears)) → (most : ℕ) →
-      most ≡ length (uncleared going.t) → (c : DoesClear port slot most old new) → HasCleared old new port slot most → IsGoing new port slot sectors 0 clears
-  cleared_goes clears old new disk going most whole c has =
+  pub cleared_goes : (clears : ℕ) (old new : Device) → (going : IsGoing old port slot 0 (suc clears)) → (most : ℕ) →
+      most ≡ length (uncleared going.t) → (c : DoesClear port slot most old new) → HasCleared old new port slot most → IsGoing new port slot 0 clears
+  cleared_goes clears old new going most whole c has =
       let p : PortState = old.port port in
       let t : Taken = going.t in
-      let u : Taken = record t { cleared = t.cleared + span sectors (length (uncleared t)) t } in
+      let u : Taken = record t { cleared = t.cleared + span (length (uncleared t)) t } in
       let state : PortState = with_clear p slot c.t c.first c.count in
       let there : new.port port ≡ state = ap (λ (d : Device). d.port port) c.effect ∙ changed_same old.port port state in
       let same : has.t ≡ t = some_one (sym has.was ∙ going.works.taken) in
-      let back : (old.port port).disk.size ≡ sectors = sym disk in
       let taken : (new.port port).taken slot ≡ Some u =
-      has.is ∙ (λ i. Some (record (same i) { cleared = (same i).cleared + span (back i) (whole i) (same i) })) in
+      has.is ∙ (λ i. Some (record (same i) { cleared = (same i).cleared + span (whole i) (same i) })) in
       let size : new.size ≡ old.size = ap (λ (d : Device). d.size) c.effect in
       let all : t.moved ≡ length t.places = omega (arith, going.covered.left_is) in
       record {
         t = u;
-        takes = going.takes;
         covered = record {
           left_is = going.covered.left_is;
-          on_disk = going.covered.on_disk;
           inside = λ k small. omega (arith, size, going.covered.inside k small);
         };
-        clearing = subst (λ (memory : ℕ → ℕ). WillClear t.meaning.operation memory u sectors clears) (sym (ap (λ (d : Device). d.memory) c.effect))
-            (span_less old.memory t sectors clears all going.clearing);
+        clearing = subst (λ (memory : ℕ → ℕ). WillClear t.meaning.operation memory u clears) (sym (ap (λ (d : Device). d.memory) c.effect))
+            (span_less old.memory t clears all going.clearing);
         works = record {
           taken = taken;
           working =
@@ -241,7 +235,7 @@ module _ (port slot sectors : ℕ) where
       }
 
   -- a plain one is issued no more
-  pub done_frees : (old new : Device) (going : IsGoing old port slot sectors 0 0) → is_queued going.t.meaning.operation ≡ false → Ends (SendsEnd slot) port slot old new →
+  pub done_frees : (old new : Device) (going : IsGoing old port slot 0 0) → is_queued going.t.meaning.operation ≡ false → Ends (SendsEnd slot) port slot old new →
       IsFreeSlot (new.port port) slot
   done_frees old new going plain e =
       let f : DoesDone port slot old e.mid = e.done in
@@ -256,12 +250,12 @@ module _ (port slot sectors : ℕ) where
       }
 
   -- when nothing is left, it may end
-  pub going_may_end : (d : Device) (going : IsGoing d port slot sectors 0 0) → Can (Done port slot 0 going.t) d
+  pub going_may_end : (d : Device) (going : IsGoing d port slot 0 0) → Can (Done port slot 0 going.t) d
   going_may_end d going = record {
     works = going.works;
     finished = record {
       moved = omega (arith, going.covered.left_is);
-      cleared = none_left going.t.meaning.operation d.memory going.t sectors (omega (arith, going.covered.left_is)) going.clearing;
+      cleared = none_left going.t.meaning.operation d.memory going.t (omega (arith, going.covered.left_is)) going.clearing;
     };
     shown = inl refl;
   }
@@ -269,9 +263,9 @@ module _ (port slot sectors : ℕ) where
 -- ---- what a move and an end find
 
 -- a command that a port works on is one that its slot holds
-pub holds : (h : Hardware) (o : Outside) (port slot : ℕ) (t : Taken) (operation : Operation) → WorksOn ((device_of h o).port port) slot t operation →
+pub holds : (h : Hardware) (o : Outside) (port slot : ℕ) (t : Taken) → WorksOn ((device_of h o).port port) slot t t.meaning.operation →
     (r : TakenCommand) × HoldsAt (slice_index_or h.ports port blank) slot r × (t ≡ taken_of r)
-holds h o port slot t operation works =
+holds h o port slot t works =
     let p : PortModel = slice_index_or h.ports port blank in
     let w = taken_slot (held_in p.taken) slot t works.taken in (
       w.0,
@@ -283,7 +277,7 @@ holds h o port slot t operation works =
             running = works.working.running;
             present = works.working.present;
             fresh = works.working.fresh;
-            admitted = refl;
+            admitted = subst (λ (x : Taken). admits (halt_of p.halting) x.meaning.operation ≡ true) w.2 works.working.admitted;
             whole = refl;
           };
         };
@@ -292,173 +286,122 @@ holds h o port slot t operation works =
     )
 
 -- what a move of port 0 that is possible says of the command
-pub record MoveFits (h : Hardware) (port slot size : ℕ) : Type 0 where
+pub record MoveFits (h : Hardware) (port slot : ℕ) : Type 0 where
   pub r : TakenCommand
   pub holds : HoldsAt (slice_index_or h.ports port blank) slot r
   pub left : r.moved < length (pieces r.prds)
   pub inside : slice_index (pieces r.prds) r.moved + 512 ≤ length h.memory.items
-  pub on_disk : is_ranged (operation_of r.transfer) ≡ true → next_sector (taken_of r) < size
 
-pub move_fits : (h : Hardware) (o : Outside) (d : Device) (port slot : ℕ) (t : Taken) → port ≡ 0 → device_of h o ≡ d → HasMove d port slot t →
-    MoveFits h port slot (o.media 0).disk.size
-move_fits h o d port slot t at_zero same move =
+pub move_fits : (h : Hardware) (o : Outside) (d : Device) (port slot : ℕ) (t : Taken) → device_of h o ≡ d → HasMove d port slot t → MoveFits h port slot
+move_fits h o d port slot t same move =
     let P : Device → Type 0 = λ x. HasMove x port slot t in
     let on_port : HasMove (device_of h o) port slot t = subst P (sym same) move in
-    let w = holds h o port slot t t.meaning.operation on_port.works in
+    let w = holds h o port slot t on_port.works in
     let Q : Taken → Type 0 = λ x. HasMove (device_of h o) port slot x in
     let here : HasMove (device_of h o) port slot (taken_of w.0) = subst Q w.2 on_port in
-    let R : ℕ → Type 0 = λ q. is_ranged (operation_of w.0.transfer) ≡ true → next_sector (taken_of w.0) < (o.media q).disk.size in
-    record { r = w.0; holds = w.1; left = here.left; inside = here.inside; on_disk = subst R at_zero here.on_disk }
+    record { r = w.0; holds = w.1; left = here.left; inside = here.inside }
 
--- no port but port 0 has a disk
-pub no_move : (h : Hardware) (disk : Disk) (other : Option (ℕ → List ℕ)) (plugged : List Disk) (port slot : ℕ) (t : Taken) → port ≢ 0 →
-    HasMove (device_of h (outside_of disk other plugged)) port slot t → ⊥
-no_move h disk other plugged port slot t ne move =
-    elim move.has_disk [
-      | inl at_zero ↦ ne at_zero
-      | inr ranged ↦
-          let none : ((outside_of disk other plugged).media port).disk.size ≡ 0 =
-          elim (eqb_tells port 0) [ inl here ↦ absurd (ne here.1) | inr there ↦ rw there.0 refl ] in
-          let at = move.on_disk ranged in
-          absurd (omega (arith, at, none))
-    ]
-
--- the sector that it moves next has a number
-pub sector_small : (r : TakenCommand) (size : ℕ) → size < 2 ^ 64 → (is_ranged (operation_of r.transfer) ≡ true → next_sector (taken_of r) < size) →
-    next_sector (taken_of r) < 2 ^ 64
-sector_small r size few small = by (is_ranged (operation_of r.transfer)) refl
-  where
-    by : (b : Bool) → is_ranged (operation_of r.transfer) ≡ b → next_sector (taken_of r) < 2 ^ 64
-    by true e = let at = small e in omega (arith, at, few)
-    by false e = let none : next_sector (taken_of r) ≡ 0 = ap (λ b. if b then r.first + r.moved else 0) e in omega (arith, none)
-
--- what the hardware finds to move next is possible on port 0, where it is on the disk
+-- what the hardware finds to move next is possible on port 0
 pub next_has_move : (h : Hardware) (o : Outside) (d : Device) (port slot : ℕ) (next : NextMove) (r : TakenCommand) → port ≡ 0 → device_of h o ≡ d →
-    IsNext h port slot next r → (is_ranged (operation_of next.transfer) ≡ true → next.sector < (o.media 0).disk.size) → HasMove d port slot (taken_of r)
-next_has_move h o d port slot next r at_zero same is on =
+    IsNext h port slot next r → HasMove d port slot (taken_of r)
+next_has_move h o d port slot next r at_zero same is =
     let P : Device → Type 0 = λ x. HasMove x port slot (taken_of r) in
-    let Q : ℕ → Type 0 = λ q. is_ranged (operation_of next.transfer) ≡ true → next.sector < (o.media q).disk.size in
-    let sector : next.sector ≡ next_sector (taken_of r) = is.sector_is in
     let place : next.address ≡ slice_index (pieces r.prds) r.moved = is.address_is in
     let there = is.inside in
-    subst P same (record {
-      works = is.holds.works (o.media port);
-      left = is.left;
-      inside = omega (arith, place, there);
-      on_disk = λ ranged.
-          let at = subst Q (sym at_zero) on (ap (λ (k : Transfer). is_ranged (operation_of k)) is.transfer_is ∙ ranged) in omega (arith, sector, at);
-      has_disk = inl at_zero;
-    })
+    subst P same (record { works = is.holds.works (o.media port); left = is.left; inside = omega (arith, place, there); has_disk = at_zero })
 
--- and where it is possible, it is on the disk
-pub next_on_disk : (h : Hardware) (o : Outside) (d : Device) (port slot : ℕ) (next : NextMove) (r : TakenCommand) (t : Taken) → port ≡ 0 → device_of h o ≡ d →
-    IsNext h port slot next r → HasMove d port slot t → is_ranged (operation_of next.transfer) ≡ true → next.sector < (o.media 0).disk.size
-next_on_disk h o d port slot next r t at_zero same is move ranged =
-    let found = move_fits h o d port slot t at_zero same move in
-    let one : found.r ≡ r = some_one (sym found.holds.held ∙ is.holds.held) in
-    let sector : next.sector ≡ next_sector (taken_of found.r) = is.sector_is ∙ ap (λ (x : TakenCommand). next_sector (taken_of x)) (sym one) in
-    let kind : next.transfer ≡ found.r.transfer = is.transfer_is ∙ ap (λ (x : TakenCommand). x.transfer) (sym one) in
-    let at = found.on_disk (sym (ap (λ (k : Transfer). is_ranged (operation_of k)) kind) ∙ ranged) in
-    omega (arith, sector, at)
+-- a port that has a disk with sectors is port 0
+pub sized_zero : (disk : Disk) (other : Option (ℕ → List ℕ)) (plugged : List Disk) (port sector : ℕ) →
+    sector < ((outside_of disk other plugged).media port).disk.size → port ≡ 0
+sized_zero disk other plugged port sector below =
+    elim (eqb_tells port 0) [
+      | inl here ↦ here.1
+      | inr there ↦
+          let none : ((outside_of disk other plugged).media port).disk.size ≡ 0 = rw there.0 refl in
+          absurd (omega (arith, below, none))
+    ]
 
--- where a move is possible, it has its place and its sector
-pub has_move : (d : Device) (port slot : ℕ) (t : Taken) (bytes : List ℕ) → Takes t.meaning.operation → HasDisk port t.meaning.operation → Can (Move port slot t bytes) d →
-    HasMove d port slot t
-has_move d port slot t bytes takes disk can =
-    let kind = transfer_of t.meaning.operation takes in
-    let P : Operation → Type 0 = λ o. Brings (d.port port).disk d.memory t o bytes in
-    record { works = can.works; left = can.left; inside = can.inside; on_disk = by kind.0 kind.1 (subst P kind.1 can.brings); has_disk = disk }
+-- a move of a device is of a sector on its disk, if it is of one
+brings_on_disk : (disk : Disk) (memory : ℕ → ℕ) (t : Taken) (k : Transfer) (bytes : List ℕ) → is_ranged (operation_of k) ≡ true →
+    Brings disk memory t (operation_of k) bytes → next_sector t < disk.size
+brings_on_disk disk memory t transfer.Read bytes ranged brings = brings.0
+brings_on_disk disk memory t transfer.Write bytes ranged brings = brings.0
+brings_on_disk disk memory t transfer.ReadQueued bytes ranged brings = brings.0
+brings_on_disk disk memory t transfer.WriteQueued bytes ranged brings = brings.0
+brings_on_disk disk memory t transfer.Identify bytes ranged brings = absurd (cc ranged)
+brings_on_disk disk memory t transfer.Flush bytes ranged brings = absurd (cc ranged)
+brings_on_disk disk memory t transfer.Trim bytes ranged brings = absurd (cc ranged)
+brings_on_disk disk memory t transfer.ReadLog bytes ranged brings = absurd (cc ranged)
+
+-- where a move may be made on a port that has a disk, it is possible
+pub has_move : (h : Hardware) (disk : Disk) (other : Option (ℕ → List ℕ)) (plugged : List Disk) (port slot : ℕ) (t : Taken) (bytes : List ℕ) →
+    HasDisk port t.meaning.operation → Can (Move port slot t bytes) (device_of h (outside_of disk other plugged)) →
+    HasMove (device_of h (outside_of disk other plugged)) port slot t
+has_move h disk other plugged port slot t bytes has can =
+    record { works = can.works; left = can.left; inside = can.inside; has_disk = elim has [ inl here ↦ here | inr ranged ↦ on ranged ] }
   where
-    by : (k : Transfer) → t.meaning.operation ≡ operation_of k → Brings (d.port port).disk d.memory t (operation_of k) bytes →
-        is_ranged t.meaning.operation ≡ true → next_sector t < (d.port port).disk.size
-    by transfer.Read e brings ranged = brings.0
-    by transfer.Write e brings ranged = brings.0
-    by transfer.ReadQueued e brings ranged = brings.0
-    by transfer.WriteQueued e brings ranged = brings.0
-    by transfer.Identify e brings ranged = true-false ranged (ap is_ranged e)
-    by transfer.Flush e brings ranged = true-false ranged (ap is_ranged e)
-    by transfer.Trim e brings ranged = true-false ranged (ap is_ranged e)
+    d : Device
+    d = device_of h (outside_of disk other plugged)
 
--- a command that the model's port works on is one that it takes
-pub works_takes : (h : Hardware) (o : Outside) (port slot : ℕ) (t : Taken) → WorksOn ((device_of h o).port port) slot t t.meaning.operation →
-    Takes t.meaning.operation
-works_takes h o port slot t works =
-    let w = holds h o port slot t t.meaning.operation works in
-    let P : Taken → Type 0 = λ x. Takes x.meaning.operation in
-    subst P (sym w.2) (is_taken w.0.transfer)
+    on : is_ranged t.meaning.operation ≡ true → port ≡ 0
+    on ranged =
+        let kind = transfer_of t.meaning.operation in
+        let P : Operation → Type 0 = λ o. Brings (d.port port).disk d.memory t o bytes in
+        sized_zero disk other plugged port (next_sector t)
+        (brings_on_disk (d.port port).disk d.memory t kind.0 bytes (ap is_ranged (sym kind.1) ∙ ranged) (subst P kind.1 can.brings))
 
 -- where a move is left, one is possible
-pub going_has_move : (d : Device) (port slot left clears : ℕ) → port ≡ 0 → (going : IsGoing d port slot (d.port port).disk.size (suc left) clears) →
-    HasMove d port slot going.t
+pub going_has_move : (d : Device) (port slot left clears : ℕ) → port ≡ 0 → (going : IsGoing d port slot (suc left) clears) → HasMove d port slot going.t
 going_has_move d port slot left clears at_zero going =
     let t : Taken = going.t in
     record {
       works = going.works;
       left = omega (arith, going.covered.left_is);
       inside = going.covered.inside t.moved (omega (arith, going.covered.left_is));
-      on_disk = λ ranged.
-          let sector : next_sector t ≡ t.meaning.first + t.moved = ap (λ b. if b then t.meaning.first + t.moved else 0) ranged in
-          omega (arith, sector, going.covered.on_disk ranged, going.covered.left_is);
-      has_disk = inl at_zero;
+      has_disk = at_zero;
     }
 
 -- where a clear is left, one is possible
-pub going_has_clear : (d : Device) (port slot clears : ℕ) → (going : IsGoing d port slot (d.port port).disk.size 0 (suc clears)) →
+pub going_has_clear : (d : Device) (port slot clears : ℕ) → port ≡ 0 → (going : IsGoing d port slot 0 (suc clears)) →
     HasClear d port slot (length (uncleared going.t)) going.t
-going_has_clear d port slot clears going =
+going_has_clear d port slot clears at_zero going =
     let t : Taken = going.t in
-    let size : ℕ = (d.port port).disk.size in
     let all : t.moved ≡ length t.places = omega (arith, going.covered.left_is) in
-    let trim = is_a_trim d.memory t size clears all going.clearing in
+    let trim = is_a_trim d.memory t clears all going.clearing in
     record {
+      has_disk = at_zero;
       works = subst (λ (o : Operation). WorksOn (d.port port) slot t o) trim going.works;
       trim = trim;
       moved = all;
-      some = some_uncleared d.memory t size clears all going.clearing;
+      some = some_uncleared d.memory t clears all going.clearing;
       enough = omega arith;
-      on_disk = next_below d.memory t size clears all going.clearing;
     }
 
--- what a clear of port 0 that is possible says of the command
-pub clear_fits : (h : Hardware) (o : Outside) (d : Device) (port slot most : ℕ) (t : Taken) → port ≡ 0 → device_of h o ≡ d → HasClear d port slot most t →
-    (r : TakenCommand) × HoldsAt (slice_index_or h.ports port blank) slot r × CanClear r most (o.media 0).disk.size × (t ≡ taken_of r)
-clear_fits h o d port slot most t at_zero same clear =
+-- what a clear that is possible says of the command
+pub clear_fits : (h : Hardware) (o : Outside) (d : Device) (port slot most : ℕ) (t : Taken) → device_of h o ≡ d → HasClear d port slot most t →
+    (r : TakenCommand) × HoldsAt (slice_index_or h.ports port blank) slot r × CanClear r most × (t ≡ taken_of r)
+clear_fits h o d port slot most t same clear =
     let P : Device → Type 0 = λ x. HasClear x port slot most t in
     let on_port : HasClear (device_of h o) port slot most t = subst P (sym same) clear in
-    let w = holds h o port slot t Trim on_port.works in
+    let w = holds h o port slot t (subst (λ (x : Operation). WorksOn ((device_of h o).port port) slot t x) (sym on_port.trim) on_port.works) in
     let Q : Taken → Type 0 = λ x. HasClear (device_of h o) port slot most x in
     let here : HasClear (device_of h o) port slot most (taken_of w.0) = subst Q w.2 on_port in
-    let R : ℕ → Type 0 = λ q. next_uncleared (taken_of w.0) < (o.media q).disk.size in (
-      w.0,
-      w.1,
-      record { trim = is_trim w.0.transfer here.trim; moved = here.moved; some = here.some; enough = here.enough; on_disk = subst R at_zero here.on_disk },
-      w.2,
-    )
+    (w.0, w.1, record { trim = is_trim w.0.transfer here.trim; moved = here.moved; some = here.some; enough = here.enough }, w.2)
 
--- and where the hardware finds one, it is possible
+-- and where the hardware finds one, it is possible on port 0
 pub next_has_clear : (h : Hardware) (o : Outside) (d : Device) (port slot most : ℕ) (r : TakenCommand) → port ≡ 0 → device_of h o ≡ d →
-    HoldsAt (slice_index_or h.ports port blank) slot r → CanClear r most (o.media 0).disk.size → HasClear d port slot most (taken_of r)
+    HoldsAt (slice_index_or h.ports port blank) slot r → CanClear r most → HasClear d port slot most (taken_of r)
 next_has_clear h o d port slot most r at_zero same holds can =
     let P : Device → Type 0 = λ x. HasClear x port slot most (taken_of r) in
-    let Q : ℕ → Type 0 = λ q. next_uncleared (taken_of r) < (o.media q).disk.size in
     let trim : operation_of r.transfer ≡ Trim = ap operation_of can.trim in
     subst P same (record {
+      has_disk = at_zero;
       works = subst (λ (x : Operation). WorksOn ((device_of h o).port port) slot (taken_of r) x) trim (holds.works (o.media port));
       trim = trim;
       moved = can.moved;
       some = can.some;
       enough = can.enough;
-      on_disk = subst Q (sym at_zero) can.on_disk;
     })
-
--- no port but port 0 has a disk
-pub no_clear : (h : Hardware) (disk : Disk) (other : Option (ℕ → List ℕ)) (plugged : List Disk) (port slot most : ℕ) (t : Taken) → port ≢ 0 →
-    HasClear (device_of h (outside_of disk other plugged)) port slot most t → ⊥
-no_clear h disk other plugged port slot most t ne clear =
-    let none : ((outside_of disk other plugged).media port).disk.size ≡ 0 =
-    elim (eqb_tells port 0) [ inl here ↦ absurd (ne here.1) | inr there ↦ rw there.0 refl ] in
-    let at = clear.on_disk in
-    absurd (omega (arith, at, none))
 
 -- ---- what is behind port 0 after a move, or a clear
 

@@ -16,13 +16,14 @@ pub mod Blocks
 pub mod Stepping
 pub mod NewModel
 pub mod Finishing
-pub mod Clears
 pub mod Ready
 pub mod Queueing
 pub mod Telling
 pub mod TwoDisks
 pub mod Doing
+pub mod Faults
+pub mod Clears
 pub mod Told
-pub mod Identifying
+pub mod Paging
 pub mod Waiting
 pub mod SideBySide

@@ -3,21 +3,22 @@ use Rattle.std.proofs.Common.{ℕ, Bool, zero, suc, true, false, ◌≡◌, ◌+
 use Rattle.std.proofs.lemmas.Bool.Decides.{eqb_tells}
 use Rattle.std.proofs.lemmas.List.Elements.{All-append, All-nil}
 use Rattle.std.specs.Prelude.{if◌then◌else◌, slice_index_or}
-use Rattle.adapter.specs.Asked.{DoesOne, DoesSome, GoesOn}
+use Rattle.adapter.specs.Asked.{DoesFault, DoesOne, DoesSome, GoesOn}
 use Rattle.adapter.specs.Commands.{Meaning, is_queued}
 use Rattle.adapter.specs.Device.{PortState, Device, Taken}
 use Rattle.adapter.specs.Memory.{changed}
 use Rattle.adapter.specs.declared.command.Operation.{Operation}
-use Rattle.adapter.specs.declared.command.Operation.TheVariants.{Identify, Trim}
 use Rattle.device_model.proofs.Absurd.{some-none, some_one, true-false}
 use Rattle.adapter.proofs.Changed.{changed_other, changed_same}
-use Rattle.adapter.specs.Steps.{Step, Can, Steps, after, begun, block_after, with_clear, with_done, with_fetch, with_move}
+use Rattle.adapter.specs.Steps.{Step, Can, Steps, after, begun, block_after, with_clear, with_done, with_fault, with_fetch, with_move}
 use Rattle.adapter.proofs.Runs.{Steps-one, Steps-refl, Steps-trans}
 use Rattle.adapter.specs.Steps.Step.{Fetch, FetchFault, Move, Clear, Done, Fault, Fatal, Fall, FrFall, LinkUp, Unplug, Plug, ResetEnds, Scribble}
+use Rattle.device_model.specs.Finishing.{sends_page}
 use Rattle.device_model.specs.Held.{IsPortHeld, IsPortLoose}
 use Rattle.device_model.specs.Sent.{SendsAfter, SendsEnd}
-use Rattle.device_model.specs.Settled.{DoesOwn, EndsReset, Identifies, IsOwn, LeadsOwn, LeadsSending}
+use Rattle.device_model.specs.Settled.{DoesOwn, EndsReset, SendsPages, IsOwn, LeadsOwn, LeadsSending}
 use Rattle.device_model.proofs.Posting.{after_rest, after_steps, end_rest}
+use Rattle.device_model.proofs.Transfers.{page_plain}
 
 pub own_none : (Own : Step → Type 0) (d : Device) → LeadsOwn Own d d
 own_none Own d = record { steps = []; own = All-nil Own; lead = refl }
@@ -74,6 +75,15 @@ one_keeps_present port slot old new (inr (inr (inr (most, c)))) =
 one_keeps_present port slot old new (inr (inr (inl e))) =
     ap (λ (d : Device). (d.port 0).present) (end_rest port slot e.done.flag e.done.t.meaning.operation e.mid new e.posts)
     ∙ (ap (λ (d : Device). (d.port 0).present) e.done.effect ∙ present_with old.port port (with_done (old.port port) slot e.done.flag e.done.t.meaning.operation) refl)
+
+pub fault_keeps_present : (port slot error : ℕ) (old new : Device) → DoesFault port slot error old new → (new.port 0).present ≡ (old.port 0).present
+fault_keeps_present port slot error old new f =
+    ap (λ (d : Device). (d.port 0).present) f.effect
+    ∙ present_with old.port port (with_fault (old.port port) (is_queued f.t.meaning.operation) error 0) refl
+
+pub senseless_keeps_present : (port slot : ℕ) (old new : Device) → new ≡ after (FetchFault port slot false 0) old → (new.port 0).present ≡ (old.port 0).present
+senseless_keeps_present port slot old new effect =
+    ap (λ (d : Device). (d.port 0).present) effect ∙ present_with old.port port (with_fault (old.port port) false 4 0) refl
 
 pub some_keep_present : (n port slot : ℕ) (old new : Device) → DoesSome (SendsEnd slot) n port slot old new → (new.port 0).present ≡ (old.port 0).present
 some_keep_present zero port slot old new same = ap (λ (d : Device). (d.port 0).present) same
@@ -134,37 +144,37 @@ module _ (P : Operation → List ℕ → Type 0) (is_plain : (o : Operation) (pl
   only_gone true old new went same only = let g = went refl in only_by_some (suc g.0) old new g.1 only
   only_gone false old new went same only = only_by_some zero old new (same refl) only
 
-module _ (P : Operation → List ℕ → Type 0) (is_page : (o : Operation) (places : List ℕ) → P o places → o ≡ Identify) (held : List Bool) (port slot : ℕ)
+module _ (P : Operation → List ℕ → Type 0) (is_page : (o : Operation) (places : List ℕ) → P o places → sends_page o ≡ true) (held : List Bool) (port slot : ℕ)
     (loose : IsPortLoose held port) where
-  page_plain : (o : Operation) (places : List ℕ) → P o places → is_queued o ≡ false
-  page_plain o places holds = ap is_queued (is_page o places holds)
+  plain : (o : Operation) (places : List ℕ) → P o places → is_queued o ≡ false
+  plain o places holds = page_plain o (is_page o places holds)
 
-  own_by_one : (old new : Device) → DoesOne (SendsEnd slot) port slot old new → IsOnly P old port slot → LeadsOwn (Identifies held) old new
+  own_by_one : (old new : Device) → DoesOne (SendsEnd slot) port slot old new → IsOnly P old port slot → LeadsOwn (SendsPages held) old new
   own_by_one old new (inl f) only =
-      own_one (Identifies held) (Fetch port slot f.meaning f.places) old new ((loose, is_page _ _ (only.fetched f.meaning f.places f.can)), tt) f.can f.effect
+      own_one (SendsPages held) (Fetch port slot f.meaning f.places) old new ((loose, is_page _ _ (only.fetched f.meaning f.places f.can)), tt) f.can f.effect
   own_by_one old new (inr (inl m)) only =
-      own_one (Identifies held) (Move port slot m.t m.bytes) old new ((loose, is_page _ _ (only.taken m.t m.can.works.taken)), tt) m.can m.effect
+      own_one (SendsPages held) (Move port slot m.t m.bytes) old new ((loose, is_page _ _ (only.taken m.t m.can.works.taken)), tt) m.can m.effect
   own_by_one old new (inr (inr (inl e))) only =
       let t : Taken = e.done.t in
       let Sent : Device → Type 0 = λ d. SendsEnd slot port e.done.flag t.meaning.operation d new in
-      own_one (Identifies held) (Done port slot e.done.flag t) old new ((loose, is_page _ _ (only.taken t e.done.can.works.taken)), tt) e.done.can
+      own_one (SendsPages held) (Done port slot e.done.flag t) old new ((loose, is_page _ _ (only.taken t e.done.can.works.taken)), tt) e.done.can
       (subst Sent e.done.effect e.posts)
   own_by_one old new (inr (inr (inr (most, c)))) only =
-      let no : Identify ≡ Trim = sym (is_page _ _ (only.taken c.t c.can.works.taken)) ∙ c.can.trim in absurd (cc no)
+      true-false (is_page _ _ (only.taken c.t c.can.works.taken)) (ap sends_page c.can.trim)
 
-  pub own_by_some : (n : ℕ) (old new : Device) → DoesSome (SendsEnd slot) n port slot old new → IsOnly P old port slot → LeadsOwn (Identifies held) old new × IsOnly P new port slot
+  pub own_by_some : (n : ℕ) (old new : Device) → DoesSome (SendsEnd slot) n port slot old new → IsOnly P old port slot → LeadsOwn (SendsPages held) old new × IsOnly P new port slot
   own_by_some zero old new e only =
-      let Q : Device → Type 0 = λ d. LeadsOwn (Identifies held) old d × IsOnly P d port slot in
-      subst Q (sym e) (own_none (Identifies held) old, only)
+      let Q : Device → Type 0 = λ d. LeadsOwn (SendsPages held) old d × IsOnly P d port slot in
+      subst Q (sym e) (own_none (SendsPages held) old, only)
   own_by_some (suc n) old new s only =
       let first = own_by_some n old s.0 s.1 only in (
-        own_on (Identifies held) old s.0 new first.0 (own_by_one s.0 new s.2 first.1),
-        only_by_one P page_plain port slot s.0 new s.2 first.1,
+        own_on (SendsPages held) old s.0 new first.0 (own_by_one s.0 new s.2 first.1),
+        only_by_one P plain port slot s.0 new s.2 first.1,
       )
 
   -- a command went on, or didn't
   pub own_gone : (did : Bool) (old new : Device) → (did ≡ true → GoesOn (SendsEnd slot) port slot old new) → (did ≡ false → new ≡ old) → IsOnly P old port slot →
-      LeadsOwn (Identifies held) old new × IsOnly P new port slot
+      LeadsOwn (SendsPages held) old new × IsOnly P new port slot
   own_gone true old new went same only = let g = went refl in own_by_some (suc g.0) old new g.1 only
   own_gone false old new went same only = own_by_some zero old new (same refl) only
 
@@ -199,5 +209,5 @@ module _ (held : List Bool) (port : ℕ) (is : IsPortHeld held port) where
 
   pub own_stays : (old new : Device) → DoesOwn held old new → new.port port ≡ old.port port
   own_stays old new d =
-      held_stays d.identifies.steps d.settled new (λ k e small. (d.identifies.own k e small).0) d.identifies.lead
+      held_stays d.sends.steps d.settled new (λ k e small. (d.sends.own k e small).0) d.sends.lead
       ∙ held_stays d.settles.steps old d.settled (λ k e small. (d.settles.own k e small).0) d.settles.lead

@@ -1,7 +1,7 @@
 -- What the model sends is one of the device's own steps, and changes the memory alone.
-use Rattle.std.proofs.Common.{ℕ, Bool, true, false, zero, suc, ◌≡◌, ◌∙◌, ◌+◌, ◌≤◌, List, refl, sym, ap, inl, inr, arith}
+use Rattle.std.proofs.Common.{ℕ, Bool, true, false, zero, suc, ◌≡◌, ◌∙◌, ◌+◌, ◌≤◌, ◌⊎◌, List, Option, refl, sym, ap, inl, inr, arith}
 use Rattle.std.proofs.lemmas.Bool.Decides.{leb_tells}
-use Rattle.adapter.specs.Asked.{Asked, AskedOf, DoesOne, DoesSome, Ends, MayPost}
+use Rattle.adapter.specs.Asked.{Asked, DoesClear, DoesFault, DoesOne, DoneOf, FailsAfter, GoesOn, DoesSome, Ends, MayPost}
 use Rattle.adapter.specs.Device.{PortState, Device}
 use Rattle.adapter.specs.Steps.{Step, Steps}
 use Rattle.adapter.specs.Steps.Step.{Fetch, FetchFault, Move, Clear, Done, Fault, Fatal, Fall, FrFall, LinkUp, Unplug, Plug, ResetEnds, Scribble}
@@ -10,7 +10,12 @@ use Rattle.adapter.specs.declared.access.DeviceStep.TheVariants as asked
 use Rattle.adapter.specs.declared.command.Operation.{Operation}
 use Rattle.adapter.specs.declared.command.Operation.TheVariants as operation
 use Rattle.adapter.proofs.Going.{post_steps}
+use Rattle.sector_store.specs.declared.store.Failures.{Failures}
+use Rattle.device_model.specs.Does.{Did, StepFails, FailsToClear, FailsToMove}
+use Rattle.device_model.specs.Modelled.{device_at}
 use Rattle.device_model.specs.Sent.{IsSent, Sends, SendsAfter, SendsEnd, is_received}
+use Rattle.device_model.specs.declared.model.Description.{Description}
+use Rattle.device_model.specs.declared.model.Model.{Model}
 
 pub received_there : (p : PortState) (size : ℕ) → p.fre ≡ true → p.bases.fb + 256 ≤ size → is_received p size ≡ true
 received_there p size fre inside =
@@ -35,7 +40,7 @@ end_may port slot flag operation.ReadQueued old new s = sent_may port 0x58 s.1.0
 end_may port slot flag operation.WriteQueued old new s = sent_may port 0x58 s.1.0 old new s.1.2
 end_may port slot flag operation.Flush old new s = sent_may port 0x40 s.1.0 old new s.1.2
 end_may port slot flag operation.Trim old new s = sent_may port 0x40 s.1.0 old new s.1.2
-end_may port slot flag operation.ReadLog old new s = sent_may port 0x40 s.1.0 old new s.1.2
+end_may port slot flag operation.ReadLog old new s = sent_may port 0x20 s.1.0 old new s.1.2
 
 after_may : (step : Step) (old new : Device) → SendsAfter step old new → (port : ℕ) × MayPost port 0 operation.Read old new
 after_may (Done port slot flag t) old new s = (port, end_may port slot flag t.meaning.operation old new s)
@@ -88,15 +93,60 @@ some_may : (n port slot : ℕ) (old new : Device) → DoesSome (SendsEnd slot) n
 some_may zero port slot old new e = e
 some_may (suc n) port slot old new s = (s.0, some_may n port slot old s.0 s.1, one_may port slot s.0 new s.2)
 
-pub asked_may : (s : DeviceStep) (old new : Device) → AskedOf (Sends s) s old new → Asked s old new
-asked_may (asked.Fetch p slot) old new did = did
-asked_may (asked.Move p slot) old new did = did
-asked_may (asked.Clear p slot most) old new did = did
-asked_may (asked.Done p slot) old new did = ends_may p.0 slot.0 old new did
-asked_may (asked.Finish p slot) old new did = (did.0, some_may (suc did.0) p.0 slot.0 old new did.1)
-asked_may (asked.Lie p page offset bits) old new did = did
-asked_may (asked.Truth p) old new did = did
-asked_may (asked.Hold p) old new did = did
-asked_may (asked.Release p) old new did = did
-asked_may (asked.Unplug p) old new did = did
-asked_may (asked.Plug p number) old new did = did
+done_may : (s : DeviceStep) (old new : Device) → DoneOf (Sends s) s old new → DoneOf MayPost s old new
+done_may (asked.Fetch p slot) old new did = did
+done_may (asked.Move p slot) old new did = did
+done_may (asked.Clear p slot most) old new did = did
+done_may (asked.Done p slot) old new did = ends_may p.0 slot.0 old new did
+done_may (asked.Finish p slot) old new did = (did.0, some_may (suc did.0) p.0 slot.0 old new did.1)
+done_may (asked.Fault p slot error) old new did = did
+done_may (asked.Lie p page offset bits) old new did = did
+done_may (asked.Truth p) old new did = did
+done_may (asked.Hold p) old new did = did
+done_may (asked.Release p) old new did = did
+done_may (asked.Unplug p) old new did = did
+done_may (asked.Plug p number) old new did = did
+
+-- a fault in the place of a step, or on its way, is one of the device's own
+moving_fails : (port slot : ℕ) (was now : Option Failures) (says later : Description) (old new : Device) (f : FailsToMove port slot was now says later old new) →
+    DoesFault port slot f.error old new
+moving_fails port slot was now says later old new f = record { t = f.t; can = f.can; effect = f.effect }
+
+clearing_fails : (port slot : ℕ) (was now : Option Failures) (says later : Description) (old new : Device) (f : FailsToClear port slot was now says later old new) →
+    DoesFault port slot f.error old new
+clearing_fails port slot was now says later old new f = record { t = f.t; can = f.can; effect = f.effect }
+
+fails_after_may : (port slot error : ℕ) (Part More : Device → Device → Type 0) → ((old mid : Device) → Part old mid → More old mid) → (old mid new : Device) →
+    (mid ≡ old) ⊎ Part old mid → DoesFault port slot error mid new → FailsAfter More port slot old new
+fails_after_may port slot error Part More more old mid new (inl same) fault = record { mid = mid; before = inl same; error = error; fault = fault }
+fails_after_may port slot error Part More more old mid new (inr some) fault =
+    record { mid = mid; before = inr (more old mid some); error = error; fault = fault }
+
+fails_may : (s : DeviceStep) (was now : Option Failures) (says later : Description) (old new : Device) → StepFails s was now says later old new → Asked s old new
+fails_may (asked.Fetch p s) was now says later old new f = inr (record { queued = false; can = f.can; effect = f.effect })
+fails_may (asked.Move p s) was now says later old new f = inr (f.error, moving_fails p.0 s.0 was now says later old new f)
+fails_may (asked.Clear p s most) was now says later old new (mid, before, f) =
+    inr (fails_after_may p.0 s.0 f.error (DoesClear p.0 s.0 most) (DoesClear p.0 s.0 most) (λ a b some. some) old mid new before
+    (clearing_fails p.0 s.0 was now says later mid new f))
+fails_may (asked.Finish p s) was now says later old new (mid, before, inl f) =
+    inr (fails_after_may p.0 s.0 f.error (GoesOn (SendsEnd s.0) p.0 s.0) (GoesOn MayPost p.0 s.0) (λ a b g. (g.0, some_may (suc g.0) p.0 s.0 a b g.1)) old mid new before
+    (moving_fails p.0 s.0 was now says later mid new f))
+fails_may (asked.Finish p s) was now says later old new (mid, before, inr f) =
+    inr (fails_after_may p.0 s.0 f.error (GoesOn (SendsEnd s.0) p.0 s.0) (GoesOn MayPost p.0 s.0) (λ a b g. (g.0, some_may (suc g.0) p.0 s.0 a b g.1)) old mid new before
+    (clearing_fails p.0 s.0 was now says later mid new f))
+fails_may (asked.Done p s) was now says later old new f = absurd f
+fails_may (asked.Fault p s error) was now says later old new f = absurd f
+fails_may (asked.Lie p page offset bits) was now says later old new f = absurd f
+fails_may (asked.Truth p) was now says later old new f = absurd f
+fails_may (asked.Hold p) was now says later old new f = absurd f
+fails_may (asked.Release p) was now says later old new f = absurd f
+fails_may (asked.Unplug p) was now says later old new f = absurd f
+fails_may (asked.Plug p number) was now says later old new f = absurd f
+
+pub did_may : {S : Type 0} (size : S → ℕ) (told : S → Option (ℕ → List ℕ)) (failures : S → Option Failures) (s : DeviceStep) (old new : Model S) →
+    Did size told failures s old new → Asked s (device_at size told old) (device_at size told new)
+did_may size told failures s old new did =
+    elim did.came [
+      | inl whole ↦ inl (done_may s _ _ whole.asked)
+      | inr failed ↦ fails_may s (failures old.disk) (failures new.disk) old.says new.says _ _ failed
+    ]

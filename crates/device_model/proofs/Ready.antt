@@ -5,33 +5,30 @@ use Rattle.std.proofs.lemmas.List.{get_or_append_left, get_or-append_right}
 use Rattle.std.specs.Prelude.{IfSome}
 use Rattle.std.specs.Option.{SomeIff}
 use Rattle.std.specs.Vec.{vec_len}
-use Rattle.adapter.specs.Commands.{is_ranged}
 use Rattle.adapter.specs.Commands.{Meaning}
 use Rattle.adapter.specs.Device.{Device, Taken}
 use Rattle.adapter.specs.Says.{Says, pieces, cut}
-use Rattle.adapter.specs.Steps.{Can, IsAlone, WorksOn, begun}
+use Rattle.adapter.specs.Steps.{Can, IsAlone, WorksOn, admits, begun}
 use Rattle.adapter.specs.Steps.Step.{Fetch}
 use Rattle.adapter.specs.declared.command.Operation.{Operation}
-use Rattle.adapter.specs.declared.command.Operation.TheVariants.{Identify}
 use Rattle.adapter.specs.declared.command.Prd.{Prd}
 use Rattle.device_model.proofs.Absurd.{some-none, some_one}
 use Rattle.adapter.proofs.SaysLemmas.{says_meaning, says_places, cut_length, cut_index}
-use Rattle.device_model.specs.Finishing.{HasIdentify, Identifies, IsInside, AreInside, IsCovered, IsRest, MayFinish, MayIdentify}
+use Rattle.device_model.specs.Finishing.{HasPage, FindsPage, IsInside, AreInside, IsCovered, IsRest, MayFinish, MayPage, sends_page}
 use Rattle.device_model.specs.Fetched.{IsNew, bytes_of}
 use Rattle.device_model.specs.Trims.{WillClear}
-use Rattle.device_model.specs.Slots.{MayTake, HasUntaken, HoldsAt}
-use Rattle.device_model.specs.View.{Media, operation_of, port_of, taken_of, blank}
+use Rattle.device_model.specs.Slots.{IsOpenTo, MayTake, HasUntaken, HoldsAt}
+use Rattle.device_model.specs.View.{Media, halt_of, operation_of, port_of, taken_of, blank}
 use Rattle.device_model.specs.Whole.{Outside, device_of}
 use Rattle.device_model.specs.declared.port.PortModel.{PortModel}
 use Rattle.device_model.specs.declared.port.TakenCommand.{TakenCommand}
 use Rattle.device_model.specs.declared.hardware.Hardware.{Hardware}
 use Rattle.device_model.proofs.Finishing.{holds}
 use Rattle.device_model.proofs.SlotLemmas.{new_begun}
-use Rattle.device_model.proofs.Trimming.{identify_clears}
+use Rattle.device_model.proofs.Trimming.{page_clears}
 use Rattle.device_model.proofs.Stepping.{fetch_takes, fetch_says}
 use Rattle.device_model.specs.declared.port.Transfer.{Transfer}
 use Rattle.device_model.specs.declared.port.Transfer.TheVariants as transfer
-use Rattle.device_model.proofs.Transfers.{is_identify, is_taken}
 
 -- ---- pieces inside a memory
 
@@ -92,15 +89,10 @@ inside_all size (x ∷ xs) all (suc k) d small = inside_all size xs (inside_rest
 
 -- ---- what is left
 
-pub left_covered : (r : TakenCommand) (size sectors n : ℕ) (o : Option ℕ) → n ≡ length (pieces r.prds) →
-    (is_ranged (operation_of r.transfer) ≡ true → r.first + n ≤ sectors) →
-    AreInside size (pieces r.prds) → SomeIff o (r.moved ≤ n) (n - r.moved) → IfSome o (λ left. IsCovered (taken_of r) size sectors left)
-left_covered r size sectors n None many on_disk all none = tt
-left_covered r size sectors n (Some left) many on_disk all fits = record {
-  left_is = omega (arith, fits.0, fits.1, many);
-  on_disk = λ ranged. omega (arith, many, on_disk ranged);
-  inside = all;
-}
+pub left_covered : (r : TakenCommand) (size n : ℕ) (o : Option ℕ) → n ≡ length (pieces r.prds) → AreInside size (pieces r.prds) →
+    SomeIff o (r.moved ≤ n) (n - r.moved) → IfSome o (λ left. IsCovered (taken_of r) size left)
+left_covered r size n None many all none = tt
+left_covered r size n (Some left) many all fits = record { left_is = omega (arith, fits.0, fits.1, many); inside = all }
 
 pub left_is : (moved n left : ℕ) (o : Option ℕ) → moved + left ≡ n → SomeIff o (moved ≤ n) (n - moved) → o ≡ Some left
 left_is moved n left None is none = absurd (none (omega (arith, is)))
@@ -114,14 +106,14 @@ MayTakeNone p slot = (m : Media) (operation : Operation) → MayTake (port_of p 
 
 -- this command may be taken beside those that are
 abbrev pub IsBeside : PortModel → TakenCommand → Type 0
-IsBeside p r = (m : Media) → IsAlone (port_of p m) (operation_of r.transfer)
+IsBeside p r = IsOpenTo p (operation_of r.transfer)
 
 pub may_be_taken : (p : PortModel) (slot : ℕ) (r : TakenCommand) → HasUntaken p slot → IsBeside p r → (m : Media) →
     MayTake (port_of p m) slot (operation_of r.transfer)
 may_be_taken p slot r may beside m =
-    let w = may m (operation_of r.transfer) in record { fetchable = w.0; working = w.1; alone = beside m }
+    let w = may m (operation_of r.transfer) beside.0 in record { fetchable = w.0; working = w.1; alone = beside.1 m }
 
-module _ (h : Hardware) (o : Outside) (p port slot sectors left clears : ℕ) (e : p ≡ port) (ready : MayFinish (device_of h o) port slot sectors left clears) where
+module _ (h : Hardware) (o : Outside) (p port slot left clears : ℕ) (e : p ≡ port) (ready : MayFinish (device_of h o) port slot left clears) where
   abbrev state : PortModel
   state = slice_index_or h.ports p blank
 
@@ -132,7 +124,7 @@ module _ (h : Hardware) (o : Outside) (p port slot sectors left clears : ℕ) (e
       by : WorksOn ((device_of h o).port port) slot ready.t ready.t.meaning.operation
           ⊎ (Can (Fetch port slot ready.t.meaning ready.t.places) (device_of h o) × (ready.t ≡ begun ready.t.meaning ready.t.places)) →
           Can (Fetch port slot ready.t.meaning ready.t.places) (device_of h o) × (ready.t ≡ begun ready.t.meaning ready.t.places)
-      by (inl works) = some-none (ap (λ (q : ℕ). ((device_of h o).port q).taken slot) e ∙ works.taken) (may (o.media p) ready.t.meaning.operation).0.free
+      by (inl works) = some-none (ap (λ (q : ℕ). ((device_of h o).port q).taken slot) e ∙ works.taken) (may (o.media p) ready.t.meaning.operation (ap (λ (q : ℕ). admits ((device_of h o).port q).halt ready.t.meaning.operation) e ∙ works.working.admitted)).0.free
       by (inr begins) = begins
 
   pub ready_said : HasUntaken state slot → Says (bytes_of h.memory.items) state.addresses.clb slot ready.t.meaning ready.t.places
@@ -146,81 +138,83 @@ module _ (h : Hardware) (o : Outside) (p port slot sectors left clears : ℕ) (e
           (r : TakenCommand) × HoldsAt state slot r × (ready.t ≡ taken_of r)
       by (inl works) =
           let P : ℕ → Type 0 = λ q. (r : TakenCommand) × HoldsAt (slice_index_or h.ports q blank) slot r × (ready.t ≡ taken_of r) in
-          subst P (sym e) (holds h o port slot ready.t ready.t.meaning.operation works)
+          subst P (sym e) (holds h o port slot ready.t works)
       by (inr begins) = absurd (never (o.media p) ready.t.meaning.operation (fetch_takes h o p port slot ready.t.meaning ready.t.places e begins.0))
 
-module _ (h : Hardware) (p port slot sectors : ℕ) (r : TakenCommand) (e : p ≡ port) where
+module _ (h : Hardware) (p port slot : ℕ) (r : TakenCommand) (e : p ≡ port) where
   -- a command that may be taken is ready
-  pub ready_to_take : (left clears : ℕ) → IsRest r h.memory.items sectors left clears → IsNew r →
+  pub ready_to_take : (left clears : ℕ) → IsRest r h.memory.items left clears → IsNew r →
       HasUntaken (slice_index_or h.ports p blank) slot → IsBeside (slice_index_or h.ports p blank) r →
       Says (bytes_of h.memory.items) (slice_index_or h.ports p blank).addresses.clb slot (taken_of r).meaning (taken_of r).places →
-      (o : Outside) → MayFinish (device_of h o) port slot sectors left clears
+      (o : Outside) → MayFinish (device_of h o) port slot left clears
   ready_to_take left clears rest new may beside says o =
-      let P : ℕ → Type 0 = λ q. MayFinish (device_of h o) q slot sectors left clears in
-      let m = may (o.media p) (operation_of r.transfer) in
+      let P : ℕ → Type 0 = λ q. MayFinish (device_of h o) q slot left clears in
+      let m = may (o.media p) (operation_of r.transfer) beside.0 in
       subst P e
       (record {
         t = taken_of r;
-        takes = is_taken r.transfer;
         covered = rest.0;
         clearing = rest.1;
-        begins = inr (record { fetchable = m.0; working = m.1; alone = beside (o.media p); says = says }, new_begun r new);
+        begins = inr (record { fetchable = m.0; working = m.1; alone = beside.1 (o.media p); says = says }, new_begun r new);
       })
 
   -- and so is one that is taken
-  pub ready_to_go : (left clears : ℕ) → IsRest r h.memory.items sectors left clears → HoldsAt (slice_index_or h.ports p blank) slot r →
-      (o : Outside) → MayFinish (device_of h o) port slot sectors left clears
+  pub ready_to_go : (left clears : ℕ) → IsRest r h.memory.items left clears → HoldsAt (slice_index_or h.ports p blank) slot r →
+      (o : Outside) → MayFinish (device_of h o) port slot left clears
   ready_to_go left clears rest here o =
-      let P : ℕ → Type 0 = λ q. MayFinish (device_of h o) q slot sectors left clears in
-      subst P e (record { t = taken_of r; takes = is_taken r.transfer; covered = rest.0; clearing = rest.1; begins = inl (here.works (o.media p)) })
+      let P : ℕ → Type 0 = λ q. MayFinish (device_of h o) q slot left clears in
+      subst P e (record { t = taken_of r; covered = rest.0; clearing = rest.1; begins = inl (here.works (o.media p)) })
 
   -- a command that is ready, as far as these are its moves and clears
-  rest_back : (left clears : ℕ) (o : Outside) (ready : MayFinish (device_of h o) port slot sectors left clears) → ready.t ≡ taken_of r →
-      IsRest r h.memory.items sectors left clears
+  rest_back : (left clears : ℕ) (o : Outside) (ready : MayFinish (device_of h o) port slot left clears) → ready.t ≡ taken_of r →
+      IsRest r h.memory.items left clears
   rest_back left clears o ready same =
-      let Q : Taken → Type 0 = λ t. IsCovered t (length h.memory.items) sectors left in
-      let R : Taken → Type 0 = λ t. WillClear t.meaning.operation (bytes_of h.memory.items) t sectors clears in
+      let Q : Taken → Type 0 = λ t. IsCovered t (length h.memory.items) left in
+      let R : Taken → Type 0 = λ t. WillClear t.meaning.operation (bytes_of h.memory.items) t clears in
       (subst Q same ready.covered, subst R same ready.clearing)
 
   -- where a command may be taken, one that is ready is the one that its slot's bytes say
   ready_is_one : HasUntaken (slice_index_or h.ports p blank) slot → IsNew r →
       Says (bytes_of h.memory.items) (slice_index_or h.ports p blank).addresses.clb slot (taken_of r).meaning (taken_of r).places →
-      (o : Outside) (left clears : ℕ) (ready : MayFinish (device_of h o) port slot sectors left clears) → ready.t ≡ taken_of r
+      (o : Outside) (left clears : ℕ) (ready : MayFinish (device_of h o) port slot left clears) → ready.t ≡ taken_of r
   ready_is_one may new says o left clears ready =
       let t : Taken = ready.t in
       let memory = bytes_of h.memory.items in
       let list = (slice_index_or h.ports p blank).addresses.clb in
-      let there = ready_said h o p port slot sectors left clears e ready may in
+      let there = ready_said h o p port slot left clears e ready may in
       let meaning = says_meaning memory list slot t.meaning (taken_of r).meaning t.places (taken_of r).places there says in
       let places = says_places memory list slot t.meaning (taken_of r).meaning t.places (taken_of r).places there says in
-      (ready_fetch h o p port slot sectors left clears e ready may).1 ∙ ((λ i. begun (meaning i) (places i)) ∙ sym (new_begun r new))
+      (ready_fetch h o p port slot left clears e ready may).1 ∙ ((λ i. begun (meaning i) (places i)) ∙ sym (new_begun r new))
 
   pub ready_is_said : HasUntaken (slice_index_or h.ports p blank) slot → IsNew r →
       Says (bytes_of h.memory.items) (slice_index_or h.ports p blank).addresses.clb slot (taken_of r).meaning (taken_of r).places →
-      (o : Outside) (left clears : ℕ) → MayFinish (device_of h o) port slot sectors left clears → IsRest r h.memory.items sectors left clears
+      (o : Outside) (left clears : ℕ) → MayFinish (device_of h o) port slot left clears → IsRest r h.memory.items left clears
   ready_is_said may new says o left clears ready =
       rest_back left clears o ready (ready_is_one may new says o left clears ready)
 
   -- one that may not be taken beside those that are isn't ready
   pub ready_beside : HasUntaken (slice_index_or h.ports p blank) slot → IsNew r →
       Says (bytes_of h.memory.items) (slice_index_or h.ports p blank).addresses.clb slot (taken_of r).meaning (taken_of r).places →
-      (o : Outside) (left clears : ℕ) → MayFinish (device_of h o) port slot sectors left clears →
-      IsAlone (port_of (slice_index_or h.ports p blank) (o.media p)) (operation_of r.transfer)
+      (o : Outside) (left clears : ℕ) → MayFinish (device_of h o) port slot left clears →
+      (admits (halt_of (slice_index_or h.ports p blank).halting) (operation_of r.transfer) ≡ true)
+      × IsAlone (port_of (slice_index_or h.ports p blank) (o.media p)) (operation_of r.transfer)
   ready_beside may new says o left clears ready =
       let same = ready_is_one may new says o left clears ready in
-      let P : ℕ → Type 0 = λ q. IsAlone ((device_of h o).port q) ready.t.meaning.operation in
-      let alone = subst P (sym e) (ready_fetch h o p port slot sectors left clears e ready may).0.alone in
-      subst (λ (t : Taken). IsAlone (port_of (slice_index_or h.ports p blank) (o.media p)) t.meaning.operation) same alone
+      let P : ℕ → Type 0 = λ q. (admits ((device_of h o).port q).halt ready.t.meaning.operation ≡ true) × IsAlone ((device_of h o).port q) ready.t.meaning.operation in
+      let can = (ready_fetch h o p port slot left clears e ready may).0 in
+      let both = subst P (sym e) (can.working.admitted, can.alone) in
+      subst (λ (t : Taken). (admits (halt_of (slice_index_or h.ports p blank).halting) t.meaning.operation ≡ true)
+      × IsAlone (port_of (slice_index_or h.ports p blank) (o.media p)) t.meaning.operation) same both
 
   -- where it is taken, the one that its slot holds
   pub ready_is_held : HoldsAt (slice_index_or h.ports p blank) slot r → MayTakeNone (slice_index_or h.ports p blank) slot →
-      (o : Outside) (left clears : ℕ) → MayFinish (device_of h o) port slot sectors left clears → IsRest r h.memory.items sectors left clears
+      (o : Outside) (left clears : ℕ) → MayFinish (device_of h o) port slot left clears → IsRest r h.memory.items left clears
   ready_is_held here never o left clears ready =
-      let w = ready_held h o p port slot sectors left clears e ready never in
+      let w = ready_held h o p port slot left clears e ready never in
       let same : r ≡ w.0 = some_one (sym here.held ∙ w.1.held) in
       rest_back left clears o ready (w.2 ∙ ap taken_of (sym same))
 
--- ---- IDENTIFY DEVICE
+-- ---- commands that send a page
 
 module _ (h : Hardware) (slot size : ℕ) (sized : size ≡ vec_len h.memory) where
   abbrev port0 : PortModel
@@ -229,78 +223,76 @@ module _ (h : Hardware) (slot size : ℕ) (sized : size ≡ vec_len h.memory) wh
   memory_size : size ≡ length h.memory.items
   memory_size = let ok = h.memory.ok.0 in omega (arith, sized, ok)
 
-  covers : (r : TakenCommand) (left : ℕ) → IsCovered (taken_of r) size 0 left → IsCovered (taken_of r) (length h.memory.items) 0 left
-  covers r left covered = let P : ℕ → Type 0 = λ n. IsCovered (taken_of r) n 0 left in subst P memory_size covered
+  covers : (r : TakenCommand) (left : ℕ) → IsCovered (taken_of r) size left → IsCovered (taken_of r) (length h.memory.items) left
+  covers r left covered = let P : ℕ → Type 0 = λ n. IsCovered (taken_of r) n left in subst P memory_size covered
 
-  covers_back : (r : TakenCommand) (left : ℕ) → IsCovered (taken_of r) (length h.memory.items) 0 left → IsCovered (taken_of r) size 0 left
-  covers_back r left covered = let P : ℕ → Type 0 = λ n. IsCovered (taken_of r) n 0 left in subst P (sym memory_size) covered
+  covers_back : (r : TakenCommand) (left : ℕ) → IsCovered (taken_of r) (length h.memory.items) left → IsCovered (taken_of r) size left
+  covers_back r left covered = let P : ℕ → Type 0 = λ n. IsCovered (taken_of r) n left in subst P (sym memory_size) covered
 
   -- it clears nothing
-  clears : (r : TakenCommand) → r.transfer ≡ transfer.Identify → WillClear (operation_of r.transfer) (bytes_of h.memory.items) (taken_of r) 0 0
-  clears r kind = identify_clears (operation_of r.transfer) (bytes_of h.memory.items) (taken_of r) 0 (ap operation_of kind)
+  clears : (r : TakenCommand) → sends_page (operation_of r.transfer) ≡ true → WillClear (operation_of r.transfer) (bytes_of h.memory.items) (taken_of r) 0
+  clears r kind = page_clears (operation_of r.transfer) (bytes_of h.memory.items) (taken_of r) kind
 
   -- a command that can be done to its end
   abbrev pub Ends : TakenCommand → Type 0
-  Ends r = (left : ℕ) × IsCovered (taken_of r) size 0 left × AreInside (2 ^ 32) (pieces r.prds)
+  Ends r = (left : ℕ) × IsCovered (taken_of r) size left × AreInside (2 ^ 32) (pieces r.prds)
 
   -- one that may be taken
-  pub identify_said : (r : TakenCommand) → IsNew r → Says (bytes_of h.memory.items) port0.addresses.clb slot (taken_of r).meaning (taken_of r).places →
-      r.transfer ≡ transfer.Identify → HasUntaken port0 slot → IsBeside port0 r → Ends r → (o : Outside) → HasIdentify (device_of h o) slot
-  identify_said r new says kind may beside ends o =
-      let m = may (o.media 0) (operation_of r.transfer) in
+  pub page_said : (r : TakenCommand) → IsNew r → Says (bytes_of h.memory.items) port0.addresses.clb slot (taken_of r).meaning (taken_of r).places →
+      sends_page (operation_of r.transfer) ≡ true → HasUntaken port0 slot → IsBeside port0 r → Ends r → (o : Outside) → HasPage (device_of h o) slot
+  page_said r new says kind may beside ends o =
+      let m = may (o.media 0) (operation_of r.transfer) beside.0 in
       record {
         left = ends.0;
         ready = record {
           t = taken_of r;
-          takes = is_taken r.transfer;
           covered = covers r ends.0 ends.1;
           clearing = clears r kind;
-          begins = inr (record { fetchable = m.0; working = m.1; alone = beside (o.media 0); says = says }, new_begun r new);
+          begins = inr (record { fetchable = m.0; working = m.1; alone = beside.1 (o.media 0); says = says }, new_begun r new);
         };
-        identifies = ap operation_of kind;
+        sends = kind;
         low = ends.2;
       }
 
   -- no other one may be
-  pub identify_unsaid : ((m : Meaning) (places : List ℕ) → m.operation ≡ Identify → Says (bytes_of h.memory.items) port0.addresses.clb slot m places → ⊥) →
-      HasUntaken port0 slot → (o : Outside) → HasIdentify (device_of h o) slot → ⊥
-  identify_unsaid none may o has =
-      none has.ready.t.meaning has.ready.t.places has.identifies (ready_said h o 0 0 slot 0 has.left 0 refl has.ready may)
+  pub page_unsaid : ((m : Meaning) (places : List ℕ) → sends_page m.operation ≡ true → Says (bytes_of h.memory.items) port0.addresses.clb slot m places → ⊥) →
+      HasUntaken port0 slot → (o : Outside) → HasPage (device_of h o) slot → ⊥
+  page_unsaid none may o has =
+      none has.ready.t.meaning has.ready.t.places has.sends (ready_said h o 0 0 slot has.left 0 refl has.ready may)
 
   -- and where one may be taken, it is the one that is ready
-  pub identify_endless : (r : TakenCommand) → IsNew r → Says (bytes_of h.memory.items) port0.addresses.clb slot (taken_of r).meaning (taken_of r).places →
-      HasUntaken port0 slot → ((left : ℕ) → IsCovered (taken_of r) size 0 left → AreInside (2 ^ 32) (pieces r.prds) → ⊥) → (o : Outside) →
-      HasIdentify (device_of h o) slot → ⊥
-  identify_endless r new says may never o has =
-      let same = ready_is_one h 0 0 slot 0 r refl may new says o has.left 0 has.ready in
-      never has.left (covers_back r has.left (ready_is_said h 0 0 slot 0 r refl may new says o has.left 0 has.ready).0)
+  pub page_endless : (r : TakenCommand) → IsNew r → Says (bytes_of h.memory.items) port0.addresses.clb slot (taken_of r).meaning (taken_of r).places →
+      HasUntaken port0 slot → ((left : ℕ) → IsCovered (taken_of r) size left → AreInside (2 ^ 32) (pieces r.prds) → ⊥) → (o : Outside) →
+      HasPage (device_of h o) slot → ⊥
+  page_endless r new says may never o has =
+      let same = ready_is_one h 0 0 slot r refl may new says o has.left 0 has.ready in
+      never has.left (covers_back r has.left (ready_is_said h 0 0 slot r refl may new says o has.left 0 has.ready).0)
       (subst (λ (t : Taken). AreInside (2 ^ 32) t.places) same has.low)
 
   -- one that is taken
-  pub identify_held : (r : TakenCommand) → HoldsAt port0 slot r → r.transfer ≡ transfer.Identify → Ends r → (o : Outside) → HasIdentify (device_of h o) slot
-  identify_held r held kind ends o = record {
+  pub page_held : (r : TakenCommand) → HoldsAt port0 slot r → sends_page (operation_of r.transfer) ≡ true → Ends r → (o : Outside) → HasPage (device_of h o) slot
+  page_held r held kind ends o = record {
     left = ends.0;
     ready = record {
       t = taken_of r;
-      takes = is_taken r.transfer;
       covered = covers r ends.0 ends.1;
       clearing = clears r kind;
       begins = inl (held.works (o.media 0));
     };
-    identifies = ap operation_of kind;
+    sends = kind;
     low = ends.2;
   }
 
-  pub identify_unheld : ((r : TakenCommand) → HoldsAt port0 slot r → r.transfer ≡ transfer.Identify → Ends r → ⊥) → MayTakeNone port0 slot → (o : Outside) →
-      HasIdentify (device_of h o) slot → ⊥
-  identify_unheld none never o has =
-      let w = ready_held h o 0 0 slot 0 has.left 0 refl has.ready never in
-      none w.0 w.1 (is_identify w.0.transfer (sym (ap (λ (t : Taken). t.meaning.operation) w.2) ∙ has.identifies))
-      (has.left, covers_back w.0 has.left (rest_back h 0 0 slot 0 w.0 refl has.left 0 o has.ready w.2).0, subst (λ (t : Taken). AreInside (2 ^ 32) t.places) w.2 has.low)
+  pub page_unheld : ((r : TakenCommand) → HoldsAt port0 slot r → sends_page (operation_of r.transfer) ≡ true → Ends r → ⊥) → MayTakeNone port0 slot → (o : Outside) →
+      HasPage (device_of h o) slot → ⊥
+  page_unheld none never o has =
+      let w = ready_held h o 0 0 slot has.left 0 refl has.ready never in
+      none w.0 w.1 (sym (ap (λ (t : Taken). sends_page t.meaning.operation) w.2) ∙ has.sends)
+      (has.left, covers_back w.0 has.left (rest_back h 0 0 slot w.0 refl has.left 0 o has.ready w.2).0, subst (λ (t : Taken). AreInside (2 ^ 32) t.places) w.2 has.low)
 
 -- what a look at a slot finds, by whether it can be done to its end
-pub finds : (d : Device) (slot : ℕ) (ends : Bool) → (ends ≡ true → HasIdentify d slot) → (ends ≡ false → MayIdentify d slot × (HasIdentify d slot → ⊥)) →
-    Identifies d slot (Some ends)
+pub finds : (d : Device) (slot : ℕ) (ends : Bool) → (ends ≡ true → HasPage d slot) → (ends ≡ false → MayPage d slot × (HasPage d slot → ⊥)) →
+    FindsPage d slot (Some ends)
 finds d slot true has may = has refl
 finds d slot false has may = may refl
 
@@ -309,37 +301,44 @@ module _ (h : Hardware) (slot : ℕ) where
   first = slice_index_or h.ports 0 blank
 
   -- one that its slot's bytes say may be taken
-  pub may_identify : (r : TakenCommand) → Says (bytes_of h.memory.items) first.addresses.clb slot (taken_of r).meaning (taken_of r).places →
-      r.transfer ≡ transfer.Identify → HasUntaken first slot → IsBeside first r → (o : Outside) → MayIdentify (device_of h o) slot
-  may_identify r says kind may beside o =
-      let m = may (o.media 0) (operation_of r.transfer) in
+  pub may_page : (r : TakenCommand) → Says (bytes_of h.memory.items) first.addresses.clb slot (taken_of r).meaning (taken_of r).places →
+      sends_page (operation_of r.transfer) ≡ true → HasUntaken first slot → IsBeside first r → (o : Outside) → MayPage (device_of h o) slot
+  may_page r says kind may beside o =
+      let m = may (o.media 0) (operation_of r.transfer) beside.0 in
       record {
         meaning = (taken_of r).meaning;
         places = (taken_of r).places;
-        identifies = ap operation_of kind;
-        can = record { fetchable = m.0; working = m.1; alone = beside (o.media 0); says = says };
+        sends = kind;
+        can = record { fetchable = m.0; working = m.1; alone = beside.1 (o.media 0); says = says };
       }
 
   -- and so may one that can be done to its end, where one may be
-  pub ready_may : HasUntaken first slot → (o : Outside) → HasIdentify (device_of h o) slot → MayIdentify (device_of h o) slot
+  pub ready_may : HasUntaken first slot → (o : Outside) → HasPage (device_of h o) slot → MayPage (device_of h o) slot
   ready_may may o has = record {
     meaning = has.ready.t.meaning;
     places = has.ready.t.places;
-    identifies = has.identifies;
-    can = (ready_fetch h o 0 0 slot 0 has.left 0 refl has.ready may).0;
+    sends = has.sends;
+    can = (ready_fetch h o 0 0 slot has.left 0 refl has.ready may).0;
   }
 
   -- none may be beside others that are taken
-  pub identify_crowded : (k : Transfer) → k ≡ transfer.Identify → ((m : Media) → IsAlone (port_of first m) (operation_of k) → ⊥) → (o : Outside) → MayIdentify (device_of h o) slot → ⊥
-  identify_crowded k kind crowded o may =
-      crowded (o.media 0) (subst (λ (x : Operation). IsAlone (port_of first (o.media 0)) x) (may.identifies ∙ ap operation_of (sym kind)) may.can.alone)
+  pub page_crowded : (r : TakenCommand) → Says (bytes_of h.memory.items) first.addresses.clb slot (taken_of r).meaning (taken_of r).places →
+      ((m : Media) → admits (halt_of first.halting) (operation_of r.transfer) ≡ true → IsAlone (port_of first m) (operation_of r.transfer) → ⊥) → (o : Outside) →
+      MayPage (device_of h o) slot → ⊥
+  page_crowded r says crowded o may =
+      let memory = bytes_of h.memory.items in
+      let there = fetch_says h o 0 0 slot may.meaning may.places refl may.can in
+      let meaning = says_meaning memory first.addresses.clb slot may.meaning (taken_of r).meaning may.places (taken_of r).places there says in
+      let same : may.meaning.operation ≡ operation_of r.transfer = ap (λ (x : Meaning). x.operation) meaning in
+      crowded (o.media 0) (subst (λ (x : Operation). admits (halt_of first.halting) x ≡ true) same may.can.working.admitted)
+      (subst (λ (x : Operation). IsAlone (port_of first (o.media 0)) x) same may.can.alone)
 
   -- none is said
-  pub identify_unmeant : ((m : Meaning) (places : List ℕ) → m.operation ≡ Identify → Says (bytes_of h.memory.items) first.addresses.clb slot m places → ⊥) →
-      (o : Outside) → MayIdentify (device_of h o) slot → ⊥
-  identify_unmeant none o may = none may.meaning may.places may.identifies (fetch_says h o 0 0 slot may.meaning may.places refl may.can)
+  pub page_unmeant : ((m : Meaning) (places : List ℕ) → sends_page m.operation ≡ true → Says (bytes_of h.memory.items) first.addresses.clb slot m places → ⊥) →
+      (o : Outside) → MayPage (device_of h o) slot → ⊥
+  page_unmeant none o may = none may.meaning may.places may.sends (fetch_says h o 0 0 slot may.meaning may.places refl may.can)
 
   -- none may be taken
-  pub identify_barred : MayTakeNone first slot → (o : Outside) → MayIdentify (device_of h o) slot → ⊥
-  identify_barred never o may =
+  pub page_barred : MayTakeNone first slot → (o : Outside) → MayPage (device_of h o) slot → ⊥
+  page_barred never o may =
       never (o.media 0) may.meaning.operation (fetch_takes h o 0 0 slot may.meaning may.places refl may.can)

@@ -1,10 +1,9 @@
 -- The sectors of a block, entry by entry, and the runs that they are in.
-use Rattle.std.proofs.Common.{ℕ, Bool, true, false, zero, suc, ◌≡◌, ◌≢◌, ◌<◌, ◌≤◌, ◌+◌, ◌-◌, ◌*◌, ◌/◌, ◌⊎◌, inl, inr, List, [], ◌∷◌, ◌++◌, length, take, drop, slice_index, min, refl, sym, ◌∙◌, ap, ap₂, subst, arith, All, append-nil, append_assoc, length-drop, get_or-take, get_or-drop}
+use Rattle.std.proofs.Common.{ℕ, Bool, true, false, zero, suc, ◌≡◌, ◌≢◌, ◌<◌, ◌≤◌, ◌+◌, ◌-◌, ◌*◌, ◌/◌, ◌⊎◌, inl, inr, List, [], ◌∷◌, ◌++◌, length, take, drop, slice_index, min, refl, sym, ◌∙◌, ap, ap₂, subst, arith, append-nil, append_assoc, length-drop, get_or-take, get_or-drop}
 use Rattle.std.specs.Prelude.{if◌then◌else◌, nat_eq}
 use Rattle.std.proofs.lemmas.Bool.{cases_lt}
 use Rattle.std.proofs.lemmas.Bool.Decides.{eqb_tells}
 use Rattle.std.proofs.lemmas.List.{drop_all, take_all}
-use Rattle.std.proofs.lemmas.List.Elements.{All-head, All-nil, All-tail}
 use Rattle.byteorder.specs.Endian.{little_from}
 use Rattle.adapter.specs.Trim.{consecutive, trim_sectors}
 use Rattle.device_model.specs.Trims.{run_from, run_of, runs_from, runs_of}
@@ -329,31 +328,6 @@ pub some_runs : (xs : List ℕ) (n : ℕ) → runs_of xs ≡ suc n → 1 ≤ len
 some_runs [] n e = absurd (omega (arith, e))
 some_runs (x ∷ xs) n e = omega arith
 
-run_from_below : (sectors next : ℕ) (xs : List ℕ) → next ≤ sectors → All (λ sector. sector < sectors) xs → next + run_from next xs ≤ sectors
-run_from_below sectors next [] small all = omega (arith, small)
-run_from_below sectors next (x ∷ xs) small all =
-    elim (eqb_tells x next) [
-      | inl here ↦
-          let below = All-head (λ (sector : ℕ). sector < sectors) x xs all in
-          let same : x ≡ next = here.1 in
-          let rest = run_from_below sectors (suc next) xs (omega (arith, below, same)) (All-tail (λ (sector : ℕ). sector < sectors) x xs all) in
-          rw here.0 (omega (arith, rest))
-      | inr there ↦ rw there.0 (omega (arith, small))
-    ]
-
--- where each sector is one of so many, the first run ends there
-pub run_below : (sectors : ℕ) (xs : List ℕ) → 1 ≤ length xs → All (λ sector. sector < sectors) xs → slice_index xs 0 + run_of xs ≤ sectors
-run_below sectors [] some all = absurd (omega (arith, some))
-run_below sectors (x ∷ xs) some all =
-    let below = All-head (λ (sector : ℕ). sector < sectors) x xs all in
-    let rest = run_from_below sectors (suc x) xs (omega (arith, below)) (All-tail (λ (sector : ℕ). sector < sectors) x xs all) in
-    omega (arith, rest)
-
-pub all_behind_some : (sectors k : ℕ) (xs : List ℕ) → All (λ sector. sector < sectors) xs → All (λ sector. sector < sectors) (drop k xs)
-all_behind_some sectors zero xs all = all
-all_behind_some sectors (suc k) [] all = all
-all_behind_some sectors (suc k) (x ∷ xs) all = all_behind_some sectors k xs (All-tail (λ (sector : ℕ). sector < sectors) x xs all)
-
 -- ---- runs, entry by entry
 
 runs_on : (a m : ℕ) (rest : List ℕ) → runs_from a (consecutive a m ++ rest) ≡ runs_from (a + m) rest
@@ -377,64 +351,29 @@ runs_anew next a (suc m) rest other some =
 abbrev pub runs_more : ℕ → ℕ → List ℕ → ℕ
 runs_more runs next xs = if nat_eq runs 0 then runs_of xs else runs_from next xs
 
-below_on : (sectors a m : ℕ) (rest : List ℕ) → a + m ≤ sectors → All (λ sector. sector < sectors) rest → All (λ sector. sector < sectors) (consecutive a m ++ rest)
-below_on sectors a zero rest small all k d lt = all k d lt
-below_on sectors a (suc m) rest small all zero d lt = omega (arith, small)
-below_on sectors a (suc m) rest small all (suc k) d lt = below_on sectors (suc a) m rest (omega (arith, small)) all k d (omega (arith, lt))
-
-below_back : (sectors a m : ℕ) (rest : List ℕ) → All (λ sector. sector < sectors) (consecutive a m ++ rest) → All (λ sector. sector < sectors) rest
-below_back sectors a zero rest all = all
-below_back sectors a (suc m) rest all = below_back sectors (suc a) m rest (All-tail (λ (sector : ℕ). sector < sectors) a (consecutive (suc a) m ++ rest) all)
-
-below_end : (sectors a m : ℕ) (rest : List ℕ) → 1 ≤ m → All (λ sector. sector < sectors) (consecutive a m ++ rest) → a + m ≤ sectors
-below_end sectors a zero rest some all = absurd (omega (arith, some))
-below_end sectors a (suc zero) rest some all = let here = All-head (λ (sector : ℕ). sector < sectors) a rest all in omega (arith, here)
-below_end sectors a (suc (suc m)) rest some all =
-    let next = below_end sectors (suc a) (suc m) rest (omega arith) (All-tail (λ (sector : ℕ). sector < sectors) a (consecutive (suc a) (suc m) ++ rest) all) in
-    omega (arith, next)
-
 -- Of these sectors so many runs were counted, and the others are behind, but for some.
-pub record IsCounted (all rest : List ℕ) (sectors skip runs next : ℕ) : Type 0 where
+pub record IsCounted (all rest : List ℕ) (skip runs next : ℕ) : Type 0 where
   pub total : runs_of all ≡ runs + runs_more runs next (drop skip rest)
   pub started : 1 ≤ runs → skip ≡ 0
-  pub forth : All (λ sector. sector < sectors) (drop skip rest) → All (λ sector. sector < sectors) all
-  pub back : All (λ sector. sector < sectors) all → All (λ sector. sector < sectors) (drop skip rest)
 
-pub counted_none : (xs : List ℕ) (sectors cleared : ℕ) → IsCounted (drop cleared xs) xs sectors cleared 0 0
-counted_none xs sectors cleared = record { total = omega arith; started = λ some. absurd (omega (arith, some)); forth = λ all. all; back = λ all. all }
+pub counted_none : (xs : List ℕ) (cleared : ℕ) → IsCounted (drop cleared xs) xs cleared 0 0
+counted_none xs cleared = record { total = omega arith; started = λ some. absurd (omega (arith, some)) }
 
-module _ (all here rest : List ℕ) (sectors skip runs next f n : ℕ) (is : here ≡ consecutive f n ++ rest) (counted : IsCounted all here sectors skip runs next) where
-  pub counted_skip : n ≤ skip → IsCounted all rest sectors (skip - n) runs next
+module _ (all here rest : List ℕ) (skip runs next f n : ℕ) (is : here ≡ consecutive f n ++ rest) (counted : IsCounted all here skip runs next) where
+  pub counted_skip : n ≤ skip → IsCounted all rest (skip - n) runs next
   counted_skip past =
       let same : drop skip here ≡ drop (skip - n) rest = ap (λ (l : List ℕ). drop skip l) is ∙ drop_past f n skip rest past in
-      let P : List ℕ → Type 0 = λ l. All (λ sector. sector < sectors) l in
       record {
         total = counted.total ∙ ap (λ (l : List ℕ). runs + runs_more runs next l) same;
         started = λ some. let none = counted.started some in omega (arith, none);
-        forth = λ below. counted.forth (subst P (sym same) below);
-        back = λ below. subst P same (counted.back below);
       }
 
   -- what is left of the entry
   left_here : skip < n → drop skip here ≡ consecutive (f + skip) (n - skip) ++ rest
   left_here inside = ap (λ (l : List ℕ). drop skip l) is ∙ drop_front f n skip rest (omega (arith, inside))
 
-  pub counted_past : skip < n → sectors < f + n → All (λ sector. sector < sectors) all → ⊥
-  counted_past inside past below =
-      let P : List ℕ → Type 0 = λ l. All (λ sector. sector < sectors) l in
-      let end = below_end sectors (f + skip) (n - skip) rest (omega (arith, inside)) (subst P (left_here inside) (counted.back below)) in
-      absurd (omega (arith, end, past, inside))
-
-  counted_to : (more : ℕ) → skip < n → f + n ≤ sectors → runs_of all ≡ more + runs_more more (f + n) rest → IsCounted all rest sectors 0 more (f + n)
-  counted_to more inside small total =
-      let P : List ℕ → Type 0 = λ l. All (λ sector. sector < sectors) l in
-      record {
-        total = total;
-        started = λ _. refl;
-        forth = λ below.
-            counted.forth (subst P (sym (left_here inside)) (below_on sectors (f + skip) (n - skip) rest (omega (arith, small, inside)) below));
-        back = λ below. below_back sectors (f + skip) (n - skip) rest (subst P (left_here inside) (counted.back below));
-      }
+  counted_to : (more : ℕ) → runs_of all ≡ more + runs_more more (f + n) rest → IsCounted all rest 0 more (f + n)
+  counted_to more total = record { total = total; started = λ _. refl }
 
   end_is : skip < n → f + skip + (n - skip) ≡ f + n
   end_is inside = omega (arith, inside)
@@ -443,8 +382,8 @@ module _ (all here rest : List ℕ) (sectors skip runs next f n : ℕ) (is : her
   some_left more some = other_number more 0 (λ none. absurd (omega (arith, some, none)))
 
   -- a run begins
-  pub counted_more : skip < n → f + n ≤ sectors → (runs ≡ 0) ⊎ ((runs ≢ 0) × (f ≢ next)) → IsCounted all rest sectors 0 (runs + 1) (f + n)
-  counted_more inside small (inl none) = counted_to (runs + 1) inside small
+  pub counted_more : skip < n → (runs ≡ 0) ⊎ ((runs ≢ 0) × (f ≢ next)) → IsCounted all rest 0 (runs + 1) (f + n)
+  counted_more inside (inl none) = counted_to (runs + 1)
       (counted.total
       ∙ (ap (λ (b : Bool). runs + (if b then runs_of (drop skip here) else runs_from next (drop skip here))) (ap (λ (k : ℕ). nat_eq k 0) none)
       ∙ (ap (λ (l : List ℕ). runs + runs_of l) (left_here inside)
@@ -455,7 +394,7 @@ module _ (all here rest : List ℕ) (sectors skip runs next f n : ℕ) (is : her
     where
       one : (k : ℕ) → runs + suc k ≡ runs + 1 + k
       one k = omega arith
-  counted_more inside small (inr more) = counted_to (runs + 1) inside small
+  counted_more inside (inr more) = counted_to (runs + 1)
       (counted.total
       ∙ (ap (λ (b : Bool). runs + (if b then runs_of (drop skip here) else runs_from next (drop skip here))) (other_number runs 0 more.0)
       ∙ (ap (λ (l : List ℕ). runs + runs_from next l) (left_here inside)
@@ -474,8 +413,8 @@ module _ (all here rest : List ℕ) (sectors skip runs next f n : ℕ) (is : her
       other same = more.1 (omega (arith, same, at_start))
 
   -- the last run goes on
-  pub counted_on : skip < n → f + n ≤ sectors → runs ≢ 0 → f ≡ next → IsCounted all rest sectors 0 runs (f + n)
-  counted_on inside small some same = counted_to runs inside small
+  pub counted_on : skip < n → runs ≢ 0 → f ≡ next → IsCounted all rest 0 runs (f + n)
+  counted_on inside some same = counted_to runs
       (counted.total
       ∙ (ap (λ (b : Bool). runs + (if b then runs_of (drop skip here) else runs_from next (drop skip here))) (other_number runs 0 some)
       ∙ (ap (λ (l : List ℕ). runs + runs_from next l) (left_here inside)
@@ -490,15 +429,31 @@ module _ (all here rest : List ℕ) (sectors skip runs next f n : ℕ) (is : her
       start : next ≡ f + skip
       start = omega (arith, same, at_start)
 
+  -- the one or the other, as many runs as there are with the entry's
+  pub counted_with : skip < n → (more : ℕ) → ((runs ≡ 0) ⊎ ((runs ≢ 0) × (f ≢ next)) → more ≡ runs + 1) → (runs ≢ 0 → f ≡ next → more ≡ runs) →
+      IsCounted all rest 0 more (f + n) × (more ≤ runs + 1)
+  counted_with inside more begins goes_on =
+      elim (eqb_tells runs 0) [
+        | inl none ↦ anew (inl none.1)
+        | inr some ↦
+            elim (eqb_tells f next) [
+              | inl same ↦
+                  let is = goes_on some.1 same.1 in
+                  (subst (λ (k : ℕ). IsCounted all rest 0 k (f + n)) (sym is) (counted_on inside some.1 same.1), omega (arith, is))
+              | inr other ↦ anew (inr (some.1, other.1))
+            ]
+      ]
+    where
+      anew : (runs ≡ 0) ⊎ ((runs ≢ 0) × (f ≢ next)) → IsCounted all rest 0 more (f + n) × (more ≤ runs + 1)
+      anew why =
+          let is = begins why in
+          (subst (λ (k : ℕ). IsCounted all rest 0 k (f + n)) (sym is) (counted_more inside why), omega (arith, is))
+
 -- what is counted once no entry is left
-pub counted_all : (all rest : List ℕ) (sectors skip runs next : ℕ) → rest ≡ [] → IsCounted all rest sectors skip runs next →
-    (runs ≡ runs_of all) × All (λ sector. sector < sectors) all
-counted_all all rest sectors skip runs next none counted =
+pub counted_all : (all rest : List ℕ) (skip runs next : ℕ) → rest ≡ [] → IsCounted all rest skip runs next → runs ≡ runs_of all
+counted_all all rest skip runs next none counted =
     let nothing : drop skip rest ≡ [] = ap (λ (l : List ℕ). drop skip l) none ∙ drop_all skip [] (omega arith) in
-    let P : List ℕ → Type 0 = λ l. All (λ sector. sector < sectors) l in (
-      sym (counted.total ∙ (ap (λ (l : List ℕ). runs + runs_more runs next l) nothing ∙ no_more (nat_eq runs 0))),
-      counted.forth (subst P (sym nothing) (All-nil (λ (sector : ℕ). sector < sectors))),
-    )
+    sym (counted.total ∙ (ap (λ (l : List ℕ). runs + runs_more runs next l) nothing ∙ no_more (nat_eq runs 0)))
   where
     no_more : (b : Bool) → runs + (if b then runs_of [] else runs_from next []) ≡ runs
     no_more true = omega arith

@@ -12,7 +12,7 @@ use Rattle.adapter.proofs.Changed.{changed_same, changed_other, changed_each}
 use Rattle.adapter.proofs.SaysLemmas.{says_meaning}
 use Rattle.device_model.specs.Sent.{SendsEnd}
 use Rattle.device_model.proofs.Finishing.{done_port}
-use Rattle.device_model.proofs.Identifying.{cleared_other}
+use Rattle.device_model.proofs.Paging.{cleared_other}
 
 module _ (port slot other : ℕ) (apart : other ≢ slot) (old new : Device) where
   abbrev was : PortState
@@ -59,7 +59,7 @@ module _ (port slot other : ℕ) (apart : other ≢ slot) (old new : Device) whe
   pub ended_leaves : (u : Taken) → WorksOn was other u u.meaning.operation → Ends (SendsEnd slot) port slot old new →
       WorksOn (new.port port) other u u.meaning.operation
   ended_leaves u works e =
-      subst (λ (x : PortState). WorksOn x other u u.meaning.operation) (sym (done_port port slot 0 old new e))
+      subst (λ (x : PortState). WorksOn x other u u.meaning.operation) (sym (done_port port slot old new e))
       (record {
         taken = changed_other was.taken slot None other apart ∙ works.taken;
         working = record {

@@ -1,23 +1,24 @@
 -- Steps of the hardware, of a port by its index in the array.
-use Rattle.std.proofs.Common.{ℕ, true, false, ◌≡◌, ◌<◌, ◌≤◌, ◌+◌, List, [], ◌∷◌, ◌++◌, length, ◌⊎◌, refl, sym, ◌∙◌, ap, subst, inl, inr}
+use Rattle.std.proofs.Common.{ℕ, Bool, true, false, ◌≡◌, ◌<◌, ◌≤◌, ◌+◌, List, [], ◌∷◌, ◌++◌, Some, length, ◌⊎◌, refl, sym, ◌∙◌, ap, subst, inl, inr}
 use Rattle.std.specs.Prelude.{slice_set, slice_index_or, IfSome, if◌then◌else◌}
 use Rattle.std.specs.Global.{Vec}
-use Rattle.adapter.specs.Commands.{Meaning, direction_of, is_ranged, reads_memory}
+use Rattle.adapter.specs.Commands.{Meaning, direction_of, is_queued, is_ranged, reads_memory}
 use Rattle.adapter.specs.Device.{Disk, Device, IsSector}
 use Rattle.adapter.specs.Memory.{patched, bytes_at}
 use Rattle.adapter.specs.Says.{Says}
-use Rattle.adapter.specs.Steps.{after, IsFinished, MayBeDone, MayFetch, MayMove, Brings, with_clear, with_fetch, with_move, with_done, clear_entry, done_entry, move_of, noted_bytes, memory_after, next_place, next_sector}
-use Rattle.adapter.specs.Steps.Step.{Clear, Move, Unplug, Plug}
+use Rattle.adapter.specs.Steps.{admits, after, IsFinished, MayBeDone, MayFault, MayFetch, MayFetchFault, MayMove, Brings, recorded, with_clear, with_fault, with_fetch, with_move, with_done, clear_entry, done_entry, fault_entry, move_of, noted_bytes, memory_after, next_place, next_sector}
+use Rattle.adapter.specs.Steps.Step.{Clear, FetchFault, Move, Unplug, Plug}
 use Rattle.adapter.specs.declared.command.Direction.{Direction}
 use Rattle.adapter.specs.declared.command.Operation.{Operation}
+use Rattle.adapter.specs.declared.command.Operation.TheVariants.{Identify}
 use Rattle.adapter.specs.declared.tape.Entry.{Entry}
 use Rattle.adapter.specs.declared.tape.Entry.TheVariants as entry
 use Rattle.adapter.specs.declared.tape.Move as tape_move
-use Rattle.adapter.specs.Asked.{DoesFetch, Ends}
+use Rattle.adapter.specs.Asked.{DoesFault, DoesFetch, Ends}
 use Rattle.device_model.specs.Fetched.{bytes_of}
 use Rattle.device_model.specs.Sent.{SendsEnd}
-use Rattle.device_model.specs.Slots.{MayTake, HoldsAt, IsNext}
-use Rattle.device_model.specs.View.{Media, cause_of, media_after, media_cleared, operation_of, port_of, taken_of, blank}
+use Rattle.device_model.specs.Slots.{HasUntaken, MayTake, HoldsAt, IsNext}
+use Rattle.device_model.specs.View.{Media, cause_of, halt_of, held_in, media_after, media_cleared, operation_of, port_of, taken_of, blank}
 use Rattle.device_model.specs.Whole.{Outside, device_of, outside_after, outside_cleared, outside_plugged}
 use Rattle.device_model.specs.declared.port.TakenCommand.{TakenCommand}
 use Rattle.device_model.specs.declared.port.Transfer.{Transfer}
@@ -25,6 +26,7 @@ use Rattle.device_model.specs.declared.port.Transfer.TheVariants as transfer
 use Rattle.device_model.specs.declared.port.PortModel.{PortModel}
 use Rattle.device_model.specs.declared.hardware.Hardware.{Hardware}
 use Rattle.device_model.specs.declared.steps.NextMove.{NextMove}
+use Rattle.device_model.proofs.SlotLemmas.{slot_taken}
 use Rattle.device_model.proofs.Ports.{set_port, set_port_plugged, set_port_recorded, set_port_moved}
 
 -- an entry of a move, by its parts
@@ -87,6 +89,7 @@ is_cause : (k : Transfer) → (cause_of k ≡ 0) ⊎ (cause_of k ≡ 1) ⊎ (cau
 is_cause transfer.Identify = inr (inl refl)
 is_cause transfer.Flush = inl refl
 is_cause transfer.Trim = inl refl
+is_cause transfer.ReadLog = inr (inl refl)
 is_cause transfer.Read = inl refl
 is_cause transfer.Write = inl refl
 is_cause transfer.ReadQueued = inr (inr refl)
@@ -120,6 +123,55 @@ port_ends h o p port slot new t tape last e small holds all is more sends =
       };
       posts = sends;
     })
+
+-- what is issued and means no command may fail for that, where no fault keeps it waiting
+pub may_fail_senseless : (h : Hardware) (o : Outside) (p port slot : ℕ) → p ≡ port → HasUntaken (slice_index_or h.ports p blank) slot →
+    admits (halt_of (slice_index_or h.ports p blank).halting) Identify ≡ true →
+    ((m : Meaning) (places : List ℕ) → Says (bytes_of h.memory.items) (slice_index_or h.ports p blank).addresses.clb slot m places → ⊥) →
+    MayFetchFault (device_of h o) port slot 0
+may_fail_senseless h o p port slot e may admitted none =
+    let w = may (o.media p) Identify admitted in
+    let P : ℕ → Type 0 = λ q. MayFetchFault (device_of h o) q slot 0 in
+    subst P e (record { fetchable = w.0; working = w.1; says_nothing = none; kept = refl })
+
+-- and it does
+pub port_fails_senseless : (h : Hardware) (o : Outside) (p port slot : ℕ) (new : PortModel) (tape : Vec Entry) → p ≡ port → p < length h.ports →
+    port_of new (o.media p) ≡ with_fault (port_of (slice_index_or h.ports p blank) (o.media p)) false 4 0 →
+    tape.items ≡ h.tape.items ++ fault_entry port slot 4 0 ∷ [] →
+    device_of (record h { ports = slice_set h.ports p new; tape = tape }) o ≡ after (FetchFault port slot false 0) (device_of h o)
+port_fails_senseless h o p port slot new tape e small is more =
+    let P : ℕ → Type 0 = λ q. device_of (record h { ports = slice_set h.ports p new; tape = tape }) o ≡ after (FetchFault q slot false 0) (device_of h o) in
+    subst P e (set_port_recorded h o p new _ tape (fault_entry p slot 4 0) small is (rw (← e) at more))
+
+-- a command that is taken may fail, while the engine runs
+pub may_fail : (h : Hardware) (o : Outside) (port slot error : ℕ) (t : TakenCommand) → error < 256 → held_in (slice_index_or h.ports port blank).taken slot ≡ Some t →
+    (slice_index_or h.ports port blank).cr ≡ true → MayFault ((device_of h o).port port) slot error 0 (taken_of t)
+may_fail h o port slot error t byte held cr = record {
+  taken = slot_taken (held_in (slice_index_or h.ports port blank).taken) t slot held;
+  running = cr;
+  is_byte = byte;
+  kept = refl;
+}
+
+-- and it does
+pub port_fails : (h : Hardware) (o : Outside) (p port slot error : ℕ) (new : PortModel) (t : TakenCommand) (queued : Bool) (tape : Vec Entry) → p ≡ port →
+    p < length h.ports → error < 256 → held_in (slice_index_or h.ports port blank).taken slot ≡ Some t → (slice_index_or h.ports port blank).cr ≡ true →
+    queued ≡ is_queued (operation_of t.transfer) → port_of new (o.media p) ≡ with_fault (port_of (slice_index_or h.ports p blank) (o.media p)) queued error 0 →
+    tape.items ≡ h.tape.items ++ fault_entry port slot error 0 ∷ [] →
+    (f : DoesFault port slot error (device_of h o) (device_of (record h { ports = slice_set h.ports p new; tape = tape }) o)) × (queued ≡ is_queued f.t.meaning.operation)
+port_fails h o p port slot error new t queued tape e small byte held cr kind is more = (
+  record {
+    t = taken_of t;
+    can = may_fail h o port slot error t byte held cr;
+    effect =
+        let P : ℕ → Type 0 = λ q. device_of (record h { ports = slice_set h.ports p new; tape = tape }) o
+        ≡ recorded (device_of h o) q (with_fault ((device_of h o).port q) (is_queued (operation_of t.transfer)) error 0) (fault_entry q slot error 0) in
+        subst P e
+        (set_port_recorded h o p new _ tape (fault_entry p slot error 0) small
+        (is ∙ ap (λ (b : Bool). with_fault (port_of (slice_index_or h.ports p blank) (o.media p)) b error 0) kind) (rw (← e) at more));
+  },
+  kind,
+)
 
 -- the next piece of a command is moved
 pub port_moves : (h : Hardware) (o : Outside) (p port slot : ℕ) (next : NextMove) (new : PortModel) (t : TakenCommand) (tape : Vec Entry) (memory : Vec ℕ)
@@ -186,6 +238,7 @@ may_move h o port slot next t bytes is sized small gives takes =
     by transfer.WriteQueued e = taken (ap (λ (k : Transfer). is_ranged (operation_of k)) e) (ap (λ (k : Transfer). reads_memory (operation_of k)) e)
     by transfer.Identify e = tt
     by transfer.Flush e = tt
+    by transfer.ReadLog e = tt
     by transfer.Trim e =
         let place : next.address ≡ next_place (taken_of t) = is.address_is in rw place at (takes (ap (λ (k : Transfer). reads_memory (operation_of k)) e))
 

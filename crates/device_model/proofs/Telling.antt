@@ -5,20 +5,21 @@ use Rattle.adapter.specs.Access.{noted, written}
 use Rattle.adapter.specs.Asked.{Ends}
 use Rattle.adapter.specs.Device.{Device}
 use Rattle.adapter.specs.Steps.{done_entry}
-use Rattle.adapter.specs.declared.command.Operation.TheVariants.{Identify}
+use Rattle.adapter.specs.declared.command.Operation.TheVariants.{Identify, ReadLog}
+use Rattle.adapter.specs.declared.command.Operation.{Operation}
 use Rattle.adapter.specs.declared.tape.Entry.{Entry}
 use Rattle.adapter.specs.declared.tape.Entry.TheVariants as entry
 use Rattle.adapter.specs.declared.tape.Move.{Move}
 use Rattle.hba_regs.specs.declared.reg.Reg.{Reg}
 use Rattle.hba_regs.specs.declared.reg.Reg.TheVariants.{Cap, Ghc, Is, Pi, Vs, Cap2, Bohc, Px}
-use Rattle.device_model.specs.Paged.{AreItsPages, GainsPages, IsItsPage}
+use Rattle.device_model.specs.Paged.{AreItsPages, BringsIts, GainsPages, IsItsLog, IsItsPage}
 use Rattle.device_model.specs.Sent.{SendsEnd}
 use Rattle.device_model.specs.View.{operation_of}
 use Rattle.device_model.specs.Whole.{Outside, device_of}
 use Rattle.device_model.specs.declared.model.Model.{Model}
 use Rattle.device_model.specs.declared.port.Transfer.{Transfer}
 use Rattle.device_model.proofs.Posting.{end_rest}
-use Rattle.device_model.proofs.Transfers.{is_identify}
+use Rattle.device_model.proofs.Transfers.{is_identify, is_log}
 use Rattle.device_model.specs.declared.port.Transfer.TheVariants as transfer
 
 -- a reading and a write leave the tape
@@ -51,21 +52,21 @@ module _ {S : Type 0} (size : S → ℕ) where
   gains_none old new same = record {
     gained = [];
     tape = same ∙ sym (append-nil old.hardware.tape.items);
-    pages = All-nil (λ x. (m : Move) → x ≡ entry.Move m → m.operation ≡ Identify → IsItsPage old.which (size old.disk) old.says m.bytes.value);
+    pages = All-nil (λ x. (m : Move) → x ≡ entry.Move m → BringsIts old.which (size old.disk) old.says m);
   }
 
   -- one more entry, which is no page or the disk's
   pub gains_one : (old new : Model S) (e : Entry) → new.hardware.tape.items ≡ old.hardware.tape.items ++ e ∷ [] →
-      ((m : Move) → e ≡ entry.Move m → m.operation ≡ Identify → IsItsPage old.which (size old.disk) old.says m.bytes.value) → GainsPages size old new
+      ((m : Move) → e ≡ entry.Move m → BringsIts old.which (size old.disk) old.says m) → GainsPages size old new
   gains_one old new e more here = record {
     gained = e ∷ [];
     tape = more;
-    pages = all_one (λ x. (m : Move) → x ≡ entry.Move m → m.operation ≡ Identify → IsItsPage old.which (size old.disk) old.says m.bytes.value) e here;
+    pages = all_one (λ x. (m : Move) → x ≡ entry.Move m → BringsIts old.which (size old.disk) old.says m) e here;
   }
 
   pub gains_on : (a b c : Model S) → b.says ≡ a.says → b.which ≡ a.which → size b.disk ≡ size a.disk → GainsPages size a b → GainsPages size b c → GainsPages size a c
   gains_on a b c says which sectors first then =
-      let P : Entry → Type 0 = λ x. (m : Move) → x ≡ entry.Move m → m.operation ≡ Identify → IsItsPage a.which (size a.disk) a.says m.bytes.value in
+      let P : Entry → Type 0 = λ x. (m : Move) → x ≡ entry.Move m → BringsIts a.which (size a.disk) a.says m in
       record {
         gained = first.gained ++ then.gained;
         tape = then.tape ∙ (ap (λ (t : List Entry). t ++ then.gained) first.tape ∙ append_assoc a.hardware.tape.items first.gained then.gained);
@@ -77,13 +78,17 @@ module _ {S : Type 0} (size : S → ℕ) where
   -- a move was noted
   pub gains_moved : (old new : Model S) (k : Transfer) (m : Move) →
       new.hardware.tape.items ≡ old.hardware.tape.items ++ entry.Move m ∷ [] → m.operation ≡ operation_of k →
-      (k ≡ transfer.Identify → IsItsPage old.which (size old.disk) old.says m.bytes.value) → GainsPages size old new
-  gains_moved old new k m more named page =
+      (k ≡ transfer.Identify → IsItsPage old.which (size old.disk) old.says m.bytes.value) → (k ≡ transfer.ReadLog → IsItsLog old.says m.bytes.value) →
+      GainsPages size old new
+  gains_moved old new k m more named page log =
       gains_one old new (entry.Move m) more
-      (λ x e identify.
+      (λ x e.
       let same : m ≡ x = cc in
-      let kind : k ≡ transfer.Identify = is_identify k (sym named ∙ (ap (λ (y : Move). y.operation) same ∙ identify)) in
-      subst (λ (y : Move). IsItsPage old.which (size old.disk) old.says y.bytes.value) same (page kind))
+      let its = λ (operation : Operation) (is : x.operation ≡ operation). sym named ∙ (ap (λ (y : Move). y.operation) same ∙ is) in
+      record {
+        identity = λ is. subst (λ (y : Move). IsItsPage old.which (size old.disk) old.says y.bytes.value) same (page (is_identify k (its Identify is)));
+        log = λ is. subst (λ (y : Move). IsItsLog old.says y.bytes.value) same (log (is_log k (its ReadLog is)));
+      })
 
   -- a command ended
   pub gains_done : (o : Outside) (port slot : ℕ) (old new : Model S) → Ends (SendsEnd slot) port slot (device_of old.hardware o) (device_of new.hardware o) →

@@ -1,43 +1,27 @@
 -- Steps of the hardware, as a model answers them.
 use Rattle.std.proofs.Common.{ℕ, Bool, true, false, ◌≡◌, ◌<◌, ◌∙◌, List, Option, Some, refl, sym, ap, subst, inl, inr}
 use Rattle.std.specs.Global.{Vec}
-use Rattle.adapter.specs.Asked.{DoesFetch, DoesUnplug, Ends}
+use Rattle.adapter.specs.Asked.{DoesFault, DoesFetch, DoesUnplug, Ends}
 use Rattle.adapter.specs.Commands.{Meaning}
 use Rattle.adapter.specs.Device.{Device, Taken}
-use Rattle.adapter.specs.Steps.{Can, after, begun, with_fetch}
-use Rattle.adapter.specs.Steps.Step.{Fetch, Done, Unplug}
+use Rattle.adapter.specs.Steps.{Can, after, fault_entry}
+use Rattle.adapter.specs.Steps.Step.{Fetch, FetchFault, Done, Fault, Unplug}
 use Rattle.adapter.specs.declared.access.DeviceStep.{DeviceStep}
 use Rattle.adapter.specs.declared.access.DeviceStep.TheVariants as asked
 use Rattle.adapter.specs.declared.tape.Entry.{Entry}
 use Rattle.adapter.specs.declared.tape.Entry.TheVariants as entry
-use Rattle.adapter.proofs.Changed.{changed_same}
 use Rattle.ata_types.specs.declared.Port.{Port}
 use Rattle.ata_types.specs.declared.Slot.{Slot}
 use Rattle.sector_store.specs.declared.store.Failures.{Failures}
-use Rattle.device_model.specs.Does.{AnswersStep, IsLeftOut, StepKeeps, LacksMemory, Possible}
+use Rattle.device_model.specs.Does.{AnswersStep, IsLeftOut, MayBeFetched, StepKeeps, LacksMemory, Possible, says_failed}
 use Rattle.device_model.specs.Finishing.{HasRoom, IsPassed}
 use Rattle.device_model.specs.Modelled.{device_at, outside_at}
 use Rattle.device_model.specs.Sent.{SendsEnd}
-use Rattle.device_model.specs.View.{Takes, held_in, blank}
 use Rattle.device_model.specs.Whole.{Outside, device_of}
 use Rattle.device_model.specs.declared.hardware.Hardware.{Hardware}
+use Rattle.device_model.specs.declared.model.Description.{Description}
 use Rattle.device_model.specs.declared.model.Model.{Model}
-use Rattle.device_model.proofs.SlotLemmas.{taken_slot}
 use Rattle.device_model.proofs.Telling.{gains_none, gains_one, gains_done}
-use Rattle.device_model.proofs.Transfers.{is_taken}
-use Rattle.std.specs.Prelude.{slice_index_or}
-
--- a command that the hardware has taken is one that the model takes
-pub fetched_takes : (old : Device) (h : Hardware) (o : Outside) (port slot : ℕ) → (f : DoesFetch port slot old (device_of h o)) → Takes f.meaning.operation
-fetched_takes old h o port slot f =
-    let t : Taken = begun f.meaning f.places in
-    let taken : ((device_of h o).port port).taken slot ≡ Some t =
-    ap (λ (d : Device). (d.port port).taken slot) f.effect
-    ∙ (ap (λ p. p.taken slot) (changed_same old.port port (with_fetch (old.port port) slot f.meaning f.places))
-    ∙ changed_same (old.port port).taken slot (Some t)) in
-    let w = taken_slot (held_in (slice_index_or h.ports port blank).taken) slot t taken in
-    let P : Taken → Type 0 = λ x. Takes x.meaning.operation in
-    subst P (sym w.2) (is_taken w.0.transfer)
 
 module _ {S : Type 0} (size : S → ℕ) (told : S → Option (ℕ → List ℕ)) (failures : S → Option Failures) (m : Model S) (h : Hardware) where
   abbrev new : Model S
@@ -58,7 +42,8 @@ module _ {S : Type 0} (size : S → ℕ) (told : S → Option (ℕ → List ℕ)
     held = refl;
     says = refl;
     which = refl;
-    why = inr ((λ _. refl), λ _ may. absurd (never.0 (forth may)));
+    disks = λ _. refl;
+    why = λ _ may. absurd (never.0 (forth may));
     keeps = on_hardware;
     starved_on = λ yes. ap (λ (x : Hardware). x.starved) never.1 ∙ yes;
     starved_since = λ yes. inl (sym (ap (λ (x : Hardware). x.starved) never.1) ∙ yes);
@@ -68,41 +53,81 @@ module _ {S : Type 0} (size : S → ℕ) (told : S → Option (ℕ → List ℕ)
     held = refl;
     says = refl;
     which = refl;
-    why = inr ((λ _. refl), λ _ may. (lacks missed.1, missed.2));
+    disks = λ _. refl;
+    why = λ _ may. (lacks missed.1, missed.2);
     keeps = on_hardware;
     starved_on = λ _. missed.2;
     starved_since = λ _. inr (back missed.0, lacks missed.1);
   }
 
-  pub fetch_answers : (p : Port) (s : Slot) (did : Bool) → p.0 < 4 → s.0 < 32 →
-      (did ≡ true → DoesFetch p.0 s.0 (device_of m.hardware behind) (device_of h behind)) → (did ≡ false → device_of h behind ≡ device_of m.hardware behind) →
-      (did ≡ false → (g : Meaning) (places : List ℕ) → Takes g.operation → Can (Fetch p.0 s.0 g places) (device_of m.hardware behind) → ⊥) →
-      h.tape ≡ m.hardware.tape → h.starved ≡ m.hardware.starved → AnswersStep size told failures (asked.Fetch p s) did m new
-  fetch_answers p s true port slot done same only tape starved =
-      let f = done refl in (
-        (port, slot, f.meaning, f.places, fetched_takes (device_of m.hardware behind) h behind p.0 s.0 f, f.can),
-        record {
-          asked = f;
-          ends = inr ((λ _. refl), λ _. tt);
-          held = refl;
-          says = refl;
-          which = refl;
-          pages = gains_none size m new (ap (λ (v : Vec Entry). v.items) tape);
-          disks = λ _ _. refl;
-          keeps = on_hardware;
-          starved = starved;
-        },
-      )
-  fetch_answers p s false port slot done same only tape starved = record {
-    device = same refl;
+  -- nothing was taken, and nothing failed
+  fetch_left : (p : Port) (s : Slot) → p.0 < 4 → s.0 < 32 → ((g : Meaning) (places : List ℕ) → Can (Fetch p.0 s.0 g places) (device_of m.hardware behind) → ⊥) →
+      device_of h behind ≡ device_of m.hardware behind → IsPassed m.hardware h (Can (FetchFault p.0 s.0 false 0) (device_of m.hardware behind)) →
+      IsLeftOut size told failures (asked.Fetch p s) m new
+  fetch_left p s port slot only same (inl never) = record {
+    device = same;
     held = refl;
     says = refl;
     which = refl;
-    why = inr ((λ _. refl), λ _ may. absurd (only refl may.2 may.3 may.4 may.5));
+    disks = λ _. refl;
+    why = λ _ may. absurd (none may.2);
     keeps = on_hardware;
-    starved_on = λ yes. starved ∙ yes;
-    starved_since = λ yes. inl (sym starved ∙ yes);
+    starved_on = λ yes. ap (λ (x : Hardware). x.starved) never.1 ∙ yes;
+    starved_since = λ yes. inl (sym (ap (λ (x : Hardware). x.starved) never.1) ∙ yes);
   }
+    where
+      none : MayBeFetched (device_of m.hardware behind) p.0 s.0 → ⊥
+      none (inl may) = only may.0 may.1 may.2
+      none (inr may) = never.0 may
+  fetch_left p s port slot only same (inr missed) = record {
+    device = same;
+    held = refl;
+    says = refl;
+    which = refl;
+    disks = λ _. refl;
+    why = λ _ _. ((missed.0, missed.1), missed.2);
+    keeps = on_hardware;
+    starved_on = λ _. missed.2;
+    starved_since = λ _. inr ((port, slot, inr missed.0), (missed.0, missed.1));
+  }
+
+  -- a command was taken
+  pub fetch_answers : (p : Port) (s : Slot) → p.0 < 4 → s.0 < 32 → (f : DoesFetch p.0 s.0 (device_of m.hardware behind) (device_of h behind)) →
+      h.tape ≡ m.hardware.tape → h.starved ≡ m.hardware.starved → AnswersStep size told failures (asked.Fetch p s) true m new
+  fetch_answers p s port slot f tape starved = (
+    (port, slot, inl (f.meaning, f.places, f.can)),
+    record {
+      came = inl (record { asked = f; fine = λ _. refl; says = refl; ends = λ _. tt });
+      held = refl;
+      which = refl;
+      pages = gains_none size m new (ap (λ (v : Vec Entry). v.items) tape);
+      disks = λ _ _. refl;
+      keeps = on_hardware;
+      starved = starved;
+    },
+  )
+
+  -- or what is issued means none, and it failed for that; or neither
+  pub senseless_answers : (p : Port) (s : Slot) (did : Bool) → p.0 < 4 → s.0 < 32 →
+      ((g : Meaning) (places : List ℕ) → Can (Fetch p.0 s.0 g places) (device_of m.hardware behind) → ⊥) →
+      (did ≡ true → Can (FetchFault p.0 s.0 false 0) (device_of m.hardware behind) × (device_of h behind ≡ after (FetchFault p.0 s.0 false 0) (device_of m.hardware behind))) →
+      (did ≡ false → device_of h behind ≡ device_of m.hardware behind) → (did ≡ false → IsPassed m.hardware h (Can (FetchFault p.0 s.0 false 0) (device_of m.hardware behind))) →
+      (did ≡ true → h.starved ≡ m.hardware.starved) → AnswersStep size told failures (asked.Fetch p s) did m new
+  senseless_answers p s true port slot only done same passed starved =
+      let d = done refl in (
+        (port, slot, inr d.0),
+        record {
+          came = inr (record { can = d.0; effect = d.1; stores = refl; log = refl });
+          held = refl;
+          which = refl;
+          pages = gains_one size m new (fault_entry p.0 s.0 4 0) (ap (λ (x : Device). x.tape) d.1) (λ x e. absurd (cc e));
+          disks = λ _ _. refl;
+          keeps = on_hardware;
+          starved = starved refl;
+        },
+      )
+  senseless_answers p s false port slot only done same passed starved =
+      fetch_left p s port slot only (same refl) (passed refl)
 
   pub done_answers : (p : Port) (s : Slot) (did : Bool) → p.0 < 4 → s.0 < 32 →
       (did ≡ true → Ends (SendsEnd s.0) p.0 s.0 (device_of m.hardware behind) (device_of h behind)) → (did ≡ false → device_of h behind ≡ device_of m.hardware behind) →
@@ -112,10 +137,8 @@ module _ {S : Type 0} (size : S → ℕ) (told : S → Option (ℕ → List ℕ)
       let d = done refl in (
         (port, slot, d.done.flag, d.done.t, d.done.can),
         record {
-          asked = d;
-          ends = inr ((λ _. refl), λ _. tt);
+          came = inl (record { asked = d; fine = λ _. refl; says = refl; ends = λ _. tt });
           held = refl;
-          says = refl;
           which = refl;
           pages = gains_done size behind p.0 s.0 m new d;
           disks = λ _ _. refl;
@@ -127,6 +150,35 @@ module _ {S : Type 0} (size : S → ℕ) (told : S → Option (ℕ → List ℕ)
       passed_left (asked.Done p s) ((flag : ℕ) × (t : Taken) × Can (Done p.0 s.0 flag t) (device_of m.hardware behind)) (λ may. (may.2, may.3, may.4))
       (λ may. (port, slot, may.0, may.1, may.2)) (λ none. none) (same refl) (passed refl)
 
+  -- a command that is taken fails: in the model the log names it, if it is queued
+  pub fail_answers : (p : Port) (s : Slot) (error : ℕ) (says : Description) → p.0 < 4 → s.0 < 32 →
+      (f : DoesFault p.0 s.0 error (device_of m.hardware behind) (device_of h behind)) →
+      says ≡ says_failed (Some f.t) s.0 error m.says → h.starved ≡ m.hardware.starved → AnswersStep size told failures (asked.Fault p s error) true m (record new { says = says })
+  fail_answers p s error says port slot f is starved = (
+    (port, slot, f.t, f.can),
+    record {
+      came = inl (record {
+        asked = f;
+        fine = λ _. refl;
+        says = is ∙ ap (λ (t : Option Taken). says_failed t s.0 error m.says) (sym f.can.taken);
+        ends = λ _. tt;
+      });
+      held = refl;
+      which = refl;
+      pages = gains_one size m (record new { says = says }) (fault_entry p.0 s.0 error 0) (ap (λ (x : Device). x.tape) f.effect) (λ x e. absurd (cc e));
+      disks = λ _ _. refl;
+      keeps = record { sectors = λ _. refl; out = λ _ _. refl; queue = refl; accesses = refl };
+      starved = starved;
+    },
+  )
+
+  -- none did
+  pub fail_left : (p : Port) (s : Slot) (error : ℕ) → p.0 < 4 → s.0 < 32 → device_of h behind ≡ device_of m.hardware behind →
+      IsPassed m.hardware h ((t : Taken) × Can (Fault p.0 s.0 error 0 t) (device_of m.hardware behind)) → AnswersStep size told failures (asked.Fault p s error) false m new
+  fail_left p s error port slot same passed =
+      passed_left (asked.Fault p s error) ((t : Taken) × Can (Fault p.0 s.0 error 0 t) (device_of m.hardware behind)) (λ may. (may.2, may.3))
+      (λ may. (port, slot, may.0, may.1)) (λ none. none) same passed
+
   pub unplug_answers : (p : Port) (did : Bool) → p.0 ≡ 0 →
       (did ≡ true → Can (Unplug 0) (device_of m.hardware behind) × (device_of h behind ≡ after (Unplug 0) (device_of m.hardware behind))) →
       (did ≡ false → device_of h behind ≡ device_of m.hardware behind) → (did ≡ false → IsPassed m.hardware h (Can (Unplug 0) (device_of m.hardware behind))) →
@@ -136,10 +188,8 @@ module _ {S : Type 0} (size : S → ℕ) (told : S → Option (ℕ → List ℕ)
       let P : ℕ → Type 0 = λ q. DoesUnplug q (device_of m.hardware behind) (device_of h behind) in (
         (zero, d.0),
         record {
-          asked = subst P (sym zero) (record { can = d.0; effect = d.1 });
-          ends = inr ((λ _. refl), λ _. tt);
+          came = inl (record { asked = subst P (sym zero) (record { can = d.0; effect = d.1 }); fine = λ _. refl; says = refl; ends = λ _. tt });
           held = refl;
-          says = refl;
           which = refl;
           pages = gains_one size m new (entry.Unplug (record { 0 = 0 })) (ap (λ (x : Device). x.tape) d.1) (λ x e. absurd (cc e));
           disks = λ _ _. refl;

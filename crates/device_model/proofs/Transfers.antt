@@ -9,7 +9,8 @@ use Rattle.adapter.specs.Steps.{IsAlone, block_after, disk_after}
 use Rattle.adapter.specs.declared.command.Operation.{Operation}
 use Rattle.adapter.specs.declared.command.Operation.TheVariants.{Identify, Read, ReadQueued, Write, WriteQueued, Flush, Trim, ReadLog}
 use Rattle.device_model.proofs.Absurd.{true-false}
-use Rattle.device_model.specs.View.{Takes, operation_of}
+use Rattle.device_model.specs.Finishing.{sends_page}
+use Rattle.device_model.specs.View.{operation_of}
 use Rattle.device_model.specs.declared.port.Transfer.{Transfer}
 use Rattle.device_model.specs.declared.port.Transfer.TheVariants as transfer
 
@@ -22,6 +23,7 @@ no_block transfer.WriteQueued bytes old other = refl
 no_block transfer.Identify bytes old other = refl
 no_block transfer.Flush bytes old other = refl
 no_block transfer.Trim bytes old other = absurd (other refl)
+no_block transfer.ReadLog bytes old other = refl
 
 -- the command whose operation is a trim
 pub is_trim : (k : Transfer) → operation_of k ≡ Trim → k ≡ transfer.Trim
@@ -32,25 +34,18 @@ is_trim transfer.WriteQueued e = cc
 is_trim transfer.Identify e = cc
 is_trim transfer.Flush e = cc
 is_trim transfer.Trim e = refl
+is_trim transfer.ReadLog e = cc
 
-pub is_taken : (k : Transfer) → Takes (operation_of k)
-is_taken transfer.Read = tt
-is_taken transfer.Write = tt
-is_taken transfer.ReadQueued = tt
-is_taken transfer.WriteQueued = tt
-is_taken transfer.Identify = tt
-is_taken transfer.Flush = tt
-is_taken transfer.Trim = tt
-
-pub transfer_of : (o : Operation) → Takes o → (k : Transfer) × (o ≡ operation_of k)
-transfer_of Read takes = (transfer.Read, refl)
-transfer_of Write takes = (transfer.Write, refl)
-transfer_of ReadQueued takes = (transfer.ReadQueued, refl)
-transfer_of WriteQueued takes = (transfer.WriteQueued, refl)
-transfer_of Identify takes = (transfer.Identify, refl)
-transfer_of Flush takes = (transfer.Flush, refl)
-transfer_of Trim takes = (transfer.Trim, refl)
-transfer_of ReadLog takes = absurd takes
+-- each operation is that of a command that the model takes
+pub transfer_of : (o : Operation) → (k : Transfer) × (o ≡ operation_of k)
+transfer_of Read = (transfer.Read, refl)
+transfer_of Write = (transfer.Write, refl)
+transfer_of ReadQueued = (transfer.ReadQueued, refl)
+transfer_of WriteQueued = (transfer.WriteQueued, refl)
+transfer_of Identify = (transfer.Identify, refl)
+transfer_of Flush = (transfer.Flush, refl)
+transfer_of Trim = (transfer.Trim, refl)
+transfer_of ReadLog = (transfer.ReadLog, refl)
 
 -- a command that names no sectors is plain
 pub unranged_plain : (o : Operation) → is_ranged o ≡ false → is_queued o ≡ false
@@ -83,6 +78,7 @@ still_tells transfer.ReadQueued disk sector bytes = refl
 still_tells transfer.Identify disk sector bytes = refl
 still_tells transfer.Flush disk sector bytes = refl
 still_tells transfer.Trim disk sector bytes = refl
+still_tells transfer.ReadLog disk sector bytes = refl
 still_tells transfer.Write disk sector bytes = mapped_tells sector bytes disk.sectors
 still_tells transfer.WriteQueued disk sector bytes = mapped_tells sector bytes disk.sectors
 
@@ -104,6 +100,32 @@ is_identify transfer.WriteQueued e = cc
 is_identify transfer.Identify e = refl
 is_identify transfer.Flush e = cc
 is_identify transfer.Trim e = cc
+is_identify transfer.ReadLog e = cc
+
+-- and READ LOG EXT
+pub is_log : (k : Transfer) → operation_of k ≡ ReadLog → k ≡ transfer.ReadLog
+is_log transfer.Read e = cc
+is_log transfer.Write e = cc
+is_log transfer.ReadQueued e = cc
+is_log transfer.WriteQueued e = cc
+is_log transfer.Identify e = cc
+is_log transfer.Flush e = cc
+is_log transfer.Trim e = cc
+is_log transfer.ReadLog e = refl
+
+-- a command that sends a page names no sectors, and is plain
+pub page_unranged : (o : Operation) → sends_page o ≡ true → is_ranged o ≡ false
+page_unranged Identify e = refl
+page_unranged ReadLog e = refl
+page_unranged Flush e = refl
+page_unranged Trim e = refl
+page_unranged Read e = absurd (cc e)
+page_unranged Write e = absurd (cc e)
+page_unranged ReadQueued e = absurd (cc e)
+page_unranged WriteQueued e = absurd (cc e)
+
+pub page_plain : (o : Operation) → sends_page o ≡ true → is_queued o ≡ false
+page_plain o e = unranged_plain o (page_unranged o e)
 
 -- of two that are queued neither is a trim
 pub both_queued : (k l : Transfer) → is_queued (operation_of k) && is_queued (operation_of l) ≡ true → (k ≡ transfer.Trim → ⊥) × (l ≡ transfer.Trim → ⊥)

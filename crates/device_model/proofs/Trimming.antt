@@ -1,5 +1,5 @@
 -- A trim that is to be done to its end: its block is moved, its sectors are cleared, and it ends.
-use Rattle.std.proofs.Common.{ℕ, Bool, zero, suc, ◌≡◌, ◌<◌, ◌≤◌, ◌+◌, ◌-◌, List, [], ◌∷◌, length, drop, take, slice_index, All, min, refl, sym, ◌∙◌, ap, subst, inl, inr, arith, length-drop}
+use Rattle.std.proofs.Common.{ℕ, Bool, true, zero, suc, ◌≡◌, ◌<◌, ◌≤◌, ◌+◌, ◌-◌, List, [], ◌∷◌, length, drop, take, slice_index, refl, sym, ◌∙◌, ap, subst, inl, inr, arith, length-drop}
 use Rattle.std.specs.Prelude.{if◌then◌else◌}
 use Rattle.std.proofs.lemmas.Bool.{cases_lt, le-ltb, lt-ltb}
 use Rattle.std.proofs.lemmas.List.{take_all}
@@ -10,8 +10,9 @@ use Rattle.adapter.specs.Steps.{Brings, block_after, next_place}
 use Rattle.adapter.specs.Trim.{consecutive, trim_sectors}
 use Rattle.adapter.specs.declared.command.Operation.{Operation}
 use Rattle.adapter.specs.declared.command.Operation.TheVariants.{Identify, Read, ReadQueued, Write, WriteQueued, Flush, Trim, ReadLog}
+use Rattle.device_model.specs.Finishing.{sends_page}
 use Rattle.device_model.specs.Trims.{HasRuns, WillClear, block_ahead, next_uncleared, run_of, runs_of, span, uncleared}
-use Rattle.device_model.proofs.Runs.{all_behind_some, drop_twice, no_runs, one_less, run_below, run_long, some_runs, take_run}
+use Rattle.device_model.proofs.Runs.{drop_twice, no_runs, one_less, run_long, some_runs, take_run}
 
 -- ---- the block that a trim is going to have
 
@@ -40,102 +41,108 @@ moved_ahead memory t bytes left brings =
 
 -- ---- what a command is going to clear
 
--- IDENTIFY DEVICE clears nothing
-pub identify_clears : (o : Operation) (memory : ℕ → ℕ) (t : Taken) (sectors : ℕ) → o ≡ Identify → WillClear o memory t sectors 0
-identify_clears o memory t sectors is = subst (λ (x : Operation). WillClear x memory t sectors 0) (sym is) refl
+-- a command that sends a page clears nothing
+pub page_clears : (o : Operation) (memory : ℕ → ℕ) (t : Taken) → sends_page o ≡ true → WillClear o memory t 0
+page_clears Identify memory t is = refl
+page_clears ReadLog memory t is = refl
+page_clears Read memory t is = refl
+page_clears Write memory t is = refl
+page_clears ReadQueued memory t is = refl
+page_clears WriteQueued memory t is = refl
+page_clears Flush memory t is = refl
+page_clears Trim memory t is = absurd (cc is)
 
-pub identify_cleared : (o : Operation) (memory : ℕ → ℕ) (t : Taken) (sectors clears : ℕ) → o ≡ Identify → WillClear o memory t sectors clears → clears ≡ 0
-identify_cleared o memory t sectors clears is will = let there : WillClear Identify memory t sectors clears = subst (λ (x : Operation). WillClear x memory t sectors clears) is will in there
+pub page_cleared : (o : Operation) (memory : ℕ → ℕ) (t : Taken) (clears : ℕ) → sends_page o ≡ true → WillClear o memory t clears → clears ≡ 0
+page_cleared Identify memory t clears is will = will
+page_cleared ReadLog memory t clears is will = will
+page_cleared Read memory t clears is will = will
+page_cleared Write memory t clears is will = will
+page_cleared ReadQueued memory t clears is will = will
+page_cleared WriteQueued memory t clears is will = will
+page_cleared Flush memory t clears is will = will
+page_cleared Trim memory t clears is will = absurd (cc is)
 
 -- a move changes none of that
-pub moved_clears : (o : Operation) (disk : Disk) (memory : ℕ → ℕ) (t : Taken) (bytes : List ℕ) (sectors clears : ℕ) → t.moved < length t.places →
-    Brings disk memory t o bytes → WillClear o memory t sectors clears →
-    WillClear o (if reads_memory o then memory else patched memory (next_place t) bytes) (record t { moved = t.moved + 1; block = block_after o bytes t.block }) sectors clears
-moved_clears Trim disk memory t bytes sectors clears left brings will =
-    subst (λ (b : List ℕ). HasRuns b t.cleared sectors clears) (sym (moved_ahead memory t bytes left brings)) will
-moved_clears Identify disk memory t bytes sectors clears left brings will = will
-moved_clears Read disk memory t bytes sectors clears left brings will = will
-moved_clears Write disk memory t bytes sectors clears left brings will = will
-moved_clears ReadQueued disk memory t bytes sectors clears left brings will = will
-moved_clears WriteQueued disk memory t bytes sectors clears left brings will = will
-moved_clears Flush disk memory t bytes sectors clears left brings will = will
-moved_clears ReadLog disk memory t bytes sectors clears left brings will = will
+pub moved_clears : (o : Operation) (disk : Disk) (memory : ℕ → ℕ) (t : Taken) (bytes : List ℕ) (clears : ℕ) → t.moved < length t.places →
+    Brings disk memory t o bytes → WillClear o memory t clears →
+    WillClear o (if reads_memory o then memory else patched memory (next_place t) bytes) (record t { moved = t.moved + 1; block = block_after o bytes t.block }) clears
+moved_clears Trim disk memory t bytes clears left brings will =
+    subst (λ (b : List ℕ). HasRuns b t.cleared clears) (sym (moved_ahead memory t bytes left brings)) will
+moved_clears Identify disk memory t bytes clears left brings will = will
+moved_clears Read disk memory t bytes clears left brings will = will
+moved_clears Write disk memory t bytes clears left brings will = will
+moved_clears ReadQueued disk memory t bytes clears left brings will = will
+moved_clears WriteQueued disk memory t bytes clears left brings will = will
+moved_clears Flush disk memory t bytes clears left brings will = will
+moved_clears ReadLog disk memory t bytes clears left brings will = will
 
 -- what is going to be cleared is a trim's
-clears_trim : (o : Operation) (memory : ℕ → ℕ) (t : Taken) (sectors clears : ℕ) → WillClear o memory t sectors (suc clears) → o ≡ Trim
-clears_trim Trim memory t sectors clears will = refl
-clears_trim Identify memory t sectors clears will = absurd (omega (arith, will))
-clears_trim Read memory t sectors clears will = absurd (omega (arith, will))
-clears_trim Write memory t sectors clears will = absurd (omega (arith, will))
-clears_trim ReadQueued memory t sectors clears will = absurd (omega (arith, will))
-clears_trim WriteQueued memory t sectors clears will = absurd (omega (arith, will))
-clears_trim Flush memory t sectors clears will = absurd (omega (arith, will))
-clears_trim ReadLog memory t sectors clears will = absurd (omega (arith, will))
+clears_trim : (o : Operation) (memory : ℕ → ℕ) (t : Taken) (clears : ℕ) → WillClear o memory t (suc clears) → o ≡ Trim
+clears_trim Trim memory t clears will = refl
+clears_trim Identify memory t clears will = absurd (omega (arith, will))
+clears_trim Read memory t clears will = absurd (omega (arith, will))
+clears_trim Write memory t clears will = absurd (omega (arith, will))
+clears_trim ReadQueued memory t clears will = absurd (omega (arith, will))
+clears_trim WriteQueued memory t clears will = absurd (omega (arith, will))
+clears_trim Flush memory t clears will = absurd (omega (arith, will))
+clears_trim ReadLog memory t clears will = absurd (omega (arith, will))
 
 -- where nothing is left to clear, all is cleared
-pub none_left : (o : Operation) (memory : ℕ → ℕ) (t : Taken) (sectors : ℕ) → t.moved ≡ length t.places → WillClear o memory t sectors 0 → o ≡ Trim →
+pub none_left : (o : Operation) (memory : ℕ → ℕ) (t : Taken) → t.moved ≡ length t.places → WillClear o memory t 0 → o ≡ Trim →
     t.cleared ≡ length (trim_sectors t.block)
-none_left o memory t sectors all will trim =
-    let there : WillClear Trim memory t sectors 0 = subst (λ (x : Operation). WillClear x memory t sectors 0) trim will in
-    let is : HasRuns t.block t.cleared sectors 0 = subst (λ (b : List ℕ). HasRuns b t.cleared sectors 0) (ahead_moved memory t all) there in
+none_left o memory t all will trim =
+    let there : WillClear Trim memory t 0 = subst (λ (x : Operation). WillClear x memory t 0) trim will in
+    let is : HasRuns t.block t.cleared 0 = subst (λ (b : List ℕ). HasRuns b t.cleared 0) (ahead_moved memory t all) there in
     let none = ap length (no_runs (uncleared t) (sym is.runs)) in
     let size = length-drop t.cleared (trim_sectors t.block) in
     let within = is.within in
     omega (arith, none, size, within)
 
-module _ (memory : ℕ → ℕ) (t : Taken) (sectors clears : ℕ) (all : t.moved ≡ length t.places) (will : WillClear t.meaning.operation memory t sectors (suc clears)) where
+module _ (memory : ℕ → ℕ) (t : Taken) (clears : ℕ) (all : t.moved ≡ length t.places) (will : WillClear t.meaning.operation memory t (suc clears)) where
   pub is_a_trim : t.meaning.operation ≡ Trim
-  is_a_trim = clears_trim t.meaning.operation memory t sectors clears will
+  is_a_trim = clears_trim t.meaning.operation memory t clears will
 
-  is_cleared : HasRuns t.block t.cleared sectors (suc clears)
+  is_cleared : HasRuns t.block t.cleared (suc clears)
   is_cleared =
-      let there : WillClear Trim memory t sectors (suc clears) = subst (λ (x : Operation). WillClear x memory t sectors (suc clears)) is_a_trim will in
-      subst (λ (b : List ℕ). HasRuns b t.cleared sectors (suc clears)) (ahead_moved memory t all) there
+      let there : WillClear Trim memory t (suc clears) = subst (λ (x : Operation). WillClear x memory t (suc clears)) is_a_trim will in
+      subst (λ (b : List ℕ). HasRuns b t.cleared (suc clears)) (ahead_moved memory t all) there
 
   pub some_uncleared : 1 ≤ length (uncleared t)
   some_uncleared = some_runs (uncleared t) clears (sym is_cleared.runs)
 
-  pub next_below : next_uncleared t < sectors
-  next_below = is_cleared.on_disk 0 0 (let some = some_uncleared in omega (arith, some))
-
   -- the whole run is cleared at once
-  span_whole : span sectors (length (uncleared t)) t ≡ run_of (uncleared t)
-  span_whole =
-      let whole : take (length (uncleared t)) (uncleared t) ≡ uncleared t = take_all (length (uncleared t)) (uncleared t) (omega arith) in
-      let end = run_below sectors (uncleared t) some_uncleared is_cleared.on_disk in
-      let below = next_below in
-      ap (λ (l : List ℕ). min (run_of l) (sectors - next_uncleared t)) whole ∙ omega (arith, end, below)
+  span_whole : span (length (uncleared t)) t ≡ run_of (uncleared t)
+  span_whole = ap run_of (take_all (length (uncleared t)) (uncleared t) (omega arith))
 
   -- and one run less is left
-  pub span_less : WillClear t.meaning.operation memory (record t { cleared = t.cleared + span sectors (length (uncleared t)) t }) sectors clears
+  pub span_less : WillClear t.meaning.operation memory (record t { cleared = t.cleared + span (length (uncleared t)) t }) clears
   span_less =
       let n : ℕ = run_of (uncleared t) in
-      let u : Taken = record t { cleared = t.cleared + span sectors (length (uncleared t)) t } in
+      let u : Taken = record t { cleared = t.cleared + span (length (uncleared t)) t } in
       let xs : List ℕ = trim_sectors t.block in
-      let same : t.cleared + span sectors (length (uncleared t)) t ≡ t.cleared + n = ap (λ (k : ℕ). t.cleared + k) span_whole in
+      let same : t.cleared + span (length (uncleared t)) t ≡ t.cleared + n = ap (λ (k : ℕ). t.cleared + k) span_whole in
       let rest : drop n (drop t.cleared xs) ≡ drop (t.cleared + n) xs = drop_twice t.cleared n xs in
       let size = length-drop t.cleared xs in
       let long = run_long (uncleared t) in
       let some = some_uncleared in
-      let done : HasRuns t.block (t.cleared + n) sectors clears =
+      let done : HasRuns t.block (t.cleared + n) clears =
       record {
         within = omega (arith, size, long, some);
         runs = sym (ap runs_of (sym rest) ∙ one_less (uncleared t) clears (sym is_cleared.runs));
-        on_disk = subst (λ (l : List ℕ). All (λ sector. sector < sectors) l) rest (all_behind_some sectors n (uncleared t) is_cleared.on_disk);
       } in
-      let there : WillClear Trim memory u sectors clears =
-      subst (λ (b : List ℕ). HasRuns b u.cleared sectors clears) (sym (ahead_moved memory u all))
-      (subst (λ (k : ℕ). HasRuns t.block k sectors clears) (sym same) done) in
-      subst (λ (o : Operation). WillClear o memory u sectors clears) (sym is_a_trim) there
+      let there : WillClear Trim memory u clears =
+      subst (λ (b : List ℕ). HasRuns b u.cleared clears) (sym (ahead_moved memory u all))
+      (subst (λ (k : ℕ). HasRuns t.block k clears) (sym same) done) in
+      subst (λ (o : Operation). WillClear o memory u clears) (sym is_a_trim) there
 
 -- ---- clearing
 
--- of the sectors that can be cleared at once each number follow one another, and are on the disk
-pub span_sectors : (size most count : ℕ) (t : Taken) → count ≤ span size most t → most ≤ length (uncleared t) →
+-- of the sectors that can be cleared at once each number follow one another
+pub span_sectors : (most count : ℕ) (t : Taken) → count ≤ span most t → most ≤ length (uncleared t) →
     take count (uncleared t) ≡ consecutive (next_uncleared t) count
-span_sectors size most count t few enough =
+span_sectors most count t few enough =
     let run = run_long (take most (uncleared t)) in
-    let fits : count ≤ run_of (take most (uncleared t)) = omega (arith, few) in
+    let fits : count ≤ run_of (take most (uncleared t)) = few in
     let size_is = take_length most (uncleared t) enough in
     let part : take count (take most (uncleared t)) ≡ take count (uncleared t) = take_twice count most (uncleared t) (omega (arith, fits, run, size_is)) in
     let all = take_run (take most (uncleared t)) count fits in
@@ -172,18 +179,18 @@ run_one zero xs some small = absurd (omega (arith, some))
 run_one (suc n) [] some small = absurd (omega (arith, small))
 run_one (suc n) (x ∷ xs) some small = omega arith
 
-pub span_some : (size most : ℕ) (t : Taken) → 1 ≤ most → most ≤ length (uncleared t) → next_uncleared t < size → 1 ≤ span size most t
-span_some size most t some enough below = let one = run_one most (uncleared t) some enough in omega (arith, one, below)
+pub span_some : (most : ℕ) (t : Taken) → 1 ≤ most → most ≤ length (uncleared t) → 1 ≤ span most t
+span_some most t some enough = run_one most (uncleared t) some enough
 
 -- what is left behind so many
 pub uncleared_on : (t : Taken) (count : ℕ) → uncleared (record t { cleared = t.cleared + count }) ≡ drop count (uncleared t)
 uncleared_on t count = sym (drop_twice t.cleared count (trim_sectors t.block))
 
 -- the next one behind so many that were cleared at once, of more that could be
-pub next_on : (size most count : ℕ) (t : Taken) → count < span size most t → most ≤ length (uncleared t) →
+pub next_on : (most count : ℕ) (t : Taken) → count < span most t → most ≤ length (uncleared t) →
     (1 ≤ length (uncleared (record t { cleared = t.cleared + count }))) × (next_uncleared (record t { cleared = t.cleared + count }) ≡ next_uncleared t + count)
-next_on size most count t more enough =
-    let follow = span_sectors size most (suc count) t (omega (arith, more)) enough in
+next_on most count t more enough =
+    let follow = span_sectors most (suc count) t (omega (arith, more)) enough in
     let here = by count (uncleared t) (next_uncleared t) follow in
     let rest = uncleared_on t count in (
       subst (λ (l : List ℕ). 1 ≤ length l) (sym rest) here.0,
@@ -199,8 +206,8 @@ next_on size most count t more enough =
         (rest.0, omega (arith, at))
 
 -- so many at the most
-pub span_most : (size most : ℕ) (t : Taken) → span size most t ≤ most
-span_most size most t =
+pub span_most : (most : ℕ) (t : Taken) → span most t ≤ most
+span_most most t =
     let long = run_long (take most (uncleared t)) in
     let taken = by most (uncleared t) in
     omega (arith, long, taken)

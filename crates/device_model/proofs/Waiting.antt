@@ -3,25 +3,25 @@ use Rattle.std.proofs.Common.{ℕ, zero, suc, Bool, true, false, ◌≡◌, ◌�
 use Rattle.std.proofs.lemmas.Bool.Decides.{eqb_tells}
 use Rattle.std.proofs.lemmas.List.Elements.{All-head, All-tail}
 use Rattle.std.specs.Prelude.{if◌then◌else◌, nat_eq}
-use Rattle.adapter.specs.Asked.{AskedOf}
+use Rattle.adapter.specs.Asked.{DoesClear, DoneOf, GoesOn}
 use Rattle.adapter.specs.Device.{Device, Taken}
 use Rattle.adapter.specs.Steps.{Can, WorksOn, begun}
 use Rattle.adapter.specs.Steps.Step.{Fetch}
 use Rattle.adapter.specs.declared.access.DeviceStep.{DeviceStep}
 use Rattle.adapter.specs.declared.access.DeviceStep.TheVariants as asked
 use Rattle.sector_store.specs.declared.store.Failures.{Failures}
-use Rattle.device_model.specs.Disks.{disk_number, disk_over, store_of}
-use Rattle.device_model.specs.Does.{AnswersStep, AsksStore, Possible, PutsIn, StoreStops, which_after}
+use Rattle.device_model.specs.Disks.{disk_number, store_of}
+use Rattle.device_model.specs.Does.{AnswersStep, AsksStore, StepFails, FailsToClear, FailsToMove, Possible, PutsIn, which_after}
 use Rattle.device_model.specs.Finishing.{HasMove}
 use Rattle.device_model.specs.Modelled.{device_at}
 use Rattle.device_model.specs.Queue.{DoesEach}
-use Rattle.device_model.specs.Sent.{Sends}
+use Rattle.device_model.specs.Sent.{Sends, SendsEnd}
 use Rattle.device_model.specs.Trims.{HasClear}
 use Rattle.device_model.specs.declared.disks.Which.{Which}
 use Rattle.device_model.specs.declared.disks.Which.TheVariants.{Disk0, Disk1}
+use Rattle.device_model.specs.declared.model.Description.{Description}
 use Rattle.device_model.specs.declared.model.Model.{Model}
-use Rattle.device_model.proofs.Finishing.{no_clear, no_move}
-use Rattle.device_model.proofs.Own.{one_keeps_present, some_keep_present}
+use Rattle.device_model.proofs.Own.{fault_keeps_present, one_keeps_present, senseless_keeps_present, some_keep_present}
 
 named_by : (w : Which) (number : ℕ) → number < 2 → w ≡ (if nat_eq number 0 then Disk0 else Disk1) → number ≡ disk_number w
 named_by w zero small e = sym (ap disk_number e)
@@ -35,6 +35,7 @@ still_out (asked.Move p s) d w v out never may = out
 still_out (asked.Clear p s n) d w v out never may = out
 still_out (asked.Done p s) d w v out never may = out
 still_out (asked.Finish p s) d w v out never may = out
+still_out (asked.Fault p s error) d w v out never may = out
 still_out (asked.Lie p page offset bits) d w v out never may = out
 still_out (asked.Truth p) d w v out never may = out
 still_out (asked.Hold p) d w v out never may = out
@@ -43,18 +44,58 @@ still_out (asked.Unplug p) d w v out never may = out
 
 -- where port 0 has no disk, nothing that is asked puts one in, but a Plug
 still_empty : (s : DeviceStep) (old new : Device) (w v : Which) → w ≡ v → (old.port 0).present ≡ false → (PutsIn w s → ⊥) → Possible s old →
-    AskedOf (Sends s) s old new → w ≡ which_after s v → (new.port 0).present ≡ false
+    DoneOf (Sends s) s old new → w ≡ which_after s v → (new.port 0).present ≡ false
 still_empty (asked.Fetch p s) old new w v is empty never may did same = one_keeps_present p.0 s.0 old new (inl did) ∙ empty
 still_empty (asked.Move p s) old new w v is empty never may did same = one_keeps_present p.0 s.0 old new (inr (inl did)) ∙ empty
 still_empty (asked.Clear p s n) old new w v is empty never may did same = one_keeps_present p.0 s.0 old new (inr (inr (inr (n, did)))) ∙ empty
 still_empty (asked.Done p s) old new w v is empty never may did same = one_keeps_present p.0 s.0 old new (inr (inr (inl did))) ∙ empty
 still_empty (asked.Finish p s) old new w v is empty never may did same = some_keep_present (suc did.0) p.0 s.0 old new did.1 ∙ empty
+still_empty (asked.Fault p s error) old new w v is empty never may did same = fault_keeps_present p.0 s.0 error old new did ∙ empty
 still_empty (asked.Lie p page offset bits) old new w v is empty never may did same = ap (λ (d : Device). (d.port 0).present) did ∙ empty
 still_empty (asked.Truth p) old new w v is empty never may did same = ap (λ (d : Device). (d.port 0).present) did ∙ empty
 still_empty (asked.Hold p) old new w v is empty never may did same = ap (λ (d : Device). (d.port 0).present) did ∙ empty
 still_empty (asked.Release p) old new w v is empty never may did same = ap (λ (d : Device). (d.port 0).present) did ∙ empty
 still_empty (asked.Unplug p) old new w v is empty never may did same = absurd (let no : true ≡ false = sym may.1 ∙ empty in cc)
 still_empty (asked.Plug p number) old new w v is empty never may did same = absurd (never (named_by w number.0 may.1 same))
+
+moving_keeps : (port slot : ℕ) (was now : Option Failures) (says later : Description) (old new : Device) → FailsToMove port slot was now says later old new →
+    (new.port 0).present ≡ (old.port 0).present
+moving_keeps port slot was now says later old new f =
+    fault_keeps_present port slot f.error old new (record { t = f.t; can = f.can; effect = f.effect })
+
+clearing_keeps : (port slot : ℕ) (was now : Option Failures) (says later : Description) (old new : Device) → FailsToClear port slot was now says later old new →
+    (new.port 0).present ≡ (old.port 0).present
+clearing_keeps port slot was now says later old new f =
+    fault_keeps_present port slot f.error old new (record { t = f.t; can = f.can; effect = f.effect })
+
+-- nor does a fault
+still_failed : (s : DeviceStep) (was now : Option Failures) (says later : Description) (old new : Device) → (old.port 0).present ≡ false →
+    StepFails s was now says later old new → (new.port 0).present ≡ false
+still_failed (asked.Move p s) was now says later old new empty f = moving_keeps p.0 s.0 was now says later old new f ∙ empty
+still_failed (asked.Clear p s most) was now says later old new empty (mid, before, f) =
+    clearing_keeps p.0 s.0 was now says later mid new f ∙ (by before ∙ empty)
+  where
+    by : (mid ≡ old) ⊎ DoesClear p.0 s.0 most old mid → (mid.port 0).present ≡ (old.port 0).present
+    by (inl same) = ap (λ (d : Device). (d.port 0).present) same
+    by (inr did) = one_keeps_present p.0 s.0 old mid (inr (inr (inr (most, did))))
+still_failed (asked.Finish p s) was now says later old new empty (mid, before, f) = by f ∙ (went before ∙ empty)
+  where
+    went : (mid ≡ old) ⊎ GoesOn (SendsEnd s.0) p.0 s.0 old mid → (mid.port 0).present ≡ (old.port 0).present
+    went (inl same) = ap (λ (d : Device). (d.port 0).present) same
+    went (inr did) = some_keep_present (suc did.0) p.0 s.0 old mid did.1
+
+    by : FailsToMove p.0 s.0 was now says later mid new ⊎ FailsToClear p.0 s.0 was now says later mid new → (new.port 0).present ≡ (mid.port 0).present
+    by (inl moves) = moving_keeps p.0 s.0 was now says later mid new moves
+    by (inr clears) = clearing_keeps p.0 s.0 was now says later mid new clears
+still_failed (asked.Fetch p s) was now says later old new empty f = senseless_keeps_present p.0 s.0 old new f.effect ∙ empty
+still_failed (asked.Done p s) was now says later old new empty f = absurd f
+still_failed (asked.Fault p s error) was now says later old new empty f = absurd f
+still_failed (asked.Lie p page offset bits) was now says later old new empty f = absurd f
+still_failed (asked.Truth p) was now says later old new empty f = absurd f
+still_failed (asked.Hold p) was now says later old new empty f = absurd f
+still_failed (asked.Release p) was now says later old new empty f = absurd f
+still_failed (asked.Unplug p) was now says later old new empty f = absurd f
+still_failed (asked.Plug p number) was now says later old new empty f = absurd f
 
 is_it : (w v : Which) → (w ≡ v) ⊎ (w ≢ v)
 is_it Disk0 Disk0 = inl refl
@@ -76,7 +117,7 @@ module _ {S : Type 0} (size : S → ℕ) (told : S → Option (ℕ → List ℕ)
             let present = subst P here.1 move.works.working.present in
             let no : true ≡ false = sym present ∙ empty in
             cc
-        | inr there ↦ no_move m.hardware (disk_over m.which (size m.disk) (told m.disk)) (told m.other) _ port slot t there.1 move
+        | inr there ↦ absurd (there.1 move.has_disk)
       ]
 
   -- nor a clear
@@ -88,7 +129,7 @@ module _ {S : Type 0} (size : S → ℕ) (told : S → Option (ℕ → List ℕ)
             let present = subst P here.1 clear.works.working.present in
             let no : true ≡ false = sym present ∙ empty in
             cc
-        | inr there ↦ no_clear m.hardware (disk_over m.which (size m.disk) (told m.disk)) (told m.other) _ port slot most t there.1 clear
+        | inr there ↦ absurd (there.1 clear.has_disk)
       ]
 
   -- so the store isn't asked
@@ -114,30 +155,13 @@ module _ {S : Type 0} (size : S → ℕ) (told : S → Option (ℕ → List ℕ)
   none_moves (asked.Fetch p s) m empty moves = moves
   none_moves (asked.Clear p s most) m empty moves = none_clears m p.0 s.0 most moves.1 empty moves.2
   none_moves (asked.Done p s) m empty moves = moves
+  none_moves (asked.Fault p s error) m empty moves = moves
   none_moves (asked.Lie p page offset bits) m empty moves = moves
   none_moves (asked.Truth p) m empty moves = moves
   none_moves (asked.Hold p) m empty moves = moves
   none_moves (asked.Release p) m empty moves = moves
   none_moves (asked.Unplug p) m empty moves = moves
   none_moves (asked.Plug p number) m empty moves = moves
-
-  -- nor does the store stop a step
-  none_stops : (s : DeviceStep) (was now : Option Failures) (old new : Model S) → ((device_at size told old).port 0).present ≡ false →
-      device_at size told new ≡ device_at size told old → StoreStops s was now (device_at size told new) → ⊥
-  none_stops (asked.Move p s) was now old new empty same f = none_has old p.0 s.0 f.t empty (subst (λ (d : Device). HasMove d p.0 s.0 f.t) same f.move)
-  none_stops (asked.Finish p s) was now old new empty same (inl f) = none_has old p.0 s.0 f.t empty (subst (λ (d : Device). HasMove d p.0 s.0 f.t) same f.move)
-  none_stops (asked.Finish p s) was now old new empty same (inr f) =
-      none_clears old p.0 s.0 1 f.t empty (subst (λ (d : Device). HasClear d p.0 s.0 1 f.t) same f.clear)
-  none_stops (asked.Fetch p s) was now old new empty same f = f
-  none_stops (asked.Clear p s most) was now old new empty same f =
-      none_clears old p.0 s.0 1 f.t empty (subst (λ (d : Device). HasClear d p.0 s.0 1 f.t) same f.clear)
-  none_stops (asked.Done p s) was now old new empty same f = f
-  none_stops (asked.Lie p page offset bits) was now old new empty same f = f
-  none_stops (asked.Truth p) was now old new empty same f = f
-  none_stops (asked.Hold p) was now old new empty same f = f
-  none_stops (asked.Release p) was now old new empty same f = f
-  none_stops (asked.Unplug p) was now old new empty same f = f
-  none_stops (asked.Plug p number) was now old new empty same f = f
 
   one_stays : (s : DeviceStep) (answer : Bool) (old new : Model S) (w : Which) → w ≢ old.which → (PutsIn w s → ⊥) → AnswersStep size told failures s answer old new →
       (w ≢ new.which) × (store_of new w ≡ store_of old w)
@@ -156,12 +180,16 @@ module _ {S : Type 0} (size : S → ℕ) (told : S → Option (ℕ → List ℕ)
   last_stays : (s : DeviceStep) (answer : Bool) (old new : Model S) (w : Which) → w ≡ old.which → ((device_at size told old).port 0).present ≡ false →
       (PutsIn w s → ⊥) → AnswersStep size told failures s answer old new → IsOut w new × (store_of new w ≡ store_of old w)
   last_stays s true old new w is empty never a = (
-    λ same. still_empty s _ _ w old.which is empty never a.0 a.1.asked (same ∙ a.1.which),
+    λ same.
+        elim a.1.came [
+          | inl whole ↦ still_empty s _ _ w old.which is empty never a.0 whole.asked (same ∙ a.1.which)
+          | inr failed ↦ still_failed s (failures old.disk) (failures new.disk) old.says new.says _ _ empty failed
+        ],
     a.1.disks (none_moves s old empty) w,
   )
   last_stays s false old new w is empty never a = (
     λ _. ap (λ (d : Device). (d.port 0).present) a.device ∙ empty,
-    elim a.why [ inl stops ↦ absurd (none_stops s _ _ old new empty a.device stops) | inr left ↦ left.0 w ],
+    a.disks w,
   )
 
   one_waits : (s : DeviceStep) (answer : Bool) (old new : Model S) (w : Which) → IsOut w old → (PutsIn w s → ⊥) → AnswersStep size told failures s answer old new →

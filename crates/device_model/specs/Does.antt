@@ -3,11 +3,11 @@
 use Rattle.std.specs.Prelude.{ℕ, Bool, true, false, ◌≡◌, ◌≢◌, ◌+◌, ◌^◌, ◌<◌, ◌≤◌, ◌⊎◌, List, [], ◌∷◌, ◌++◌, Option, None, Some, if◌then◌else◌, nat_eq}
 use Rattle.std.specs.Global.{Vec}
 use Rattle.std.specs.Vec.{vec_len, vec_capacity}
-use Rattle.adapter.specs.Asked.{AskedOf}
+use Rattle.adapter.specs.Asked.{DoesClear, DoneOf, GoesOn}
 use Rattle.adapter.specs.Commands.{Meaning, is_queued, is_ranged, reads_memory}
 use Rattle.adapter.specs.Device.{Device, Taken}
-use Rattle.adapter.specs.Steps.{Can, done_entry, next_sector}
-use Rattle.adapter.specs.Steps.Step.{Fetch, Done, Unplug}
+use Rattle.adapter.specs.Steps.{Can, after, done_entry, next_sector}
+use Rattle.adapter.specs.Steps.Step.{Fetch, FetchFault, Done, Fault, Unplug}
 use Rattle.adapter.specs.declared.access.DeviceStep.{DeviceStep}
 use Rattle.adapter.specs.declared.access.DeviceStep.TheVariants as asked
 use Rattle.adapter.specs.declared.command.Operation.{Operation}
@@ -19,30 +19,34 @@ use Rattle.device_model.specs.Finishing.{HasMove, HasRoom, MayFinish}
 use Rattle.device_model.specs.Held.{held_after}
 use Rattle.device_model.specs.Modelled.{device_at}
 use Rattle.device_model.specs.Paged.{GainsPages, lying, no_lies}
-use Rattle.device_model.specs.Sent.{Sends}
+use Rattle.device_model.specs.Sent.{Sends, SendsEnd}
 use Rattle.device_model.specs.Trims.{HasClear, next_uncleared, span}
-use Rattle.device_model.specs.View.{Takes}
 use Rattle.device_model.specs.declared.disks.Inserted.{Inserted}
 use Rattle.device_model.specs.declared.disks.Which.{Which}
 use Rattle.device_model.specs.declared.disks.Which.TheVariants.{Disk0, Disk1}
 use Rattle.device_model.specs.declared.hardware.Hardware.{Hardware}
-use Rattle.device_model.specs.declared.model.Clearing.{Clearing}
-use Rattle.device_model.specs.declared.model.Clearing.TheVariants.{Left}
 use Rattle.device_model.specs.declared.model.Description.{Description}
 use Rattle.device_model.specs.declared.model.Model.{Model}
+use Rattle.device_model.specs.declared.model.Outcome.{Outcome}
+use Rattle.device_model.specs.declared.model.Outcome.TheVariants.{Left}
 
 -- ---- when a step is possible
 
+-- A command that is issued in the slot may be taken, or its bytes mean none, and it may fail for that, as a plain one.
+abbrev pub MayBeFetched : Device → (port slot : ℕ) → Type 0
+MayBeFetched d port slot =
+    ((meaning : Meaning) × (places : List ℕ) × Can (Fetch port slot meaning places) d) ⊎ Can (FetchFault port slot false 0) d
+
 -- The step may be done now, memory to note it aside. There are ports 0 to 3 with slots 0 to 31, of which port 0 alone has disks; what is said of a
 -- page of any other port says nothing, and is done; a page has 512 bytes; and disks 0 and 1 can be put in, where no disk is. A Finish is possible
--- where each of its moves and clears is.
+-- where each of its moves and clears is. A sector may be past the disk: its command fails then.
 abbrev pub Possible : DeviceStep → Device → Type 0
-Possible (asked.Fetch p s) d =
-    (p.0 < 4) × (s.0 < 32) × (meaning : Meaning) × (places : List ℕ) × Takes meaning.operation × Can (Fetch p.0 s.0 meaning places) d
+Possible (asked.Fetch p s) d = (p.0 < 4) × (s.0 < 32) × MayBeFetched d p.0 s.0
 Possible (asked.Move p s) d = (s.0 < 32) × (t : Taken) × HasMove d p.0 s.0 t
 Possible (asked.Clear p s most) d = (s.0 < 32) × (t : Taken) × HasClear d p.0 s.0 most t
 Possible (asked.Done p s) d = (p.0 < 4) × (s.0 < 32) × (flag : ℕ) × (t : Taken) × Can (Done p.0 s.0 flag t) d
-Possible (asked.Finish p s) d = (p.0 ≡ 0) × (s.0 < 32) × (left clears : ℕ) × MayFinish d p.0 s.0 (d.port 0).disk.size left clears
+Possible (asked.Finish p s) d = (p.0 ≡ 0) × (s.0 < 32) × (left clears : ℕ) × MayFinish d p.0 s.0 left clears
+Possible (asked.Fault p s error) d = (p.0 < 4) × (s.0 < 32) × (t : Taken) × Can (Fault p.0 s.0 error 0 t) d
 Possible (asked.Lie p page offset bits) d = offset < 512
 Possible (asked.Truth p) d = Unit {0}
 Possible (asked.Hold p) d = p.0 < 4
@@ -51,13 +55,15 @@ Possible (asked.Unplug p) d = (p.0 ≡ 0) × Can (Unplug 0) d
 Possible (asked.Plug p number) d = (p.0 ≡ 0) × (number.0 < 2) × ((d.port 0).present ≡ false)
 
 -- Without growing, the tape has no room for what the step notes there, or, for a Plug, the list of the disks that were put in has none. A Finish notes
--- each of its moves and clears, and the end. The other steps note nothing.
+-- each of its moves and clears, and the end; a Clear what it clears, and a fault; and a Fetch a fault alone. The other steps note nothing.
 abbrev pub LacksMemory : {S : Type 0} → DeviceStep → Device → Hardware → Vec (Inserted S) → Type 0
+LacksMemory (asked.Fetch p s) d h plugged = Can (FetchFault p.0 s.0 false 0) d × (HasRoom h 1 → ⊥)
 LacksMemory (asked.Move p s) d h plugged = HasRoom h 1 → ⊥
-LacksMemory (asked.Clear p s most) d h plugged = HasRoom h 1 → ⊥
+LacksMemory (asked.Clear p s most) d h plugged = HasRoom h 2 → ⊥
 LacksMemory (asked.Done p s) d h plugged = HasRoom h 1 → ⊥
 LacksMemory (asked.Finish p s) d h plugged =
-    (left clears : ℕ) × MayFinish d p.0 s.0 (d.port 0).disk.size left clears × (HasRoom h (left + clears + 1) → ⊥)
+    (left clears : ℕ) × MayFinish d p.0 s.0 left clears × (HasRoom h (left + clears + 1) → ⊥)
+LacksMemory (asked.Fault p s error) d h plugged = HasRoom h 1 → ⊥
 LacksMemory (asked.Unplug p) d h plugged = HasRoom h 1 → ⊥
 LacksMemory (asked.Plug p number) d h plugged = HasRoom h 1 → vec_len plugged < vec_capacity plugged → ⊥
 LacksMemory step d h plugged = ⊥
@@ -66,13 +72,13 @@ LacksMemory step d h plugged = ⊥
 abbrev pub AsksFor : Operation → (left clears : ℕ) → Type 0
 AsksFor operation left clears = ((is_ranged operation ≡ true) × (1 ≤ left)) ⊎ (1 ≤ clears)
 
--- The step is possible and moves or clears a sector of the disk that is in: a Move, or a Finish that has a move left, of a command that names sectors; a
+-- The step is possible and moves or clears a sector, so that it may ask the store of the disk that is in for one: a Move, or a Finish that has a move left, of a command that names sectors; a
 -- Clear, or a Finish that has one left. No other step asks a store for anything.
 abbrev pub AsksStore : DeviceStep → Device → Type 0
 AsksStore (asked.Move p s) d = (s.0 < 32) × (t : Taken) × HasMove d p.0 s.0 t × (is_ranged t.meaning.operation ≡ true)
 AsksStore (asked.Clear p s most) d = (s.0 < 32) × (t : Taken) × HasClear d p.0 s.0 most t
 AsksStore (asked.Finish p s) d =
-    (p.0 ≡ 0) × (s.0 < 32) × (left clears : ℕ) × (may : MayFinish d p.0 s.0 (d.port 0).disk.size left clears)
+    (p.0 ≡ 0) × (s.0 < 32) × (left clears : ℕ) × (may : MayFinish d p.0 s.0 left clears)
     × AsksFor may.t.meaning.operation left clears
 AsksStore step d = ⊥
 
@@ -84,11 +90,18 @@ NeedsAddresses step d = Unit {0}
 
 -- ---- what a step makes of a model
 
--- what the disks of port 0 say of themselves after a step: they lie once more, or not any more
-abbrev pub says_after : DeviceStep → Description → Description
-says_after (asked.Lie p page offset bits) says = if nat_eq p.0 0 then record says { lies = lying says.lies offset bits } else says
-says_after (asked.Truth p) says = if nat_eq p.0 0 then record says { lies = no_lies } else says
-says_after step says = says
+-- what the disks of port 0 say of themselves once a command that is taken in a slot has failed with an error: the log names it, if it is queued
+abbrev pub says_failed : Option Taken → (slot error : ℕ) → Description → Description
+says_failed None slot error says = says
+says_failed (Some t) slot error says =
+    if is_queued t.meaning.operation then record says { log = Some (record { tag = slot; error = error }) } else says
+
+-- and after a step on this device: they lie once more, or not any more, or a command failed
+abbrev pub says_after : DeviceStep → Device → Description → Description
+says_after (asked.Lie p page offset bits) d says = if nat_eq p.0 0 then lying page offset bits says else says
+says_after (asked.Truth p) d says = if nat_eq p.0 0 then record says { lies = no_lies; log_lies = no_lies } else says
+says_after (asked.Fault p s error) d says = says_failed ((d.port p.0).taken s.0) s.0 error says
+says_after step d says = says
 
 -- the disk that is in after a step, or was last: a disk that is put in
 abbrev pub which_after : DeviceStep → Which → Which
@@ -107,35 +120,56 @@ pub record StepKeeps {S : Type 0} (size : S → ℕ) (old new : Model S) : Type 
   pub queue : new.queue ≡ old.queue
   pub accesses : new.accesses ≡ old.accesses
 
--- One more call on the store of the disk that is in has failed: that of the slot's command for the sector that it moves next;
-pub record FailsToMove (port slot : ℕ) (was now : Option Failures) (d : Device) : Type 0 where
+-- ---- commands that fail
+
+-- Why a command fails on a sector, with this error (ACS-3, 6.2): the sector is past the disk (10h, ID not found); or one more call on the store of the
+-- disk has failed, that for this sector (40h, uncorrectable data).
+abbrev pub IsCause : (writes : Bool) (sector size error : ℕ) → (was now : Option Failures) → Type 0
+IsCause writes sector size error was now =
+    ((size ≤ sector) × (error ≡ 0x10) × (now ≡ was)) ⊎ ((sector < size) × (error ≡ 0x40) × FailsOn writes sector was now)
+
+-- What is issued in the slot fails as it is to be taken, since its bytes mean no command: with 04h, aborted. It is told as a plain one.
+pub record FailsToFetch (port slot : ℕ) (was now : Option Failures) (says after_it : Description) (old new : Device) : Type 0 where
+  pub can : Can (FetchFault port slot false 0) old
+  pub effect : new ≡ after (FetchFault port slot false 0) old
+  pub stores : now ≡ was
+  pub log : after_it ≡ says
+
+-- the slot's command fails on the sector that it moves next;
+pub record FailsToMove (port slot : ℕ) (was now : Option Failures) (says after_it : Description) (old new : Device) : Type 0 where
   pub t : Taken
-  pub move : HasMove d port slot t
+  pub move : HasMove old port slot t
   pub ranged : is_ranged t.meaning.operation ≡ true
-  pub fails : FailsOn (reads_memory t.meaning.operation) (next_sector t) was now
+  pub error : ℕ
+  pub cause : IsCause (reads_memory t.meaning.operation) (next_sector t) (old.port port).disk.size error was now
+  pub can : Can (Fault port slot error 0 t) old
+  pub effect : new ≡ after (Fault port slot error 0 t) old
+  pub log : after_it ≡ says_failed (Some t) slot error says
 
--- or for the one that it clears next.
-pub record FailsToClear (port slot : ℕ) (was now : Option Failures) (d : Device) : Type 0 where
+-- or on the one that it clears next
+pub record FailsToClear (port slot : ℕ) (was now : Option Failures) (says after_it : Description) (old new : Device) : Type 0 where
   pub t : Taken
-  pub clear : HasClear d port slot 1 t
-  pub fails : FailsOn true (next_uncleared t) was now
+  pub clear : HasClear old port slot 1 t
+  pub error : ℕ
+  pub cause : IsCause true (next_uncleared t) (old.port port).disk.size error was now
+  pub can : Can (Fault port slot error 0 t) old
+  pub effect : new ≡ after (Fault port slot error 0 t) old
+  pub log : after_it ≡ says
 
--- for the one or the other
-abbrev pub FailsAt : (port slot : ℕ) → (was now : Option Failures) → Device → Type 0
-FailsAt port slot was now d = FailsToMove port slot was now d ⊎ FailsToClear port slot was now d
+-- after some of what a step asks, or nothing of it
+abbrev pub After : (Part Fails : Device → Device → Type 0) → Device → Device → Type 0
+After Part Fails old new = (mid : Device) × ((mid ≡ old) ⊎ Part old mid) × Fails mid new
 
--- so the store stops a step, which is left
-abbrev pub StoreStops : DeviceStep → (was now : Option Failures) → Device → Type 0
-StoreStops (asked.Move p s) was now d = FailsToMove p.0 s.0 was now d
-StoreStops (asked.Clear p s most) was now d = FailsToClear p.0 s.0 was now d
-StoreStops (asked.Finish p s) was now d = FailsAt p.0 s.0 was now d
-StoreStops step was now d = ⊥
-
--- so it cuts a step short, which is done: a Clear or a Finish, that came to this sector
-abbrev pub StoreCuts : DeviceStep → (was now : Option Failures) → Device → Type 0
-StoreCuts (asked.Clear p s most) was now d = FailsToClear p.0 s.0 was now d
-StoreCuts (asked.Finish p s) was now d = FailsAt p.0 s.0 was now d
-StoreCuts step was now d = ⊥
+-- The command of a step fails in its place, or on the way: a Fetch since it means none; and a Move, a Clear and a Finish as they come to a sector on which it
+-- fails, a Move as it begins, and the others once they have done what comes before it. What the disks say after it tells of a queued one.
+abbrev pub StepFails : DeviceStep → (was now : Option Failures) → (says after_it : Description) → Device → Device → Type 0
+StepFails (asked.Fetch p s) was now says after_it old new = FailsToFetch p.0 s.0 was now says after_it old new
+StepFails (asked.Move p s) was now says after_it old new = FailsToMove p.0 s.0 was now says after_it old new
+StepFails (asked.Clear p s most) was now says after_it old new =
+    After (DoesClear p.0 s.0 most) (FailsToClear p.0 s.0 was now says after_it) old new
+StepFails (asked.Finish p s) was now says after_it old new =
+    After (GoesOn (SendsEnd s.0) p.0 s.0) (λ mid last. FailsToMove p.0 s.0 was now says after_it mid last ⊎ FailsToClear p.0 s.0 was now says after_it mid last) old new
+StepFails step was now says after_it old new = ⊥
 
 -- no call has failed, on either store
 abbrev pub NoneFails : {S : Type 0} → (S → Option Failures) → Model S → Model S → Type 0
@@ -152,16 +186,16 @@ pub record HasEnded (since d : Device) (port slot : ℕ) : Type 0 where
   pub clear : (if is_queued operation then (d.port port).sact slot else (d.port port).ci slot) ≡ false
   pub issued_no_more : is_queued operation ≡ true → ((since.port port).taken slot ≡ None) ⊎ ((since.port port).ci slot ≡ false) → (d.port port).ci slot ≡ false
 
--- So many sectors of the slot's trim at the most were cleared: of the next ones all that follow one another and are on the disk.
+-- So many sectors of the slot's trim at the most were cleared: of the next ones all that follow one another.
 pub record HasCleared (old new : Device) (port slot most : ℕ) : Type 0 where
   pub t : Taken
   pub was : (old.port port).taken slot ≡ Some t
-  pub is : (new.port port).taken slot ≡ Some (record t { cleared = t.cleared + span (old.port port).disk.size most t })
+  pub is : (new.port port).taken slot ≡ Some (record t { cleared = t.cleared + span most t })
 
--- what came of a clear is that some sectors are cleared
-abbrev pub has_cleared : Clearing → Bool
-has_cleared Left = false
-has_cleared _ = true
+-- what a model answers, by what came of a move or a clear
+abbrev pub answer_of : Outcome → Bool
+answer_of Left = false
+answer_of _ = true
 
 -- a Finish ends its command, and a Clear clears all that can be cleared at once
 abbrev pub EndsIt : DeviceStep → Device → Device → Type 0
@@ -169,35 +203,41 @@ EndsIt (asked.Clear p s most) old new = HasCleared old new p.0 s.0 most
 EndsIt (asked.Finish p s) old new = HasEnded old new p.0 s.0
 EndsIt step old new = Unit {0}
 
--- A step that is done: the device did what it was asked, and sent the FIS of a command that ended. No call on a store has failed, and a Clear did all
--- that it could at once, and a Finish ended its command, in a memory of at most 4 GiB; or a call failed, and the Clear or the Finish came to the sector on
--- which it did. The ports are held that are held after it; the disk is in, or was last, that is after it, and each disk has the sectors that it had, but
--- where a sector is moved or cleared; the disks say of themselves what they say after it, and each page that the tape has gained is as the one that was in
--- said before; and that nothing was left out for want of memory is told as it was.
+-- A step is done whole: the device did what it was asked, and sent the FIS of a command that ended. No call on a store has failed; a Clear did all that it
+-- could at once, and a Finish ended its command, in a memory of at most 4 GiB; and the disks say of themselves what they say after it.
+pub record Completes {S : Type 0} (size : S → ℕ) (told : S → Option (ℕ → List ℕ)) (failures : S → Option Failures) (s : DeviceStep) (old new : Model S) : Type 0 where
+  pub asked : DoneOf (Sends s) s (device_at size told old) (device_at size told new)
+  pub fine : NoneFails failures old new
+  pub says : new.says ≡ says_after s (device_at size told old) old.says
+  pub ends : (device_at size told old).size ≤ 2 ^ 32 → EndsIt s (device_at size told old) (device_at size told new)
+
+-- its command fails
+abbrev pub HasFailed : {S : Type 0} → (S → ℕ) → (S → Option (ℕ → List ℕ)) → (S → Option Failures) → DeviceStep → Model S → Model S → Type 0
+HasFailed size told failures s old new =
+    StepFails s (failures old.disk) (failures new.disk) old.says new.says (device_at size told old) (device_at size told new)
+
+-- A step that is done: whole, or as far as its command has come that fails. The ports are held that are held after it; the disk is in, or was last, that is
+-- after it, and each disk has the sectors that it had, but where a sector is moved or cleared; each page that the tape has gained is as the disk that was in
+-- said before, and the log; and that nothing was left out for want of memory is told as it was.
 pub record Did {S : Type 0} (size : S → ℕ) (told : S → Option (ℕ → List ℕ)) (failures : S → Option Failures) (s : DeviceStep) (old new : Model S) : Type 0 where
-  pub asked : AskedOf (Sends s) s (device_at size told old) (device_at size told new)
-  pub ends : StoreCuts s (failures old.disk) (failures new.disk) (device_at size told new)
-      ⊎ (NoneFails failures old new × ((device_at size told old).size ≤ 2 ^ 32 → EndsIt s (device_at size told old) (device_at size told new)))
+  pub came : Completes size told failures s old new ⊎ HasFailed size told failures s old new
   pub held : new.held ≡ held_after s old.held
-  pub says : new.says ≡ says_after s old.says
   pub which : new.which ≡ which_after s old.which
   pub pages : GainsPages size old new
   pub disks : (AsksStore s (device_at size told old) → ⊥) → (which : Which) → store_of new which ≡ store_of old which
   pub keeps : StepKeeps size old new
   pub starved : new.hardware.starved ≡ old.hardware.starved
 
--- A step that is left: the device is as it was, and what the model says. Either the store of the disk that is in has stopped it; or each store is
--- as it was, too, and a step that is possible is left only where there was no room to note it without growing, and that is told as want of memory. That is
--- told where it was, and else only where the step was possible and there was no such room.
+-- A step that is left: the device is as it was, each store, and what the model says. A step that is possible is left only where there was no room to note
+-- it without growing, and that is told as want of memory. That is told where it was, and else only where the step was possible and there was no such room.
 pub record IsLeftOut {S : Type 0} (size : S → ℕ) (told : S → Option (ℕ → List ℕ)) (failures : S → Option Failures) (s : DeviceStep) (old new : Model S) : Type 0 where
   pub device : device_at size told new ≡ device_at size told old
   pub held : new.held ≡ old.held
   pub says : new.says ≡ old.says
   pub which : new.which ≡ old.which
-  pub why : StoreStops s (failures old.disk) (failures new.disk) (device_at size told new)
-      ⊎ (((which : Which) → store_of new which ≡ store_of old which)
-      × (NeedsAddresses s (device_at size told old) → Possible s (device_at size told old) →
-      LacksMemory s (device_at size told old) old.hardware old.plugged × (new.hardware.starved ≡ true)))
+  pub disks : (which : Which) → store_of new which ≡ store_of old which
+  pub why : NeedsAddresses s (device_at size told old) → Possible s (device_at size told old) →
+      LacksMemory s (device_at size told old) old.hardware old.plugged × (new.hardware.starved ≡ true)
   pub keeps : StepKeeps size old new
   pub starved_on : old.hardware.starved ≡ true → new.hardware.starved ≡ true
   pub starved_since : new.hardware.starved ≡ true → (old.hardware.starved ≡ true)

@@ -1,5 +1,5 @@
 -- What a fetch reads.
-use Rattle.std.specs.Prelude.{ℕ, ◌≡◌, List, None, length, All, slice_index}
+use Rattle.std.specs.Prelude.{ℕ, ◌≡◌, ◌<◌, ◌^◌, List, None, length, All, slice_index}
 use Rattle.adapter.specs.Says.{HasPrds, IsWhole, pieces}
 use Rattle.adapter.specs.declared.command.Prd.{Prd}
 use Rattle.device_model.specs.declared.port.TakenCommand.{TakenCommand}
@@ -8,11 +8,12 @@ use Rattle.device_model.specs.declared.port.TakenCommand.{TakenCommand}
 abbrev pub bytes_of : List ℕ → ℕ → ℕ
 bytes_of bytes = λ at. slice_index bytes at
 
--- nothing of a command was moved or cleared yet
+-- nothing of a command was moved or cleared yet; its first sector has a number of 48 bits
 pub record IsNew (t : TakenCommand) : Type 0 where
   pub moved : t.moved ≡ 0
   pub block : t.block ≡ None
   pub cleared : t.cleared ≡ 0
+  pub low : t.first < 2 ^ 48
 
 abbrev pub no_prd : Prd
 no_prd = record { address = 0; bytes = 0 }

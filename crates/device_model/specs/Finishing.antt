@@ -4,14 +4,14 @@ use Rattle.std.specs.Vec.{vec_len, vec_capacity}
 use Rattle.adapter.specs.Asked.{DoesFetch}
 use Rattle.adapter.specs.Commands.{Meaning, is_ranged}
 use Rattle.adapter.specs.Device.{Taken, Device}
-use Rattle.adapter.specs.Steps.{Can, WorksOn, begun, next_place, next_sector}
+use Rattle.adapter.specs.Steps.{Can, WorksOn, begun, next_place}
 use Rattle.adapter.specs.Steps.Step.{Fetch}
 use Rattle.adapter.specs.declared.command.Operation.{Operation}
-use Rattle.adapter.specs.declared.command.Operation.TheVariants.{Identify}
+use Rattle.adapter.specs.declared.command.Operation.TheVariants.{Identify, ReadLog}
 use Rattle.adapter.specs.declared.command.Prd.{Prd}
 use Rattle.device_model.specs.Trims.{WillClear}
 use Rattle.device_model.specs.Fetched.{bytes_of}
-use Rattle.device_model.specs.View.{Takes, operation_of, taken_of}
+use Rattle.device_model.specs.View.{operation_of, taken_of}
 use Rattle.device_model.specs.Whole.{Outside, device_of}
 use Rattle.device_model.specs.declared.hardware.Hardware.{Hardware}
 use Rattle.device_model.specs.declared.port.TakenCommand.{TakenCommand}
@@ -32,74 +32,74 @@ AreInside size places = (k : ℕ) → k < length places → slice_index places k
 abbrev pub IsInside : ℕ → Prd → Type 0
 IsInside size prd = 1 ≤ prd.bytes / 512 → prd.address + 512 * (prd.bytes / 512) ≤ size
 
--- so many moves are left of this command; each of its pieces is in a memory of this size, and each sector that it names one
--- of so many
-pub record IsCovered (t : Taken) (size sectors left : ℕ) : Type 0 where
+-- so many moves are left of this command, and each of its pieces is in a memory of this size
+pub record IsCovered (t : Taken) (size left : ℕ) : Type 0 where
   pub left_is : t.moved + left ≡ length t.places
-  pub on_disk : is_ranged t.meaning.operation ≡ true → t.meaning.first + length t.places ≤ sectors
   pub inside : AreInside size t.places
 
 -- the port is port 0, which has a disk, or the command names sectors, of which no other port has any
 abbrev pub HasDisk : ℕ → Operation → Type 0
 HasDisk port operation = (port ≡ 0) ⊎ (is_ranged operation ≡ true)
 
--- the port works on this command, and its next piece has a place in the memory and, if it is a sector, is one of the disk;
--- no port but port 0 has one
+-- port 0, which has a disk, works on this command, and its next piece has a place in the memory
 pub record HasMove (d : Device) (port slot : ℕ) (t : Taken) : Type 0 where
   pub works : WorksOn (d.port port) slot t t.meaning.operation
   pub left : t.moved < length t.places
   pub inside : next_place t + 512 ≤ d.size
-  pub on_disk : is_ranged t.meaning.operation ≡ true → next_sector t < (d.port port).disk.size
-  pub has_disk : HasDisk port t.meaning.operation
+  pub has_disk : port ≡ 0
 
 -- the port works on a command of which so many moves, and then so many clears, are left, all of them possible
-pub record IsGoing (d : Device) (port slot sectors left clears : ℕ) : Type 0 where
+pub record IsGoing (d : Device) (port slot left clears : ℕ) : Type 0 where
   pub t : Taken
-  pub takes : Takes t.meaning.operation
-  pub covered : IsCovered t d.size sectors left
-  pub clearing : WillClear t.meaning.operation d.memory t sectors clears
+  pub covered : IsCovered t d.size left
+  pub clearing : WillClear t.meaning.operation d.memory t clears
   pub works : WorksOn (d.port port) slot t t.meaning.operation
 
 -- the same, or the command isn't taken yet, and may be
-pub record MayFinish (d : Device) (port slot sectors left clears : ℕ) : Type 0 where
+pub record MayFinish (d : Device) (port slot left clears : ℕ) : Type 0 where
   pub t : Taken
-  pub takes : Takes t.meaning.operation
-  pub covered : IsCovered t d.size sectors left
-  pub clearing : WillClear t.meaning.operation d.memory t sectors clears
+  pub covered : IsCovered t d.size left
+  pub clearing : WillClear t.meaning.operation d.memory t clears
   pub begins : WorksOn (d.port port) slot t t.meaning.operation ⊎ (Can (Fetch port slot t.meaning t.places) d × (t ≡ begun t.meaning t.places))
 
--- port 0 has an IDENTIFY DEVICE in this slot, taken or not, which can be done to its end; its pieces have addresses of 32 bits
-pub record HasIdentify (d : Device) (slot : ℕ) : Type 0 where
+-- IDENTIFY DEVICE or READ LOG EXT, which send a page to the driver itself
+abbrev pub sends_page : Operation → Bool
+sends_page Identify = true
+sends_page ReadLog = true
+sends_page _ = false
+
+-- port 0 has such a command in this slot, taken or not, which can be done to its end; its pieces have addresses of 32 bits
+pub record HasPage (d : Device) (slot : ℕ) : Type 0 where
   pub left : ℕ
-  pub ready : MayFinish d 0 slot 0 left 0
-  pub identifies : ready.t.meaning.operation ≡ Identify
+  pub ready : MayFinish d 0 slot left 0
+  pub sends : sends_page ready.t.meaning.operation ≡ true
   pub low : AreInside (2 ^ 32) ready.t.places
 
--- an IDENTIFY DEVICE that is issued in this slot of port 0 may be taken, wherever its page is to go
-pub record MayIdentify (d : Device) (slot : ℕ) : Type 0 where
+-- one that is issued in this slot of port 0 may be taken, wherever its page is to go
+pub record MayPage (d : Device) (slot : ℕ) : Type 0 where
   pub meaning : Meaning
   pub places : List ℕ
-  pub identifies : meaning.operation ≡ Identify
+  pub sends : sends_page meaning.operation ≡ true
   pub can : Can (Fetch 0 slot meaning places) d
 
--- What a look at a slot of port 0 finds: an IDENTIFY DEVICE that can be done to its end; or one that may be taken, but can't be done to its end; or
--- neither.
-abbrev pub Identifies : Device → ℕ → Option Bool → Type 0
-Identifies d slot (Some true) = HasIdentify d slot
-Identifies d slot (Some false) = MayIdentify d slot × (HasIdentify d slot → ⊥)
-Identifies d slot None = (MayIdentify d slot → ⊥) × (HasIdentify d slot → ⊥)
+-- What a look at a slot of port 0 finds: a command that sends a page and can be done to its end; or one that may be taken, but can't be done to its end;
+-- or neither.
+abbrev pub FindsPage : Device → ℕ → Option Bool → Type 0
+FindsPage d slot (Some true) = HasPage d slot
+FindsPage d slot (Some false) = MayPage d slot × (HasPage d slot → ⊥)
+FindsPage d slot None = (MayPage d slot → ⊥) × (HasPage d slot → ⊥)
 
 -- ---- a command that is to be done to its end
 
--- so many moves, and then so many clears, are left of this command, all of them possible with this memory, and on a disk of so many sectors
-abbrev pub IsRest : TakenCommand → List ℕ → (sectors left clears : ℕ) → Type 0
-IsRest t memory sectors left clears =
-    IsCovered (taken_of t) (length memory) sectors left × WillClear (operation_of t.transfer) (bytes_of memory) (taken_of t) sectors clears
+-- so many moves, and then so many clears, are left of this command, all of them possible with this memory
+abbrev pub IsRest : TakenCommand → List ℕ → (left clears : ℕ) → Type 0
+IsRest t memory left clears =
+    IsCovered (taken_of t) (length memory) left × WillClear (operation_of t.transfer) (bytes_of memory) (taken_of t) clears
 
 -- It is begun: so many moves and clears are left of it, each possible, and there is room for them and the end; it is taken now, or was.
-pub record IsBegun (port slot sectors left clears : ℕ) (was_taken : Bool) (old new : Hardware) : Type 0 where
-  pub ready : (o : Outside) → MayFinish (device_of old o) port slot sectors left clears
-  pub going : (o : Outside) → IsGoing (device_of new o) port slot sectors left clears
+pub record IsBegun (port slot left clears : ℕ) (was_taken : Bool) (old new : Hardware) : Type 0 where
+  pub ready : (o : Outside) → MayFinish (device_of old o) port slot left clears
+  pub going : (o : Outside) → IsGoing (device_of new o) port slot left clears
   pub room : HasRoom new (left + clears + 1)
   pub did : was_taken ≡ true → (o : Outside) → DoesFetch port slot (device_of old o) (device_of new o)
   pub same : was_taken ≡ false → (o : Outside) → device_of new o ≡ device_of old o
@@ -107,17 +107,17 @@ pub record IsBegun (port slot sectors left clears : ℕ) (was_taken : Bool) (old
   pub starved : new.starved ≡ old.starved
 
 -- so many moves and clears are left of it, each possible, but there is no room for them and the end, and that is told
-pub record LacksRoom (port slot sectors : ℕ) (old new : Hardware) : Type 0 where
+pub record LacksRoom (port slot : ℕ) (old new : Hardware) : Type 0 where
   pub left : ℕ
   pub clears : ℕ
-  pub ready : (o : Outside) → MayFinish (device_of old o) port slot sectors left clears
-  pub only : (o : Outside) (n m : ℕ) → MayFinish (device_of old o) port slot sectors n m → (n ≡ left) × (m ≡ clears)
+  pub ready : (o : Outside) → MayFinish (device_of old o) port slot left clears
+  pub only : (o : Outside) (n m : ℕ) → MayFinish (device_of old o) port slot n m → (n ≡ left) × (m ≡ clears)
   pub lacked : HasRoom old (left + clears + 1) → ⊥
   pub lacks : HasRoom new (left + clears + 1) → ⊥
   pub same : (o : Outside) → device_of new o ≡ device_of old o
   pub told : new.starved ≡ true
 
 -- It isn't begun: there is none that can be done to its end, and nothing is another, or there is no room.
-abbrev pub IsUnbegun : (port slot sectors : ℕ) → Hardware → Hardware → Type 0
-IsUnbegun port slot sectors old new =
-    (((o : Outside) (left clears : ℕ) → MayFinish (device_of old o) port slot sectors left clears → ⊥) × (new ≡ old)) ⊎ LacksRoom port slot sectors old new
+abbrev pub IsUnbegun : (port slot : ℕ) → Hardware → Hardware → Type 0
+IsUnbegun port slot old new =
+    (((o : Outside) (left clears : ℕ) → MayFinish (device_of old o) port slot left clears → ⊥) × (new ≡ old)) ⊎ LacksRoom port slot old new

@@ -1,7 +1,8 @@
 -- What a model with its disks stands for.
-use Rattle.std.specs.Prelude.{ℕ, Bool, true, false, ◌≡◌, ◌≢◌, ◌+◌, ◌-◌, ◌*◌, ◌^◌, ◌<◌, ◌&&◌, List, [], ◌∷◌, Option, if◌then◌else◌, count_ones, is_some, map}
+use Rattle.std.specs.Prelude.{ℕ, Bool, true, false, ◌≡◌, ◌≢◌, ◌+◌, ◌-◌, ◌*◌, ◌^◌, ◌<◌, ◌&&◌, List, [], ◌∷◌, Option, None, if◌then◌else◌, count_ones, is_some, map}
 use Rattle.ata_types.specs.declared.memory.TheConstants.{FRAME_BYTES}
 use Rattle.adapter.specs.Device.{PortState, Device}
+use Rattle.adapter.specs.Device.Halt.{NotHalted}
 use Rattle.adapter.specs.FirstRead.{no_notes}
 use Rattle.adapter.specs.Idle.{IsIdle, IsSane}
 use Rattle.device_model.specs.Disks.{disk_over, store_of}
@@ -25,7 +26,7 @@ abbrev pub cap_of : ℕ → ℕ → Bool → ℕ
 cap_of pi slots ncq = (count_ones pi - 1) + 256 * (slots - 1) + (if ncq then 2 ^ 30 else 0)
 
 -- A port's registers as a reset of the adapter leaves them: no device is seen, no link is due to come up, no first FIS came,
--- no error and no cause is told (AHCI 1.3.1, 3.3 and 10.4.3). Nothing was read or written yet, PxCLB and PxFB neither.
+-- no error and no cause is told (AHCI 1.3.1, 3.3 and 10.4.3); and no fault has halted it. Nothing was read or written yet, PxCLB and PxFB neither.
 pub record IsReset (p : PortState) : Type 0 where
   pub addresses : p.bases ≡ record { clb = 0; fb = 0; clb_set = false; clbu_set = false; fb_set = false; fbu_set = false }
   pub tfd : p.tfd ≡ 0x7f
@@ -38,6 +39,7 @@ pub record IsReset (p : PortState) : Type 0 where
   pub is : (place : ℕ) → p.is place ≡ false
   pub fresh : p.fresh ≡ false
   pub link_due : p.link_due ≡ false
+  pub halt : p.halt ≡ NotHalted
   pub notes : p.notes ≡ no_notes
 
 -- A new adapter has what its configuration says, its ports too, and a disk in port 0 alone, disk 0, which was never out. It is switched off, its
@@ -58,7 +60,7 @@ pub record IsNewAdapter (config : ModelConfig) (size : ℕ) (told : Option (ℕ 
   pub idle : IsIdle d
 
 -- A new model. Its adapter is new, with these two disks for port 0: disk 0, which is in, and disk 1. Both have the abilities of the configuration,
--- and tell no lies. It tells its disks' sectors where both stores do. No port is held, no step queued, no access made, and nothing left out for want
+-- and tell no lies; the log names no command. It tells its disks' sectors where both stores do. No port is held, no step queued, no access made, and nothing left out for want
 -- of memory.
 pub record IsNewModel {S : Type 0} (size : S → ℕ) (told : S → Option (ℕ → List ℕ)) (config : ModelConfig) (disk0 disk1 : S) (m : Model S) : Type 0 where
   pub adapter : IsNewAdapter config (size disk0) (told disk0) (device_at size told m)
@@ -67,7 +69,13 @@ pub record IsNewModel {S : Type 0} (size : S → ℕ) (told : S → Option (ℕ 
   pub disk0_in : m.which ≡ Disk0
   pub disk0_is : store_of m Disk0 ≡ disk0
   pub disk1_is : store_of m Disk1 ≡ disk1
-  pub says : m.says ≡ record { abilities = record { ncq = config.ncq; depth = config.depth; trim = config.trim }; lies = no_lies }
+  pub says : m.says
+      ≡ record {
+        abilities = record { ncq = config.ncq; depth = config.depth; trim = config.trim };
+        log = None;
+        lies = no_lies;
+        log_lies = no_lies;
+      }
   pub held : m.held ≡ none_held
   pub queue : m.queue.items ≡ []
   pub accesses : m.accesses ≡ 0

@@ -1,10 +1,12 @@
 -- What the modelled disks say of themselves.
 use Rattle.std.specs.Prelude.{ℕ, ◌≡◌, ◌<◌, ◌++◌, List, All, length, bit_xor, replicate, slice_index, slice_set}
-use Rattle.adapter.specs.declared.command.Operation.TheVariants.{Identify}
+use Rattle.adapter.specs.declared.access.DiskPage.{DiskPage}
+use Rattle.adapter.specs.declared.access.DiskPage.TheVariants as disk_page
+use Rattle.adapter.specs.declared.command.Operation.TheVariants.{Identify, ReadLog}
 use Rattle.adapter.specs.declared.tape.Entry.{Entry}
 use Rattle.adapter.specs.declared.tape.Entry.TheVariants as entry
 use Rattle.adapter.specs.declared.tape.Move.{Move}
-use Rattle.sector_store.specs.Pages.{IsPage}
+use Rattle.sector_store.specs.Pages.{IsLogPage, IsPage}
 use Rattle.device_model.specs.Disks.{disk_serial}
 use Rattle.device_model.specs.declared.disks.Which.{Which}
 use Rattle.device_model.specs.declared.model.Description.{Description}
@@ -25,16 +27,32 @@ pub record IsItsPage (which : Which) (size : ℕ) (says : Description) (bytes : 
   pub true_page : IsPage (disk_serial which) size says.abilities page
   pub turned : IsTurned page says.lies bytes
 
--- each page of IDENTIFY DEVICE among these entries is this
-abbrev pub AreItsPages : Which → ℕ → Description → List Entry → Type 0
-AreItsPages which size says entries = All (λ e. (m : Move) → e ≡ entry.Move m → m.operation ≡ Identify → IsItsPage which size says m.bytes.value) entries
+-- the page of log 10h, which names the queued command that failed last, or none, with the bits turned on which the disks lie
+pub record IsItsLog (says : Description) (bytes : List ℕ) : Type 0 where
+  pub page : List ℕ
+  pub true_page : IsLogPage says.log page
+  pub turned : IsTurned page says.log_lies bytes
 
--- The tape has gained entries, of which each page of IDENTIFY DEVICE is that of the disk that was in, as it says of itself.
+-- the move is of no page, or brings the page of the disk, or of the log
+pub record BringsIts (which : Which) (size : ℕ) (says : Description) (m : Move) : Type 0 where
+  pub identity : m.operation ≡ Identify → IsItsPage which size says m.bytes.value
+  pub log : m.operation ≡ ReadLog → IsItsLog says m.bytes.value
+
+-- each page among these entries is such a one
+abbrev pub AreItsPages : Which → ℕ → Description → List Entry → Type 0
+AreItsPages which size says entries = All (λ e. (m : Move) → e ≡ entry.Move m → BringsIts which size says m) entries
+
+-- The tape has gained entries, of which each page is that of the disk that was in, as it says of itself, or of the log.
 pub record GainsPages {S : Type 0} (size : S → ℕ) (old new : Model S) : Type 0 where
   pub gained : List Entry
   pub tape : new.hardware.tape.items ≡ old.hardware.tape.items ++ gained
   pub pages : AreItsPages old.which (size old.disk) old.says gained
 
--- one more lie: these bits of this byte are turned, once more
-abbrev pub lying : List ℕ → ℕ → ℕ → List ℕ
-lying lies offset bits = slice_set lies offset (bit_xor (slice_index lies offset) bits)
+-- one more bit of a byte is turned, or one fewer
+abbrev pub turned : List ℕ → ℕ → ℕ → List ℕ
+turned lies offset bits = slice_set lies offset (bit_xor (slice_index lies offset) bits)
+
+-- one more lie of this page
+abbrev pub lying : DiskPage → (offset bits : ℕ) → Description → Description
+lying disk_page.Identity offset bits says = record says { lies = turned says.lies offset bits }
+lying disk_page.Log offset bits says = record says { log_lies = turned says.log_lies offset bits }

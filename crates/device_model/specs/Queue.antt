@@ -47,7 +47,7 @@ pub record DoesThen {S : Type 0} (size : S → ℕ) (told : S → Option (ℕ �
 
 -- A reading begins so, too. Then a pending reset may end, and the model's own steps are done; and the value is what the register shows then. Of the rest
 -- of the model nothing is another, but which ports are held where a reset ended. Each page that the tape has gained is as the disk that is in says of
--- itself. Want of memory is told on where it was, and else only where an IDENTIFY DEVICE is left for it.
+-- itself. Want of memory is told on where it was, and else only where an IDENTIFY DEVICE or a READ LOG EXT is left for it.
 pub record DoesRead {S : Type 0} (size : S → ℕ) (told : S → Option (ℕ → List ℕ)) (failures : S → Option Failures) (r : Reg) (value : ℕ) (old new : Model S) : Type 0 where
   pub mid : Model S
   pub begins : BeginsAccess size told failures old mid

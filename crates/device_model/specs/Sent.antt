@@ -8,7 +8,7 @@ use Rattle.adapter.specs.Steps.Step.{Done, LinkUp}
 use Rattle.adapter.specs.declared.access.DeviceStep.{DeviceStep}
 use Rattle.adapter.specs.declared.access.DeviceStep.TheVariants as asked
 use Rattle.adapter.specs.declared.command.Operation.{Operation}
-use Rattle.adapter.specs.declared.command.Operation.TheVariants.{Identify, ReadQueued, WriteQueued}
+use Rattle.adapter.specs.declared.command.Operation.TheVariants.{Identify, ReadLog, ReadQueued, WriteQueued}
 use Rattle.fis.specs.Spelling.{SpellsDeviceToHost, SpellsPioSetup, SpellsSetDeviceBits}
 use Rattle.fis.specs.declared.DeviceToHost.{DeviceToHost}
 use Rattle.fis.specs.declared.PioSetup.{PioSetup}
@@ -16,7 +16,7 @@ use Rattle.fis.specs.declared.SetDeviceBits.{SetDeviceBits}
 
 -- ---- what is sent: status and error are those of PxTFD
 
--- the page of IDENTIFY DEVICE, 512 bytes by PIO: DRQ was set beside the ending status; I asks for an interrupt
+-- the page of IDENTIFY DEVICE or READ LOG EXT, 512 bytes by PIO: DRQ was set beside the ending status; I asks for an interrupt
 abbrev pub page_setup : PortState → PioSetup
 page_setup p =
     record {
@@ -66,10 +66,11 @@ SendsBits port fis old new = (bytes : List ℕ) × SpellsSetDeviceBits bytes fis
 
 -- ---- when it is sent
 
--- As a slot's command ends: of IDENTIFY DEVICE a PIO Setup FIS, which PSS of PxIS tells; of a queued one a Set Device Bits FIS, which SDBS tells; and of
+-- As a slot's command ends: of IDENTIFY DEVICE and READ LOG EXT a PIO Setup FIS, which PSS of PxIS tells; of a queued one a Set Device Bits FIS, which SDBS tells; and of
 -- the others that the model takes a Register FIS, which DHRS tells (AHCI 1.3.1, 3.3.5).
 abbrev pub SendsEnd : (slot port flag : ℕ) → Operation → Device → Device → Type 0
 SendsEnd slot port flag Identify old new = (flag ≡ 1) × SendsSetup port (page_setup (old.port port)) old new
+SendsEnd slot port flag ReadLog old new = (flag ≡ 1) × SendsSetup port (page_setup (old.port port)) old new
 SendsEnd slot port flag ReadQueued old new = (flag ≡ 3) × SendsBits port (tag_of slot (old.port port)) old new
 SendsEnd slot port flag WriteQueued old new = (flag ≡ 3) × SendsBits port (tag_of slot (old.port port)) old new
 SendsEnd slot port flag _ old new = (flag ≡ 0) × SendsRegisters port (end_of (old.port port)) old new

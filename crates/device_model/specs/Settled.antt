@@ -3,21 +3,20 @@ use Rattle.std.specs.Prelude.{ℕ, Bool, true, false, ◌≡◌, ◌≢◌, ◌+
 use Rattle.adapter.specs.Device.{PortState, Device}
 use Rattle.adapter.specs.Steps.{Step, Can, MayLinkUp, after, with_port}
 use Rattle.adapter.specs.Steps.Step.{Fetch, Move, Done, Fall, FrFall, LinkUp, ResetEnds}
-use Rattle.adapter.specs.declared.command.Operation.TheVariants.{Identify}
-use Rattle.device_model.specs.Finishing.{HasIdentify, HasRoom, MayIdentify}
+use Rattle.device_model.specs.Finishing.{HasPage, HasRoom, MayPage, sends_page}
 use Rattle.device_model.specs.Held.{IsPortHeld, IsPortLoose, all_held, none_held}
 use Rattle.device_model.specs.Sent.{SendsAfter}
 use Rattle.device_model.specs.declared.hardware.Hardware.{Hardware}
 
 -- A step that the model does by itself, while these ports are held. On the others CR and FR fall, the link comes up with the signature of an ATA disk,
--- N and X, and IDENTIFY DEVICE is taken, moved and ended.
+-- N and X, and IDENTIFY DEVICE and READ LOG EXT are taken, moved and ended.
 abbrev pub IsOwn : List Bool → Step → Type 0
 IsOwn held (Fall port) = IsPortLoose held port
 IsOwn held (FrFall port) = IsPortLoose held port
 IsOwn held (LinkUp port sig n) = IsPortLoose held port × (sig ≡ 0x101) × (n ≡ true)
-IsOwn held (Fetch port slot meaning places) = IsPortLoose held port × (meaning.operation ≡ Identify)
-IsOwn held (Move port slot t bytes) = IsPortLoose held port × (t.meaning.operation ≡ Identify)
-IsOwn held (Done port slot flag t) = IsPortLoose held port × (t.meaning.operation ≡ Identify)
+IsOwn held (Fetch port slot meaning places) = IsPortLoose held port × (sends_page meaning.operation ≡ true)
+IsOwn held (Move port slot t bytes) = IsPortLoose held port × (sends_page t.meaning.operation ≡ true)
+IsOwn held (Done port slot flag t) = IsPortLoose held port × (sends_page t.meaning.operation ≡ true)
 IsOwn held step = ⊥
 
 -- CR or FR falls, or the link comes up
@@ -27,20 +26,20 @@ IsSettling (FrFall port) = Unit {0}
 IsSettling (LinkUp port sig n) = Unit {0}
 IsSettling step = ⊥
 
--- IDENTIFY DEVICE is taken, moved or ended
-abbrev pub IsIdentifying : Step → Type 0
-IsIdentifying (Fetch port slot meaning places) = Unit {0}
-IsIdentifying (Move port slot t bytes) = Unit {0}
-IsIdentifying (Done port slot flag t) = Unit {0}
-IsIdentifying step = ⊥
+-- IDENTIFY DEVICE or READ LOG EXT is taken, moved or ended
+abbrev pub IsPaging : Step → Type 0
+IsPaging (Fetch port slot meaning places) = Unit {0}
+IsPaging (Move port slot t bytes) = Unit {0}
+IsPaging (Done port slot flag t) = Unit {0}
+IsPaging step = ⊥
 
 -- such a step of the model's own
 abbrev pub Settles : List Bool → Step → Type 0
 Settles held step = IsOwn held step × IsSettling step
 
 -- or such a one
-abbrev pub Identifies : List Bool → Step → Type 0
-Identifies held step = IsOwn held step × IsIdentifying step
+abbrev pub SendsPages : List Bool → Step → Type 0
+SendsPages held step = IsOwn held step × IsPaging step
 
 -- steps one after another, each with the FIS that is sent after it
 abbrev pub LeadsSending : List Step → Device → Device → Type 0
@@ -53,11 +52,11 @@ pub record LeadsOwn (Own : Step → Type 0) (old new : Device) : Type 0 where
   pub own : All Own steps
   pub lead : LeadsSending steps old new
 
--- What the model does by itself: first the ports settle, and then IDENTIFY DEVICE goes on. So no command is ended that falls with CR.
+-- What the model does by itself: first the ports settle, and then IDENTIFY DEVICE and READ LOG EXT go on. So no command is ended that falls with CR.
 pub record DoesOwn (held : List Bool) (old new : Device) : Type 0 where
   pub settled : Device
   pub settles : LeadsOwn (Settles held) old settled
-  pub identifies : LeadsOwn (Identifies held) settled new
+  pub sends : LeadsOwn (SendsPages held) settled new
 
 -- A pending reset ends, and ends all holds, unless all ports are held.
 abbrev pub EndsReset : List Bool → List Bool → Device → Device → Type 0
@@ -82,12 +81,12 @@ pub record IsSettled (held : List Bool) (d : Device) : Type 0 where
   pub areas : (port : ℕ) → Can (FrFall port) d → IsPortHeld held port
   pub links : (port sig : ℕ) (n : Bool) → Can (LinkUp port sig n) d → IsPortHeld held port
 
--- In none of the slots 0 to 31 of port 0 an IDENTIFY DEVICE is left that may be taken, unless the port is held; nor one that can be done to its end,
+-- In none of the slots 0 to 31 of port 0 an IDENTIFY DEVICE or a READ LOG EXT is left that may be taken, unless the port is held; nor one that can be done to its end,
 -- unless the port is held, or it is told that something was left out for want of memory. To take one needs no memory.
 pub record NoneIsLeft (held : List Bool) (starved : Bool) (d : Device) : Type 0 where
-  pub taken : (slot : ℕ) → slot < 32 → MayIdentify d slot → IsPortHeld held 0
-  pub done : (slot : ℕ) → slot < 32 → HasIdentify d slot → IsPortHeld held 0 ⊎ (starved ≡ true)
+  pub taken : (slot : ℕ) → slot < 32 → MayPage d slot → IsPortHeld held 0
+  pub done : (slot : ℕ) → slot < 32 → HasPage d slot → IsPortHeld held 0 ⊎ (starved ≡ true)
 
 -- one is left, for which the tape has no memory: each of its moves, and its end, would be noted there
 abbrev pub LeavesOne : Hardware → Device → Type 0
-LeavesOne h d = (slot : ℕ) × (slot < 32) × (has : HasIdentify d slot) × (HasRoom h (has.left + 1) → ⊥)
+LeavesOne h d = (slot : ℕ) × (slot < 32) × (has : HasPage d slot) × (HasRoom h (has.left + 1) → ⊥)

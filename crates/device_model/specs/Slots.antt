@@ -1,10 +1,10 @@
 -- What a port may do with its slots.
-use Rattle.std.specs.Prelude.{ℕ, ◌≡◌, ◌+◌, ◌^◌, ◌<◌, ◌≤◌, Some, length, slice_index, slice_index_or}
+use Rattle.std.specs.Prelude.{ℕ, true, ◌≡◌, ◌+◌, ◌^◌, ◌<◌, ◌≤◌, Some, length, slice_index, slice_index_or}
 use Rattle.adapter.specs.Device.{PortState}
 use Rattle.adapter.specs.Says.{pieces}
-use Rattle.adapter.specs.Steps.{IsFetchable, IsWorking, IsAlone, WorksOn, next_sector}
+use Rattle.adapter.specs.Steps.{IsFetchable, IsWorking, IsAlone, WorksOn, admits, next_sector}
 use Rattle.adapter.specs.declared.command.Operation.{Operation}
-use Rattle.device_model.specs.View.{Media, held_in, port_of, operation_of, taken_of, blank}
+use Rattle.device_model.specs.View.{Media, halt_of, held_in, port_of, operation_of, taken_of, blank}
 use Rattle.device_model.specs.declared.port.TakenCommand.{TakenCommand}
 use Rattle.device_model.specs.declared.port.PortModel.{PortModel}
 use Rattle.device_model.specs.declared.hardware.Hardware.{Hardware}
@@ -19,29 +19,33 @@ pub record MayTake (p : PortState) (slot : ℕ) (operation : Operation) : Type 0
   pub working : IsWorking p operation
   pub alone : IsAlone p operation
 
--- the slot has a command that is issued and not taken, on a port that works: it may be taken, if its bytes say one that may be beside those that are
+-- the slot has a command that is issued and not taken, on a port that works: it may be taken, if its bytes say one that may be now
 abbrev pub HasUntaken : PortModel → ℕ → Type 0
-HasUntaken p slot = (m : Media) (operation : Operation) → IsFetchable (port_of p m) slot × IsWorking (port_of p m) operation
+HasUntaken p slot =
+    (m : Media) (operation : Operation) → admits (halt_of p.halting) operation ≡ true → IsFetchable (port_of p m) slot × IsWorking (port_of p m) operation
+
+-- such a command may be now: no fault keeps it waiting, and it goes beside those that are taken
+abbrev pub IsOpenTo : PortModel → Operation → Type 0
+IsOpenTo p operation = (admits (halt_of p.halting) operation ≡ true) × ((m : Media) → IsAlone (port_of p m) operation)
 
 -- the port works on this command, which it has taken in this slot
 pub record HoldsAt (p : PortModel) (slot : ℕ) (t : TakenCommand) : Type 0 where
   pub held : held_in p.taken slot ≡ Some t
   pub works : (m : Media) → WorksOn (port_of p m) slot (taken_of t) (operation_of t.transfer)
 
--- so many of the next sectors of this command can be cleared, on a disk of so many: a trim whose block was moved, and of which as many are left, one at least
-pub record CanClear (t : TakenCommand) (most sectors : ℕ) : Type 0 where
+-- so many of the next sectors of this command can be cleared: a trim whose block was moved, and of which as many are left, one at least
+pub record CanClear (t : TakenCommand) (most : ℕ) : Type 0 where
   pub trim : t.transfer ≡ Trim
   pub moved : t.moved ≡ length (pieces t.prds)
   pub some : 1 ≤ most
   pub enough : most ≤ length (uncleared (taken_of t))
-  pub on_disk : next_uncleared (taken_of t) < sectors
 
 -- these sectors of it are cleared at once
-pub record IsNextRun (h : Hardware) (port slot most sectors : ℕ) (run : Run) (t : TakenCommand) : Type 0 where
+pub record IsNextRun (h : Hardware) (port slot most : ℕ) (run : Run) (t : TakenCommand) : Type 0 where
   pub holds : HoldsAt (slice_index_or h.ports port blank) slot t
-  pub can : CanClear t most sectors
+  pub can : CanClear t most
   pub first_is : run.first ≡ next_uncleared (taken_of t)
-  pub count_is : run.count ≡ span sectors most (taken_of t)
+  pub count_is : run.count ≡ span most (taken_of t)
   pub fits : t.cleared + run.count < 2 ^ 32
 
 -- the next piece of this command goes to or from this address, and is this sector, if it is one

@@ -1,5 +1,5 @@
 -- The sectors of a trim that are left to clear, in the order of its block (ACS-3, 7.5), and how a model clears them (this project's own).
-use Rattle.std.specs.Prelude.{ℕ, suc, ◌≡◌, ◌-◌, ◌<◌, ◌≤◌, min, List, [], ◌∷◌, length, drop, take, All, if◌then◌else◌, nat_eq, nat_lt, slice_index}
+use Rattle.std.specs.Prelude.{ℕ, suc, ◌≡◌, ◌-◌, ◌≤◌, List, [], ◌∷◌, length, drop, take, if◌then◌else◌, nat_eq, nat_lt, slice_index}
 use Rattle.adapter.specs.Device.{Taken, Device}
 use Rattle.adapter.specs.Memory.{bytes_at}
 use Rattle.adapter.specs.Steps.{WorksOn}
@@ -38,18 +38,18 @@ uncleared t = drop t.cleared (trim_sectors t.block)
 abbrev pub next_uncleared : Taken → ℕ
 next_uncleared t = slice_index (uncleared t) 0
 
--- How many of the next so many sectors are cleared at once: those that follow one another, from the next one on, and are on a disk of this size.
-abbrev pub span : (size most : ℕ) → Taken → ℕ
-span size most t = min (run_of (take most (uncleared t))) (size - next_uncleared t)
+-- How many of the next so many sectors are cleared at once, where all are on the disk: those that follow one another, from the next one on.
+abbrev pub span : ℕ → Taken → ℕ
+span most t = run_of (take most (uncleared t))
 
--- The port works on this trim, whose block was moved; so many sectors are left to clear, one at least; and the next one is on the disk.
+-- Port 0, which has a disk, works on this trim, whose block was moved, and so many sectors are left to clear, one at least.
 pub record HasClear (d : Device) (port slot most : ℕ) (t : Taken) : Type 0 where
+  pub has_disk : port ≡ 0
   pub works : WorksOn (d.port port) slot t Trim
   pub trim : t.meaning.operation ≡ Trim
   pub moved : t.moved ≡ length t.places
   pub some : 1 ≤ most
   pub enough : most ≤ length (uncleared t)
-  pub on_disk : next_uncleared t < (d.port port).disk.size
 
 -- ---- what a trim is going to clear
 
@@ -57,13 +57,12 @@ pub record HasClear (d : Device) (port slot most : ℕ) (t : Taken) : Type 0 whe
 abbrev pub block_ahead : (ℕ → ℕ) → Taken → List ℕ
 block_ahead memory t = if nat_lt t.moved (length t.places) then bytes_at memory (slice_index t.places (length t.places - 1)) 512 else t.block
 
--- so many runs are left to clear of this block, and each sector is one of so many
-pub record HasRuns (block : List ℕ) (cleared sectors clears : ℕ) : Type 0 where
+-- so many runs are left to clear of this block
+pub record HasRuns (block : List ℕ) (cleared clears : ℕ) : Type 0 where
   pub within : cleared ≤ length (trim_sectors block)
   pub runs : clears ≡ runs_of (drop cleared (trim_sectors block))
-  pub on_disk : All (λ sector. sector < sectors) (drop cleared (trim_sectors block))
 
 -- so many clears are left of a command: one of each run of a trim, and of another command none
-abbrev pub WillClear : Operation → (ℕ → ℕ) → Taken → (sectors clears : ℕ) → Type 0
-WillClear Trim memory t sectors clears = HasRuns (block_ahead memory t) t.cleared sectors clears
-WillClear _ memory t sectors clears = clears ≡ 0
+abbrev pub WillClear : Operation → (ℕ → ℕ) → Taken → (clears : ℕ) → Type 0
+WillClear Trim memory t clears = HasRuns (block_ahead memory t) t.cleared clears
+WillClear _ memory t clears = clears ≡ 0

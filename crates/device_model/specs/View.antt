@@ -1,7 +1,7 @@
 -- The state that a model stands for.
 use Rattle.std.specs.Prelude.{ℕ, false, ◌%◌, List, [], Option, None, option_map, unwrap_or, slice_index_or, if◌then◌else◌}
-use Rattle.adapter.specs.Device.{Disk, Taken, Bases, Notes, PortState}
-use Rattle.adapter.specs.Device.Halt.{NotHalted}
+use Rattle.adapter.specs.Device.{Disk, Taken, Bases, Halt, Notes, PortState}
+use Rattle.adapter.specs.Device.Halt.{NotHalted, HaltedPlain, HaltedQueued, LogOnly}
 use Rattle.adapter.specs.Says.{pieces}
 use Rattle.adapter.specs.Access.{unacknowledged}
 use Rattle.adapter.specs.Steps.{next_sector, disk_after, disk_cleared}
@@ -10,6 +10,8 @@ use Rattle.adapter.specs.declared.command.Operation.{Operation}
 use Rattle.adapter.specs.declared.command.Operation.TheVariants.{Identify, Read, ReadQueued, Write, WriteQueued, Flush, Trim, ReadLog}
 use Rattle.device_model.specs.Bits.{bits_of}
 use Rattle.device_model.specs.Block.{brought}
+use Rattle.device_model.specs.declared.halt.Halting.{Halting}
+use Rattle.device_model.specs.declared.halt.Halting.TheVariants as halting
 use Rattle.device_model.specs.declared.port.Addresses.{Addresses}
 use Rattle.device_model.specs.declared.port.Readings.{Readings}
 use Rattle.device_model.specs.declared.port.TakenCommand.{TakenCommand}
@@ -46,11 +48,6 @@ notes_of r =
       acknowledged = r.acknowledged;
     }
 
--- the model takes each command but READ LOG EXT
-abbrev pub Takes : Operation → Type 0
-Takes ReadLog = ⊥
-Takes _ = Unit {0}
-
 abbrev pub operation_of : Transfer → Operation
 operation_of transfer.Read = Read
 operation_of transfer.Write = Write
@@ -59,13 +56,22 @@ operation_of transfer.WriteQueued = WriteQueued
 operation_of transfer.Identify = Identify
 operation_of transfer.Flush = Flush
 operation_of transfer.Trim = Trim
+operation_of transfer.ReadLog = ReadLog
 
 -- the cause in PxIS that its end sets: PSS where its data go by PIO, SDBS where it was queued, and else DHRS (AHCI 1.3.1, 3.3.5)
 abbrev pub cause_of : Transfer → ℕ
 cause_of transfer.Identify = 1
+cause_of transfer.ReadLog = 1
 cause_of transfer.ReadQueued = 3
 cause_of transfer.WriteQueued = 3
 cause_of _ = 0
+
+-- what a fault has made of a port
+abbrev pub halt_of : Halting → Halt
+halt_of halting.Running = NotHalted
+halt_of halting.Plain = HaltedPlain
+halt_of halting.Queued = HaltedQueued
+halt_of halting.LogOnly = LogOnly
 
 abbrev pub taken_of : TakenCommand → Taken
 taken_of t =
@@ -121,7 +127,7 @@ port_of p m =
       present = p.present;
       fresh = p.fresh;
       link_due = p.link_due;
-      halt = NotHalted;
+      halt = halt_of p.halting;
       broken = false;
       taken = slots_of (held_in p.taken);
       notes = notes_of p.readings;
@@ -153,6 +159,7 @@ blank =
       present = false;
       fresh = false;
       link_due = false;
+      halting = halting.Running;
       taken = [];
       readings = record {
         st_set_at = 0;

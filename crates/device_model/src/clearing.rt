@@ -1,5 +1,5 @@
 // What the block of a trim means, as the device reads it (ACS-3, 7.5).
-ghost use Rattle.std.specs.Prelude.{◌≡◌, ◌+◌, ◌*◌, ◌^◌, ◌<◌, ◌≤◌, ℕ, None, All, IfSome, length, take, drop, slice_index};
+ghost use Rattle.std.specs.Prelude.{◌≡◌, ◌≢◌, ◌⊎◌, ◌+◌, ◌-◌, ◌*◌, ◌^◌, ◌<◌, ◌≤◌, length, min, take, drop, slice_index};
 ghost use Rattle.byteorder.specs.Endian.{little_from};
 ghost use Rattle.adapter.specs.Trim.{trim_sectors};
 ghost use Rattle.device_model.specs.Trims.{run_of, runs_of};
@@ -14,6 +14,21 @@ const ENTRY_BYTES: usize = 8;
 pub struct Run {
     pub first: u64,
     pub count: u32,
+}
+
+impl Run {
+    /// Those of it that are on a disk of so many sectors.
+    pub fn cut(self, sectors: u64) -> Run
+        ensures inside { result.first + result.count ≤ sectors }
+        ensures count { result.count ≡ min self.count (sectors - self.first) }
+        ensures first { 1 ≤ result.count → result.first ≡ self.first }
+    {
+        let room = sectors.saturating_sub(self.first);
+        Run {
+            first: self.first.min(sectors),
+            count: u64::from(self.count).min(room) as u32,
+        }
+    }
 }
 
 /// The sectors of the entry at this place of a block.
@@ -69,12 +84,23 @@ pub fn next_run(block: &[u8], cleared: u32, most: u32) -> Run
     run
 }
 
-/// In how many runs the sectors of a block behind so many are, if each is one of so many sectors.
-pub fn count_runs(block: &[u8], cleared: u32, sectors: u64) -> Option<u32>
+/// How many runs there are with the one that a sector is in, behind so many, of which the last, if there is one, ends at this next sector.
+fn runs_with(runs: u32, next: u64, first: u64) -> u32
+    requires { runs + 1 < 2 ^ 32 }
+    ensures begins { (runs ≡ 0) ⊎ ((runs ≢ 0) × (first ≢ next)) → result ≡ runs + 1 }
+    ensures goes_on { runs ≢ 0 → first ≡ next → result ≡ runs }
+{
+    if runs == 0 || first != next {
+        runs + 1
+    } else {
+        runs
+    }
+}
+
+/// In how many runs the sectors of a block behind so many are.
+pub fn count_runs(block: &[u8], cleared: u32) -> u32
     requires { length block.now ≤ 512 }
-    ensures runs { IfSome result (λ runs. runs ≡ runs_of (drop cleared (trim_sectors block.now))) }
-    ensures on_disk { IfSome result (λ _. All (λ sector. sector < sectors) (drop cleared (trim_sectors block.now))) }
-    ensures only { result ≡ None → All (λ sector. sector < sectors) (drop cleared (trim_sectors block.now)) → ⊥ }
+    ensures { result ≡ runs_of (drop cleared (trim_sectors block.now)) }
 {
     let mut skip = cleared;
     let mut runs = 0;
@@ -84,16 +110,10 @@ pub fn count_runs(block: &[u8], cleared: u32, sectors: u64) -> Option<u32>
         if entry.count <= skip {
             skip -= entry.count;
         } else {
-            let end = entry.first + u64::from(entry.count);
-            if end > sectors {
-                return None;
-            }
-            if runs == 0 || entry.first != next {
-                runs += 1;
-            }
-            next = end;
+            runs = runs_with(runs, next, entry.first);
+            next = entry.first + u64::from(entry.count);
             skip = 0;
         }
     }
-    Some(runs)
+    runs
 }

@@ -7,7 +7,8 @@ ghost use Rattle.adapter.specs.declared.command.Command.{Command};
 ghost use Rattle.adapter.specs.Spelling.{AreZero, SpellsCommand, SpellsHeader, SpellsPrd};
 ghost use Rattle.byteorder.specs.Endian.{little_from};
 ghost use Rattle.device_model.specs.Fetched.{ArePrds, IsNew, bytes_of};
-ghost use Rattle.device_model.specs.View.{Takes, operation_of, taken_of};
+ghost use Rattle.device_model.specs.Finishing.{sends_page};
+ghost use Rattle.device_model.specs.View.{operation_of, taken_of};
 
 use crate::port::{TakenCommand, Transfer};
 use crate::prds::{MOST_PRDS, PrdTable};
@@ -29,6 +30,11 @@ const IDENTIFY_DEVICE: u8 = 0xec;
 const FLUSH_CACHE_EXT: u8 = 0xea;
 
 const DATA_SET_MANAGEMENT: u8 = 0x06;
+
+const READ_LOG_EXT: u8 = 0x2f;
+
+/// The log of queued commands' errors (ACS-3, A.14).
+const ERROR_LOG: u8 = 0x10;
 
 /// What a command header says: how many PRDs there are, and where the command table is.
 #[derive(Clone, Copy, Debug)]
@@ -192,6 +198,27 @@ fn decode_bare(bytes: &[u8], code: u8, number: u8) -> Option<Sectors>
     }
 }
 
+/// The sectors that the bytes name, none, if they are the FIS of READ LOG EXT of one page, the first of log 10h.
+fn decode_log(bytes: &[u8]) -> Option<Sectors>
+    requires { length bytes.now ≡ 20 }
+    ensures found { IfSome result (λ s. SpellsCommand bytes.now (with_fields 0x2f 0 1 0x10 0x00) × (s.first ≡ 0) × (s.count ≡ 0)) }
+    ensures only { (s : Sectors) → s.first ≡ 0 → s.count ≡ 0 → SpellsCommand bytes.now (with_fields 0x2f 0 1 0x10 0x00) → result ≡ Some s }
+{
+    if bytes[0] == 0x27
+        && bytes[1] == 0x80
+        && bytes[2] == READ_LOG_EXT
+        && bytes[3] == 0
+        && bytes[4] == ERROR_LOG
+        && are_zero(bytes, 5, 12)
+        && bytes[12] == 1
+        && are_zero(bytes, 13, 20)
+    {
+        Some(Sectors { first: 0, count: 0 })
+    } else {
+        None
+    }
+}
+
 /// The sectors that the bytes name, if they are the FIS of such a command in this slot; none where it names none.
 fn decode_sectors(bytes: &[u8], slot: u8, transfer: Transfer) -> Option<Sectors>
     requires size { length bytes.now ≡ 20 }
@@ -209,6 +236,7 @@ fn decode_sectors(bytes: &[u8], slot: u8, transfer: Transfer) -> Option<Sectors>
         Transfer::Identify => decode_bare(bytes, IDENTIFY_DEVICE, 0),
         Transfer::Flush => decode_bare(bytes, FLUSH_CACHE_EXT, 0),
         Transfer::Trim => decode_bare(bytes, DATA_SET_MANAGEMENT, 1),
+        Transfer::ReadLog => decode_log(bytes),
     }
 }
 
@@ -356,15 +384,19 @@ fn decode_command(
     true
 }
 
-/// The command that the bytes of a slot say, if it is such a one.
-pub fn read_as(memory: &[u8], list: u32, slot: u8, transfer: Transfer) -> Option<TakenCommand>
+/// The command that the bytes of a slot say, if it is one that sends a page: its code tells.
+pub fn read_page(memory: &[u8], list: u32, slot: u8) -> Option<TakenCommand>
     requires { slot < 32 }
     ensures found { IfSome result (λ t. IsNew t × Says (bytes_of memory.now) list slot (taken_of t).meaning (taken_of t).places) }
-    ensures kind { IfSome result (λ t. t.transfer ≡ transfer) }
-    ensures only { result ≡ None → (m : Meaning) (places : List ℕ) → m.operation ≡ operation_of transfer → Says (bytes_of memory.now) list slot m places → ⊥ }
+    ensures kind { IfSome result (λ t. sends_page (operation_of t.transfer) ≡ true) }
+    ensures only { result ≡ None → (m : Meaning) (places : List ℕ) → sends_page m.operation ≡ true → Says (bytes_of memory.now) list slot m places → ⊥ }
 {
     let header = header_bytes(memory, header_place(list, slot));
     let fis = fis_bytes(memory, &header);
+    let transfer = transfer_coded(fis[2])?;
+    if !transfer.sends_page() {
+        return None;
+    }
     let mut command = TakenCommand::room();
     if decode_command(memory, &header, &fis, slot, transfer, &mut command) {
         Some(command)
@@ -393,6 +425,7 @@ fn transfer_coded(code: u8) -> Option<Transfer>
         IDENTIFY_DEVICE => Some(Transfer::Identify),
         FLUSH_CACHE_EXT => Some(Transfer::Flush),
         DATA_SET_MANAGEMENT => Some(Transfer::Trim),
+        READ_LOG_EXT => Some(Transfer::ReadLog),
         _ => None,
     }
 }
@@ -403,7 +436,7 @@ pub fn read_into(memory: &[u8], list: u32, slot: u8, command: &mut TakenCommand)
     requires slot { slot < 32 }
     requires empty { command.old.prds ≡ [] }
     ensures found { result ≡ true → IsNew command.new × Says (bytes_of memory.now) list slot (taken_of command.new).meaning (taken_of command.new).places }
-    ensures only { result ≡ false → (m : Meaning) (places : List ℕ) → Takes m.operation → Says (bytes_of memory.now) list slot m places → ⊥ }
+    ensures only { result ≡ false → (m : Meaning) (places : List ℕ) → Says (bytes_of memory.now) list slot m places → ⊥ }
 {
     let header = header_bytes(memory, header_place(list, slot));
     let fis = fis_bytes(memory, &header);
@@ -417,7 +450,7 @@ pub fn read_into(memory: &[u8], list: u32, slot: u8, command: &mut TakenCommand)
 pub fn read_command(memory: &[u8], list: u32, slot: u8) -> Option<TakenCommand>
     requires { slot < 32 }
     ensures found { IfSome result (λ t. IsNew t × Says (bytes_of memory.now) list slot (taken_of t).meaning (taken_of t).places) }
-    ensures only { result ≡ None → (m : Meaning) (places : List ℕ) → Takes m.operation → Says (bytes_of memory.now) list slot m places → ⊥ }
+    ensures only { result ≡ None → (m : Meaning) (places : List ℕ) → Says (bytes_of memory.now) list slot m places → ⊥ }
 {
     let mut command = TakenCommand::room();
     if read_into(memory, list, slot, &mut command) {
@@ -425,4 +458,14 @@ pub fn read_command(memory: &[u8], list: u32, slot: u8) -> Option<TakenCommand>
     } else {
         None
     }
+}
+
+/// Whether the bytes of a slot say a command.
+pub fn says_command(memory: &[u8], list: u32, slot: u8) -> bool
+    requires { slot < 32 }
+    ensures said { result ≡ true → (m : Meaning) × (places : List ℕ) × Says (bytes_of memory.now) list slot m places }
+    ensures none { result ≡ false → (m : Meaning) (places : List ℕ) → Says (bytes_of memory.now) list slot m places → ⊥ }
+{
+    let mut command = TakenCommand::room();
+    read_into(memory, list, slot, &mut command)
 }

@@ -16,7 +16,6 @@ ghost use Rattle.device_model.specs.Held.{IsPortHeld};
 ghost use Rattle.device_model.specs.Modelled.{device_at};
 ghost use Rattle.device_model.specs.Queue.{DoesEach};
 ghost use Rattle.device_model.specs.Settled.{DoesOwn};
-ghost use Rattle.device_model.specs.View.{Takes};
 ghost use Rattle.device_model.specs.declared.disks.Which.{Which};
 
 use crate::Model;
@@ -60,7 +59,7 @@ pub fn held_ports_stay()
 /// of which nothing is left is taken still, and may end, once another one has ended, whichever of them does first.
 pub fn queued_commands_go_on_side_by_side<S: SectorStore>()
     ensures taken { (old new : Model S) (p : Port) (slot other : Slot) (m n : Meaning) (xs ys : List ℕ) → slot.0 < 32 → other.0 < 32 → other.0 ≢ slot.0 →
-        p.0 < 4 → Takes m.operation → Takes n.operation → is_queued m.operation ≡ true → is_queued n.operation ≡ true →
+        p.0 < 4 → is_queued m.operation ≡ true → is_queued n.operation ≡ true →
         Can (Fetch p.0 slot.0 m xs) (device_at S.size S.told old) → Can (Fetch p.0 other.0 n ys) (device_at S.size S.told old) →
         Possible (asked.Fetch p slot) (device_at S.size S.told old)
         × (Did S.size S.told S.failures (asked.Fetch p slot) old new → Can (Fetch p.0 other.0 n ys) (device_at S.size S.told new)

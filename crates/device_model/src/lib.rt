@@ -1,7 +1,7 @@
 //! A modelled AHCI adapter: registers, memory, and two disks for port 0, each over a store of sectors. Its device does what it is told,
-//! and by itself ends a reset, lets engines fall, brings the link up, and does IDENTIFY DEVICE, but not on a port that is
-//! held. It takes READ DMA EXT, WRITE DMA EXT, READ FPDMA QUEUED, WRITE FPDMA QUEUED, FLUSH CACHE EXT, DATA SET MANAGEMENT with TRIM and IDENTIFY
-//! DEVICE.
+//! and by itself ends a reset, lets engines fall, brings the link up, and does IDENTIFY DEVICE and READ LOG EXT, but not on a port that is
+//! held. It takes READ DMA EXT, WRITE DMA EXT, READ FPDMA QUEUED, WRITE FPDMA QUEUED, FLUSH CACHE EXT, DATA SET MANAGEMENT with TRIM, IDENTIFY
+//! DEVICE and READ LOG EXT, and fails them when it is told.
 #![tactic(auto)]
 
 mod bits;
@@ -9,6 +9,7 @@ mod clearing;
 mod config;
 mod disks;
 mod fetch;
+mod halt;
 mod hardware;
 pub mod laws;
 mod model;

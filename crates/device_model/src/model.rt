@@ -10,18 +10,17 @@ ghost use Rattle.adapter.specs.Steps.{Steps, disk_after, disk_cleared, next_plac
 ghost use Rattle.adapter.specs.Asked.{Asked};
 ghost use Rattle.sector_store.specs.Stores.{FailsOn};
 ghost use Rattle.device_model.specs.Fetched.{bytes_of};
-ghost use Rattle.adapter.specs.declared.command.Operation.TheVariants.{Identify};
 ghost use Rattle.adapter.specs.OneCommand.{IsFreeSlot};
 ghost use Rattle.device_model.specs.Disks.{disk_over, store_of};
-ghost use Rattle.device_model.specs.Finishing.{HasIdentify, HasMove, HasRoom, MayIdentify};
+ghost use Rattle.device_model.specs.Finishing.{HasPage, HasMove, HasRoom, MayPage, sends_page};
 ghost use Rattle.device_model.specs.Held.{IsPortLoose};
-ghost use Rattle.device_model.specs.Paged.{IsItsPage, IsTurned};
-ghost use Rattle.device_model.specs.Does.{AnswersStep, GoesOnSo, HasCleared, NoneFails, StoreCuts, has_cleared};
+ghost use Rattle.device_model.specs.Paged.{IsItsLog, IsItsPage, IsTurned};
+ghost use Rattle.device_model.specs.Does.{AnswersStep, Completes, GoesOnSo, HasCleared, HasFailed, answer_of};
 ghost use Rattle.device_model.specs.Tells.{disks_told};
 ghost use Rattle.device_model.specs.Queue.{BeginsAccess, DoesRead, DoesThen};
 ghost use Rattle.device_model.specs.Modelled.{device_at, cap_of, IsNewModel};
-ghost use Rattle.device_model.specs.Settled.{Identifies, IsSettled, LeadsOwn, LeavesOne, NoneIsLeft};
-ghost use Rattle.device_model.specs.View.{Takes, operation_of};
+ghost use Rattle.device_model.specs.Settled.{SendsPages, IsSettled, LeadsOwn, LeavesOne, NoneIsLeft};
+ghost use Rattle.device_model.specs.View.{operation_of};
 
 use crate::clearing::Run;
 use crate::config::{ModelConfig, NoMemory};
@@ -33,7 +32,7 @@ use adapter::{Adapter, DeviceStep, DiskNumber, DiskPage, Entry, Stepped};
 use ata_types::{FEWEST_FRAMES, FRAME_BYTES, MOST_FRAMES, Port, Slot};
 use hba_regs::Reg;
 use sector_store::SectorStore;
-use sector_store::pages::Abilities;
+use sector_store::pages::{Abilities, FailedCommand, log_page};
 use std::alloc::Global;
 use std::mem;
 use std::snapshot::Snapshot;
@@ -43,16 +42,34 @@ const PAGE_BYTES: usize = 512;
 /// A sector that was cleared.
 const ZEROS: [u8; 512] = [0; 512];
 
-/// What came of the sectors that were to be cleared.
+/// What came of a move or a clear that was to be done.
 #[derive(Clone, Copy, Debug)]
-enum Clearing {
-    /// None is cleared.
+enum Outcome {
+    /// It is left, and nothing is another.
     Left,
-    /// Some are: the store failed at the next one.
-    Part,
-    /// All are that could be at once.
-    Whole,
+    /// Its command failed on a sector.
+    Failed,
+    /// It is done.
+    Done,
 }
+
+impl Outcome {
+    /// Whether something came of it.
+    fn is_told(self) -> bool
+        ensures { result ≡ answer_of self }
+    {
+        match self {
+            Outcome::Left => false,
+            Outcome::Failed | Outcome::Done => true,
+        }
+    }
+}
+
+/// The error of a sector that is past the disk: IDNF (ACS-3, 6.2).
+const PAST_THE_DISK: u8 = 0x10;
+
+/// The error of a sector on which the store failed: UNC.
+const STORE_FAILED: u8 = 0x40;
 
 /// A step that is done before the access with this number.
 #[derive(Clone, Copy, Debug)]
@@ -61,17 +78,21 @@ struct Queued {
     step: DeviceStep,
 }
 
-/// What the disks of port 0 say of themselves by their pages of IDENTIFY DEVICE, beside their sizes and serial numbers.
+/// What the disks of port 0 say of themselves by their pages of IDENTIFY DEVICE, beside their sizes and serial numbers, and by the page of log 10h.
 #[derive(Clone, Copy, Debug)]
 pub struct Description {
     pub abilities: Abilities,
-    /// The bits of a page that are turned.
+    /// The queued command that failed last.
+    pub log: Option<FailedCommand>,
+    /// The bits of a page of IDENTIFY DEVICE that are turned.
     pub lies: [u8; PAGE_BYTES],
+    /// The bits of the log's page that are turned.
+    pub log_lies: [u8; PAGE_BYTES],
 }
 
 /// A modelled adapter. Port 0 has disk 0 at first, over the first store; it can be taken out, and put in again, or disk 1 in its place, over the
-/// second one. The others of ports 0 to 3 that there are have no device. Of all commands it takes READ DMA EXT, WRITE DMA EXT, READ FPDMA
-/// QUEUED, WRITE FPDMA QUEUED, FLUSH CACHE EXT, DATA SET MANAGEMENT with TRIM and IDENTIFY DEVICE alone: a step on another one answers `false`.
+/// second one. The others of ports 0 to 3 that there are have no device. It takes READ DMA EXT, WRITE DMA EXT, READ FPDMA
+/// QUEUED, WRITE FPDMA QUEUED, FLUSH CACHE EXT, DATA SET MANAGEMENT with TRIM, IDENTIFY DEVICE and READ LOG EXT.
 #[derive(Drop)]
 pub struct Model<S> {
     hardware: Hardware,
@@ -128,7 +149,9 @@ impl<S: SectorStore> Model<S> {
                     depth: config.depth,
                     trim: config.trim,
                 },
+                log: None,
                 lies: [0; PAGE_BYTES],
+                log_lies: [0; PAGE_BYTES],
             },
             plugged,
             which: Which::Disk0,
@@ -177,14 +200,14 @@ impl<S: SectorStore> Model<S> {
             .map_err(|_full| NoMemory)
     }
 
-    /// Takes the command that is issued in a slot, if it is one that the model takes.
+    /// Takes the command that is issued in a slot; what means none fails for that.
     fn fetch(&mut self, port: Port, slot: Slot) -> bool
         ensures { AnswersStep S.size S.told S.failures (DeviceStep.Fetch port slot) result self.old self.new }
     {
         if port.0 >= 4 || slot.0 >= 32 {
             return false;
         }
-        self.hardware.fetch(port.0, slot.0)
+        self.hardware.fetch(port.0, slot.0) || self.hardware.fail_senseless(port.0, slot.0)
     }
 
     /// Ends a slot's command, of which nothing is left to move or to clear.
@@ -195,6 +218,23 @@ impl<S: SectorStore> Model<S> {
             return false;
         }
         self.hardware.done(port.0, slot.0)
+    }
+
+    /// Fails a slot's command, which is taken, with an error. The log names it, if it is queued.
+    fn fail(&mut self, port: Port, slot: Slot, error: u8) -> bool
+        ensures { AnswersStep S.size S.told S.failures (DeviceStep.Fault port slot error) result self.old self.new }
+    {
+        if port.0 >= 4 || slot.0 >= 32 {
+            return false;
+        }
+        let Some(queued) = self.hardware.fail(port.0, slot.0, error) else {
+            return false;
+        };
+        if queued {
+            let tag = slot.0;
+            self.says.log = Some(FailedCommand { tag, error });
+        }
+        true
     }
 
     /// Takes the disk out of port 0, which alone has one.
@@ -238,29 +278,33 @@ impl<S: SectorStore> Model<S> {
         true
     }
 
-    /// Moves the next piece of a slot's command. The memory is taken to end at 4 GiB.
-    fn move_piece(&mut self, port: Port, slot: Slot) -> bool
+    /// Moves the next piece of a slot's command, or fails it, if that is a sector on which the store fails, or one past the disk. The memory is taken to end
+    /// at 4 GiB.
+    fn move_piece(&mut self, port: Port, slot: Slot) -> Outcome
         requires { slot.0 < 32 }
-        ensures answers { AnswersStep S.size S.told S.failures (DeviceStep.Move port slot) result self.old self.new }
-        ensures left { (n : ℕ) → HasRoom self.old.hardware (n + 1) → HasRoom self.new.hardware n }
-        ensures page { (t : Taken) → ((device_at S.size S.told self.old).port port.0).taken slot.0 ≡ Some t → t.meaning.operation ≡ Identify →
-            result ≡ false → HasMove (device_at S.size S.told self.old) port.0 slot.0 t → next_place t < 2 ^ 32 → HasRoom self.old.hardware 1 → ⊥ }
+        ensures answers { AnswersStep S.size S.told S.failures (DeviceStep.Move port slot) (answer_of result) self.old self.new }
+        ensures whole { result ≡ Outcome.Done → Completes S.size S.told S.failures (DeviceStep.Move port slot) self.old self.new }
+        ensures failed { result ≡ Outcome.Failed → HasFailed S.size S.told S.failures (DeviceStep.Move port slot) self.old self.new }
+        ensures left { result ≡ Outcome.Done → (n : ℕ) → HasRoom self.old.hardware (n + 1) → HasRoom self.new.hardware n }
+        ensures page { (t : Taken) → ((device_at S.size S.told self.old).port port.0).taken slot.0 ≡ Some t → sends_page t.meaning.operation ≡ true →
+            result ≡ Outcome.Left → HasMove (device_at S.size S.told self.old) port.0 slot.0 t → next_place t < 2 ^ 32 → HasRoom self.old.hardware 1 → ⊥ }
     {
         // No other port has a disk.
         if port.0 != 0 {
-            return false;
+            return Outcome::Left;
         }
         // A sector that was written can't be taken back, so the memory of its entry is found first.
         let room = self.hardware.reserve(1);
         let Some(next) = self.hardware.next_move(port.0, slot.0) else {
-            return false;
+            return Outcome::Left;
         };
-        if !next.is_on(self.disk.sectors()) {
-            return false;
-        }
         if !room {
             self.hardware.starved = true;
-            return false;
+            return Outcome::Left;
+        }
+        if !next.is_on(self.disk.sectors()) {
+            let _failed = self.fail(port, slot, PAST_THE_DISK);
+            return Outcome::Failed;
         }
         let mut bytes = [0; 512];
         if !exchange(
@@ -271,104 +315,93 @@ impl<S: SectorStore> Model<S> {
             next,
             &mut bytes,
         ) {
-            return false;
+            let _failed = self.fail(port, slot, STORE_FAILED);
+            return Outcome::Failed;
         }
         self.hardware.move_bytes(port.0, slot.0, next, &bytes);
-        true
+        Outcome::Done
     }
 
-    /// Clears the next sectors of a slot's trim, so many at the most.
-    fn clear_run(&mut self, port: Port, slot: Slot, most: u32) -> Clearing
+    /// Clears the next sectors of a slot's trim, so many at the most: those that follow one another. It fails on the first one past the disk, or on which the
+    /// store fails, once those before it are cleared.
+    fn clear_run(&mut self, port: Port, slot: Slot, most: u32) -> Outcome
         requires { slot.0 < 32 }
-        ensures answers { AnswersStep S.size S.told S.failures (DeviceStep.Clear port slot most) (has_cleared result) self.old self.new }
-        ensures part { result ≡ Clearing.Part → StoreCuts (DeviceStep.Clear port slot most) (S.failures self.old.disk) (S.failures self.new.disk) (device_at S.size S.told self.new) }
-        ensures whole { result ≡ Clearing.Whole → HasCleared (device_at S.size S.told self.old) (device_at S.size S.told self.new) port.0 slot.0 most × NoneFails S.failures self.old self.new }
-        ensures left { (n : ℕ) → HasRoom self.old.hardware (n + 1) → HasRoom self.new.hardware n }
+        ensures answers { AnswersStep S.size S.told S.failures (DeviceStep.Clear port slot most) (answer_of result) self.old self.new }
+        ensures whole { result ≡ Outcome.Done → HasCleared (device_at S.size S.told self.old) (device_at S.size S.told self.new) port.0 slot.0 most
+            × Completes S.size S.told S.failures (DeviceStep.Clear port slot most) self.old self.new }
+        ensures failed { result ≡ Outcome.Failed → HasFailed S.size S.told S.failures (DeviceStep.Clear port slot most) self.old self.new }
+        ensures left { result ≡ Outcome.Done → (n : ℕ) → HasRoom self.old.hardware (n + 1) → HasRoom self.new.hardware n }
     {
         // No other port has a disk.
         if port.0 != 0 {
-            return Clearing::Left;
+            return Outcome::Left;
         }
-        // A sector that was cleared can't be taken back, so the memory of the entry is found first.
-        let room = self.hardware.reserve(1);
-        let sectors = self.disk.sectors();
-        let Some(run) = self.hardware.run_to_clear(port.0, slot.0, most, sectors) else {
-            return Clearing::Left;
+        // A sector that was cleared can't be taken back, so the memory of the entries is found first.
+        let room = self.hardware.reserve(2);
+        let Some(run) = self.hardware.run_to_clear(port.0, slot.0, most) else {
+            return Outcome::Left;
         };
         if !room {
             self.hardware.starved = true;
-            return Clearing::Left;
+            return Outcome::Left;
         }
-        let count = clear_sectors(&mut self.disk, self.which, run);
-        if count == 0 {
-            return Clearing::Left;
-        }
+        let on_disk = run.cut(self.disk.sectors());
+        let count = clear_sectors(&mut self.disk, self.which, on_disk);
         let first = run.first;
         self.hardware.clear(port.0, slot.0, Run { first, count });
-        if count < run.count {
-            Clearing::Part
-        } else {
-            Clearing::Whole
+        if count == run.count {
+            return Outcome::Done;
         }
+        let error = if count < on_disk.count { STORE_FAILED } else { PAST_THE_DISK };
+        let _failed = self.fail(port, slot, error);
+        Outcome::Failed
     }
 
-    /// Clears the next sectors of a slot's trim, so many at the most: those that follow one another and are on the disk, up to the one at which the store
-    /// fails.
-    fn clear(&mut self, port: Port, slot: Slot, most: u32) -> bool
-        requires { slot.0 < 32 }
-        ensures { AnswersStep S.size S.told S.failures (DeviceStep.Clear port slot most) result self.old self.new }
-    {
-        match self.clear_run(port, slot, most) {
-            Clearing::Left => false,
-            Clearing::Part | Clearing::Whole => true,
-        }
-    }
-
-    /// Takes a slot's command if it isn't taken, moves and clears all that is left of it, and ends it. The tape's memory is found first. A store
-    /// that fails cuts it short.
+    /// Takes a slot's command if it isn't taken, moves and clears all that is left of it, and ends it. The tape's memory is found first. A sector on which
+    /// the store fails, or that is past the disk, fails it.
     fn finish(&mut self, port: Port, slot: Slot) -> bool
         requires { slot.0 < 32 }
         ensures answers { AnswersStep S.size S.told S.failures (DeviceStep.Finish port slot) result self.old self.new }
-        ensures identifies { port.0 ≡ 0 → (has : HasIdentify (device_at S.size S.told self.old) slot.0) →
+        ensures sends { port.0 ≡ 0 → (has : HasPage (device_at S.size S.told self.old) slot.0) →
             (result ≡ true → IsFreeSlot ((device_at S.size S.told self.new).port 0) slot.0)
             × (result ≡ false → (self.new.hardware.starved ≡ true) × (HasRoom self.new.hardware (has.left + 1) → ⊥)) }
     {
         if port.0 != 0 {
             return false;
         }
-        let sectors = self.disk.sectors();
-        let Some(Begun { rest, was_taken }) = self.hardware.begin(port.0, slot.0, sectors) else {
+        let Some(Begun { rest, was_taken }) = self.hardware.begin(port.0, slot.0) else {
             return false;
         };
         let mut did = was_taken;
         for _piece in 0..rest.left {
-            if !self.move_piece(port, slot) {
-                return did;
+            match self.move_piece(port, slot) {
+                Outcome::Left => return did,
+                Outcome::Failed => return true,
+                Outcome::Done => did = true,
             }
-            did = true;
         }
         for _run in 0..rest.clears {
             let most = self.hardware.count_uncleared(port.0, slot.0);
             match self.clear_run(port, slot, most) {
-                Clearing::Left => return did,
-                Clearing::Part => return true,
-                Clearing::Whole => did = true,
+                Outcome::Left => return did,
+                Outcome::Failed => return true,
+                Outcome::Done => did = true,
             }
         }
         self.hardware.done(port.0, slot.0) || did
     }
 
-    /// Takes the IDENTIFY DEVICE of a slot of port 0, unless it is taken. No other one may be taken then.
-    fn take_identify(&mut self, slot: u8)
+    /// Takes the IDENTIFY DEVICE or READ LOG EXT of a slot of port 0, unless it is taken. No other one may be taken then.
+    fn take_page(&mut self, slot: u8)
         requires small { slot < 32 }
-        requires there { MayIdentify (device_at S.size S.told self.old) slot ⊎ HasIdentify (device_at S.size S.told self.old) slot }
-        ensures own { (held : List Bool) → IsPortLoose held 0 → LeadsOwn (Identifies held) (device_at S.size S.told self.old) (device_at S.size S.told self.new) }
+        requires there { MayPage (device_at S.size S.told self.old) slot ⊎ HasPage (device_at S.size S.told self.old) slot }
+        ensures own { (held : List Bool) → IsPortLoose held 0 → LeadsOwn (SendsPages held) (device_at S.size S.told self.old) (device_at S.size S.told self.new) }
         ensures settled { (held : List Bool) → IsSettled held (device_at S.size S.told self.old) → IsSettled held (device_at S.size S.told self.new) }
-        ensures none { (other : ℕ) → MayIdentify (device_at S.size S.told self.new) other → ⊥ }
-        ensures stuck { MayIdentify (device_at S.size S.told self.old) slot → (other : ℕ) → HasIdentify (device_at S.size S.told self.new) other →
-            HasIdentify (device_at S.size S.told self.old) slot }
-        ensures left { (has : HasIdentify (device_at S.size S.told self.old) slot) →
-            (now : HasIdentify (device_at S.size S.told self.new) slot) × (now.left ≡ has.left) }
+        ensures none { (other : ℕ) → MayPage (device_at S.size S.told self.new) other → ⊥ }
+        ensures stuck { MayPage (device_at S.size S.told self.old) slot → (other : ℕ) → HasPage (device_at S.size S.told self.new) other →
+            HasPage (device_at S.size S.told self.old) slot }
+        ensures left { (has : HasPage (device_at S.size S.told self.old) slot) →
+            (now : HasPage (device_at S.size S.told self.new) slot) × (now.left ≡ has.left) }
         ensures rest { GoesOnSo S.size self.old self.new }
         ensures room { (n : ℕ) → HasRoom self.new.hardware n → HasRoom self.old.hardware n }
         ensures starved { self.new.hardware.starved ≡ self.old.hardware.starved }
@@ -377,11 +410,11 @@ impl<S: SectorStore> Model<S> {
         let _taken = self.hardware.fetch(0, slot);
     }
 
-    /// Does each IDENTIFY DEVICE of port 0 that can be done to its end, the lowest slot's first, unless the port is held. The page that one sends may
+    /// Does each IDENTIFY DEVICE and READ LOG EXT of port 0 that can be done to its end, the lowest slot's first, unless the port is held. The page that one sends may
     /// stand where another's bytes are, so they are looked for anew after each. One that may be taken, and can't be done to its end, or for which the tape
     /// has no memory, is taken, and no more; the others wait for it. Beside another command none is taken.
-    fn identify(&mut self)
-        ensures own { LeadsOwn (Identifies self.old.held) (device_at S.size S.told self.old) (device_at S.size S.told self.new) }
+    fn send_pages(&mut self)
+        ensures own { LeadsOwn (SendsPages self.old.held) (device_at S.size S.told self.old) (device_at S.size S.told self.new) }
         ensures settled { (held : List Bool) → IsSettled held (device_at S.size S.told self.old) → IsSettled held (device_at S.size S.told self.new) }
         ensures left { NoneIsLeft self.new.held self.new.hardware.starved (device_at S.size S.told self.new) }
         ensures rest { GoesOnSo S.size self.old self.new }
@@ -391,13 +424,13 @@ impl<S: SectorStore> Model<S> {
         if self.held[0] {
             return;
         }
-        while let Some(found) = self.hardware.next_identify() {
+        while let Some(found) = self.hardware.next_page() {
             if !found.ends {
-                self.take_identify(found.slot);
+                self.take_page(found.slot);
                 return;
             }
             if !self.finish(Port(0), Slot(found.slot)) {
-                self.take_identify(found.slot);
+                self.take_page(found.slot);
                 return;
             }
         }
@@ -407,13 +440,15 @@ impl<S: SectorStore> Model<S> {
     fn lie(&mut self, port: Port, page: DiskPage, offset: u16, bits: u8) -> bool
         ensures { AnswersStep S.size S.told S.failures (DeviceStep.Lie port page offset bits) result self.old self.new }
     {
-        let DiskPage::Identity = page;
         let offset = usize::from(offset);
         if offset >= PAGE_BYTES {
             return false;
         }
         if port.0 == 0 {
-            self.says.lies[offset] ^= bits;
+            match page {
+                DiskPage::Identity => self.says.lies[offset] ^= bits,
+                DiskPage::Log => self.says.log_lies[offset] ^= bits,
+            }
         }
         true
     }
@@ -424,6 +459,7 @@ impl<S: SectorStore> Model<S> {
     {
         if port.0 == 0 {
             self.says.lies = [0; PAGE_BYTES];
+            self.says.log_lies = [0; PAGE_BYTES];
         }
         true
     }
@@ -447,10 +483,13 @@ impl<S: SectorStore> Model<S> {
     {
         match *s {
             DeviceStep::Fetch(port, slot) => self.fetch(port, slot),
-            DeviceStep::Move(port, slot) => slot.0 < 32 && self.move_piece(port, slot),
-            DeviceStep::Clear(port, slot, most) => slot.0 < 32 && self.clear(port, slot, most),
+            DeviceStep::Move(port, slot) => slot.0 < 32 && self.move_piece(port, slot).is_told(),
+            DeviceStep::Clear(port, slot, most) => {
+                slot.0 < 32 && self.clear_run(port, slot, most).is_told()
+            }
             DeviceStep::Done(port, slot) => self.done(port, slot),
             DeviceStep::Finish(port, slot) => slot.0 < 32 && self.finish(port, slot),
+            DeviceStep::Fault(port, slot, error) => self.fail(port, slot, error),
             DeviceStep::Lie(port, page, offset, bits) => self.lie(port, page, offset, bits),
             DeviceStep::Truth(port) => self.tell_truth(port),
             DeviceStep::Hold(port) => self.hold(port, true),
@@ -515,6 +554,7 @@ fn exchange<S: SectorStore>(
     ensures takes { result ≡ true → reads_memory (operation_of next.transfer) ≡ true → bytes.new ≡ bytes_at (bytes_of hardware.now.memory.items) next.address 512 }
     ensures same { is_ranged (operation_of next.transfer) ≡ false → disk.new ≡ disk.old }
     ensures page { result ≡ true → next.transfer ≡ Transfer.Identify → IsItsPage which (S.size disk.old) says.now bytes.new }
+    ensures log { result ≡ true → next.transfer ≡ Transfer.ReadLog → IsItsLog says.now bytes.new }
     ensures disk { result ≡ true → disk_over which (S.size disk.new) (S.told disk.new)
         ≡ disk_after (operation_of next.transfer) (disk_over which (S.size disk.old) (S.told disk.old)) next.sector bytes.new }
     ensures kept { result ≡ false → S.told disk.new ≡ S.told disk.old }
@@ -536,6 +576,11 @@ fn exchange<S: SectorStore>(
         Transfer::Identify => {
             *bytes = which.page(disk.sectors(), says.abilities);
             turn(bytes, &says.lies);
+            true
+        }
+        Transfer::ReadLog => {
+            *bytes = log_page(says.log);
+            turn(bytes, &says.log_lies);
             true
         }
         // A flush has no piece that could bring anything.
@@ -576,7 +621,7 @@ impl<S: SectorStore> Adapter for Model<S> {
     ghost device = { λ m. device_at S.size S.told m };
 
     /// Before the value is read, a pending reset ends unless all four ports are held, and ends all holds; and on each port that isn't
-    /// held, CR and FR fall if they may, and the link comes up if it may. Then each IDENTIFY DEVICE of port 0 is done that can be done to
+    /// held, CR and FR fall if they may, and the link comes up if it may. Then each IDENTIFY DEVICE and READ LOG EXT of port 0 is done that can be done to
     /// its end, and one that can't, but may be taken, is taken, unless that port is held. A held port does nothing by itself until a reset
     /// ends.
     fn read(&mut self, r: Reg) -> u32
@@ -588,7 +633,7 @@ impl<S: SectorStore> Adapter for Model<S> {
     {
         self.do_queued();
         self.hardware.settle(&mut self.held);
-        self.identify();
+        self.send_pages();
         let value = self.hardware.shown(r);
         self.hardware.note(r, value);
         value

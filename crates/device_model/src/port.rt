@@ -2,9 +2,11 @@
 ghost use Rattle.std.specs.Prelude.{◌≡◌, ◌↔◌, [], unwrap_or, IfOk, IsTrue};
 ghost use Rattle.adapter.specs.Commands.{direction_of, is_queued, is_ranged, pieces_moved, reads_memory};
 ghost use Rattle.adapter.specs.Idle.{IsIdlePort};
+ghost use Rattle.device_model.specs.Finishing.{sends_page};
 ghost use Rattle.device_model.specs.Modelled.{IsReset};
 ghost use Rattle.device_model.specs.View.{Media, cause_of, operation_of, port_of};
 
+use crate::halt::Halting;
 use crate::prds::PrdTable;
 use crate::taken::TakenCommands;
 use adapter::{Direction, Operation};
@@ -40,8 +42,8 @@ pub struct Readings {
     pub acknowledged: bool,
 }
 
-/// The commands that the model takes: sectors that go between disk and memory, the page of IDENTIFY DEVICE, the block of a trim,
-/// and FLUSH CACHE EXT, which moves nothing.
+/// The commands that the model takes: sectors that go between disk and memory, the pages of IDENTIFY DEVICE and READ LOG EXT, the block of a
+/// trim, and FLUSH CACHE EXT, which moves nothing.
 #[derive(Clone, Copy, Debug)]
 pub enum Transfer {
     /// READ DMA EXT.
@@ -58,6 +60,8 @@ pub enum Transfer {
     Flush,
     /// DATA SET MANAGEMENT with TRIM.
     Trim,
+    /// READ LOG EXT of log 10h, page 0.
+    ReadLog,
 }
 
 /// The bits of PxIS that the end of a command sets (AHCI 1.3.1, 3.3.5): DHRS for a Register FIS, PSS for a PIO Setup FIS, SDBS for a Set Device Bits
@@ -81,6 +85,7 @@ impl Transfer {
             Transfer::Identify => Operation::Identify,
             Transfer::Flush => Operation::Flush,
             Transfer::Trim => Operation::Trim,
+            Transfer::ReadLog => Operation::ReadLog,
         }
     }
 
@@ -90,7 +95,11 @@ impl Transfer {
     {
         match self {
             Transfer::Write | Transfer::WriteQueued | Transfer::Trim => true,
-            Transfer::Read | Transfer::ReadQueued | Transfer::Identify | Transfer::Flush => false,
+            Transfer::Read
+            | Transfer::ReadQueued
+            | Transfer::Identify
+            | Transfer::Flush
+            | Transfer::ReadLog => false,
         }
     }
 
@@ -104,7 +113,8 @@ impl Transfer {
             | Transfer::Write
             | Transfer::Identify
             | Transfer::Flush
-            | Transfer::Trim => false,
+            | Transfer::Trim
+            | Transfer::ReadLog => false,
         }
     }
 
@@ -114,7 +124,7 @@ impl Transfer {
     {
         match self {
             Transfer::Flush => 0,
-            Transfer::Identify | Transfer::Trim => 1,
+            Transfer::Identify | Transfer::Trim | Transfer::ReadLog => 1,
             _ => count,
         }
     }
@@ -124,7 +134,7 @@ impl Transfer {
         ensures { result ≡ cause_of self }
     {
         match self {
-            Transfer::Identify => PSS,
+            Transfer::Identify | Transfer::ReadLog => PSS,
             Transfer::ReadQueued | Transfer::WriteQueued => SDBS,
             Transfer::Read | Transfer::Write | Transfer::Flush | Transfer::Trim => DHRS,
         }
@@ -136,8 +146,15 @@ impl Transfer {
     {
         match self {
             Transfer::Read | Transfer::Write | Transfer::ReadQueued | Transfer::WriteQueued => true,
-            Transfer::Identify | Transfer::Flush | Transfer::Trim => false,
+            Transfer::Identify | Transfer::Flush | Transfer::Trim | Transfer::ReadLog => false,
         }
+    }
+
+    /// Whether it sends a page to the driver itself.
+    pub fn sends_page(self) -> bool
+        ensures { result ≡ sends_page (operation_of self) }
+    {
+        matches!(self, Transfer::Identify | Transfer::ReadLog)
     }
 
     /// Whether it clears the sectors of a block that it moves.
@@ -152,9 +169,11 @@ impl Transfer {
         ensures { result ≡ direction_of (operation_of self) }
     {
         match self {
-            Transfer::Read | Transfer::ReadQueued | Transfer::Identify | Transfer::Flush => {
-                Direction::ToMemory
-            }
+            Transfer::Read
+            | Transfer::ReadQueued
+            | Transfer::Identify
+            | Transfer::Flush
+            | Transfer::ReadLog => Direction::ToMemory,
             Transfer::Write | Transfer::WriteQueued | Transfer::Trim => Direction::FromMemory,
         }
     }
@@ -218,6 +237,7 @@ pub struct PortModel {
     pub present: bool,
     pub fresh: bool,
     pub link_due: bool,
+    pub halting: Halting,
     pub taken: TakenCommands,
     pub readings: Readings,
 }
@@ -249,6 +269,7 @@ impl PortModel {
             present,
             fresh: false,
             link_due: false,
+            halting: Halting::Running,
             taken,
             readings: Readings::default(),
         })

@@ -89,6 +89,7 @@ impl PortModel {
         let st = is_set(value, 0);
         if st && !self.st {
             self.cr = true;
+            self.halting = self.halting.after_start();
             self.readings.st_set_at = tape;
         }
         if !st && self.st {

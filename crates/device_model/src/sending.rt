@@ -113,7 +113,7 @@ impl Hardware {
         }
     }
 
-    /// Sends the FIS of a slot's command that has ended: of IDENTIFY DEVICE, whose page goes by PIO, a PIO Setup FIS; of a queued one a Set Device Bits
+    /// Sends the FIS of a slot's command that has ended: of IDENTIFY DEVICE and READ LOG EXT, whose pages go by PIO, a PIO Setup FIS; of a queued one a Set Device Bits
     /// FIS; and of the others a Register FIS.
     pub fn send_end(&mut self, port: usize, slot: u8, transfer: Transfer)
         requires port { port < 4 }
@@ -122,7 +122,7 @@ impl Hardware {
         ensures rest { self.new ≡ record self.old { memory = self.new.memory } }
     {
         match transfer {
-            Transfer::Identify => {
+            Transfer::Identify | Transfer::ReadLog => {
                 let fis = encode_pio_setup(&self.ports[port].page_setup());
                 self.send(port, SETUP, &fis);
             }

@@ -4,6 +4,7 @@ ghost use Rattle.adapter.specs.Steps.{MayLinkUp, with_link, with_reset};
 ghost use Rattle.device_model.specs.Settled.{GoesTo};
 ghost use Rattle.device_model.specs.View.{Media, port_of};
 
+use crate::halt::Halting;
 use crate::port::PortModel;
 
 impl PortModel {
@@ -44,6 +45,7 @@ impl PortModel {
     {
         self.detected = true;
         self.fresh = true;
+        self.halting = Halting::Running;
         self.tfd = Some(self.task_file() & 0xff77);
         self.sig = Some(0x101);
         self.serr_x = true;

@@ -1,16 +1,23 @@
 // The slots of a port: which command is taken, and how it goes on.
 ghost use Rattle.std.specs.Prelude.{◌≡◌, ◌<◌, ◌^◌, ◌+◌, ℕ, None, Some, true, false, slice_index_or, IfSome, List};
-ghost use Rattle.adapter.specs.Steps.{IsAlone, with_clear, with_done, with_fetch, with_move};
+ghost use Rattle.adapter.specs.Steps.{IsAlone, IsFetchable, IsWorking, admits, with_clear, with_done, with_fault, with_fetch, with_move};
 ghost use Rattle.adapter.specs.declared.command.Operation.{Operation};
 ghost use Rattle.device_model.specs.Fetched.{IsNew};
-ghost use Rattle.device_model.specs.Slots.{MayTake, HasUntaken, HoldsAt};
-ghost use Rattle.device_model.specs.View.{Media, cause_of, held_in, media_after, media_cleared, operation_of, port_of, taken_of, blank};
+ghost use Rattle.device_model.specs.Slots.{IsOpenTo, MayTake, HasUntaken, HoldsAt};
+ghost use Rattle.device_model.specs.View.{Media, cause_of, halt_of, held_in, media_after, media_cleared, operation_of, port_of, taken_of, blank};
 ghost use Rattle.device_model.specs.declared.port.TakenCommand.{TakenCommand};
 
 use crate::bits::with_bit_as;
 use crate::clearing::Run;
+use crate::halt::Halting;
 use crate::port::{PortModel, TakenCommand, Transfer};
 use hba_regs::is_set;
+
+/// The status of a command that failed: DRDY and ERR (ACS-3, 6.3).
+pub const FAILED_STATUS: u8 = 0x41;
+
+/// The bit of PxIS that a fault sets (AHCI 1.3.1, 3.3.5).
+const TFES: u32 = 30;
 
 impl PortModel {
     /// A command is taken in a slot: a queued one leaves PxCI, and a plain one sets BSY.
@@ -60,6 +67,7 @@ impl PortModel {
     {
         self.taken.remove(slot);
         self.is = with_bit_as(self.is, transfer.cause(), true);
+        self.halting = Halting::Running;
         self.tfd = Some(self.task_file() & 0xff7f);
         if transfer.is_queued() {
             self.sact = with_bit_as(self.sact, u32::from(slot), false);
@@ -68,8 +76,34 @@ impl PortModel {
         }
     }
 
+    /// A command failed with this error, a queued one or a plain one (AHCI 1.3.1, 6.2.2): PxTFD shows ERR and DRDY and the error, TFES is set, and
+    /// the port is halted. The bits of its slot stay.
+    pub fn fail(&mut self, queued: bool, error: u8)
+        ensures { (m : Media) → port_of self.new m ≡ with_fault (port_of self.old m) queued error 0 }
+    {
+        self.tfd = Some(u16::from(FAILED_STATUS) + 256 * u16::from(error));
+        self.is = with_bit_as(self.is, TFES, true);
+        self.halting = self.halting.after_fault(queued);
+    }
+
+    /// Whether the port works on such commands.
+    pub fn works_on(&self, transfer: Transfer) -> bool
+        ensures works { result ≡ true → (m : Media) → IsWorking (port_of self.now m) (operation_of transfer) }
+        ensures only { result ≡ false → (m : Media) → IsWorking (port_of self.now m) (operation_of transfer) → ⊥ }
+    {
+        self.cr && self.present && self.fresh && self.halting.admits(transfer)
+    }
+
+    /// Whether such a command may be taken now, if the port works: no fault keeps it waiting, and it goes beside those that are taken.
+    pub fn is_open_to(&self, transfer: Transfer) -> bool
+        ensures open { result ≡ true → IsOpenTo self.now (operation_of transfer) }
+        ensures only { result ≡ false → (m : Media) → admits (halt_of self.now.halting) (operation_of transfer) ≡ true → IsAlone (port_of self.now m) (operation_of transfer) → ⊥ }
+    {
+        self.halting.admits(transfer) && self.is_alone(transfer)
+    }
+
     /// Whether such a command may be taken beside those that are: a queued one beside queued ones, and a plain one alone.
-    pub fn is_alone(&self, transfer: Transfer) -> bool
+    fn is_alone(&self, transfer: Transfer) -> bool
         ensures alone { result ≡ true → (m : Media) → IsAlone (port_of self.now m) (operation_of transfer) }
         ensures only { result ≡ false → (m : Media) → IsAlone (port_of self.now m) (operation_of transfer) → ⊥ }
     {
@@ -88,6 +122,8 @@ pub fn has_untaken(ports: &[PortModel; 4], port: usize, slot: u8) -> bool
     requires slot { slot < 32 }
     ensures may { result ≡ true → HasUntaken (slice_index_or ports.now port blank) slot }
     ensures only { result ≡ false → (m : Media) (operation : Operation) → MayTake (port_of (slice_index_or ports.now port blank) m) slot operation → ⊥ }
+    ensures none { result ≡ false → (m : Media) (operation : Operation) → IsFetchable (port_of (slice_index_or ports.now port blank) m) slot →
+        IsWorking (port_of (slice_index_or ports.now port blank) m) operation → ⊥ }
 {
     ports[port].st
         && ports[port].cr
@@ -102,10 +138,11 @@ pub fn working_on(ports: &[PortModel; 4], port: usize, slot: u8) -> Option<&Take
     requires port { port < 4 }
     requires slot { slot < 32 }
     ensures found { IfSome result (λ t. HoldsAt (slice_index_or ports.now port blank) slot t.now) }
+    ensures low { IfSome result (λ t. t.now.first < 2 ^ 48) }
     ensures none { result ≡ None → (t : TakenCommand) → HoldsAt (slice_index_or ports.now port blank) slot t → ⊥ }
 {
     let command = ports[port].taken.get(slot)?;
-    if ports[port].cr && ports[port].present && ports[port].fresh {
+    if ports[port].works_on(command.transfer) {
         Some(command)
     } else {
         None

@@ -1,30 +1,33 @@
 // Steps that the hardware does when it is told.
 ghost use Rattle.std.specs.Prelude.{◌≡◌, ◌↔◌, IsTrue, ◌<◌, ◌≤◌, ◌+◌, ◌^◌, ◌++◌, ◌∷◌, [], true, false, ℕ, List, None, Some, IfSome, if◌then◌else◌, length, slice_index, slice_index_or};
 ghost use Rattle.std.specs.Vec.{vec_len, vec_capacity};
-ghost use Rattle.adapter.specs.Commands.{Meaning, is_ranged, reads_memory};
+ghost use Rattle.adapter.specs.Commands.{Meaning, is_queued, is_ranged, reads_memory};
 ghost use Rattle.adapter.specs.Device.{Disk, Taken};
 ghost use Rattle.adapter.specs.Memory.{patched};
 ghost use Rattle.adapter.specs.Says.{pieces};
 ghost use Rattle.adapter.specs.Steps.{Can, IsFinished, after, next_sector};
-ghost use Rattle.adapter.specs.Steps.Step.{Fetch as FetchStep, Move as MoveStep, Done as DoneStep, Unplug as UnplugStep, Plug as PlugStep};
-ghost use Rattle.adapter.specs.Asked.{DoesFetch, Ends};
+ghost use Rattle.adapter.specs.Steps.Step.{Fetch as FetchStep, FetchFault as FetchFaultStep, Move as MoveStep, Done as DoneStep, Fault as FaultStep, Unplug as UnplugStep, Plug as PlugStep};
+ghost use Rattle.adapter.specs.Asked.{DoesFault, DoesFetch, Ends};
 ghost use Rattle.device_model.specs.Block.{brought};
 ghost use Rattle.device_model.specs.Fetched.{bytes_of};
-ghost use Rattle.device_model.specs.Finishing.{HasRoom, Identifies, IsInside, AreInside, IsBegun, IsCovered, IsPassed, IsRest, IsUnbegun};
+ghost use Rattle.device_model.specs.Finishing.{HasRoom, FindsPage, IsInside, AreInside, IsBegun, IsCovered, IsPassed, IsRest, IsUnbegun};
 ghost use Rattle.device_model.specs.Sent.{SendsEnd};
 ghost use Rattle.device_model.specs.Slots.{HoldsAt, IsNext, HasUntaken};
-ghost use Rattle.device_model.specs.View.{Takes, operation_of, taken_of, blank};
+ghost use Rattle.device_model.specs.View.{held_in, operation_of, taken_of, blank};
 ghost use Rattle.device_model.specs.Whole.{Outside, device_of, outside_after, outside_plugged};
 ghost use Rattle.device_model.specs.declared.port.TakenCommand.{TakenCommand};
 
-use crate::fetch::{count_pieces, piece_at, read_as, read_command, read_into};
+use crate::fetch::{count_pieces, piece_at, read_command, read_into, read_page, says_command};
 use crate::hardware::{Hardware, put};
 use crate::port::{TakenCommand, Transfer};
-use crate::slots::{has_untaken, working_on};
+use crate::slots::{FAILED_STATUS, has_untaken, working_on};
 use crate::trims::{clears_of, is_finished};
-use adapter::{Done, Entry, Move, Prd};
+use adapter::{Done, Entry, Fault, Move, Prd};
 use ata_types::{Port, Slot};
 use std::snapshot::Snapshot;
+
+/// The error of what means no command: ABRT (ACS-3, 6.2).
+const ABORTED: u8 = 0x04;
 
 /// What a command moves next: a sector, or 0 where it names none, and the address that the bytes go to or come from.
 #[derive(Clone, Copy, Debug)]
@@ -49,9 +52,9 @@ pub struct Begun {
     pub was_taken: bool,
 }
 
-/// An IDENTIFY DEVICE of port 0 that the model goes on with by itself.
+/// An IDENTIFY DEVICE or READ LOG EXT of port 0 that the model goes on with by itself.
 #[derive(Clone, Copy, Debug)]
-pub struct FoundIdentify {
+pub struct FoundPage {
     pub slot: u8,
     /// Whether it can be done to its end. Else it may be taken, and no more.
     pub ends: bool,
@@ -104,41 +107,28 @@ fn are_inside(prds: &[Prd], size: usize) -> bool
     true
 }
 
-/// Whether a command with so many pieces names sectors among so many alone, if it names some.
-fn is_on_disk(command: &TakenCommand, pieces: u32, sectors: u64) -> bool
-    ensures { IsTrue result ↔ (is_ranged (operation_of command.now.transfer) ≡ true → command.now.first + pieces ≤ sectors) }
-{
-    if !command.transfer.is_ranged() {
-        return true;
-    }
-    let end = command.first.checked_add(u64::from(pieces));
-    end.is_some_and(|end| end <= sectors)
-}
-
-/// How many moves are left of a command, if each of its pieces has a place in a memory of this size, and each sector that
-/// it names is one of so many.
-fn left_of(command: &TakenCommand, size: usize, sectors: u64) -> Option<u32>
-    ensures covered { IfSome result (λ left. IsCovered (taken_of command.now) size sectors left) }
-    ensures only { (left : ℕ) → IsCovered (taken_of command.now) size sectors left → result ≡ Some left }
+/// How many moves are left of a command, if each of its pieces has a place in a memory of this size.
+fn left_of(command: &TakenCommand, size: usize) -> Option<u32>
+    ensures covered { IfSome result (λ left. IsCovered (taken_of command.now) size left) }
+    ensures only { (left : ℕ) → IsCovered (taken_of command.now) size left → result ≡ Some left }
 {
     let prds = command.prds.as_slice();
-    let pieces = count_pieces(prds);
-    if !is_on_disk(command, pieces, sectors) || !are_inside(prds, size) {
+    if !are_inside(prds, size) {
         return None;
     }
-    pieces.checked_sub(command.moved)
+    count_pieces(prds).checked_sub(command.moved)
 }
 
-/// What is left of a command, whose block is this, if each of its moves has a place in the memory, and each sector that it moves or clears is one of so many.
-fn rest_of(command: &TakenCommand, block: &[u8], memory: &[u8], sectors: u64) -> Option<Rest>
+/// What is left of a command, whose block is this, if each of its moves has a place in the memory.
+fn rest_of(command: &TakenCommand, block: &[u8], memory: &[u8]) -> Option<Rest>
     requires block { block.now ≡ brought command.now.block }
     requires few { length block.now ≤ 512 }
-    ensures rest { IfSome result (λ rest. IsRest command.now memory.now sectors rest.left rest.clears) }
-    ensures only { (left clears : ℕ) → IsRest command.now memory.now sectors left clears → result ≡ Some (record { left = left; clears = clears }) }
+    ensures rest { IfSome result (λ rest. IsRest command.now memory.now rest.left rest.clears) }
+    ensures only { (left clears : ℕ) → IsRest command.now memory.now left clears → result ≡ Some (record { left = left; clears = clears }) }
 {
     Some(Rest {
-        left: left_of(command, memory.len(), sectors)?,
-        clears: clears_of(command, block, memory, sectors)?,
+        left: left_of(command, memory.len())?,
+        clears: clears_of(command, block, memory)?,
     })
 }
 
@@ -149,27 +139,28 @@ fn entries_of(rest: Rest) -> usize
     rest.left as usize + rest.clears as usize + 1
 }
 
-/// Whether an IDENTIFY DEVICE can be done to its end: whether each of its pieces has a place in a memory of this size, and
+/// Whether a command that sends a page can be done to its end: whether each of its pieces has a place in a memory of this size, and
 /// an address of 32 bits.
 fn can_end(command: &TakenCommand, size: usize) -> bool
-    ensures ends { result ≡ true → (left : ℕ) × IsCovered (taken_of command.now) size 0 left × AreInside (2 ^ 32) (pieces command.now.prds) }
-    ensures only { result ≡ false → (left : ℕ) → IsCovered (taken_of command.now) size 0 left → AreInside (2 ^ 32) (pieces command.now.prds) → ⊥ }
+    ensures ends { result ≡ true → (left : ℕ) × IsCovered (taken_of command.now) size left × AreInside (2 ^ 32) (pieces command.now.prds) }
+    ensures only { result ≡ false → (left : ℕ) → IsCovered (taken_of command.now) size left → AreInside (2 ^ 32) (pieces command.now.prds) → ⊥ }
 {
-    match left_of(command, size, 0) {
+    match left_of(command, size) {
         Some(_left) => are_inside(command.prds.as_slice(), 1 << 32),
         None => false,
     }
 }
 
 /// The sector that a command moves next, 0 where it names none.
-fn sector_of(command: &TakenCommand) -> Option<u64>
-    ensures found { IfSome result (λ s. s ≡ next_sector (taken_of command.now)) }
-    ensures none { result ≡ None → next_sector (taken_of command.now) < 2 ^ 64 → ⊥ }
+fn sector_of(command: &TakenCommand) -> u64
+    requires { command.now.first < 2 ^ 48 }
+    ensures { result ≡ next_sector (taken_of command.now) }
 {
-    if !command.transfer.is_ranged() {
-        return Some(0);
+    if command.transfer.is_ranged() {
+        command.first + u64::from(command.moved)
+    } else {
+        0
     }
-    command.first.checked_add(u64::from(command.moved))
 }
 
 /// Puts the bytes of a move into memory, unless it takes them from there.
@@ -189,8 +180,8 @@ impl Hardware {
         requires port { port < 4 }
         requires slot { slot < 32 }
         ensures did { result ≡ true → (o : Outside) → DoesFetch port slot (device_of self.old o) (device_of self.new o) }
-        ensures refused { result ≡ false → (o : Outside) → device_of self.new o ≡ device_of self.old o }
-        ensures only { result ≡ false → (o : Outside) (m : Meaning) (places : List ℕ) → Takes m.operation → Can (FetchStep port slot m places) (device_of self.old o) → ⊥ }
+        ensures refused { result ≡ false → self.new ≡ self.old }
+        ensures only { result ≡ false → (o : Outside) (m : Meaning) (places : List ℕ) → Can (FetchStep port slot m places) (device_of self.old o) → ⊥ }
         ensures tape { self.new.tape ≡ self.old.tape }
         ensures starved { self.new.starved ≡ self.old.starved }
     {
@@ -205,8 +196,8 @@ impl Hardware {
         requires slot { slot < 32 }
         requires may { HasUntaken (slice_index_or self.old.ports port blank) slot }
         ensures did { result ≡ true → (o : Outside) → DoesFetch port slot (device_of self.old o) (device_of self.new o) }
-        ensures refused { result ≡ false → (o : Outside) → device_of self.new o ≡ device_of self.old o }
-        ensures only { result ≡ false → (o : Outside) (m : Meaning) (places : List ℕ) → Takes m.operation → Can (FetchStep port slot m places) (device_of self.old o) → ⊥ }
+        ensures refused { result ≡ false → self.new ≡ self.old }
+        ensures only { result ≡ false → (o : Outside) (m : Meaning) (places : List ℕ) → Can (FetchStep port slot m places) (device_of self.old o) → ⊥ }
         ensures tape { self.new.tape ≡ self.old.tape }
         ensures starved { self.new.starved ≡ self.old.starved }
     {
@@ -215,64 +206,62 @@ impl Hardware {
         let Some(command) = read_command(&self.memory, list, slot) else {
             return false;
         };
-        if !self.ports[place].is_alone(command.transfer) {
+        if !self.ports[place].is_open_to(command.transfer) {
             return false;
         }
         self.ports[place].take(slot, command);
         true
     }
 
-    /// Whether the IDENTIFY DEVICE that the bytes of a slot of port 0 say, which may be taken, can be done to its end; `None` where they say none, or
-    /// another command is taken.
+    /// Whether the IDENTIFY DEVICE or READ LOG EXT that the bytes of a slot of port 0 say, which may be taken, can be done to its end; `None` where they say
+    /// none, or a fault or another command keeps it waiting.
     #[inline(never)]
-    fn says_identify(&self, slot: u8) -> Option<bool>
+    fn says_page(&self, slot: u8) -> Option<bool>
         requires slot { slot < 32 }
         requires may { HasUntaken (slice_index_or self.now.ports 0 blank) slot }
-        ensures { (o : Outside) → Identifies (device_of self.now o) slot result }
+        ensures { (o : Outside) → FindsPage (device_of self.now o) slot result }
     {
         let list = self.ports[0].addresses.clb;
-        let command = read_as(&self.memory, list, slot, Transfer::Identify)?;
-        if self.ports[0].is_alone(Transfer::Identify) {
+        let command = read_page(&self.memory, list, slot)?;
+        if self.ports[0].is_open_to(command.transfer) {
             Some(can_end(&command, self.memory.len()))
         } else {
             None
         }
     }
 
-    /// Whether the IDENTIFY DEVICE of a slot of port 0 can be done to its end; `None` where the slot has none that may be taken, and none that is taken
+    /// Whether the IDENTIFY DEVICE or READ LOG EXT of a slot of port 0 can be done to its end; `None` where the slot has none that may be taken, and none that is taken
     /// and worked on and can be done to its end.
-    fn has_identify(&self, slot: u8) -> Option<bool>
+    fn has_page(&self, slot: u8) -> Option<bool>
         requires { slot < 32 }
-        ensures { (o : Outside) → Identifies (device_of self.now o) slot result }
+        ensures { (o : Outside) → FindsPage (device_of self.now o) slot result }
     {
         if has_untaken(&self.ports, 0, slot) {
-            return self.says_identify(slot);
+            return self.says_page(slot);
         }
         let command = working_on(&self.ports, 0, slot)?;
-        match command.transfer {
-            Transfer::Identify => {
-                if can_end(command, self.memory.len()) {
-                    Some(true)
-                } else {
-                    None
-                }
-            }
-            _ => None,
+        if !command.transfer.sends_page() {
+            return None;
+        }
+        if can_end(command, self.memory.len()) {
+            Some(true)
+        } else {
+            None
         }
     }
 
-    /// The first slot of port 0 with an IDENTIFY DEVICE that may be taken, or can be done to its end. There is none where no command is issued or taken.
-    pub fn next_identify(&self) -> Option<FoundIdentify>
+    /// The first slot of port 0 with an IDENTIFY DEVICE or READ LOG EXT that may be taken, or can be done to its end. There is none where no command is issued or taken.
+    pub fn next_page(&self) -> Option<FoundPage>
         ensures small { IfSome result (λ found. found.slot < 32) }
-        ensures found { IfSome result (λ found. (o : Outside) → Identifies (device_of self.now o) found.slot (Some found.ends)) }
-        ensures none { result ≡ None → (o : Outside) (slot : ℕ) → slot < 32 → Identifies (device_of self.now o) slot None }
+        ensures found { IfSome result (λ found. (o : Outside) → FindsPage (device_of self.now o) found.slot (Some found.ends)) }
+        ensures none { result ≡ None → (o : Outside) (slot : ℕ) → slot < 32 → FindsPage (device_of self.now o) slot None }
     {
         if self.ports[0].ci == 0 && self.ports[0].taken.is_empty() {
             return None;
         }
         for slot in 0..32 {
-            if let Some(ends) = self.has_identify(slot) {
-                return Some(FoundIdentify { slot, ends });
+            if let Some(ends) = self.has_page(slot) {
+                return Some(FoundPage { slot, ends });
             }
         }
         None
@@ -284,19 +273,17 @@ impl Hardware {
         requires slot { slot < 32 }
         ensures found { IfSome result (λ n. (t : TakenCommand) × IsNext self.now port slot n t) }
         ensures none { result ≡ None → (t : TakenCommand) → HoldsAt (slice_index_or self.now.ports port blank) slot t → t.moved < length (pieces t.prds) →
-            slice_index (pieces t.prds) t.moved < 2 ^ 32 → slice_index (pieces t.prds) t.moved + 512 ≤ length self.now.memory.items →
-            next_sector (taken_of t) < 2 ^ 64 → ⊥ }
+            slice_index (pieces t.prds) t.moved < 2 ^ 32 → slice_index (pieces t.prds) t.moved + 512 ≤ length self.now.memory.items → ⊥ }
     {
         let command = working_on(&self.ports, usize::from(port), slot)?;
         let address = piece_at(command.prds.as_slice(), command.moved)?;
-        let sector = sector_of(command)?;
         let address = u32::try_from(address).ok()?;
         if address as usize + 512 > self.memory.len() {
             return None;
         }
         Some(NextMove {
             transfer: command.transfer,
-            sector,
+            sector: sector_of(command),
             address,
         })
     }
@@ -343,18 +330,18 @@ impl Hardware {
         }
     }
 
-    /// What is left of a slot's command that is taken, if each move and each clear is possible on a disk of so many sectors.
-    fn rest_at(&self, port: u8, slot: u8, sectors: u64) -> Option<Rest>
+    /// What is left of a slot's command that is taken, if each move and each clear is possible.
+    fn rest_at(&self, port: u8, slot: u8) -> Option<Rest>
         requires port { port < 4 }
         requires slot { slot < 32 }
         ensures found { IfSome result (λ rest. (t : TakenCommand) × HoldsAt (slice_index_or self.now.ports port blank) slot t
-            × IsRest t self.now.memory.items sectors rest.left rest.clears) }
+            × IsRest t self.now.memory.items rest.left rest.clears) }
         ensures only { (t : TakenCommand) (left clears : ℕ) → HoldsAt (slice_index_or self.now.ports port blank) slot t →
-            IsRest t self.now.memory.items sectors left clears → result ≡ Some (record { left = left; clears = clears }) }
+            IsRest t self.now.memory.items left clears → result ≡ Some (record { left = left; clears = clears }) }
     {
         let command = working_on(&self.ports, usize::from(port), slot)?;
         let block = self.ports[usize::from(port)].taken.block(slot);
-        rest_of(command, block, &self.memory, sectors)
+        rest_of(command, block, &self.memory)
     }
 
     /// Ends a slot's command, of which nothing is left to move or to clear, and sends its FIS; `false` says that there is none, or that the tape found no memory.
@@ -383,15 +370,93 @@ impl Hardware {
         true
     }
 
-    /// Takes the command that the bytes of a slot say, which may be taken, where each of its moves and clears is possible on a disk of so many sectors and the
-    /// tape finds memory for them and the end. Want of memory is told.
+    /// Whether a slot has a queued command that is taken, or a plain one, on an engine that hasn't fallen.
+    fn running_at(&self, port: u8, slot: u8) -> Option<bool>
+        requires port { port < 4 }
+        requires slot { slot < 32 }
+        ensures found { IfSome result (λ queued. (t : TakenCommand) × (held_in (slice_index_or self.now.ports port blank).taken slot ≡ Some t)
+            × ((slice_index_or self.now.ports port blank).cr ≡ true) × (queued ≡ is_queued (operation_of t.transfer))) }
+        ensures none { result ≡ None → (t : TakenCommand) → held_in (slice_index_or self.now.ports port blank).taken slot ≡ Some t →
+            (slice_index_or self.now.ports port blank).cr ≡ true → ⊥ }
+    {
+        let command = self.ports[usize::from(port)].taken.get(slot)?;
+        if self.ports[usize::from(port)].cr {
+            Some(command.transfer.is_queued())
+        } else {
+            None
+        }
+    }
+
+    /// Fails a slot's command, which is taken, with an error, and tells whether it is queued; `None` says that there is none, that the engine has fallen, or
+    /// that the tape found no memory.
+    pub fn fail(&mut self, port: u8, slot: u8, error: u8) -> Option<bool>
+        requires port { port < 4 }
+        requires slot { slot < 32 }
+        ensures did { IfSome result (λ queued. (o : Outside) → (f : DoesFault port slot error (device_of self.old o) (device_of self.new o))
+            × (queued ≡ is_queued f.t.meaning.operation)) }
+        ensures refused { result ≡ None → (o : Outside) → device_of self.new o ≡ device_of self.old o }
+        ensures left { result ≡ None → (o : Outside) → IsPassed self.old self.new ((t : Taken) × Can (FaultStep port slot error 0 t) (device_of self.old o)) }
+        ensures fed { IfSome result (λ _. self.new.starved ≡ self.old.starved) }
+    {
+        let queued = self.running_at(port, slot)?;
+        let entry = Entry::Fault(Fault {
+            port: Port(port),
+            slot: Slot(slot),
+            status: FAILED_STATUS,
+            error,
+        });
+        if !record(&mut self.tape, &mut self.starved, entry) {
+            return None;
+        }
+        self.ports[usize::from(port)].fail(queued, error);
+        Some(queued)
+    }
+
+    /// Fails what is issued in a slot, and may be taken, if its bytes mean no command that there is (AHCI 1.3.1, 6.2.2; ACS-3, 6.2): with ABRT. `false` says that
+    /// they mean one, that there is none, or that the tape found no memory.
     #[inline(never)]
-    fn begin_said(&mut self, port: u8, slot: u8, sectors: u64) -> Option<Begun>
+    pub fn fail_senseless(&mut self, port: u8, slot: u8) -> bool
+        requires port { port < 4 }
+        requires slot { slot < 32 }
+        ensures did { result ≡ true → (o : Outside) → Can (FetchFaultStep port slot false 0) (device_of self.old o)
+            × (device_of self.new o ≡ after (FetchFaultStep port slot false 0) (device_of self.old o)) }
+        ensures refused { result ≡ false → (o : Outside) → device_of self.new o ≡ device_of self.old o }
+        ensures left { result ≡ false → (o : Outside) → IsPassed self.old self.new (Can (FetchFaultStep port slot false 0) (device_of self.old o)) }
+        ensures fed { result ≡ true → self.new.starved ≡ self.old.starved }
+    {
+        let place = usize::from(port);
+        if !has_untaken(&self.ports, place, slot) {
+            return false;
+        }
+        if !self.ports[place].halting.admits(Transfer::Identify) {
+            return false;
+        }
+        let list = self.ports[place].addresses.clb;
+        if says_command(&self.memory, list, slot) {
+            return false;
+        }
+        let entry = Entry::Fault(Fault {
+            port: Port(port),
+            slot: Slot(slot),
+            status: FAILED_STATUS,
+            error: ABORTED,
+        });
+        if !record(&mut self.tape, &mut self.starved, entry) {
+            return false;
+        }
+        self.ports[place].fail(false, ABORTED);
+        true
+    }
+
+    /// Takes the command that the bytes of a slot say, which may be taken, where each of its moves and clears is possible and the tape finds memory for
+    /// them and the end. Want of memory is told.
+    #[inline(never)]
+    fn begin_said(&mut self, port: u8, slot: u8) -> Option<Begun>
         requires port { port < 4 }
         requires slot { slot < 32 }
         requires may { HasUntaken (slice_index_or self.old.ports port blank) slot }
-        ensures begun { IfSome result (λ b. IsBegun port slot sectors b.rest.left b.rest.clears b.was_taken self.old self.new) }
-        ensures left { result ≡ None → IsUnbegun port slot sectors self.old self.new }
+        ensures begun { IfSome result (λ b. IsBegun port slot b.rest.left b.rest.clears b.was_taken self.old self.new) }
+        ensures left { result ≡ None → IsUnbegun port slot self.old self.new }
     {
         let place = usize::from(port);
         let list = self.ports[place].addresses.clb;
@@ -399,10 +464,10 @@ impl Hardware {
         if !read_into(&self.memory, list, slot, &mut command) {
             return None;
         }
-        if !self.ports[place].is_alone(command.transfer) {
+        if !self.ports[place].is_open_to(command.transfer) {
             return None;
         }
-        let rest = rest_of(&command, &[], &self.memory, sectors)?;
+        let rest = rest_of(&command, &[], &self.memory)?;
         if self.tape.reserve(entries_of(rest)).is_err() {
             self.starved = true;
             return None;
@@ -414,19 +479,19 @@ impl Hardware {
         })
     }
 
-    /// Begins to do a slot's command to its end, where each move and each clear that it has left is possible on a disk of so many sectors: the tape finds memory for them
-    /// and the end, and the command is taken, unless it is already. Want of memory is told.
-    pub fn begin(&mut self, port: u8, slot: u8, sectors: u64) -> Option<Begun>
+    /// Begins to do a slot's command to its end, where each move and each clear that it has left is possible: the tape finds memory for them and the end,
+    /// and the command is taken, unless it is already. Want of memory is told.
+    pub fn begin(&mut self, port: u8, slot: u8) -> Option<Begun>
         requires port { port < 4 }
         requires slot { slot < 32 }
-        ensures begun { IfSome result (λ b. IsBegun port slot sectors b.rest.left b.rest.clears b.was_taken self.old self.new) }
-        ensures left { result ≡ None → IsUnbegun port slot sectors self.old self.new }
+        ensures begun { IfSome result (λ b. IsBegun port slot b.rest.left b.rest.clears b.was_taken self.old self.new) }
+        ensures left { result ≡ None → IsUnbegun port slot self.old self.new }
     {
         let place = usize::from(port);
         if has_untaken(&self.ports, place, slot) {
-            return self.begin_said(port, slot, sectors);
+            return self.begin_said(port, slot);
         }
-        let rest = self.rest_at(port, slot, sectors)?;
+        let rest = self.rest_at(port, slot)?;
         if self.tape.reserve(entries_of(rest)).is_err() {
             self.starved = true;
             return None;

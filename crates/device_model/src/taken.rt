@@ -60,6 +60,7 @@ impl TakenCommands {
     pub fn get(&self, slot: u8) -> Option<&TakenCommand>
         requires { slot < 32 }
         ensures found { IfSome result (λ command. held_in self.now slot ≡ Some command.now) }
+        ensures low { IfSome result (λ command. command.now.first < 2 ^ 48) }
         ensures none { result ≡ None → held_in self.now slot ≡ None }
     {
         self.slots[usize::from(slot)].as_ref()
@@ -69,6 +70,7 @@ impl TakenCommands {
     pub fn put(&mut self, slot: u8, command: TakenCommand)
         requires slot { slot < 32 }
         requires new { command.block ≡ None }
+        requires low { command.first < 2 ^ 48 }
         requires alone { (other : ℕ) (u : TakenCommand) → other ≢ slot → held_in self.old other ≡ Some u →
             (command.transfer ≡ Transfer.Trim → ⊥) × (u.transfer ≡ Transfer.Trim → ⊥) }
         ensures { held_in self.new ≡ changed (held_in self.old) slot (Some command) }

@@ -1,5 +1,5 @@
 // Trims: what is left to clear of one, and that it is cleared.
-ghost use Rattle.std.specs.Prelude.{◌≡◌, ◌↔◌, ◌+◌, ◌-◌, ◌^◌, ◌<◌, ◌≤◌, ℕ, IsTrue, IfSome, None, length, min, slice_index_or, take};
+ghost use Rattle.std.specs.Prelude.{◌≡◌, ◌↔◌, ◌+◌, ◌^◌, ◌<◌, ◌≤◌, ℕ, IsTrue, IfSome, None, Some, length, slice_index_or};
 ghost use Rattle.adapter.specs.Says.{pieces};
 ghost use Rattle.adapter.specs.Steps.{IsFinished, after};
 ghost use Rattle.adapter.specs.Steps.Step.{Clear as ClearStep};
@@ -7,7 +7,7 @@ ghost use Rattle.device_model.specs.Block.{brought};
 ghost use Rattle.device_model.specs.Fetched.{bytes_of};
 ghost use Rattle.device_model.specs.Finishing.{HasRoom};
 ghost use Rattle.device_model.specs.Slots.{CanClear, HoldsAt, IsNextRun};
-ghost use Rattle.device_model.specs.Trims.{HasRuns, WillClear, block_ahead, next_uncleared, run_of, span, uncleared};
+ghost use Rattle.device_model.specs.Trims.{HasRuns, WillClear, block_ahead, next_uncleared, span, uncleared};
 ghost use Rattle.device_model.specs.View.{blank, operation_of, taken_of};
 ghost use Rattle.device_model.specs.Whole.{Outside, device_of, outside_cleared};
 ghost use Rattle.device_model.specs.declared.port.TakenCommand.{TakenCommand};
@@ -40,79 +40,75 @@ fn uncleared_of(command: &TakenCommand, block: &[u8]) -> u32
     count_sectors(block).saturating_sub(command.cleared)
 }
 
-/// How many clears a block brings, of which so many sectors were cleared, if each that is left is one of so many.
-fn clears_of_block(block: &[u8], cleared: u32, sectors: u64) -> Option<u32>
+/// How many clears a block brings, of which so many sectors were cleared.
+fn clears_of_block(block: &[u8], cleared: u32) -> Option<u32>
     requires { length block.now ≤ 512 }
-    ensures found { IfSome result (λ clears. HasRuns block.now cleared sectors clears) }
-    ensures only { (clears : ℕ) → HasRuns block.now cleared sectors clears → result ≡ Some clears }
+    ensures found { IfSome result (λ clears. HasRuns block.now cleared clears) }
+    ensures only { (clears : ℕ) → HasRuns block.now cleared clears → result ≡ Some clears }
 {
     if count_sectors(block) < cleared {
         return None;
     }
-    count_runs(block, cleared, sectors)
+    Some(count_runs(block, cleared))
 }
 
 /// How many clears a trim is going to make, as `clears_of` says. The block that it is going to move is looked at where it is. It is entered for trims alone, since its
 /// frame has room for a block.
 #[inline(never)]
-fn clears_of_trim(command: &TakenCommand, block: &[u8], memory: &[u8], sectors: u64) -> Option<u32>
+fn clears_of_trim(command: &TakenCommand, block: &[u8], memory: &[u8]) -> Option<u32>
     requires block { block.now ≡ brought command.now.block }
     requires few { length block.now ≤ 512 }
-    ensures found { IfSome result (λ clears. HasRuns (block_ahead (bytes_of memory.now) (taken_of command.now)) command.now.cleared sectors clears) }
-    ensures only { (clears : ℕ) → HasRuns (block_ahead (bytes_of memory.now) (taken_of command.now)) command.now.cleared sectors clears → result ≡ Some clears }
+    ensures found { IfSome result (λ clears. HasRuns (block_ahead (bytes_of memory.now) (taken_of command.now)) command.now.cleared clears) }
+    ensures only { (clears : ℕ) → HasRuns (block_ahead (bytes_of memory.now) (taken_of command.now)) command.now.cleared clears → result ≡ Some clears }
 {
     let prds = command.prds.as_slice();
     let pieces = count_pieces(prds);
     if command.moved >= pieces {
-        return clears_of_block(block, command.cleared, sectors);
+        return clears_of_block(block, command.cleared);
     }
     let place = piece_at(prds, pieces - 1)?;
     let mut bytes = [0; 512];
     copy_bytes(memory, place as usize, &mut bytes);
-    clears_of_block(&bytes, command.cleared, sectors)
+    clears_of_block(&bytes, command.cleared)
 }
 
-/// How many clears are left of a command, whose block is this, if each of their sectors is one of so many; none but of a trim.
-pub fn clears_of(command: &TakenCommand, block: &[u8], memory: &[u8], sectors: u64) -> Option<u32>
+/// How many clears are left of a command, whose block is this; none but of a trim.
+pub fn clears_of(command: &TakenCommand, block: &[u8], memory: &[u8]) -> Option<u32>
     requires block { block.now ≡ brought command.now.block }
     requires few { length block.now ≤ 512 }
-    ensures found { IfSome result (λ clears. WillClear (operation_of command.now.transfer) (bytes_of memory.now) (taken_of command.now) sectors clears) }
-    ensures only { (clears : ℕ) → WillClear (operation_of command.now.transfer) (bytes_of memory.now) (taken_of command.now) sectors clears → result ≡ Some clears }
+    ensures found { IfSome result (λ clears. WillClear (operation_of command.now.transfer) (bytes_of memory.now) (taken_of command.now) clears) }
+    ensures only { (clears : ℕ) → WillClear (operation_of command.now.transfer) (bytes_of memory.now) (taken_of command.now) clears → result ≡ Some clears }
 {
     if command.transfer.is_trim() {
-        clears_of_trim(command, block, memory, sectors)
+        clears_of_trim(command, block, memory)
     } else {
         Some(0)
     }
 }
 
-/// The sectors of a trim, whose block is this, that are cleared at once: of its next so many those that follow one another, and are on a disk of so many
-/// sectors. `None` where there is none, and where fewer than so many are left.
-fn run_of_trim(command: &TakenCommand, block: &[u8], most: u32, sectors: u64) -> Option<Run>
+/// The sectors of a trim, whose block is this, that are cleared at once: of its next so many those that follow one another. `None` where there is none, and
+/// where fewer than so many are left.
+fn run_of_trim(command: &TakenCommand, block: &[u8], most: u32) -> Option<Run>
     requires block { block.now ≡ brought command.now.block }
     requires few { length block.now ≤ 512 }
-    ensures can { IfSome result (λ run. CanClear command.now most sectors) }
+    ensures can { IfSome result (λ run. CanClear command.now most) }
     ensures first { IfSome result (λ run. run.first ≡ next_uncleared (taken_of command.now)) }
-    ensures count { IfSome result (λ run. run.count ≡ span sectors most (taken_of command.now)) }
+    ensures count { IfSome result (λ run. run.count ≡ span most (taken_of command.now)) }
     ensures fits { IfSome result (λ run. command.now.cleared + run.count < 2 ^ 32) }
-    ensures none { result ≡ None → CanClear command.now most sectors → ⊥ }
+    ensures none { result ≡ None → CanClear command.now most → ⊥ }
 {
     if !command.transfer.is_trim() || command.moved != count_pieces(command.prds.as_slice()) {
         return None;
     }
     let run = next_run(block, command.cleared, most);
-    if run.count == 0 || run.first >= sectors {
+    if run.count == 0 {
         return None;
     }
     // Where as many follow one another, as many are left.
     if run.count < most && uncleared_of(command, block) < most {
         return None;
     }
-    let room = sectors - run.first;
-    Some(Run {
-        first: run.first,
-        count: u64::from(run.count).min(room) as u32,
-    })
+    Some(run)
 }
 
 impl Hardware {
@@ -130,29 +126,33 @@ impl Hardware {
         }
     }
 
-    /// What a slot's trim clears next, of so many sectors, on a disk of so many.
-    pub fn run_to_clear(&self, port: u8, slot: u8, most: u32, sectors: u64) -> Option<Run>
+    /// What a slot's trim clears next, of so many sectors.
+    pub fn run_to_clear(&self, port: u8, slot: u8, most: u32) -> Option<Run>
         requires port { port < 4 }
         requires slot { slot < 32 }
-        ensures found { IfSome result (λ run. (t : TakenCommand) × IsNextRun self.now port slot most sectors run t) }
-        ensures none { result ≡ None → (t : TakenCommand) → HoldsAt (slice_index_or self.now.ports port blank) slot t → CanClear t most sectors → ⊥ }
+        ensures found { IfSome result (λ run. (t : TakenCommand) × IsNextRun self.now port slot most run t) }
+        ensures none { result ≡ None → (t : TakenCommand) → HoldsAt (slice_index_or self.now.ports port blank) slot t → CanClear t most → ⊥ }
     {
         let command = working_on(&self.ports, usize::from(port), slot)?;
         let block = self.ports[usize::from(port)].taken.block(slot);
-        run_of_trim(command, block, most, sectors)
+        run_of_trim(command, block, most)
     }
 
-    /// Sectors of a slot's trim were cleared: that is noted on the tape.
+    /// Sectors of a slot's trim were cleared: that is noted on the tape. Where there are none, nothing is.
     pub fn clear(&mut self, port: u8, slot: u8, run: Run)
         requires port { port < 4 }
         requires slot { slot < 32 }
         requires held { (t : TakenCommand) × HoldsAt (slice_index_or self.old.ports port blank) slot t × (t.cleared + run.count < 2 ^ 32) }
         requires room { HasRoom self.old 1 }
-        ensures cleared { (o : Outside) (t : TakenCommand) → HoldsAt (slice_index_or self.old.ports port blank) slot t →
+        ensures none { run.count ≡ 0 → self.new ≡ self.old }
+        ensures cleared { 1 ≤ run.count → (o : Outside) (t : TakenCommand) → HoldsAt (slice_index_or self.old.ports port blank) slot t →
             device_of self.new (outside_cleared o port run.first run.count) ≡ after (ClearStep port slot (taken_of t) run.first run.count) (device_of self.old o) }
         ensures left { (n : ℕ) → HasRoom self.old (n + 1) → HasRoom self.new n }
         ensures starved { self.new.starved ≡ self.old.starved }
     {
+        if run.count == 0 {
+            return;
+        }
         let entry = Entry::Clear(Clear {
             port: Port(port),
             slot: Slot(slot),

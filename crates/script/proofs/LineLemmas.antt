@@ -14,7 +14,7 @@ use Rattle.ata_types.specs.declared.request.Request.{Request}
 use Rattle.ata_types.specs.declared.Port.{Port}
 use Rattle.ata_types.specs.declared.Slot.{Slot}
 use Rattle.adapter.specs.declared.access.DiskPage.{DiskPage}
-use Rattle.adapter.specs.declared.access.DiskPage.TheVariants.{Identity}
+use Rattle.adapter.specs.declared.access.DiskPage.TheVariants.{Identity, Log}
 use Rattle.adapter.specs.declared.access.DeviceStep.{DeviceStep}
 use Rattle.adapter.specs.declared.access.DeviceStep.TheVariants as step
 use Rattle.script.specs.declared.line.Line.{Line}
@@ -57,6 +57,7 @@ op_is Flush = fixed (op_word Flush) refl
 
 page_is : (page : DiskPage) → IsWord (page_word page)
 page_is Identity = fixed (page_word Identity) refl
+page_is Log = fixed (page_word Log) refl
 
 by_are : (r : Request) (words : List Word) → IsRequest r → AreWords words → AreWords (decimal r.client.0 ∷ decimal r.grant ∷ words)
 by_are r words h rest = more (number r.client.0 (omega (arith, h.client))) (more (number r.grant (omega (arith, h.grant))) rest)
@@ -86,6 +87,9 @@ step_are (step.Clear port slot count) h =
     (more (number count (omega (arith, h.2))) none)))
 step_are (step.Done port slot) h = more (fixed (codes "done") refl) (place_are port slot h)
 step_are (step.Finish port slot) h = more (fixed (codes "finish") refl) (place_are port slot h)
+step_are (step.Fault port slot error) h =
+    more (fixed (codes "fault") refl) (more (number port.0 (omega (arith, h.0))) (more (number slot.0 (omega (arith, h.1)))
+    (more (pairs (error ∷ []) (All-cons (λ b. b < 256) error [] h.2 (All-nil (λ b. b < 256)))) none)))
 step_are (step.Lie port page offset bits) h =
     more (fixed (codes "lie") refl) (more (number port.0 (omega (arith, h.0))) (more (page_is page)
     (more (number offset (omega (arith, h.1))) (more (pairs (bits ∷ []) (All-cons (λ b. b < 256) bits [] h.2 (All-nil (λ b. b < 256)))) none))))
@@ -118,6 +122,7 @@ step_few (step.Move port slot) = omega arith
 step_few (step.Clear port slot count) = omega arith
 step_few (step.Done port slot) = omega arith
 step_few (step.Finish port slot) = omega arith
+step_few (step.Fault port slot error) = omega arith
 step_few (step.Lie port page offset bits) = omega arith
 step_few (step.Truth port) = omega arith
 step_few (step.Hold port) = omega arith

@@ -9,7 +9,7 @@ use Rattle.ata_types.specs.declared.request.Op.{Op}
 use Rattle.ata_types.specs.declared.request.Op.TheVariants.{Read, Write, Trim, Flush}
 use Rattle.ata_types.specs.declared.request.Request.{Request}
 use Rattle.adapter.specs.declared.access.DiskPage.{DiskPage}
-use Rattle.adapter.specs.declared.access.DiskPage.TheVariants.{Identity}
+use Rattle.adapter.specs.declared.access.DiskPage.TheVariants.{Identity, Log}
 use Rattle.adapter.specs.declared.access.DeviceStep.{DeviceStep}
 use Rattle.adapter.specs.declared.access.DeviceStep.TheVariants as step
 use Rattle.script.specs.Fields.{Word, frames_word}
@@ -24,6 +24,7 @@ op_word Flush = codes "flush"
 
 abbrev pub page_word : DiskPage → Word
 page_word Identity = codes "id"
+page_word Log = codes "log"
 
 -- what stands after `read` or `write`
 abbrev pub transfer_words : Request → List Word
@@ -47,6 +48,7 @@ step_words (step.Move port slot) = codes "move" ∷ place_words port slot
 step_words (step.Clear port slot count) = codes "clear" ∷ decimal port.0 ∷ decimal slot.0 ∷ decimal count ∷ []
 step_words (step.Done port slot) = codes "done" ∷ place_words port slot
 step_words (step.Finish port slot) = codes "finish" ∷ place_words port slot
+step_words (step.Fault port slot error) = codes "fault" ∷ decimal port.0 ∷ decimal slot.0 ∷ encode_lower (error ∷ []) ∷ []
 step_words (step.Lie port page offset bits) =
     codes "lie" ∷ decimal port.0 ∷ page_word page ∷ decimal offset ∷ encode_lower (bits ∷ []) ∷ []
 step_words (step.Truth port) = codes "truth" ∷ decimal port.0 ∷ []
@@ -96,6 +98,7 @@ IsStep (step.Move port slot) = IsPlace port slot
 IsStep (step.Clear port slot count) = (port.0 < 4) × (slot.0 < 32) × (count < 2 ^ 32)
 IsStep (step.Done port slot) = IsPlace port slot
 IsStep (step.Finish port slot) = IsPlace port slot
+IsStep (step.Fault port slot error) = (port.0 < 4) × (slot.0 < 32) × (error < 256)
 IsStep (step.Lie port page offset bits) = (port.0 < 4) × (offset < 512) × (bits < 256)
 IsStep (step.Truth port) = port.0 < 4
 IsStep (step.Hold port) = port.0 < 4

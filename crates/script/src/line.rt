@@ -1,7 +1,7 @@
 // One line of a script.
 ghost use Rattle.std.specs.Prelude.{◌≡◌, ◌<◌, ◌==◌, ◌∷◌, [], codes, Some, None, IfSome, length, map};
 ghost use Rattle.std.specs.List.{slice_split};
-ghost use Rattle.script.specs.Line.{IsLine, IsRequest, IsStep, line_text, line_words, step_words, transfer_words};
+ghost use Rattle.script.specs.Line.{IsLine, IsRequest, IsStep, line_text, line_words, page_word, step_words, transfer_words};
 ghost use Rattle.ata_types.specs.declared.request.Op.{Op};
 ghost use Rattle.ata_types.specs.declared.request.Request.{Request};
 ghost use Rattle.adapter.specs.declared.access.DeviceStep.{DeviceStep};
@@ -75,15 +75,15 @@ fn transfer(op: Op, words: &[&str]) -> Option<Request>
     }
 }
 
-/// The lie that the disk of the port is to tell of its IDENTIFY DEVICE page: where, and which bits are turned.
-fn lie(port: &str, offset: &str, bits: &str) -> Option<DeviceStep>
-    ensures found { IfSome result (λ s. IsStep s × (step_words s ≡ codes "lie" ∷ port.now ∷ codes "id" ∷ offset.now ∷ bits.now ∷ [])) }
-    ensures only { (s : DeviceStep) → IsStep s → step_words s ≡ codes "lie" ∷ port.now ∷ codes "id" ∷ offset.now ∷ bits.now ∷ [] → result ≡ Some s }
+/// The lie that the disk of the port is to tell of this page: where, and which bits are turned.
+fn lie(port: &str, page: DiskPage, offset: &str, bits: &str) -> Option<DeviceStep>
+    ensures found { IfSome result (λ s. IsStep s × (step_words s ≡ codes "lie" ∷ port.now ∷ page_word page ∷ offset.now ∷ bits.now ∷ [])) }
+    ensures only { (s : DeviceStep) → IsStep s → step_words s ≡ codes "lie" ∷ port.now ∷ page_word page ∷ offset.now ∷ bits.now ∷ [] → result ≡ Some s }
 {
     let offset = fields::number(offset, 511)? as u16;
     Some(DeviceStep::Lie(
         fields::port(port)?,
-        DiskPage::Identity,
+        page,
         offset,
         fields::byte(bits)?,
     ))
@@ -98,6 +98,17 @@ fn clear(port: &str, slot: &str, count: &str) -> Option<DeviceStep>
     let slot = fields::slot(slot)?;
     let count = fields::wide(count)?;
     Some(DeviceStep::Clear(port, slot, count))
+}
+
+/// The fault that a command of the device is to end with: where, and which error.
+fn fault(port: &str, slot: &str, error: &str) -> Option<DeviceStep>
+    ensures found { IfSome result (λ s. IsStep s × (step_words s ≡ codes "fault" ∷ port.now ∷ slot.now ∷ error.now ∷ [])) }
+    ensures only { (s : DeviceStep) → IsStep s → step_words s ≡ codes "fault" ∷ port.now ∷ slot.now ∷ error.now ∷ [] → result ≡ Some s }
+{
+    let port = fields::port(port)?;
+    let slot = fields::slot(slot)?;
+    let error = fields::byte(error)?;
+    Some(DeviceStep::Fault(port, slot, error))
 }
 
 /// The step that the device is to do, from the words after `dev`.
@@ -116,7 +127,9 @@ fn step(words: &[&str]) -> Option<DeviceStep>
         ["hold", port] => DeviceStep::Hold(fields::port(port)?),
         ["release", port] => DeviceStep::Release(fields::port(port)?),
         ["truth", port] => DeviceStep::Truth(fields::port(port)?),
-        ["lie", port, "id", offset, bits] => lie(port, offset, bits)?,
+        ["fault", port, slot, error] => fault(port, slot, error)?,
+        ["lie", port, "id", offset, bits] => lie(port, DiskPage::Identity, offset, bits)?,
+        ["lie", port, "log", offset, bits] => lie(port, DiskPage::Log, offset, bits)?,
         _ => return None,
     })
 }

@@ -1,10 +1,11 @@
 -- Words of a page that is written word by word.
-use Rattle.std.proofs.Common.{ℕ, ◌≡◌, ◌≢◌, ◌<◌, ◌+◌, ◌*◌, ◌/◌, ◌%◌, List, length, sum, slice_index, ◌∙◌, ap, subst, arith, get_or-set_same, get_or-set_other}
-use Rattle.std.proofs.lemmas.List.{length-set}
+use Rattle.std.proofs.Common.{ℕ, ◌≡◌, ◌≢◌, ◌<◌, ◌+◌, ◌*◌, ◌/◌, ◌%◌, List, Option, length, replicate, sum, slice_index, ◌∙◌, ap, subst, arith, get_or-set_same, get_or-set_other}
+use Rattle.std.proofs.lemmas.List.{get_or-replicate, length-set}
 use Rattle.std.proofs.lemmas.List.Sums.{sum_by-set}
 use Rattle.std.specs.Prelude.{slice_set}
-use Rattle.sector_store.specs.Pages.{IsPage, IsWord, word}
+use Rattle.sector_store.specs.Pages.{IsLogPage, IsPage, IsWord, error_logged, status_logged, tag_logged, word}
 use Rattle.sector_store.specs.declared.pages.Abilities.{Abilities}
+use Rattle.sector_store.specs.declared.pages.FailedCommand.{FailedCommand}
 
 -- a page with one word written
 abbrev pub with_word : List ℕ → ℕ → ℕ → List ℕ
@@ -65,5 +66,49 @@ module _ (serial : List ℕ) (sectors : ℕ) (a : Abilities) (page : List ℕ) (
             let total = sum_set signed_page 511 byte (omega (arith, kept)) in
             let none = at_sign 511 (λ e. absurd (omega (arith, e))) in
             let all : sum (slice_set signed_page 511 byte) ≡ byte + sum signed_page = omega (arith, total, none, last) in
+            ap (λ n. n % 256) all ∙ zero_sum;
+      }
+
+-- ---- the page of the log
+
+module _ (tag status error : ℕ) where
+  abbrev pub named_page : List ℕ
+  named_page = slice_set (slice_set (slice_set (replicate 512 0) 0 tag) 2 status) 3 error
+
+  pub named_size : length named_page ≡ 512
+  named_size =
+      length-set (slice_set (slice_set (replicate 512 0) 0 tag) 2 status) 3 error
+      ∙ (length-set (slice_set (replicate 512 0) 0 tag) 2 status ∙ length-set (replicate 512 0) 0 tag)
+
+  -- its other bytes are zero
+  named_zero : (k : ℕ) → k < 512 → k ≢ 0 → k ≢ 2 → k ≢ 3 → slice_index named_page k ≡ 0
+  named_zero k small no_tag no_status no_error =
+      get_or-set_other (slice_set (slice_set (replicate 512 0) 0 tag) 2 status) 3 k error 0 no_error
+      ∙ (get_or-set_other (slice_set (replicate 512 0) 0 tag) 2 k status 0 no_status
+      ∙ (get_or-set_other (replicate 512 0) 0 k tag 0 no_tag ∙ get_or-replicate 512 k 0 0 small))
+
+  -- the page is done with a last byte that makes its sum 0
+  pub log_is : (failed : Option FailedCommand) (byte : ℕ) → tag ≡ tag_logged failed → status ≡ status_logged failed → error ≡ error_logged failed →
+      (byte + sum named_page) % 256 ≡ 0 → IsLogPage failed (slice_set named_page 511 byte)
+  log_is failed byte its_tag its_status its_error zero_sum =
+      let same : (k : ℕ) → k < 511 → slice_index (slice_set named_page 511 byte) k ≡ slice_index named_page k =
+      λ (k : ℕ) (less : k < 511). get_or-set_other named_page 511 k byte 0 (λ e. absurd (omega (arith, e, less))) in
+      let two : List ℕ = slice_set (slice_set (replicate 512 0) 0 tag) 2 status in
+      let one : List ℕ = slice_set (replicate 512 0) 0 tag in
+      let long : length one ≡ 512 = length-set (replicate 512 0) 0 tag in
+      let longer : length two ≡ 512 = length-set one 2 status ∙ long in
+      record {
+        size = length-set named_page 511 byte ∙ named_size;
+        tag = same 0 (omega arith)
+            ∙ (get_or-set_other two 3 0 error 0 (λ e. absurd (omega (arith, e)))
+            ∙ (get_or-set_other one 2 0 status 0 (λ e. absurd (omega (arith, e))) ∙ (get_or-set_same (replicate 512 0) 0 tag 0 (omega arith) ∙ its_tag)));
+        status = same 2 (omega arith)
+            ∙ (get_or-set_other two 3 2 error 0 (λ e. absurd (omega (arith, e))) ∙ (get_or-set_same one 2 status 0 (omega (arith, long)) ∙ its_status));
+        error = same 3 (omega arith) ∙ (get_or-set_same two 3 error 0 (omega (arith, longer)) ∙ its_error);
+        zeros = λ k less no_tag no_status no_error. same k less ∙ named_zero k (omega (arith, less)) no_tag no_status no_error;
+        checked =
+            let total = sum_set named_page 511 byte (omega (arith, named_size)) in
+            let none = named_zero 511 (omega arith) (λ e. absurd (omega (arith, e))) (λ e. absurd (omega (arith, e))) (λ e. absurd (omega (arith, e))) in
+            let all : sum (slice_set named_page 511 byte) ≡ byte + sum named_page = omega (arith, total, none) in
             ap (λ n. n % 256) all ∙ zero_sum;
       }

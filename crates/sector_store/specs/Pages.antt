@@ -1,6 +1,8 @@
--- The page that IDENTIFY DEVICE brings, 512 bytes, read as 256 words, each with its low byte first (ACS-3, 7.12.7).
-use Rattle.std.specs.Prelude.{ℕ, ◌≡◌, ◌≢◌, ◌+◌, ◌-◌, ◌*◌, ◌/◌, ◌%◌, ◌^◌, ◌<◌, ◌≤◌, ◌⊎◌, List, if◌then◌else◌, length, sum, slice_index, slice_index_or}
+-- The page that IDENTIFY DEVICE brings, 512 bytes, read as 256 words, each with its low byte first (ACS-3, 7.12.7); and that of log 10h, which READ LOG
+-- EXT brings (ACS-3, A.14).
+use Rattle.std.specs.Prelude.{ℕ, ◌≡◌, ◌≢◌, ◌+◌, ◌-◌, ◌*◌, ◌/◌, ◌%◌, ◌^◌, ◌<◌, ◌≤◌, ◌⊎◌, List, Option, None, Some, if◌then◌else◌, length, sum, slice_index, slice_index_or}
 use Rattle.sector_store.specs.declared.pages.Abilities.{Abilities}
+use Rattle.sector_store.specs.declared.pages.FailedCommand.{FailedCommand}
 use Rattle.sector_store.specs.declared.pages.Trim.{Trim}
 use Rattle.sector_store.specs.declared.pages.Trim.TheVariants.{Full, Weak, Without}
 
@@ -44,4 +46,27 @@ pub record IsPage (serial : List ℕ) (sectors : ℕ) (a : Abilities) (page : Li
   pub size : length page ≡ 512
   pub words : (number : ℕ) → number < 255 → IsWord serial sectors a number (word page number)
   pub signed : slice_index page 510 ≡ 0xa5
+  pub checked : sum page % 2 ^ 8 ≡ 0
+
+-- NQ or the tag, the status, and the error of the queued command that failed, where one did
+abbrev pub tag_logged : Option FailedCommand → ℕ
+tag_logged None = 0x80
+tag_logged (Some failed) = failed.tag
+
+abbrev pub status_logged : Option FailedCommand → ℕ
+status_logged None = 0
+status_logged (Some failed) = 0x41
+
+abbrev pub error_logged : Option FailedCommand → ℕ
+error_logged None = 0
+error_logged (Some failed) = failed.error
+
+-- The page of log 10h: byte 0 has NQ, or the tag, byte 2 the status and byte 3 the error. All bytes sum to 0 modulo 256, by the last of them; the others are
+-- zero.
+pub record IsLogPage (failed : Option FailedCommand) (page : List ℕ) : Type 0 where
+  pub size : length page ≡ 512
+  pub tag : slice_index page 0 ≡ tag_logged failed
+  pub status : slice_index page 2 ≡ status_logged failed
+  pub error : slice_index page 3 ≡ error_logged failed
+  pub zeros : (offset : ℕ) → offset < 511 → offset ≢ 0 → offset ≢ 2 → offset ≢ 3 → slice_index page offset ≡ 0
   pub checked : sum page % 2 ^ 8 ≡ 0

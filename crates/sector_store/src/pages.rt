@@ -1,6 +1,6 @@
-// The page by which a disk says what it is.
+// The pages by which a disk says what it is, and which queued command failed.
 ghost use Rattle.std.specs.Prelude.{◌≡◌, ◌<◌, ◌≤◌, ◌%◌, All, length, sum};
-ghost use Rattle.sector_store.specs.Pages.{IsPage, IsWord, character, trim_function, trim_support};
+ghost use Rattle.sector_store.specs.Pages.{IsLogPage, IsPage, IsWord, character, error_logged, status_logged, tag_logged, trim_function, trim_support};
 ghost use Rattle.sector_store.specs.Stores.{IsSector};
 
 /// What a disk says of DATA SET MANAGEMENT with TRIM.
@@ -24,6 +24,21 @@ pub struct Abilities {
     pub depth: u8,
     pub trim: Trim,
 }
+
+/// A queued command that failed.
+#[derive(Clone, Copy, Debug, PartialEq, Eq)]
+pub struct FailedCommand {
+    /// Its slot.
+    pub tag: u8,
+    /// The error that it ended with.
+    pub error: u8,
+}
+
+/// NQ: the log names no queued command.
+const NONE_QUEUED: u8 = 0x80;
+
+/// The status of a command that failed: DRDY and ERR.
+const FAILED_STATUS: u8 = 0x41;
 
 impl Trim {
     /// The word that tells of zeros after a trim (word 69).
@@ -109,6 +124,46 @@ pub fn identify_page(serial: &[u8], sectors: u64, abilities: Abilities) -> [u8; 
         page[2 * number + 1] = (word / 256) as u8;
     }
     page[510] = 0xa5;
+    page[511] = 0u8.wrapping_sub(sum_of(&page));
+    page
+}
+
+/// Byte 0 of the log: NQ, or the tag of the command that failed.
+fn log_tag(failed: Option<FailedCommand>) -> u8
+    ensures { result ≡ tag_logged failed }
+{
+    match failed {
+        Some(failed) => failed.tag,
+        None => NONE_QUEUED,
+    }
+}
+
+/// Its status there, in byte 2.
+fn log_status(failed: Option<FailedCommand>) -> u8
+    ensures { result ≡ status_logged failed }
+{
+    if failed.is_some() { FAILED_STATUS } else { 0 }
+}
+
+/// Its error there, in byte 3.
+fn log_error(failed: Option<FailedCommand>) -> u8
+    ensures { result ≡ error_logged failed }
+{
+    match failed {
+        Some(failed) => failed.error,
+        None => 0,
+    }
+}
+
+/// The page that READ LOG EXT brings of log 10h (ACS-3, A.14): it names the queued command that failed, or none.
+pub fn log_page(failed: Option<FailedCommand>) -> [u8; 512]
+    ensures page { IsLogPage failed result }
+    ensures bytes { IsSector result }
+{
+    let mut page = [0; 512];
+    page[0] = log_tag(failed);
+    page[2] = log_status(failed);
+    page[3] = log_error(failed);
     page[511] = 0u8.wrapping_sub(sum_of(&page));
     page
 }

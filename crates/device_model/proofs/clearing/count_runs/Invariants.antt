@@ -5,6 +5,6 @@ use Rattle.device_model.proofs.clearing.count_runs.Given as goal
 
 abbrev pub invariant-loop-place : goal.invariant-loop-place
 invariant-loop-place l = record {
-  counted : IsCounted (drop l.cleared (trim_sectors l.block)) (behind l.block l.place) l.sectors l.skip l.runs l.next;
+  counted : IsCounted (drop l.cleared (trim_sectors l.block)) (behind l.block l.place) l.skip l.runs l.next;
   few : l.runs ≤ l.place;
 }

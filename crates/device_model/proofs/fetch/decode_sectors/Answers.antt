@@ -12,3 +12,7 @@ returns-in-Flush-clause-only c = rw c.in-Flush.is
 pub returns-in-Trim-clause-only : goal.returns-in-Trim-clause-only
 returns-in-Trim-clause-only c = rw c.in-Trim.is
     (λ s is spells. let none = is.not_ranged refl in c.decode_bare-in-Trim.ensures.only s none.0 none.1 spells)
+
+pub returns-in-ReadLog-clause-only : goal.returns-in-ReadLog-clause-only
+returns-in-ReadLog-clause-only c = rw c.in-ReadLog.is
+    (λ s is spells. let none = is.not_ranged refl in c.decode_log.ensures.only s none.0 none.1 spells)

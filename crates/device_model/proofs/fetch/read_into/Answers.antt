@@ -8,8 +8,8 @@ use Rattle.device_model.proofs.Transfers.{transfer_of}
 use Rattle.device_model.proofs.fetch.read_into.Goals as goal
 
 pub returns-in-None-clause-only : goal.returns-in-None-clause-only
-returns-in-None-clause-only c = λ none m places takes s.
-    let t = transfer_of m.operation takes in
+returns-in-None-clause-only c = λ none m places s.
+    let t = transfer_of m.operation in
     let header = rw c.header_place.ensures at c.header_bytes-header.ensures in
     let points : little_from 8 4 c.header_bytes-header.result ≡ s.table = rw (← header) at s.header.points in
     let fis = rw points at c.fis_bytes-fis.ensures in
@@ -18,8 +18,8 @@ returns-in-None-clause-only c = λ none m places takes s.
     some-none its c.in-None.is
 
 pub returns-in-Some-clause-only : goal.returns-in-Some-clause-only
-returns-in-Some-clause-only c = λ none m places takes s.
-    let t = transfer_of m.operation takes in
+returns-in-Some-clause-only c = λ none m places s.
+    let t = transfer_of m.operation in
     let header = rw c.header_place.ensures at c.header_bytes-header.ensures in
     let points : little_from 8 4 c.header_bytes-header.result ≡ s.table = rw (← header) at s.header.points in
     let fis = rw points at c.fis_bytes-fis.ensures in

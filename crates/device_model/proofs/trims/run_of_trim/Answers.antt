@@ -1,22 +1,18 @@
 use Rattle.std.proofs.Common.{ℕ, ◌≡◌, ◌≤◌, ◌∙◌, List, take, arith, length-take}
-use Rattle.device_model.specs.Trims.{next_uncleared, run_of, uncleared}
+use Rattle.device_model.specs.Trims.{run_of, uncleared}
 use Rattle.device_model.specs.View.{taken_of}
 use Rattle.device_model.proofs.Runs.{run_long}
 use Rattle.device_model.proofs.Trimming.{run_one}
 use Rattle.device_model.proofs.trims.run_of_trim.Goals as goal
-use Rattle.device_model.proofs.trims.run_of_trim.Goals.{then-run-eq0-via-then-run-eq0, then-run-eq0-via-else-run-eq0+then-run-sectors, else-run-most-via-then-run-most+else-uncleared_of-most, else-run-most-via-else-run-most}
+use Rattle.device_model.proofs.trims.run_of_trim.Goals.{else-run-most-via-then-run-most+else-uncleared_of-most, else-run-most-via-else-run-most}
 
 pub returns-then-run-eq0-clause-none : goal.returns-then-run-eq0-clause-none
 returns-then-run-eq0-clause-none c = λ _ can.
     let run = c.next_run-run.result in
     let count : run.count ≡ run_of (take c.args.most (uncleared (taken_of c.args.command.now))) = rw c.requires.block at c.next_run-run.ensures.count in
     let some = run_one c.args.most (uncleared (taken_of c.args.command.now)) can.some can.enough in
-    let first : run.first ≡ next_uncleared (taken_of c.args.command.now) = (rw c.requires.block at c.next_run-run.ensures.first) (omega (arith, count, some)) in
-    let below = can.on_disk in
-    elim c.then-run-eq0.branch [
-      | then-run-eq0-via-then-run-eq0 w ↦ let none = w.if-run-eq0.true in absurd (omega (arith, count, some, none))
-      | then-run-eq0-via-else-run-eq0+then-run-sectors w ↦ let past = w.if-run-sectors.true in absurd (omega (arith, first, below, past))
-    ]
+    let none = c.if-run-eq0.true in
+    absurd (omega (arith, count, some, none))
 
 pub returns-clause-can : goal.returns-clause-can
 returns-clause-can c =
@@ -25,9 +21,7 @@ returns-clause-can c =
     let ne = c.if-run-eq0.false in
     let some : 1 ≤ run.count = omega (arith, ne) in
     let count : run.count ≡ run_of (take c.args.most left) = rw c.requires.block at c.next_run-run.ensures.count in
-    let first : run.first ≡ next_uncleared (taken_of c.args.command.now) = (rw c.requires.block at c.next_run-run.ensures.first) some in
     let few = c.next_run-run.ensures.few in
-    let below = c.if-run-sectors.false in
     record {
       trim = c.is_trim.ensures.0 c.if-not-is_trim.false;
       moved = c.if-command-count_pieces.false ∙ (rw c.as_slice.ensures.same at c.count_pieces.ensures);
@@ -43,5 +37,4 @@ returns-clause-can c =
             let size = length-take c.args.most left in
             omega (arith, whole, long, size, count)
       ];
-      on_disk = omega (arith, first, below);
     }

@@ -22,10 +22,10 @@ pub returns-in_err-rest-clause-left : goal.returns-in_err-rest-clause-left
 returns-in_err-rest-clause-left c = λ _.
     inl (
       λ o left clears ready.
-          let w = ready_held c.args.self.now o c.from-place.result c.args.port c.args.slot c.args.sectors left clears c.from-place.ensures ready
+          let w = ready_held c.args.self.now o c.from-place.result c.args.port c.args.slot left clears c.from-place.ensures ready
           (c.has_untaken.ensures.only c.if-has_untaken.false) in
           let P : ℕ → Type 0 = λ q. HoldsAt (slice_index_or c.args.self.now.ports q blank) c.args.slot w.0 in
-          let rest = ready_is_held c.args.self.now c.from-place.result c.args.port c.args.slot c.args.sectors w.0 c.from-place.ensures w.1
+          let rest = ready_is_held c.args.self.now c.from-place.result c.args.port c.args.slot w.0 c.from-place.ensures w.1
           (c.has_untaken.ensures.only c.if-has_untaken.false) o left clears ready in
           some-none (c.rest_at.ensures.only w.0 left clears (subst P c.from-place.ensures w.1) rest) c.in_err-rest.was,
       refl,
@@ -44,10 +44,10 @@ returns-then-is_err-clause-left c = λ _.
     inr (record {
       left = rest.left;
       clears = rest.clears;
-      ready = ready_to_go h c.from-place.result c.args.port c.args.slot c.args.sectors found.0 c.from-place.ensures rest.left rest.clears found.2 held;
+      ready = ready_to_go h c.from-place.result c.args.port c.args.slot found.0 c.from-place.ensures rest.left rest.clears found.2 held;
       only = λ o n m ready.
           let one = some_one (sym (c.rest_at.ensures.only found.0 n m found.1
-          (ready_is_held h c.from-place.result c.args.port c.args.slot c.args.sectors found.0 c.from-place.ensures held
+          (ready_is_held h c.from-place.result c.args.port c.args.slot found.0 c.from-place.ensures held
           (c.has_untaken.ensures.only c.if-has_untaken.false) o n m ready)) ∙ c.in_ok-rest.was) in
           (ap (λ (x : Rest). x.left) one, ap (λ (x : Rest). x.clears) one);
       lacked = λ room. absurd (omega (arith, over, room, entries));
@@ -66,14 +66,14 @@ returns-clause-begun c =
     let new : Hardware = record h { tape = c.reserve.new.self } in
     let room : vec_len c.reserve.new.self + c.entries_of.result ≤ vec_capacity c.reserve.new.self = search rules in
     let entries = c.entries_of.ensures in
-    let ready : (o : Outside) → MayFinish (device_of h o) c.args.port c.args.slot c.args.sectors rest.left rest.clears =
-    ready_to_go h c.from-place.result c.args.port c.args.slot c.args.sectors found.0 c.from-place.ensures rest.left rest.clears found.2 held in
+    let ready : (o : Outside) → MayFinish (device_of h o) c.args.port c.args.slot rest.left rest.clears =
+    ready_to_go h c.from-place.result c.args.port c.args.slot found.0 c.from-place.ensures rest.left rest.clears found.2 held in
     let same : (o : Outside) → device_of new o ≡ device_of h o = λ o. ap (λ (items : List Entry). record (device_of h o) { tape = items }) c.reserve.ensures.items in
     record {
       ready = ready;
       going = λ o.
-          fetched_goes c.args.port c.args.slot c.args.sectors rest.left rest.clears false (device_of h o) (device_of new o) (ready o) (λ never. true-false never refl) (λ _. same o)
-          (λ _ m places _ can.
+          fetched_goes c.args.port c.args.slot rest.left rest.clears false (device_of h o) (device_of new o) (ready o) (λ never. true-false never refl) (λ _. same o)
+          (λ _ m places can.
           c.has_untaken.ensures.only c.if-has_untaken.false (o.media c.from-place.result) m.operation
           (fetch_takes h o c.from-place.result c.args.port c.args.slot m places c.from-place.ensures can));
       room = omega (arith, room, entries);

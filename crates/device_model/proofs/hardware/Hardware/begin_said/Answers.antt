@@ -21,7 +21,7 @@ take-requires-clause-alone c = λ m.
     let ports = c.args.self.now.ports in
     let small : c.from-place.result < length ports = search rules in
     rw (at_port ports c.from-place.result c.index-self-place-3.result small)
-    (rw (at_port ports c.from-place.result c.index-self-place-2.result small) at (c.is_alone.ensures.alone c.if-not-is_alone.false m))
+    (rw (at_port ports c.from-place.result c.index-self-place-2.result small) at ((c.is_open_to.ensures.open c.if-not-is_open_to.false).1 m))
 
 pub returns-then-not-read_into-clause-left : goal.returns-then-not-read_into-clause-left
 returns-then-not-read_into-clause-left c = λ _.
@@ -29,9 +29,9 @@ returns-then-not-read_into-clause-left c = λ _.
       λ o left clears ready.
           let P : ℕ → Type 0 = λ q. HasUntaken (slice_index_or c.args.self.now.ports q blank) c.args.slot in
           let may = subst P (sym c.from-place.ensures) c.requires.may in
-          let says = ready_said c.args.self.now o c.from-place.result c.args.port c.args.slot c.args.sectors left clears c.from-place.ensures ready may in
+          let says = ready_said c.args.self.now o c.from-place.result c.args.port c.args.slot left clears c.from-place.ensures ready may in
           let small : c.from-place.result < length c.args.self.now.ports = search rules in
-          (rw (at_port c.args.self.now.ports c.from-place.result c.index-self-place.result small) at (c.read_into.ensures.only c.if-not-read_into.true ready.t.meaning ready.t.places ready.takes))
+          (rw (at_port c.args.self.now.ports c.from-place.result c.index-self-place.result small) at (c.read_into.ensures.only c.if-not-read_into.true ready.t.meaning ready.t.places))
           (rw (← c.deref.ensures.value) at says),
       refl,
     )
@@ -44,7 +44,7 @@ returns-in_err-rest-clause-left c = λ _.
           let may = subst P (sym c.from-place.ensures) c.requires.may in
           let small : c.from-place.result < length c.args.self.now.ports = search rules in
           let said = c.read_into.ensures.found c.if-not-read_into.false in
-          let rest = ready_is_said c.args.self.now c.from-place.result c.args.port c.args.slot c.args.sectors c.read_into.new.command
+          let rest = ready_is_said c.args.self.now c.from-place.result c.args.port c.args.slot c.read_into.new.command
           c.from-place.ensures may said.0 (rw (at_port c.args.self.now.ports c.from-place.result c.index-self-place.result small) at (rw c.deref.ensures.value at said.1)) o left clears ready in
           some-none ((rw c.deref-2.ensures.value at (c.rest_of.ensures.only left clears)) rest) c.in_err-rest.was,
       refl,
@@ -65,11 +65,11 @@ returns-then-is_err-clause-left c = λ _.
     inr (record {
       left = rest.left;
       clears = rest.clears;
-      ready = ready_to_take h c.from-place.result c.args.port c.args.slot c.args.sectors c.read_into.new.command c.from-place.ensures rest.left rest.clears
-          (rw c.deref-2.ensures.value at c.in_ok-rest.ensures.rest) said.0 may (rw (at_port c.args.self.now.ports c.from-place.result c.index-self-place-2.result small) at (c.is_alone.ensures.alone c.if-not-is_alone.false)) says;
+      ready = ready_to_take h c.from-place.result c.args.port c.args.slot c.read_into.new.command c.from-place.ensures rest.left rest.clears
+          (rw c.deref-2.ensures.value at c.in_ok-rest.ensures.rest) said.0 may (rw (at_port c.args.self.now.ports c.from-place.result c.index-self-place-2.result small) at (c.is_open_to.ensures.open c.if-not-is_open_to.false)) says;
       only = λ o n m ready.
           let one = some_one (sym ((rw c.deref-2.ensures.value at (c.rest_of.ensures.only n m))
-          (ready_is_said h c.from-place.result c.args.port c.args.slot c.args.sectors c.read_into.new.command c.from-place.ensures may said.0 says o n m ready)) ∙ c.in_ok-rest.was) in
+          (ready_is_said h c.from-place.result c.args.port c.args.slot c.read_into.new.command c.from-place.ensures may said.0 says o n m ready)) ∙ c.in_ok-rest.was) in
           (ap (λ (x : Rest). x.left) one, ap (λ (x : Rest). x.clears) one);
       lacked = λ room. absurd (omega (arith, over, room, entries));
       lacks = λ room. absurd (omega (arith, still, room, entries));
@@ -87,12 +87,12 @@ returns-clause-begun c =
     let small : c.from-place.result < length h.ports = search rules in
     let said = c.read_into.ensures.found c.if-not-read_into.false in
     let says = rw (at_port h.ports c.from-place.result c.index-self-place.result small) at (rw c.deref.ensures.value at said.1) in
-    let alone = rw (at_port c.args.self.now.ports c.from-place.result c.index-self-place-2.result small) at (c.is_alone.ensures.alone c.if-not-is_alone.false) in
+    let alone = rw (at_port c.args.self.now.ports c.from-place.result c.index-self-place-2.result small) at (c.is_open_to.ensures.open c.if-not-is_open_to.false) in
     let room : vec_len c.reserve.new.self + c.entries_of.result ≤ vec_capacity c.reserve.new.self = search rules in
     let entries = c.entries_of.ensures in
     let kept : (o : Outside) → device_of held o ≡ device_of h o = λ o. ap (λ (items : List Entry). record (device_of h o) { tape = items }) c.reserve.ensures.items in
-    let ready : (o : Outside) → MayFinish (device_of h o) c.args.port c.args.slot c.args.sectors rest.left rest.clears =
-    ready_to_take h c.from-place.result c.args.port c.args.slot c.args.sectors c.read_into.new.command c.from-place.ensures rest.left rest.clears
+    let ready : (o : Outside) → MayFinish (device_of h o) c.args.port c.args.slot rest.left rest.clears =
+    ready_to_take h c.from-place.result c.args.port c.args.slot c.read_into.new.command c.from-place.ensures rest.left rest.clears
     (rw c.deref-2.ensures.value at c.in_ok-rest.ensures.rest) said.0 may alone says in
     let new : Hardware = record held { ports = slice_set h.ports c.from-place.result c.take.new.self } in
     let taken = may_be_taken (slice_index_or h.ports c.from-place.result blank) c.args.slot c.read_into.new.command may alone in
@@ -104,7 +104,7 @@ returns-clause-begun c =
     record {
       ready = ready;
       going = λ o.
-          fetched_goes c.args.port c.args.slot c.args.sectors rest.left rest.clears true (device_of h o) (device_of new o) (ready o) (λ _. did o) (λ never. true-false refl never)
+          fetched_goes c.args.port c.args.slot rest.left rest.clears true (device_of h o) (device_of new o) (ready o) (λ _. did o) (λ never. true-false refl never)
           (λ never. true-false refl never);
       room = omega (arith, room, entries);
       did = λ _ o. did o;
@@ -114,16 +114,17 @@ returns-clause-begun c =
     }
 
 -- another command is taken
-pub returns-then-not-is_alone-clause-left : goal.returns-then-not-is_alone-clause-left
-returns-then-not-is_alone-clause-left c = λ _.
+pub returns-then-not-is_open_to-clause-left : goal.returns-then-not-is_open_to-clause-left
+returns-then-not-is_open_to-clause-left c = λ _.
     inl (
       λ o left clears ready.
           let P : ℕ → Type 0 = λ q. HasUntaken (slice_index_or c.args.self.now.ports q blank) c.args.slot in
           let may = subst P (sym c.from-place.ensures) c.requires.may in
           let small : c.from-place.result < length c.args.self.now.ports = search rules in
           let said = c.read_into.ensures.found c.if-not-read_into.false in
-          (rw (at_port c.args.self.now.ports c.from-place.result c.index-self-place-2.result small) at (c.is_alone.ensures.only c.if-not-is_alone.true (o.media c.from-place.result)))
-          (ready_beside c.args.self.now c.from-place.result c.args.port c.args.slot c.args.sectors c.read_into.new.command c.from-place.ensures may
-          said.0 (rw (at_port c.args.self.now.ports c.from-place.result c.index-self-place.result small) at (rw c.deref.ensures.value at said.1)) o left clears ready),
+          let both = ready_beside c.args.self.now c.from-place.result c.args.port c.args.slot c.read_into.new.command c.from-place.ensures may
+          said.0 (rw (at_port c.args.self.now.ports c.from-place.result c.index-self-place.result small) at (rw c.deref.ensures.value at said.1)) o left clears ready in
+          (rw (at_port c.args.self.now.ports c.from-place.result c.index-self-place-2.result small) at (c.is_open_to.ensures.only c.if-not-is_open_to.true (o.media c.from-place.result)))
+          both.0 both.1,
       refl,
     )

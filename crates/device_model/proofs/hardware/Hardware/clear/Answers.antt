@@ -7,7 +7,7 @@ use Rattle.device_model.proofs.SlotLemmas.{at_port}
 use Rattle.device_model.proofs.hardware.Hardware.clear.Goals as goal
 
 pub returns-clause-cleared : goal.returns-clause-cleared
-returns-clause-cleared c = λ o t holds.
+returns-clause-cleared c = λ _ o t holds.
     let h = c.args.self.now in
     let small : c.from.result < length h.ports = search rules in
     let P : ℕ → Type 0 = λ q. HoldsAt (slice_index_or h.ports q blank) c.args.slot t in

@@ -28,7 +28,7 @@ returns-in_default-clause-left c = λ _ o.
     inl (
       λ may.
           let t : Taken = may.1 in
-          let w = holds c.args.self.now o c.args.port c.args.slot t t.meaning.operation may.2.works in
+          let w = holds c.args.self.now o c.args.port c.args.slot t may.2.works in
           absurd (c.finished_at.ensures.none c.in_default.is w.0 w.1 (subst IsFinished w.2 may.2.finished)),
       refl,
     )

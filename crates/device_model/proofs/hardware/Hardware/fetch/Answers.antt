@@ -10,6 +10,6 @@ fetch_said-requires-clause-may c =
     subst P c.from.ensures (c.has_untaken.ensures.may c.if-has_untaken.true)
 
 pub returns-else-has_untaken-clause-only : goal.returns-else-has_untaken-clause-only
-returns-else-has_untaken-clause-only c = λ _ o m places takes may.
+returns-else-has_untaken-clause-only c = λ _ o m places may.
     c.has_untaken.ensures.only c.if-has_untaken.false (o.media c.from.result) m.operation
     (fetch_takes c.args.self.now o c.from.result c.args.port c.args.slot m places c.from.ensures may)

@@ -12,4 +12,4 @@ returns-clause-only c = λ t left clears holds rest.
     let P : ℕ → Type 0 = λ q. HoldsAt (slice_index_or h.ports q blank) c.args.slot t in
     let here = subst P (sym c.from.ensures) holds in
     let same : t ≡ c.in_ok-command.command.now = some_one (sym here.held ∙ c.in_ok-command.ensures.found.held) in
-    rw c.deref.ensures.value at c.rest_of.ensures.only left clears (subst (λ (x : TakenCommand). IsRest x h.memory.items c.args.sectors left clears) same rest)
+    rw c.deref.ensures.value at c.rest_of.ensures.only left clears (subst (λ (x : TakenCommand). IsRest x h.memory.items left clears) same rest)

@@ -7,7 +7,7 @@ use Rattle.fis.specs.declared.DeviceToHost.{DeviceToHost}
 use Rattle.fis.specs.declared.PioSetup.{PioSetup}
 use Rattle.fis.specs.declared.SetDeviceBits.{SetDeviceBits}
 use Rattle.adapter.specs.Device.{Device}
-use Rattle.device_model.specs.Sent.{SendsBits, SendsRegisters, end_of, tag_of}
+use Rattle.device_model.specs.Sent.{SendsBits, SendsRegisters, SendsSetup, end_of, page_setup, tag_of}
 use Rattle.device_model.specs.View.{port_of}
 use Rattle.device_model.specs.Whole.{device_of, no_media}
 use Rattle.device_model.proofs.SlotLemmas.{at_port}
@@ -23,8 +23,10 @@ pub returns-in-Identify-clause-sent : goal.returns-in-Identify-clause-sent
 returns-in-Identify-clause-sent c = λ o.
     let P : PioSetup → Type 0 = λ f. SpellsPioSetup c.encode_pio_setup-fis.result f in
     let small : c.args.port < length c.args.self.now.ports = search rules in
-    rw c.in-Identify.is
-    (refl, (c.encode_pio_setup-fis.result, subst P (rw (at_port c.args.self.now.ports c.args.port c.index-self-port.result small) at (c.page_setup.ensures (o.media c.args.port))) c.encode_pio_setup-fis.ensures, c.send.ensures.sent o))
+    let d : Device = device_of c.args.self.now o in
+    let sent : SendsSetup c.args.port (page_setup (d.port c.args.port)) d (device_of c.send.new.self o) =
+    (c.encode_pio_setup-fis.result, subst P (rw (at_port c.args.self.now.ports c.args.port c.index-self-port.result small) at (c.page_setup.ensures (o.media c.args.port))) c.encode_pio_setup-fis.ensures, c.send.ensures.sent o) in
+    elim c.in-Identify.is [ inl identity ↦ rw identity (refl, sent) | inr log ↦ rw log (refl, sent) ]
 
 pub returns-in-Read : goal.returns-in-Read
 returns-in-Read c = record {

@@ -17,9 +17,8 @@ invariant-loop-piece g l = record {
   refused : l.did ≡ false →
       device_at g.S.SectorStore.size g.S.SectorStore.told l.self ≡ device_at g.S.SectorStore.size g.S.SectorStore.told l.fn.self;
   size : (device_at g.S.SectorStore.size g.S.SectorStore.told l.self).size ≡ (device_at g.S.SectorStore.size g.S.SectorStore.told l.fn.self).size;
-  disk : g.S.SectorStore.size l.self.disk ≡ l.sectors;
   room : HasRoom l.self.hardware (l.rest.left - l._piece + l.rest.clears + 1);
-  going : IsGoing (device_at g.S.SectorStore.size g.S.SectorStore.told l.self) l.port.0 l.slot.0 l.sectors (l.rest.left - l._piece) l.rest.clears;
+  going : IsGoing (device_at g.S.SectorStore.size g.S.SectorStore.told l.self) l.port.0 l.slot.0 (l.rest.left - l._piece) l.rest.clears;
   disks : (AsksStore (asked.Finish l.port l.slot) (device_at g.S.SectorStore.size g.S.SectorStore.told l.fn.self) → ⊥) → (which : Which) →
       store_of l.self which ≡ store_of l.fn.self which;
   untouched : l.did ≡ false → (which : Which) → store_of l.self which ≡ store_of l.fn.self which;
@@ -33,9 +32,8 @@ invariant-loop-run g l = record {
       (device_at g.S.SectorStore.size g.S.SectorStore.told l.fn.self) (device_at g.S.SectorStore.size g.S.SectorStore.told l.self);
   refused : l.did ≡ false →
       device_at g.S.SectorStore.size g.S.SectorStore.told l.self ≡ device_at g.S.SectorStore.size g.S.SectorStore.told l.fn.self;
-  disk : g.S.SectorStore.size l.self.disk ≡ l.sectors;
   room : HasRoom l.self.hardware (l._run-end - l._run + 1);
-  going : IsGoing (device_at g.S.SectorStore.size g.S.SectorStore.told l.self) l.port.0 l.slot.0 l.sectors 0 (l._run-end - l._run);
+  going : IsGoing (device_at g.S.SectorStore.size g.S.SectorStore.told l.self) l.port.0 l.slot.0 0 (l._run-end - l._run);
   disks : (AsksStore (asked.Finish l.port l.slot) (device_at g.S.SectorStore.size g.S.SectorStore.told l.fn.self) → ⊥) → (which : Which) →
       store_of l.self which ≡ store_of l.fn.self which;
   untouched : l.did ≡ false → (which : Which) → store_of l.self which ≡ store_of l.fn.self which;

@@ -41,7 +41,8 @@ returns-then-not-plug g c =
         says = refl;
         which = refl;
         keeps = record { out = λ _ _. refl; sectors = λ _. refl; queue = refl; accesses = refl };
-        why = inr ((λ _. refl), λ _ _. (λ room _. missed.1 room, missed.2));
+        disks = λ _. refl;
+        why = λ _ _. (λ room _. missed.1 room, missed.2);
         starved_on = λ _. missed.2;
         starved_since = λ _. inr ((c.if-port-ne0.false, omega (arith, small, c.in-Some.ensures.found), free), λ room _. missed.1 room);
       }
@@ -111,10 +112,13 @@ returns g c =
       (c.if-port-ne0.false, omega (arith, small, c.in-Some.ensures.found), free),
       subst Q (sym c.turn_to.ensures.rest)
           (record {
-            asked = subst P (sym c.if-port-ne0.false) (does g c);
-            ends = inr ((λ w. ap g.S.SectorStore.failures (each w)), λ _. tt);
+            came = inl (record {
+              asked = subst P (sym c.if-port-ne0.false) (does g c);
+              fine = λ w. ap g.S.SectorStore.failures (each w);
+              says = refl;
+              ends = λ _. tt;
+            });
             held = refl;
-            says = refl;
             which = c.turn_to.ensures.which ∙ of_number c.in-Some.which c.args.disk.0 c.in-Some.ensures.found;
             pages = gains_one g.S.SectorStore.size m _ (entry.Plug (record { 0 = 0 }) (disk_number t.which)) (ap (λ (d : Device). d.tape) put) (λ x e. absurd (cc e));
             disks = λ _. each;

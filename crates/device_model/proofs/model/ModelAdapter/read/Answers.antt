@@ -4,13 +4,13 @@ use Rattle.std.specs.Global.{Vec}
 use Rattle.std.specs.Vec.{vec_len, vec_capacity}
 use Rattle.adapter.specs.Device.{Device}
 use Rattle.adapter.specs.declared.tape.Entry.{Entry}
-use Rattle.device_model.specs.Finishing.{HasIdentify, MayIdentify}
+use Rattle.device_model.specs.Finishing.{HasPage, MayPage}
 use Rattle.device_model.specs.Held.{IsPortHeld}
 use Rattle.device_model.specs.Settled.{DoesOwn, EndsReset, IsSettled}
 use Rattle.device_model.specs.Modelled.{device_at, outside_at}
 use Rattle.device_model.specs.Whole.{Outside, device_of}
 use Rattle.device_model.proofs.TwoDisks.{both_kept, in_kept}
-use Rattle.device_model.proofs.Identifying.{noted_identify, noted_may}
+use Rattle.device_model.proofs.Paging.{noted_page, noted_may}
 use Rattle.device_model.proofs.Own.{own_steps, reset_steps}
 use Rattle.device_model.proofs.Ports.{has_port_read, noted_settled}
 use Rattle.device_model.proofs.Queueing.{begins_steps}
@@ -26,12 +26,12 @@ note-requires g c = has_port_read c.args.r _ c.requires
 pub returns-clause-reads : goal.returns-clause-reads
 returns-clause-reads g c =
     let o : Outside = outside_at g.S.SectorStore.size g.S.SectorStore.told c.do_queued.new.self in
-    let last : Outside = outside_at g.S.SectorStore.size g.S.SectorStore.told c.identify.new.self in
+    let last : Outside = outside_at g.S.SectorStore.size g.S.SectorStore.told c.send_pages.new.self in
     let settled = c.settle.ensures.own o in
     record {
-      mid = device_of c.identify.new.self.hardware last;
+      mid = device_of c.send_pages.new.self.hardware last;
       steps = Steps-trans (begins_steps g.S.SectorStore.size g.S.SectorStore.told g.S.SectorStore.failures _ _ c.do_queued.ensures)
-          (Steps-trans (reset_steps _ _ _ _ settled.1) (Steps-trans (own_steps _ _ _ settled.2) (own_steps _ _ _ c.identify.ensures.own)));
+          (Steps-trans (reset_steps _ _ _ _ settled.1) (Steps-trans (own_steps _ _ _ settled.2) (own_steps _ _ _ c.send_pages.ensures.own)));
       shows = c.shown-value.ensures last;
       effect = c.note.ensures.notes last;
     }
@@ -39,56 +39,56 @@ returns-clause-reads g c =
 pub returns-clause-settled : goal.returns-clause-settled
 returns-clause-settled g c =
     let o : Outside = outside_at g.S.SectorStore.size g.S.SectorStore.told c.do_queued.new.self in
-    let last : Outside = outside_at g.S.SectorStore.size g.S.SectorStore.told c.identify.new.self in
-    let P : Device → Type 0 = λ d. IsSettled c.identify.new.self.held d in
-    let Q : List Bool → Type 0 = λ held. IsSettled held (device_of c.identify.new.self.hardware last) in
+    let last : Outside = outside_at g.S.SectorStore.size g.S.SectorStore.told c.send_pages.new.self in
+    let P : Device → Type 0 = λ d. IsSettled c.send_pages.new.self.held d in
+    let Q : List Bool → Type 0 = λ held. IsSettled held (device_of c.send_pages.new.self.hardware last) in
     subst P (sym (c.note.ensures.notes last))
-    (noted_settled c.args.r c.shown-value.result (device_of c.identify.new.self.hardware last) _
-    (subst Q (sym c.identify.ensures.rest.held) (c.identify.ensures.settled _ (c.settle.ensures.settled o))))
+    (noted_settled c.args.r c.shown-value.result (device_of c.send_pages.new.self.hardware last) _
+    (subst Q (sym c.send_pages.ensures.rest.held) (c.send_pages.ensures.settled _ (c.settle.ensures.settled o))))
 
 pub returns-clause-left : goal.returns-clause-left
 returns-clause-left g c =
-    let last : Outside = outside_at g.S.SectorStore.size g.S.SectorStore.told c.identify.new.self in
-    let Q : Bool → Type 0 = λ starved. IsPortHeld c.identify.new.self.held 0 ⊎ (starved ≡ true) in
+    let last : Outside = outside_at g.S.SectorStore.size g.S.SectorStore.told c.send_pages.new.self in
+    let Q : Bool → Type 0 = λ starved. IsPortHeld c.send_pages.new.self.held 0 ⊎ (starved ≡ true) in
     record {
       taken = λ slot small may.
-          let P : Device → Type 0 = λ d. MayIdentify d slot in
-          c.identify.ensures.left.taken slot small
-          (noted_may c.args.r c.shown-value.result (device_of c.identify.new.self.hardware last) slot (subst P (c.note.ensures.notes last) may));
+          let P : Device → Type 0 = λ d. MayPage d slot in
+          c.send_pages.ensures.left.taken slot small
+          (noted_may c.args.r c.shown-value.result (device_of c.send_pages.new.self.hardware last) slot (subst P (c.note.ensures.notes last) may));
       done = λ slot small has.
-          let P : Device → Type 0 = λ d. HasIdentify d slot in
+          let P : Device → Type 0 = λ d. HasPage d slot in
           subst Q (sym c.note.ensures.starved)
-          (c.identify.ensures.left.done slot small
-          (noted_identify c.args.r c.shown-value.result (device_of c.identify.new.self.hardware last) slot (subst P (c.note.ensures.notes last) has)));
+          (c.send_pages.ensures.left.done slot small
+          (noted_page c.args.r c.shown-value.result (device_of c.send_pages.new.self.hardware last) slot (subst P (c.note.ensures.notes last) has)));
     }
 
 pub returns-clause-alone : goal.returns-clause-alone
 returns-clause-alone g c =
     let mid = c.do_queued.new.self in
     let o : Outside = outside_at g.S.SectorStore.size g.S.SectorStore.told mid in
-    let last : Outside = outside_at g.S.SectorStore.size g.S.SectorStore.told c.identify.new.self in
+    let last : Outside = outside_at g.S.SectorStore.size g.S.SectorStore.told c.send_pages.new.self in
     let after = record mid { hardware = c.settle.new.self; held = c.settle.new.held } in
     let settled = c.settle.ensures.own o in
-    let own = c.identify.ensures.rest in
+    let own = c.send_pages.ensures.rest in
     let P : List Bool → Type 0 = λ held. EndsReset mid.held held (device_at g.S.SectorStore.size g.S.SectorStore.told mid) settled.0 in
-    let Q : List Bool → Type 0 = λ held. DoesOwn held settled.0 (device_of c.identify.new.self.hardware last) in
+    let Q : List Bool → Type 0 = λ held. DoesOwn held settled.0 (device_of c.send_pages.new.self.hardware last) in
     record {
       mid = mid;
       begins = c.do_queued.ensures;
       reset = settled.0;
       ends = subst P (sym own.held) settled.1;
-      last = device_of c.identify.new.self.hardware last;
-      own = subst Q (sym own.held) (record { settled = device_of c.settle.new.self o; settles = settled.2; identifies = c.identify.ensures.own });
+      last = device_of c.send_pages.new.self.hardware last;
+      own = subst Q (sym own.held) (record { settled = device_of c.settle.new.self o; settles = settled.2; sends = c.send_pages.ensures.own });
       shows = c.shown-value.ensures last;
       effect = c.note.ensures.notes last;
       says = own.says;
       which = own.which;
       pages = gains_on g.S.SectorStore.size mid after _ refl refl refl
           (gains_none g.S.SectorStore.size mid after (ap (λ (v : Vec Entry). v.items) c.settle.ensures.tape))
-          (gains_on g.S.SectorStore.size after c.identify.new.self _ own.says own.which (in_kept g.S.SectorStore.size after c.identify.new.self own.which own.keeps.sectors) own.pages
-          (gains_none g.S.SectorStore.size c.identify.new.self _
-          (ap (λ (d : Device). d.tape) (c.note.ensures.notes last) ∙ noted_tape c.args.r c.shown-value.result (device_of c.identify.new.self.hardware last))));
-      disks = both_kept after c.identify.new.self own.which c.identify.ensures.disk own.keeps.out;
+          (gains_on g.S.SectorStore.size after c.send_pages.new.self _ own.says own.which (in_kept g.S.SectorStore.size after c.send_pages.new.self own.which own.keeps.sectors) own.pages
+          (gains_none g.S.SectorStore.size c.send_pages.new.self _
+          (ap (λ (d : Device). d.tape) (c.note.ensures.notes last) ∙ noted_tape c.args.r c.shown-value.result (device_of c.send_pages.new.self.hardware last))));
+      disks = both_kept after c.send_pages.new.self own.which c.send_pages.ensures.disk own.keeps.out;
       keeps = record {
         out = own.keeps.out;
         sectors = own.keeps.sectors;
@@ -96,7 +96,7 @@ returns-clause-alone g c =
         accesses = own.keeps.accesses;
       };
       starved_since = λ now.
-          elim (c.identify.ensures.told (sym c.note.ensures.starved ∙ now)) [
+          elim (c.send_pages.ensures.told (sym c.note.ensures.starved ∙ now)) [
             | inl before ↦ inl (sym c.settle.ensures.starved ∙ before)
             | inr one ↦
                 let R : Vec Entry → Type 0 = λ tape. vec_len tape + (one.2.left + 1) ≤ vec_capacity tape in

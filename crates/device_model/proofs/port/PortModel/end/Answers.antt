@@ -2,6 +2,7 @@ use Rattle.std.proofs.Common.{ℕ, Bool, true, false, ◌≡◌, ◌∙◌, None
 use Rattle.std.specs.Prelude.{bit_and, if◌then◌else◌}
 use Rattle.adapter.specs.Commands.{is_queued}
 use Rattle.adapter.specs.Device.{PortState}
+use Rattle.adapter.specs.Device.Halt.{NotHalted}
 use Rattle.adapter.specs.Memory.{changed}
 use Rattle.adapter.specs.Steps.{with_done}
 use Rattle.device_model.specs.Bits.{bits_of}
@@ -25,7 +26,7 @@ returns-then-is_queued c = λ m.
     let tfd : bit_and c.task_file.result 0xff7f ≡ bit_and (port_of p m).tfd 0xff7f = ap (λ (n : ℕ). bit_and n 0xff7f) c.task_file.ensures in
     let sact : bits_of c.with_bit_as-self-then-is_queued.result ≡ changed (bits_of p.sact) slot false =
     c.with_bit_as-self-then-is_queued.ensures ∙ ap (λ (place : ℕ). changed (bits_of p.sact) place false) c.from.ensures in
-    (λ i. record (port_of p m) { taken = taken i; is = is i; tfd = tfd i; sact = sact i })
+    (λ i. record (port_of p m) { halt = NotHalted; taken = taken i; is = is i; tfd = tfd i; sact = sact i })
     ∙ ap (λ (b : Bool). record state { ci = if b then bits_of p.ci else changed (bits_of p.ci) slot false; sact = if b then changed (bits_of p.sact) slot false else bits_of p.sact }) queued
 
 -- a plain one
@@ -42,5 +43,5 @@ returns-else-is_queued c = λ m.
     let tfd : bit_and c.task_file.result 0xff7f ≡ bit_and (port_of p m).tfd 0xff7f = ap (λ (n : ℕ). bit_and n 0xff7f) c.task_file.ensures in
     let ci : bits_of c.with_bit_as-self-else-is_queued.result ≡ changed (bits_of p.ci) slot false =
     c.with_bit_as-self-else-is_queued.ensures ∙ ap (λ (place : ℕ). changed (bits_of p.ci) place false) c.from-else-is_queued.ensures in
-    (λ i. record (port_of p m) { taken = taken i; is = is i; tfd = tfd i; ci = ci i })
+    (λ i. record (port_of p m) { halt = NotHalted; taken = taken i; is = is i; tfd = tfd i; ci = ci i })
     ∙ ap (λ (b : Bool). record state { ci = if b then bits_of p.ci else changed (bits_of p.ci) slot false; sact = if b then changed (bits_of p.sact) slot false else bits_of p.sact }) plain

@@ -23,5 +23,5 @@ invariant_of-self c =
     let bits = rw place at c.with_bit_as-self-inside.ensures in (
       simp length-set c.self.invariant.0,
       filled_set items c.from.result (Some c.args.command) _ _ small c.self.invariant.1 bits,
-      block_put items c.self.inside.block c.from.result small c.self.invariant.2 c.args.command c.requires.new beside,
+      block_put items c.self.inside.block c.from.result small c.self.invariant.2 c.args.command c.requires.new c.requires.low beside,
     )

@@ -9,13 +9,14 @@ use Rattle.adapter.specs.Steps.Step.{Fetch}
 use Rattle.adapter.specs.declared.tape.Entry.{Entry}
 use Rattle.adapter.proofs.Going.{goes_one}
 use Rattle.device_model.specs.Modelled.{device_at, outside_at}
+use Rattle.device_model.specs.Whole.{device_of}
+use Rattle.device_model.specs.declared.hardware.Hardware.{Hardware}
 use Rattle.device_model.specs.Sent.{SendsEnd}
-use Rattle.device_model.specs.View.{Takes}
 use Rattle.device_model.proofs.GoingOn.{gone_settled}
-use Rattle.device_model.proofs.Identifying.{IsIdentify, fetched_bars, fetched_has, fetched_left, found_only}
+use Rattle.device_model.proofs.Paging.{BringsPage, fetched_bars, fetched_has, fetched_left, found_only}
 use Rattle.device_model.proofs.Own.{own_gone}
 use Rattle.device_model.proofs.Telling.{gains_none}
-use Rattle.device_model.proofs.model.Model.take_identify.Goals as goal
+use Rattle.device_model.proofs.model.Model.take_page.Goals as goal
 
 pub returns : goal.returns
 returns g c =
@@ -27,12 +28,12 @@ returns g c =
     let new : Device = device_at g.S.SectorStore.size g.S.SectorStore.told is in
     let did = c.fetch-taken.result in
     let fetched : did ≡ true → DoesFetch 0 slot old new = λ (e : did ≡ true). c.fetch-taken.ensures.did e o in
-    let same : did ≡ false → new ≡ old = λ (e : did ≡ false). c.fetch-taken.ensures.refused e o in
-    let never : did ≡ false → (m : Meaning) (places : List ℕ) → Takes m.operation → Can (Fetch 0 slot m places) old → ⊥ =
+    let same : did ≡ false → new ≡ old = λ (e : did ≡ false). ap (λ (h : Hardware). device_of h o) (c.fetch-taken.ensures.refused e) in
+    let never : did ≡ false → (m : Meaning) (places : List ℕ) → Can (Fetch 0 slot m places) old → ⊥ =
     λ (e : did ≡ false). c.fetch-taken.ensures.only e o in
     let went : did ≡ true → GoesOn (SendsEnd slot) 0 slot old new = λ (e : did ≡ true). goes_one (SendsEnd slot) 0 slot old new (inl (fetched e)) in
     record {
-      own = λ held loose. (own_gone IsIdentify (λ o places is. is) held 0 slot loose did old new went same (found_only old slot c.requires.there)).0;
+      own = λ held loose. (own_gone BringsPage (λ o places is. is) held 0 slot loose did old new went same (found_only old slot c.requires.there)).0;
       settled = gone_settled 0 slot did old new went same;
       none = λ k. fetched_bars slot k did old new fetched never same c.requires.there;
       stuck = λ may k has. fetched_has slot k did old new fetched never may has;

@@ -1,4 +1,4 @@
--- An IDENTIFY DEVICE that can be done to its end, as the model does it by itself.
+-- A command that sends a page, and can be done to its end, as the model does it by itself.
 use Rattle.std.proofs.Common.{ℕ, Bool, zero, suc, true, false, ◌≡◌, ◌≢◌, ◌<◌, ◌≤◌, ◌+◌, ◌^◌, ◌⊎◌, ◌∙◌, List, Option, None, Some, refl, sym, ap, subst, inl, inr, arith}
 use Rattle.std.specs.Prelude.{◌&&◌, not, if◌then◌else◌, is_some}
 use Rattle.std.proofs.lemmas.Bool.Decides.{eqb_tells}
@@ -12,7 +12,6 @@ use Rattle.adapter.specs.Says.{Says}
 use Rattle.adapter.specs.Steps.{Can, IsFetchable, IsWorking, IsAlone, WorksOn, begun, with_clear, with_done, with_fetch, with_move}
 use Rattle.adapter.specs.Steps.Step.{Fetch}
 use Rattle.adapter.specs.declared.command.Operation.{Operation}
-use Rattle.adapter.specs.declared.command.Operation.TheVariants.{Identify, Trim}
 use Rattle.device_model.proofs.Absurd.{some-none, some_one, true-false}
 use Rattle.adapter.proofs.Changed.{changed_other, changed_same}
 use Rattle.adapter.proofs.SaysLemmas.{says_meaning, says_places}
@@ -22,15 +21,16 @@ use Rattle.ata_types.specs.declared.Port.{Port}
 use Rattle.ata_types.specs.declared.Slot.{Slot}
 use Rattle.adapter.specs.declared.access.DeviceStep.TheVariants as asked
 use Rattle.sector_store.specs.declared.store.Failures.{Failures}
-use Rattle.device_model.specs.Does.{AnswersStep, AsksFor, AsksStore}
-use Rattle.device_model.specs.Finishing.{AreInside, HasIdentify, HasMove, Identifies, IsCovered, MayFinish, MayIdentify}
+use Rattle.device_model.specs.Does.{AnswersStep, AsksFor, AsksStore, Completes, Did, StepFails, FailsToClear, FailsToMove}
+use Rattle.device_model.specs.Finishing.{AreInside, HasPage, HasMove, FindsPage, IsCovered, MayFinish, MayPage, sends_page}
 use Rattle.device_model.specs.Modelled.{device_at}
 use Rattle.device_model.specs.Sent.{SendsEnd}
 use Rattle.device_model.specs.Slots.{IsNext}
 use Rattle.device_model.specs.Trims.{HasClear}
-use Rattle.device_model.specs.View.{Takes, operation_of, taken_of}
+use Rattle.device_model.specs.View.{operation_of, taken_of}
 use Rattle.device_model.specs.Whole.{Outside, device_of}
 use Rattle.device_model.specs.declared.hardware.Hardware.{Hardware}
+use Rattle.device_model.specs.declared.model.Description.{Description}
 use Rattle.device_model.specs.declared.model.Model.{Model}
 use Rattle.device_model.specs.declared.port.TakenCommand.{TakenCommand}
 use Rattle.device_model.specs.declared.port.Transfer.{Transfer}
@@ -40,35 +40,21 @@ use Rattle.adapter.proofs.Going.{goes_one}
 use Rattle.device_model.proofs.Finishing.{fetched_goes, next_has_move}
 use Rattle.device_model.proofs.Own.{IsOnly, only_gone}
 use Rattle.device_model.proofs.Posting.{end_rest}
-use Rattle.device_model.proofs.Transfers.{alone_none, is_identify, unranged_plain}
-use Rattle.device_model.proofs.Trimming.{identify_cleared, identify_clears}
+use Rattle.device_model.proofs.Transfers.{alone_none, page_plain, page_unranged, unranged_plain}
+use Rattle.device_model.proofs.Trimming.{page_cleared, page_clears}
 use Rattle.device_model.proofs.TwoDisks.{in_kept}
 
--- an IDENTIFY DEVICE whose pieces have addresses of 32 bits
+-- a command that sends a page, and whose pieces have addresses of 32 bits
 abbrev pub IsPage : Operation → List ℕ → Type 0
-IsPage operation places = (operation ≡ Identify) × AreInside (2 ^ 32) places
+IsPage operation places = (sends_page operation ≡ true) × AreInside (2 ^ 32) places
 
-pub is_page : (o : Operation) (places : List ℕ) → IsPage o places → o ≡ Identify
+pub is_page : (o : Operation) (places : List ℕ) → IsPage o places → sends_page o ≡ true
 is_page o places page = page.0
 
--- how many sectors the disk has is of no matter to it
-pub has_ready : (d : Device) (slot sectors : ℕ) (has : HasIdentify d slot) → MayFinish d 0 slot sectors has.left 0
-has_ready d slot sectors has = record {
-  t = has.ready.t;
-  takes = has.ready.takes;
-  covered = record {
-    left_is = has.ready.covered.left_is;
-    on_disk = λ ranged. true-false ranged (ap is_ranged has.identifies);
-    inside = has.ready.covered.inside;
-  };
-  clearing = identify_clears has.ready.t.meaning.operation d.memory has.ready.t sectors has.identifies;
-  begins = has.ready.begins;
-}
-
 -- whatever may be done to its end in a slot, no other command is taken there, or may be
-pub only_of : (P : Operation → List ℕ → Type 0) (d : Device) (port slot sectors left clears : ℕ) (may : MayFinish d port slot sectors left clears) →
+pub only_of : (P : Operation → List ℕ → Type 0) (d : Device) (port slot left clears : ℕ) (may : MayFinish d port slot left clears) →
     P may.t.meaning.operation may.t.places → IsOnly P d port slot
-only_of P d port slot sectors left clears may holds = by may.begins
+only_of P d port slot left clears may holds = by may.begins
   where
     t : Taken
     t = may.t
@@ -89,117 +75,118 @@ only_of P d port slot sectors left clears may holds = by may.begins
           subst (λ (x : List ℕ). P m.operation x) same (subst (λ (x : Meaning). P x.operation t.places) meaning holds);
     }
 
-pub has_only : (d : Device) (slot : ℕ) → HasIdentify d slot → IsOnly IsPage d 0 slot
-has_only d slot has = only_of IsPage d 0 slot 0 has.left 0 has.ready (has.identifies, has.low)
+pub has_only : (d : Device) (slot : ℕ) → HasPage d slot → IsOnly IsPage d 0 slot
+has_only d slot has = only_of IsPage d 0 slot has.left 0 has.ready (has.sends, has.low)
 
 -- nor afterwards
 pub page_taken : (port slot : ℕ) (did : Bool) (old new : Device) → port ≡ 0 → (did ≡ true → GoesOn (SendsEnd slot) port slot old new) → (did ≡ false → new ≡ old) →
-    HasIdentify old slot → (t : Taken) → (new.port port).taken slot ≡ Some t → IsPage t.meaning.operation t.places
+    HasPage old slot → (t : Taken) → (new.port port).taken slot ≡ Some t → IsPage t.meaning.operation t.places
 page_taken port slot did old new here went same has t is =
     let Q : ℕ → Type 0 = λ q. GoesOn (SendsEnd slot) q slot old new in
     let R : ℕ → Type 0 = λ q. (new.port q).taken slot ≡ Some t in
-    (only_gone IsPage (λ o places page. ap is_queued page.0) 0 slot did old new (λ e. subst Q here (went e)) same (has_only old slot has)).taken t (subst R here is)
+    (only_gone IsPage (λ o places page. page_plain o page.0) 0 slot did old new (λ e. subst Q here (went e)) same (has_only old slot has)).taken t (subst R here is)
 
 -- ---- which steps ask the store
 
-abbrev pub IsIdentify : Operation → List ℕ → Type 0
-IsIdentify operation places = operation ≡ Identify
+abbrev pub BringsPage : Operation → List ℕ → Type 0
+BringsPage operation places = sends_page operation ≡ true
 
 -- a command that names no sectors
 abbrev IsUnranged : Operation → List ℕ → Type 0
 IsUnranged operation places = is_ranged operation ≡ false
 
 -- a Finish of it asks for none
-pub page_asks_none : (d : Device) (slot sectors left clears : ℕ) → HasIdentify d slot → (may : MayFinish d 0 slot sectors left clears) →
+pub page_asks_none : (d : Device) (slot left clears : ℕ) → HasPage d slot → (may : MayFinish d 0 slot left clears) →
     AsksFor may.t.meaning.operation left clears → ⊥
-page_asks_none d slot sectors left clears has may asks = by asks
+page_asks_none d slot left clears has may asks = by asks
   where
     t : Taken
     t = may.t
 
     kind : WorksOn (d.port 0) slot t t.meaning.operation ⊎ (Can (Fetch 0 slot t.meaning t.places) d × (t ≡ begun t.meaning t.places)) →
-        t.meaning.operation ≡ Identify
+        sends_page t.meaning.operation ≡ true
     kind (inl works) = ((has_only d slot has).taken t works.taken).0
     kind (inr begins) = ((has_only d slot has).fetched t.meaning t.places begins.0).0
 
     by : AsksFor t.meaning.operation left clears → ⊥
-    by (inl moves) = true-false moves.0 (ap is_ranged (kind may.begins))
+    by (inl moves) = true-false moves.0 (page_unranged _ (kind may.begins))
     by (inr some) =
-        let none = identify_cleared t.meaning.operation d.memory t sectors clears (kind may.begins) may.clearing in absurd (omega (arith, some, none))
+        let none = page_cleared t.meaning.operation d.memory t clears (kind may.begins) may.clearing in absurd (omega (arith, some, none))
 
-pub finish_keeps : {S : Type 0} (size : S → ℕ) (told : S → Option (ℕ → List ℕ)) (failures : S → Option Failures) (old new : Model S) (slot : ℕ) (answer : Bool) →
-    AnswersStep size told failures (asked.Finish (record { 0 = 0 }) (record { 0 = slot })) answer old new → HasIdentify (device_at size told old) slot →
-    new.disk ≡ old.disk
-finish_keeps size told failures old new slot true a has =
-    in_kept (λ s. s) old new a.1.which (a.1.disks (λ asks. page_asks_none (device_at size told old) slot _ _ _ has asks.4 asks.5))
-finish_keeps size told failures old new slot false a has =
-    elim a.why [
-      | inl f ↦
-          elim f [
-            | inl moves ↦
-                let P : Device → Type 0 = λ d. HasMove d 0 slot moves.t in
-                let taken = (subst P a.device moves.move).works.taken in
-                true-false moves.ranged (ap is_ranged ((has_only (device_at size told old) slot has).taken moves.t taken).0)
-            | inr clears ↦
-                let P : Device → Type 0 = λ d. HasClear d 0 slot 1 clears.t in
-                let taken = (subst P a.device clears.clear).works.taken in
-                let no : Identify ≡ Trim = sym ((has_only (device_at size told old) slot has).taken clears.t taken).0 ∙ clears.clear.trim in
-                absurd (cc no)
-          ]
-      | inr left ↦ in_kept (λ s. s) old new a.which left.0
+-- so it comes to no sector on which it fails
+page_whole : (slot : ℕ) (was now : Option Failures) (says later : Description) (old new : Device) → HasPage old slot →
+    StepFails (asked.Finish (record { 0 = 0 }) (record { 0 = slot })) was now says later old new → ⊥
+page_whole slot was now says later old new has (mid, before, fails) = by before fails
+  where
+    page : (mid ≡ old) ⊎ GoesOn (SendsEnd slot) 0 slot old mid → (t : Taken) → (mid.port 0).taken slot ≡ Some t → IsPage t.meaning.operation t.places
+    page (inl same) = page_taken 0 slot false old mid refl (λ never. absurd (let no : false ≡ true = never in cc)) (λ _. same) has
+    page (inr went) = page_taken 0 slot true old mid refl (λ _. went) (λ never. absurd (let no : true ≡ false = never in cc)) has
+
+    by : (mid ≡ old) ⊎ GoesOn (SendsEnd slot) 0 slot old mid →
+        FailsToMove 0 slot was now says later mid new ⊎ FailsToClear 0 slot was now says later mid new → ⊥
+    by gone (inl moves) = true-false moves.ranged (page_unranged _ (page gone moves.t moves.move.works.taken).0)
+    by gone (inr clears) = true-false (page gone clears.t clears.clear.works.taken).0 (ap sends_page clears.clear.trim)
+
+pub page_completes : {S : Type 0} (size : S → ℕ) (told : S → Option (ℕ → List ℕ)) (failures : S → Option Failures) (old new : Model S) (slot : ℕ) →
+    Did size told failures (asked.Finish (record { 0 = 0 }) (record { 0 = slot })) old new → HasPage (device_at size told old) slot →
+    Completes size told failures (asked.Finish (record { 0 = 0 }) (record { 0 = slot })) old new
+page_completes size told failures old new slot did has =
+    elim did.came [
+      | inl whole ↦ whole
+      | inr failed ↦ absurd (page_whole slot (failures old.disk) (failures new.disk) old.says new.says _ _ has failed)
     ]
 
--- a Move of what a Finish has begun asks for one only where the Finish does
-pub finish_moves : (p : Port) (s : Slot) (did : Bool) (old new : Device) (sectors left clears : ℕ) → p.0 ≡ 0 → sectors ≡ (old.port 0).disk.size → 1 ≤ left →
-    (did ≡ true → GoesOn (SendsEnd s.0) p.0 s.0 old new) → (did ≡ false → new ≡ old) → MayFinish old p.0 s.0 sectors left clears →
-    AsksStore (asked.Move p s) new → AsksStore (asked.Finish p s) old
-finish_moves p s did old new sectors left clears here same some went stayed ready moves = by (is_ranged may.t.meaning.operation) refl
-  where
-    may : MayFinish old p.0 s.0 (old.port 0).disk.size left clears
-    may = let P : ℕ → Type 0 = λ n. MayFinish old p.0 s.0 n left clears in subst P same ready
+pub finish_keeps : {S : Type 0} (size : S → ℕ) (told : S → Option (ℕ → List ℕ)) (failures : S → Option Failures) (old new : Model S) (slot : ℕ) (answer : Bool) →
+    AnswersStep size told failures (asked.Finish (record { 0 = 0 }) (record { 0 = slot })) answer old new → HasPage (device_at size told old) slot →
+    new.disk ≡ old.disk
+finish_keeps size told failures old new slot true a has =
+    in_kept (λ s. s) old new a.1.which (a.1.disks (λ asks. page_asks_none (device_at size told old) slot _ _ has asks.4 asks.5))
+finish_keeps size told failures old new slot false a has = in_kept (λ s. s) old new a.which a.disks
 
+-- a Move of what a Finish has begun asks for one only where the Finish does
+pub finish_moves : (p : Port) (s : Slot) (did : Bool) (old new : Device) (left clears : ℕ) → p.0 ≡ 0 → 1 ≤ left →
+    (did ≡ true → GoesOn (SendsEnd s.0) p.0 s.0 old new) → (did ≡ false → new ≡ old) → MayFinish old p.0 s.0 left clears →
+    AsksStore (asked.Move p s) new → AsksStore (asked.Finish p s) old
+finish_moves p s did old new left clears here some went stayed may moves = by (is_ranged may.t.meaning.operation) refl
+  where
     by : (b : Bool) → is_ranged may.t.meaning.operation ≡ b → AsksStore (asked.Finish p s) old
     by true e = (here, moves.0, left, clears, may, inl (e, some))
     by false e =
-        let only = only_of IsUnranged old p.0 s.0 (old.port 0).disk.size left clears may e in
+        let only = only_of IsUnranged old p.0 s.0 left clears may e in
         let gone = only_gone IsUnranged (λ o places none. unranged_plain o none) p.0 s.0 did old new went stayed only in
         true-false moves.3 (gone.taken moves.1 moves.2.works.taken)
 
 -- and so does a Finish that has a clear left
-pub finish_clears : (p : Port) (s : Slot) (old : Device) (sectors left clears : ℕ) → p.0 ≡ 0 → s.0 < 32 → sectors ≡ (old.port 0).disk.size → 1 ≤ clears →
-    MayFinish old p.0 s.0 sectors left clears → AsksStore (asked.Finish p s) old
-finish_clears p s old sectors left clears here small same some ready =
-    let P : ℕ → Type 0 = λ n. MayFinish old p.0 s.0 n left clears in
-    (here, small, left, clears, subst P same ready, inr some)
+pub finish_clears : (p : Port) (s : Slot) (old : Device) (left clears : ℕ) → p.0 ≡ 0 → s.0 < 32 → 1 ≤ clears → MayFinish old p.0 s.0 left clears →
+    AsksStore (asked.Finish p s) old
+finish_clears p s old left clears here small some ready = (here, small, left, clears, ready, inr some)
 
--- what the hardware moves next, where it is on the disk, is a sector only where a Move moves one
+-- what the hardware moves next is a sector only where a Move moves one
 pub next_moves : (h : Hardware) (o : Outside) (d : Device) (p : Port) (s : Slot) (next : NextMove) (r : TakenCommand) → p.0 ≡ 0 → s.0 < 32 →
-    device_of h o ≡ d → IsNext h p.0 s.0 next r → (is_ranged (operation_of next.transfer) ≡ true → next.sector < (o.media 0).disk.size) →
-    is_ranged (operation_of next.transfer) ≡ true → AsksStore (asked.Move p s) d
-next_moves h o d p s next r here small same is on ranged = (
+    device_of h o ≡ d → IsNext h p.0 s.0 next r → is_ranged (operation_of next.transfer) ≡ true → AsksStore (asked.Move p s) d
+next_moves h o d p s next r here small same is ranged = (
   small,
   taken_of r,
-  next_has_move h o d p.0 s.0 next r here same is on,
+  next_has_move h o d p.0 s.0 next r here same is,
   ap (λ (k : Transfer). is_ranged (operation_of k)) (sym is.transfer_is) ∙ ranged,
 )
 
 -- and else it is none
 pub next_unranged : (h : Hardware) (o : Outside) (d : Device) (p : Port) (s : Slot) (next : NextMove) (r : TakenCommand) → p.0 ≡ 0 → s.0 < 32 →
-    device_of h o ≡ d → IsNext h p.0 s.0 next r → (is_ranged (operation_of next.transfer) ≡ true → next.sector < (o.media 0).disk.size) →
-    (AsksStore (asked.Move p s) d → ⊥) → is_ranged (operation_of next.transfer) ≡ false
-next_unranged h o d p s next r here small same is on none = by (is_ranged (operation_of next.transfer)) refl
+    device_of h o ≡ d → IsNext h p.0 s.0 next r → (AsksStore (asked.Move p s) d → ⊥) → is_ranged (operation_of next.transfer) ≡ false
+next_unranged h o d p s next r here small same is none = by (is_ranged (operation_of next.transfer)) refl
   where
     by : (b : Bool) → is_ranged (operation_of next.transfer) ≡ b → is_ranged (operation_of next.transfer) ≡ false
-    by true e = absurd (none (next_moves h o d p s next r here small same is on e))
+    by true e = absurd (none (next_moves h o d p s next r here small same is e))
     by false e = e
 
 -- the hardware's next move is of it
-pub next_identifies : (h : Hardware) (o : Outside) (d : Device) (port slot : ℕ) (next : NextMove) (r : TakenCommand) (t : Taken) → device_of h o ≡ d →
-    IsNext h port slot next r → (d.port port).taken slot ≡ Some t → t.meaning.operation ≡ Identify → next.transfer ≡ transfer.Identify
-next_identifies h o d port slot next r t same is taken identifies =
+pub next_sends : (h : Hardware) (o : Outside) (d : Device) (port slot : ℕ) (next : NextMove) (r : TakenCommand) (t : Taken) → device_of h o ≡ d →
+    IsNext h port slot next r → (d.port port).taken slot ≡ Some t → sends_page t.meaning.operation ≡ true → sends_page (operation_of next.transfer) ≡ true
+next_sends h o d port slot next r t same is taken sends =
     let here : ((device_of h o).port port).taken slot ≡ Some t = ap (λ (x : Device). (x.port port).taken slot) same ∙ taken in
     let one : taken_of r ≡ t = some_one (sym (is.holds.works (o.media port)).taken ∙ here) in
-    is.transfer_is ∙ is_identify r.transfer (ap (λ (x : Taken). x.meaning.operation) one ∙ identifies)
+    ap (λ (k : Transfer). sends_page (operation_of k)) is.transfer_is ∙ (ap (λ (x : Taken). sends_page x.meaning.operation) one ∙ sends)
 
 -- ---- one that is taken, and no more
 
@@ -208,30 +195,30 @@ plain_right true b e = e
 plain_right false b e = refl
 
 -- no other command is in its slot
-may_only : (d : Device) (slot : ℕ) → MayIdentify d slot → IsOnly IsIdentify d 0 slot
+may_only : (d : Device) (slot : ℕ) → MayPage d slot → IsOnly BringsPage d 0 slot
 may_only d slot may = record {
   taken = λ u is. some-none is may.can.fetchable.free;
   fetched = λ m places can.
       let meaning = says_meaning d.memory (d.port 0).bases.clb slot may.meaning m may.places places may.can.says can.says in
-      ap (λ (x : Meaning). x.operation) (sym meaning) ∙ may.identifies;
+      ap (λ (x : Meaning). sends_page x.operation) (sym meaning) ∙ may.sends;
 }
 
-pub found_only : (d : Device) (slot : ℕ) → MayIdentify d slot ⊎ HasIdentify d slot → IsOnly IsIdentify d 0 slot
+pub found_only : (d : Device) (slot : ℕ) → MayPage d slot ⊎ HasPage d slot → IsOnly BringsPage d 0 slot
 found_only d slot (inl may) = may_only d slot may
-found_only d slot (inr has) = only_of IsIdentify d 0 slot 0 has.left 0 has.ready has.identifies
+found_only d slot (inr has) = only_of BringsPage d 0 slot has.left 0 has.ready has.sends
 
 -- what a look at a slot has found
-pub found_ends : (d : Device) (slot : ℕ) (ends : Bool) → not ends ≡ false → Identifies d slot (Some ends) → HasIdentify d slot
+pub found_ends : (d : Device) (slot : ℕ) (ends : Bool) → not ends ≡ false → FindsPage d slot (Some ends) → HasPage d slot
 found_ends d slot true e found = found
 found_ends d slot false e found = absurd (let no : true ≡ false = e in cc)
 
-pub found_stuck : (d : Device) (slot : ℕ) (ends : Bool) → not ends ≡ true → Identifies d slot (Some ends) → MayIdentify d slot × (HasIdentify d slot → ⊥)
+pub found_stuck : (d : Device) (slot : ℕ) (ends : Bool) → not ends ≡ true → FindsPage d slot (Some ends) → MayPage d slot × (HasPage d slot → ⊥)
 found_stuck d slot true e found = absurd (let no : false ≡ true = e in cc)
 found_stuck d slot false e found = found
 
--- where a command is taken, no IDENTIFY DEVICE may be
-pub taken_bars : (d : Device) (slot k : ℕ) (t : Taken) → (d.port 0).taken slot ≡ Some t → MayIdentify d k → ⊥
-taken_bars d slot k t is may = some-none is (alone_none (d.port 0) may.meaning.operation (ap is_queued may.identifies) may.can.alone slot)
+-- where a command is taken, none that sends a page may be
+pub taken_bars : (d : Device) (slot k : ℕ) (t : Taken) → (d.port 0).taken slot ≡ Some t → MayPage d k → ⊥
+taken_bars d slot k t is may = some-none is (alone_none (d.port 0) may.meaning.operation (page_plain _ may.sends) may.can.alone slot)
 
 fetched_is : (slot : ℕ) (old new : Device) (f : DoesFetch 0 slot old new) → (new.port 0).taken ≡ changed (old.port 0).taken slot (Some (begun f.meaning f.places))
 fetched_is slot old new f =
@@ -241,27 +228,23 @@ fetched_taken : (slot : ℕ) (old new : Device) (f : DoesFetch 0 slot old new) �
 fetched_taken slot old new f =
     ap (λ (g : ℕ → Option Taken). g slot) (fetched_is slot old new f) ∙ changed_same (old.port 0).taken slot (Some (begun f.meaning f.places))
 
--- it is one that the model takes
-identify_takes : (d : Device) (slot : ℕ) (may : MayIdentify d slot) → Takes may.meaning.operation
-identify_takes d slot may = subst Takes (sym may.identifies) tt
-
 -- once it was taken, or was already, no other may be
 pub fetched_bars : (slot k : ℕ) (did : Bool) (old new : Device) → (did ≡ true → DoesFetch 0 slot old new) →
-    (did ≡ false → (m : Meaning) (places : List ℕ) → Takes m.operation → Can (Fetch 0 slot m places) old → ⊥) → (did ≡ false → new ≡ old) →
-    MayIdentify old slot ⊎ HasIdentify old slot → MayIdentify new k → ⊥
+    (did ≡ false → (m : Meaning) (places : List ℕ) → Can (Fetch 0 slot m places) old → ⊥) → (did ≡ false → new ≡ old) →
+    MayPage old slot ⊎ HasPage old slot → MayPage new k → ⊥
 fetched_bars slot k true old new went never same there = let f = went refl in taken_bars new slot k (begun f.meaning f.places) (fetched_taken slot old new f)
-fetched_bars slot k false old new went never same (inl may) = absurd (never refl may.meaning may.places (identify_takes old slot may) may.can)
+fetched_bars slot k false old new went never same (inl may) = absurd (never refl may.meaning may.places may.can)
 fetched_bars slot k false old new went never same (inr has) = by has.ready.begins
   where
     t : Taken
     t = has.ready.t
 
-    by : WorksOn (old.port 0) slot t t.meaning.operation ⊎ (Can (Fetch 0 slot t.meaning t.places) old × (t ≡ begun t.meaning t.places)) → MayIdentify new k → ⊥
+    by : WorksOn (old.port 0) slot t t.meaning.operation ⊎ (Can (Fetch 0 slot t.meaning t.places) old × (t ≡ begun t.meaning t.places)) → MayPage new k → ⊥
     by (inl works) = taken_bars new slot k t (ap (λ (d : Device). (d.port 0).taken slot) (same refl) ∙ works.taken)
-    by (inr may) = absurd (never refl t.meaning t.places has.ready.takes may.0)
+    by (inr may) = absurd (never refl t.meaning t.places may.0)
 
 -- and what can be done to its end then, could before
-taken_has : (slot k : ℕ) (old new : Device) → DoesFetch 0 slot old new → HasIdentify new k → HasIdentify old slot
+taken_has : (slot k : ℕ) (old new : Device) → DoesFetch 0 slot old new → HasPage new k → HasPage old slot
 taken_has slot k old new f has = by has.ready.begins
   where
     t : Taken
@@ -270,28 +253,27 @@ taken_has slot k old new f has = by has.ready.begins
     size : new.size ≡ old.size
     size = ap (λ (d : Device). d.size) f.effect
 
-    by : WorksOn (new.port 0) k t t.meaning.operation ⊎ (Can (Fetch 0 k t.meaning t.places) new × (t ≡ begun t.meaning t.places)) → HasIdentify old slot
+    by : WorksOn (new.port 0) k t t.meaning.operation ⊎ (Can (Fetch 0 k t.meaning t.places) new × (t ≡ begun t.meaning t.places)) → HasPage old slot
     by (inr may) =
         absurd (taken_bars new slot k (begun f.meaning f.places) (fetched_taken slot old new f)
-        (record { meaning = t.meaning; places = t.places; identifies = has.identifies; can = may.0 }))
+        (record { meaning = t.meaning; places = t.places; sends = has.sends; can = may.0 }))
     by (inl works) =
         elim (eqb_tells k slot) [
           | inl here ↦
               let P : ℕ → Type 0 = λ q. (new.port 0).taken q ≡ Some t in
               let one : t ≡ begun f.meaning f.places = some_one (sym (subst P here.1 works.taken) ∙ fetched_taken slot old new f) in
-              let Q : ℕ → Type 0 = λ n. IsCovered t n 0 has.left in
-              let R : Taken → Type 0 = λ x. IsCovered x old.size 0 has.left in
+              let Q : ℕ → Type 0 = λ n. IsCovered t n has.left in
+              let R : Taken → Type 0 = λ x. IsCovered x old.size has.left in
               record {
                 left = has.left;
                 ready = record {
                   t = begun f.meaning f.places;
-                  takes = subst (λ (x : Taken). Takes x.meaning.operation) one has.ready.takes;
                   covered = subst R one (subst Q size has.ready.covered);
-                  clearing = identify_clears f.meaning.operation old.memory (begun f.meaning f.places) 0
-                      (ap (λ (x : Taken). x.meaning.operation) (sym one) ∙ has.identifies);
+                  clearing = page_clears f.meaning.operation old.memory (begun f.meaning f.places)
+                      (ap (λ (x : Taken). sends_page x.meaning.operation) (sym one) ∙ has.sends);
                   begins = inr (f.can, refl);
                 };
-                identifies = ap (λ (x : Taken). x.meaning.operation) (sym one) ∙ has.identifies;
+                sends = ap (λ (x : Taken). sends_page x.meaning.operation) (sym one) ∙ has.sends;
                 low = subst (λ (x : Taken). AreInside (2 ^ 32) x.places) one has.low;
               }
           | inr there ↦
@@ -299,27 +281,27 @@ taken_has slot k old new f has = by has.ready.begins
               sym (changed_other (old.port 0).taken slot (Some (begun f.meaning f.places)) k there.1)
               ∙ (ap (λ (g : ℕ → Option Taken). g k) (sym (fetched_is slot old new f)) ∙ works.taken) in
               let no : (is_queued f.meaning.operation && is_queued t.meaning.operation) ≡ false =
-              plain_right (is_queued f.meaning.operation) (is_queued t.meaning.operation) (ap is_queued has.identifies) in
+              plain_right (is_queued f.meaning.operation) (is_queued t.meaning.operation) (page_plain _ has.sends) in
               true-false (f.can.alone k t was) no
         ]
 
 pub fetched_has : (slot k : ℕ) (did : Bool) (old new : Device) → (did ≡ true → DoesFetch 0 slot old new) →
-    (did ≡ false → (m : Meaning) (places : List ℕ) → Takes m.operation → Can (Fetch 0 slot m places) old → ⊥) →
-    MayIdentify old slot → HasIdentify new k → HasIdentify old slot
+    (did ≡ false → (m : Meaning) (places : List ℕ) → Can (Fetch 0 slot m places) old → ⊥) →
+    MayPage old slot → HasPage new k → HasPage old slot
 fetched_has slot k true old new went never may has = taken_has slot k old new (went refl) has
-fetched_has slot k false old new went never may has = absurd (never refl may.meaning may.places (identify_takes old slot may) may.can)
+fetched_has slot k false old new went never may has = absurd (never refl may.meaning may.places may.can)
 
 -- one that can be done to its end still can be once it is taken
-pub fetched_left : (slot : ℕ) (did : Bool) (old new : Device) (has : HasIdentify old slot) → (did ≡ true → DoesFetch 0 slot old new) →
-    (did ≡ false → new ≡ old) → (did ≡ false → (m : Meaning) (places : List ℕ) → Takes m.operation → Can (Fetch 0 slot m places) old → ⊥) →
-    (now : HasIdentify new slot) × (now.left ≡ has.left)
+pub fetched_left : (slot : ℕ) (did : Bool) (old new : Device) (has : HasPage old slot) → (did ≡ true → DoesFetch 0 slot old new) →
+    (did ≡ false → new ≡ old) → (did ≡ false → (m : Meaning) (places : List ℕ) → Can (Fetch 0 slot m places) old → ⊥) →
+    (now : HasPage new slot) × (now.left ≡ has.left)
 fetched_left slot did old new has went same never =
-    let going = fetched_goes 0 slot 0 has.left 0 did old new has.ready went same never in
+    let going = fetched_goes 0 slot has.left 0 did old new has.ready went same never in
     let page = page_taken 0 slot did old new refl (λ e. goes_one (SendsEnd slot) 0 slot old new (inl (went e))) same has going.t going.works.taken in (
       record {
         left = has.left;
-        ready = record { t = going.t; takes = going.takes; covered = going.covered; clearing = going.clearing; begins = inl going.works };
-        identifies = page.0;
+        ready = record { t = going.t; covered = going.covered; clearing = going.clearing; begins = inl going.works };
+        sends = page.0;
         low = page.1;
       },
       refl,
@@ -397,7 +379,7 @@ some_elsewhere zero slot old new e k ne = ap (λ (d : Device). weight d k) e
 some_elsewhere (suc n) slot old new s k ne = one_elsewhere slot s.0 new s.2 k ne ∙ some_elsewhere n slot old s.0 s.1 k ne
 
 -- one that was done is neither issued nor taken
-pub fewer_left : (slot : ℕ) (old new : Device) → slot < 32 → HasIdentify old slot → GoesOn (SendsEnd slot) 0 slot old new → IsFreeSlot (new.port 0) slot →
+pub fewer_left : (slot : ℕ) (old new : Device) → slot < 32 → HasPage old slot → GoesOn (SendsEnd slot) 0 slot old new → IsFreeSlot (new.port 0) slot →
     total (weight new) 32 < total (weight old) 32
 fewer_left slot old new small has went free =
     total_less (weight new) (weight old) slot 32 small (some_elsewhere (suc went.0) slot old new went.1) (less has.ready.begins)
@@ -425,17 +407,16 @@ working_noted p n operation w = record { running = w.running; present = w.presen
 works_noted : (p : PortState) (n : Notes) (slot : ℕ) (t : Taken) (operation : Operation) → WorksOn (record p { notes = n }) slot t operation → WorksOn p slot t operation
 works_noted p n slot t operation w = record { taken = w.taken; working = working_noted p n operation w.working }
 
-has_noted : (d : Device) (f : ℕ → PortState) (n : Notes) (slot : ℕ) → f 0 ≡ record (d.port 0) { notes = n } → HasIdentify (record d { port = f }) slot → HasIdentify d slot
+has_noted : (d : Device) (f : ℕ → PortState) (n : Notes) (slot : ℕ) → f 0 ≡ record (d.port 0) { notes = n } → HasPage (record d { port = f }) slot → HasPage d slot
 has_noted d f n slot is has = record {
   left = has.left;
   ready = record {
     t = has.ready.t;
-    takes = has.ready.takes;
-    covered = has.ready.covered;
+      covered = has.ready.covered;
     clearing = has.ready.clearing;
     begins = by has.ready.begins;
   };
-  identifies = has.identifies;
+  sends = has.sends;
   low = has.low;
 }
   where
@@ -458,14 +439,14 @@ has_noted d f n slot is has = record {
           may.1,
         )
 
-may_noted : (d : Device) (f : ℕ → PortState) (n : Notes) (slot : ℕ) → f 0 ≡ record (d.port 0) { notes = n } → MayIdentify (record d { port = f }) slot → MayIdentify d slot
+may_noted : (d : Device) (f : ℕ → PortState) (n : Notes) (slot : ℕ) → f 0 ≡ record (d.port 0) { notes = n } → MayPage (record d { port = f }) slot → MayPage d slot
 may_noted d f n slot is may =
     let fetchable = subst (λ (p : PortState). IsFetchable p slot) is may.can.fetchable in
     let working = subst (λ (p : PortState). IsWorking p may.meaning.operation) is may.can.working in
     record {
       meaning = may.meaning;
       places = may.places;
-      identifies = may.identifies;
+      sends = may.sends;
       can = record {
         fetchable = record { st = fetchable.st; issued = fetchable.issued; free = fetchable.free };
         working = working_noted (d.port 0) n may.meaning.operation working;
@@ -474,7 +455,7 @@ may_noted d f n slot is may =
       };
     }
 
-pub noted_may : (r : Reg) (v : ℕ) (d : Device) (slot : ℕ) → MayIdentify (noted r v d) slot → MayIdentify d slot
+pub noted_may : (r : Reg) (v : ℕ) (d : Device) (slot : ℕ) → MayPage (noted r v d) slot → MayPage d slot
 noted_may (Px q r) v d slot may =
     let p : PortState = record (d.port q.0) { notes = note r v (d.port q.0) } in
     elim (eqb_tells 0 q.0) [
@@ -492,8 +473,8 @@ noted_may Vs v d slot may = may
 noted_may Cap2 v d slot may = may
 noted_may Bohc v d slot may = may
 
-pub noted_identify : (r : Reg) (v : ℕ) (d : Device) (slot : ℕ) → HasIdentify (noted r v d) slot → HasIdentify d slot
-noted_identify (Px q r) v d slot has =
+pub noted_page : (r : Reg) (v : ℕ) (d : Device) (slot : ℕ) → HasPage (noted r v d) slot → HasPage d slot
+noted_page (Px q r) v d slot has =
     let p : PortState = record (d.port q.0) { notes = note r v (d.port q.0) } in
     elim (eqb_tells 0 q.0) [
       | inl here ↦
@@ -502,10 +483,10 @@ noted_identify (Px q r) v d slot has =
           (ap (λ k. changed d.port q.0 p k) same ∙ (changed_same d.port q.0 p ∙ ap (λ k. record (d.port k) { notes = note r v (d.port q.0) }) (sym same))) has
       | inr there ↦ has_noted d (changed d.port q.0 p) (d.port 0).notes slot (changed_other d.port q.0 p 0 there.1) has
     ]
-noted_identify Cap v d slot has = has
-noted_identify Ghc v d slot has = has
-noted_identify Is v d slot has = has
-noted_identify Pi v d slot has = has
-noted_identify Vs v d slot has = has
-noted_identify Cap2 v d slot has = has
-noted_identify Bohc v d slot has = has
+noted_page Cap v d slot has = has
+noted_page Ghc v d slot has = has
+noted_page Is v d slot has = has
+noted_page Pi v d slot has = has
+noted_page Vs v d slot has = has
+noted_page Cap2 v d slot has = has
+noted_page Bohc v d slot has = has

@@ -1,0 +1,48 @@
+use Rattle.std.proofs.Common.{Bool, Option, ◌≡◌, ◌∙◌, refl, sym, ap, subst}
+use Rattle.device_model.proofs.Absurd.{some_one, true-false}
+use Rattle.device_model.specs.Finishing.{FindsPage, sends_page}
+use Rattle.device_model.specs.Whole.{device_of}
+use Rattle.device_model.specs.declared.port.TakenCommand.{TakenCommand}
+use Rattle.device_model.specs.View.{operation_of}
+use Rattle.device_model.proofs.Ready.{Ends, page_barred, page_held, page_unheld}
+use Rattle.device_model.proofs.hardware.Hardware.has_page.Goals as goal
+
+pub says_page-requires-clause-may : goal.says_page-requires-clause-may
+says_page-requires-clause-may c = c.has_untaken.ensures.may c.if-has_untaken.true
+
+pub returns-then-can_end : goal.returns-then-can_end
+returns-then-can_end c =
+    page_held c.args.self.now c.args.slot c.len.result c.len.ensures c.in_ok-command.command.now c.in_ok-command.ensures.found (sym c.sends_page.ensures ∙ c.if-not-sends_page.false)
+    (c.can_end.ensures.ends c.if-can_end.true)
+
+pub returns-else-can_end : goal.returns-else-can_end
+returns-else-can_end c = λ o.
+    let never = c.has_untaken.ensures.only c.if-has_untaken.false in (
+      page_barred c.args.self.now c.args.slot never o,
+      page_unheld c.args.self.now c.args.slot c.len.result c.len.ensures
+          (λ r held kind ends.
+          let same : r ≡ c.in_ok-command.command.now = some_one (sym held.held ∙ c.in_ok-command.ensures.found.held) in
+          let here = subst (λ (x : TakenCommand). Ends c.args.self.now c.args.slot c.len.result c.len.ensures x) same ends in
+          c.can_end.ensures.only c.if-can_end.false here.0 here.1 here.2)
+          never o,
+    )
+
+pub returns-in_err-command : goal.returns-in_err-command
+returns-in_err-command c = λ o.
+    let never = c.has_untaken.ensures.only c.if-has_untaken.false in
+    let P : Option Bool → Type 0 = λ r. FindsPage (device_of c.args.self.now o) c.args.slot r in
+    subst P (sym c.from_residual.ensures) (
+      page_barred c.args.self.now c.args.slot never o,
+      page_unheld c.args.self.now c.args.slot _ refl (λ r held kind ends. c.working_on.ensures.none c.in_err-command.was r held) never o,
+    )
+
+pub returns-then-not-sends_page : goal.returns-then-not-sends_page
+returns-then-not-sends_page c = λ o.
+    let never = c.has_untaken.ensures.only c.if-has_untaken.false in (
+      page_barred c.args.self.now c.args.slot never o,
+      page_unheld c.args.self.now c.args.slot _ refl
+          (λ r held kind ends.
+          let same : r ≡ c.in_ok-command.command.now = some_one (sym held.held ∙ c.in_ok-command.ensures.found.held) in
+          true-false (ap (λ (x : TakenCommand). sends_page (operation_of x.transfer)) (sym same) ∙ kind) (sym c.sends_page.ensures ∙ c.if-not-sends_page.true))
+          never o,
+    )

@@ -1,7 +1,0 @@
-use Rattle.std.proofs.Common.{ℕ, ◌<◌, None}
-use Rattle.device_model.specs.Finishing.{Identifies}
-use Rattle.device_model.specs.Whole.{Outside, device_of}
-use Rattle.device_model.proofs.hardware.Hardware.next_identify.Given as goal
-
-abbrev pub invariant-loop-slot : goal.invariant-loop-slot
-invariant-loop-slot l = (o : Outside) (k : ℕ) → k < l.slot → Identifies (device_of l.self o) k None

@@ -1,0 +1,53 @@
+// Whether a fault has halted a port, and what goes on then (AHCI 1.3.1, 6.2.2; ACS-3, 4.15).
+ghost use Rattle.std.specs.Prelude.{◌≡◌};
+ghost use Rattle.adapter.specs.Steps.{admits, halted, restarted};
+ghost use Rattle.device_model.specs.View.{halt_of, operation_of};
+
+use crate::port::Transfer;
+
+/// What a fault has made of a port.
+#[derive(Clone, Copy, Debug)]
+pub enum Halting {
+    /// No command failed: all go on.
+    Running,
+    /// A plain command failed: none goes on.
+    Plain,
+    /// A queued one failed: none goes on.
+    Queued,
+    /// A queued one failed, and ST was set again: READ LOG EXT alone goes on.
+    LogOnly,
+}
+
+impl Halting {
+    /// Whether such a command goes on.
+    pub fn admits(self, transfer: Transfer) -> bool
+        ensures { result ≡ admits (halt_of self) (operation_of transfer) }
+    {
+        match self {
+            Halting::Running => true,
+            Halting::LogOnly => matches!(transfer, Transfer::ReadLog),
+            Halting::Plain | Halting::Queued => false,
+        }
+    }
+
+    /// What it is once a command has failed, a queued one or a plain one.
+    pub fn after_fault(self, queued: bool) -> Halting
+        ensures { halt_of result ≡ halted (halt_of self) queued }
+    {
+        match self {
+            Halting::Queued | Halting::LogOnly => Halting::Queued,
+            Halting::Running | Halting::Plain if queued => Halting::Queued,
+            Halting::Running | Halting::Plain => Halting::Plain,
+        }
+    }
+
+    /// What it is once ST was set again.
+    pub fn after_start(self) -> Halting
+        ensures { halt_of result ≡ restarted (halt_of self) }
+    {
+        match self {
+            Halting::Queued | Halting::LogOnly => Halting::LogOnly,
+            Halting::Running | Halting::Plain => Halting::Running,
+        }
+    }
+}
