@@ -1,9 +1,8 @@
 -- What stands behind the evidence that a call names: the device when it began, its accesses, and the device at its end (this project's own;
 -- PxIS and PxSERR: AHCI 1.3.1, 3.3.5 and 3.3.12; log 10h: ACS-3, A.14).
-use Rattle.std.specs.Prelude.{ℕ, true, false, ◌≡◌, ◌≢◌, ◌⊎◌, ◌+◌, ◌%◌, ◌≤◌, ◌++◌, List, ◌∷◌, length, sum, drop, slice_index, All, Contains, Some, None}
+use Rattle.std.specs.Prelude.{ℕ, true, false, ◌≡◌, ◌≢◌, ◌⊎◌, ◌+◌, ◌≤◌, ◌++◌, List, ◌∷◌, length, drop, All, Contains, Some, None}
 use Rattle.ata_types.specs.declared.Port.{Port}
 use Rattle.ata_types.specs.declared.PortState.TheVariants.{Ready, Dead}
-use Rattle.hba_regs.specs.Bits.{bit}
 use Rattle.adapter.specs.Access.{Access}
 use Rattle.adapter.specs.Commands.{is_queued}
 use Rattle.adapter.specs.Device.{PortState, Device}
@@ -22,6 +21,7 @@ use Rattle.block_machine.specs.Histories.{Instant}
 use Rattle.block_machine.specs.Ports.{Ports, SameDisk, Fault, Evidence, IsInterrupted}
 use Rattle.block_machine.specs.State.{Pending}
 use Rattle.port_control.specs.Engines.{Stops, Sticks}
+use Rattle.error_log.specs.Log.{TellsError}
 use Rattle.driver_history.specs.Trace.{LeavesEngine, IsBeforeStop}
 
 -- the tape gained an entry of this kind
@@ -63,17 +63,7 @@ pub record ShowsFatal (p : PortState) : Type 0 where
 abbrev pub ShowsFailure : PortState → Type 0
 ShowsFailure p = ShowsFatal p ⊎ (p.is 30 ≡ true)
 
--- ---- the log of queued commands' errors
-
--- The page of log 10h has a right checksum and names a queued command (NQ is clear): its tag, with status and error. No other byte is
--- looked at.
-pub record TellsError (page : List ℕ) (tag status error : ℕ) : Type 0 where
-  pub size : length page ≡ 512
-  pub checksum : sum page % 256 ≡ 0
-  pub queued : bit (slice_index page 0) 7 ≡ false
-  pub tag_is : tag ≡ slice_index page 0 % 32
-  pub status_is : status ≡ slice_index page 2
-  pub error_is : error ≡ slice_index page 3
+-- ---- a fault that is told of a request
 
 -- The last page of the log that the port's disk sent, after the tape was so long.
 pub record BringsLog (port : Port) (old new : Device) (page : List ℕ) : Type 0 where
@@ -86,8 +76,6 @@ pub record BringsLog (port : Port) (old new : Device) (page : List ℕ) : Type 0
   pub is_move : IsMove port.0 ReadLog (entry.Move move)
   pub last : All (λ e. IsMove port.0 ReadLog e → ⊥) later
   pub bytes : page ≡ move.bytes.value
-
--- ---- a fault that is told of a request
 
 -- A fault of the port stands on the tape since ST was last set before the call, by a moment at which PxCMD hadn't been written in it.
 pub record HasFailed (port : Port) (accesses : List Access) (old new : Device) (fault : tape_fault.Fault) : Type 0 where
