@@ -87,8 +87,8 @@ pub enum PortFault {
     NotAta(u32),
 }
 
-// Whether the device is busy or asks for a transfer (AHCI 1.3.1, 3.3.8).
-fn is_occupied(task_file: TaskFile) -> bool
+/// Whether the device is busy or asks for a transfer, BSY or DRQ, so that ST may not be set (AHCI 1.3.1, 3.3.8 and 10.3.1).
+pub fn is_occupied(task_file: TaskFile) -> bool
     ensures { result ≡ (bit task_file.0 7 || bit task_file.0 3) }
 {
     task_file.is_busy() || task_file.has_data_request()
