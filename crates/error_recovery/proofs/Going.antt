@@ -1,5 +1,5 @@
 -- What goes on over a recovery's accesses, and over those that ask for the log.
-use Rattle.std.proofs.Common.{ℕ, ◌≡◌, ◌≢◌, ◌≤◌, false, List, [], ◌∷◌, inl, inr, refl, sym, ◌∙◌, subst}
+use Rattle.std.proofs.Common.{ℕ, ◌≡◌, ◌≢◌, ◌≤◌, ◌<◌, ◌+◌, false, List, [], ◌∷◌, length, inl, inr, refl, sym, ◌∙◌, subst, arith}
 use Rattle.std.specs.Prelude.{All}
 use Rattle.std.proofs.lemmas.List.Elements.{All-head, All-tail}
 use Rattle.ata_types.specs.declared.Port.{Port}
@@ -23,26 +23,39 @@ use Rattle.error_recovery.specs.Recovery.{IsRecovered, IsRecovering}
 -- ---- which registers are spared
 
 -- of the registers that are asked by, PxCI alone is written
-pub asking_spares : (port : Port) (r : PortReg) → r ≢ Ci → (access : Access) → IsAsking port access → SparesRegister (Px port r) access
+asking_spares : (port : Port) (r : PortReg) → r ≢ Ci → (access : Access) → IsAsking port access → SparesRegister (Px port r) access
 asking_spares port r other (Reading q v) is = tt
 asking_spares port r other (Writing q v) is = λ (e : q ≡ Px port r). let both : Px port r ≡ Px port Ci = sym e ∙ is.0 in let same : r ≡ Ci = cc in other same
 asking_spares port r other (Loading at bytes) is = tt
 asking_spares port r other (Storing at bytes) is = tt
 
-pub not_link : IsRecovered Sctl → ⊥
+not_link : IsRecovered Sctl → ⊥
 not_link (inl e) = absurd (let k : Sctl ≡ Cmd = e in cc)
 not_link (inr (inl e)) = absurd (let k : Sctl ≡ Serr = e in cc)
 not_link (inr (inr e)) = absurd (let k : Sctl ≡ Is = e in cc)
 
-pub not_enabled : IsRecovered Ie → ⊥
+not_enabled : IsRecovered Ie → ⊥
 not_enabled (inl e) = absurd (let k : Ie ≡ Cmd = e in cc)
 not_enabled (inr (inl e)) = absurd (let k : Ie ≡ Serr = e in cc)
 not_enabled (inr (inr e)) = absurd (let k : Ie ≡ Is = e in cc)
 
-pub not_active : IsRecovered Sact → ⊥
+not_active : IsRecovered Sact → ⊥
 not_active (inl e) = absurd (let k : Sact ≡ Cmd = e in cc)
 not_active (inr (inl e)) = absurd (let k : Sact ≡ Serr = e in cc)
 not_active (inr (inr e)) = absurd (let k : Sact ≡ Is = e in cc)
+
+-- ---- what is loaded and stored
+
+-- the page is in the port's scratch frame
+pub loads_inside : (port : Port) (at : ℕ) (bytes : List ℕ) → port.0 < 4 → IsRecovering port (Loading at bytes) → at + length bytes ≤ 163840
+loads_inside port at bytes small (inl is) = absurd is
+loads_inside port at bytes small (inr (place, size)) = omega (arith, small, place, size)
+
+-- header and table of slot 0 are in its list and its tables
+pub stores_inside : (port : Port) (at : ℕ) (bytes : List ℕ) → port.0 < 4 → IsRecovering port (Storing at bytes) → at + length bytes ≤ 163840
+stores_inside port at bytes small (inl is) = absurd is
+stores_inside port at bytes small (inr (inl (place, size, zero_count))) = omega (arith, small, place, size)
+stores_inside port at bytes small (inr (inr (from, to))) = omega (arith, small, to)
 
 -- ---- what goes on
 
@@ -70,7 +83,7 @@ pub record Asks (port : Port) (old new : Device) : Type 0 where
   pub runs : PlugsNone port.0 old new → NoneFatal port.0 old new → RunsLinked (old.port port.0) → RunsLinked (new.port port.0)
 
 module _ (laws : Laws) where
-  pub recovering_spares : (port : Port) (r : PortReg) → (IsRecovered r → ⊥) → r ≢ Ci → (access : Access) → IsRecovering port access → SparesRegister (Px port r) access
+  recovering_spares : (port : Port) (r : PortReg) → (IsRecovered r → ⊥) → r ≢ Ci → (access : Access) → IsRecovering port access → SparesRegister (Px port r) access
   recovering_spares port r not_written other access (inl is) = laws.control_spares Recovered port r not_written access is
   recovering_spares port r not_written other access (inr is) = asking_spares port r other access is
 
@@ -80,6 +93,15 @@ module _ (laws : Laws) where
 
   pub recovering_spares_host : (port : Port) (access : Access) → IsRecovering port access → SparesRegister Ghc access
   recovering_spares_host port access is = laws.of_spares_ghc port access (recovering_is_of port access is)
+
+  pub spares_link : (port : Port) (access : Access) → IsRecovering port access → SparesRegister (Px port Sctl) access
+  spares_link port = recovering_spares port Sctl not_link (λ e. absurd (let k : Sctl ≡ Ci = e in cc))
+
+  pub spares_interrupts : (port : Port) (access : Access) → IsRecovering port access → SparesRegister (Px port Ie) access
+  spares_interrupts port = recovering_spares port Ie not_enabled (λ e. absurd (let k : Ie ≡ Ci = e in cc))
+
+  pub spares_active : (port : Port) (access : Access) → IsRecovering port access → SparesRegister (Px port Sact) access
+  spares_active port = recovering_spares port Sact not_active (λ e. absurd (let k : Sact ≡ Ci = e in cc))
 
   -- an adapter that is on stays on
   on_after : (port : Port) (access : Access) (old new : Device) → IsOn old → IsOf port access → Does access old new → IsOn new
@@ -117,8 +139,8 @@ module _ (laws : Laws) where
 
   access_goes : (port : Port) (access : Access) (old new : Device) → IsOn old → IsRecovering port access → Does access old new → Goes port old new
   access_goes port access old new on is does =
-      let link = recovering_spares port Sctl not_link (λ e. absurd (let k : Sctl ≡ Ci = e in cc)) access is in
-      let enabled = recovering_spares port Ie not_enabled (λ e. absurd (let k : Ie ≡ Ci = e in cc)) access is in
+      let link = spares_link port access is in
+      let enabled = spares_interrupts port access is in
       let c = laws.access_controls port access old new on.no_reset does in
       record {
         on = on_after port access old new on (recovering_is_of port access is) does;

@@ -7,3 +7,4 @@ mod Resting
 mod Whole
 mod Running
 mod Finishing
+mod Witness

@@ -19,7 +19,7 @@ use Rattle.error_recovery.specs.Laws.Stretch.{Controlling, Recovering}
 use Rattle.error_recovery.specs.Laws.Fitting.{AnyUses, PortUnused}
 use Rattle.error_recovery.specs.Parts.{GetsStuck, HasRoom, Quiets, ReadsAndStops}
 use Rattle.error_recovery.specs.Recovery.{IsRecovering, MayRecover}
-use Rattle.error_recovery.proofs.Going.{Goes, goes_over, not_active, plugs_in_parts, recovering_spares}
+use Rattle.error_recovery.proofs.Going.{Goes, goes_over, plugs_in_parts, spares_active}
 use Rattle.error_recovery.proofs.Stretching.{agreed_free, followed_clears, room_after, told_both, told_commands}
 
 reads_and_stops : (port : Port) (v : ℕ) (early late : List Access) → early ≡ Reading (Px port Tfd) v ∷ [] → (Stops port late → Stops port (early ++ late)) → Stops port late → ReadsAndStops port v (early ++ late)
@@ -55,7 +55,7 @@ module _ (laws : Laws) where
   -- plain work goes on over any accesses of a recovery
   pub plain_over : (port : Port) (uses : Uses) (old new : Device) → IsFollowed (IsRecovering port) AnyUse old new → IsAgreed uses old → WorksPlainly (old.port port.0) → WorksPlainly (new.port port.0)
   plain_over port uses old new a agreed =
-      laws.plain (Recovering AnyUses port) (λ uses. uses) uses port old new tt (recovering_spares laws port Sact not_active (λ e. absurd (let k : Sact ≡ Ci = e in cc))) a agreed
+      laws.plain (Recovering AnyUses port) (λ uses. uses) uses port old new tt (spares_active laws port) a agreed
 
   -- also while it is started
   pub commands_plain : (port : Port) (old new : Device) → IsFollowed (IsControl WritesCommand port) (λ uses. AllFree uses port.0) old new → AgreesWith (λ uses. AllFree uses port.0) old →
