@@ -238,7 +238,9 @@ pub fn errors_are_shown()
     ensures fatal_access { (port : Port) (access : Access) (old new : Device) → old.hr ≡ false → SparesRegister (Px port Is) access
         → Does access old new → ((place : ℕ) → 27 ≤ place → place ≤ 29 → (new.port port.0).is place ≡ false)
         → ((place : ℕ) → 27 ≤ place → place ≤ 29 → (old.port port.0).is place ≡ false) × NoneFatal port.0 old new }
-{}
+{
+    steps_keep();
+}
 
 /// From COMRESET or a reset of the adapter on, while the engine stands and the tape tells of no disk of the port that
 /// comes: where PxSSTS.DET is read 3, the link is up. Whatever the device does, also over a reset that ends, and over

@@ -1,9 +1,8 @@
 -- A port that may be recovered: that of the first read, which has failed.
-use Rattle.std.proofs.Common.{ℕ, ◌≡◌, ◌≢◌, ◌%◌, false, true, List, [], ◌∷◌, inl, refl, sym, ◌∙◌, ap, subst, arith}
+use Rattle.std.proofs.Common.{ℕ, ◌≡◌, ◌%◌, [], inl, refl, ap, arith}
 use Rattle.hba_regs.specs.declared.reg.PortReg.TheVariants.{Ssts}
 use Rattle.hba_regs.specs.declared.reg.Reg.TheVariants.{Px}
-use Rattle.adapter.specs.Access.Access.{Reading}
-use Rattle.adapter.specs.Device.{Device, Notes}
+use Rattle.adapter.specs.Device.{Notes}
 use Rattle.adapter.specs.FirstRead.{first_read}
 use Rattle.adapter.specs.Memory.{changed}
 use Rattle.agreement.specs.Agrees.{port_at}

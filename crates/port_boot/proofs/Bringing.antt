@@ -1,5 +1,5 @@
 -- The parts of a boot, one after another.
-use Rattle.std.proofs.Common.{ℕ, ◌≡◌, ◌≢◌, ◌≤◌, ◌+◌, ◌%◌, ◌||◌, Bool, true, false, inl, inr, Option, List, length, refl, sym, ◌∙◌, ap, subst, arith, le_trans}
+use Rattle.std.proofs.Common.{ℕ, ◌≡◌, ◌≢◌, ◌≤◌, ◌+◌, ◌%◌, ◌||◌, Bool, true, false, inl, inr, Option, List, length, refl, sym, ◌∙◌, ap, subst, arith, le_refl, le_trans}
 use Rattle.std.proofs.lemmas.Bool.{true≢false}
 use Rattle.std.proofs.lemmas.List.{length-append}
 use Rattle.ata_types.specs.declared.Port.{Port}
@@ -177,7 +177,7 @@ module _ (laws : Laws) where
             runs = s.runs;
             det = s.same.0 ∙ f.resets.det;
             saw = (ap (λ (n : Notes). n.last_ssts % 16) s.same.1 ∙ f.saw.0, ap (λ (n : Notes). n.link_count) s.same.1 ∙ f.saw.1);
-            known = let set = s.set in omega (arith, set);
+            known = subst (λ (n : ℕ). n ≤ length new.tape) (sym s.set) (le_refl (length new.tape));
             since = later_still;
             marked = still;
             way = record { placed = mid; places = first.followed.driven; found = reset; resets = f.resets; starts = third.driven };
