@@ -1,18 +1,16 @@
 -- Stretches that are followed are parts of a call, also with the slots given up between two of them.
 use Rattle.std.proofs.Common.{ℕ, ◌++◌, List, [], ◌∷◌, None, refl, sym, ◌∙◌, ap, subst, inl}
-use Rattle.std.proofs.lemmas.List.Elements.{All-weaker}
-use Rattle.adapter.specs.Access.{Access}
+use Rattle.adapter.specs.Access.{Access, DoesAll}
 use Rattle.adapter.specs.Device.{Device}
 use Rattle.block_machine.specs.Events.{AllDevices}
 use Rattle.block_machine.specs.Left.{after}
 use Rattle.agreement.specs.Acts.{Act, ByDeviceAlone, InSlots, IsDone, Performs, accesses_of, at, steps_of}
-use Rattle.agreement.specs.Driven.{AnyAccess, IsDrivenBy, IsFollowed, IsFollowedTo}
+use Rattle.agreement.specs.Driven.{IsFollowed, IsFollowedTo}
 use Rattle.agreement.specs.Driver.{AllFree}
 use Rattle.agreement.specs.Facts.{IsHalted}
 use Rattle.agreement.specs.GivingUp.{given_up}
 use Rattle.agreement.specs.Slots.{Uses}
 use Rattle.agreement.proofs.Composing.{goes_still, going_reaches}
-use Rattle.agreement.proofs.Driven.{by_then}
 use Rattle.agreement.proofs.GivingUp.{all_free, given_up_halted}
 use Rattle.agreement.proofs.Parts.{accesses_append, done_goes, done_more, steps_append}
 use Rattle.agreement.proofs.Waiting.{device_append}
@@ -29,16 +27,11 @@ performs_one May Fits next old new a = record {
       let c = a.comes s m reached x fits in record { acts = c.acts; done = c.done; accesses_are = c.accesses_are; tells = c.tells.only };
 }
 
--- accesses of any kind
-any : (May : Access → Type 0) (old new : Device) → IsDrivenBy May old new → IsDrivenBy AnyAccess old new
-any May old new a = record { accesses = a.accesses; all = a.all; only = All-weaker May AnyAccess (λ access may. tt) a.accesses a.only }
-
-pub performs_giving_up : (May Then : Access → Type 0) (Fits Less : Uses → Type 0) (next : Uses → Uses) (port : ℕ) (old mid new : Device) → (a : IsFollowed May Fits old mid) → IsHalted (mid.port port) →
+pub performs_giving_up : ((early late : List Access) (old mid new : Device) → DoesAll early old mid → DoesAll late mid new → DoesAll (early ++ late) old new) → (May Then : Access → Type 0) (Fits Less : Uses → Type 0) (next : Uses → Uses) (port : ℕ) (old mid new : Device) → (a : IsFollowed May Fits old mid) → IsHalted (mid.port port) →
     ((uses : Uses) → AllFree uses port → Less uses) → (b : IsFollowedTo Then Less next mid new) →
     Performs (a.driven.accesses ++ b.driven.accesses) (λ s m. Fits s.uses) (λ s. after_next next (given_up port s)) ByDeviceAlone old new
-unfolding any by_then
-performs_giving_up May Then Fits Less next port old mid new a halted less b = record {
-  does = (by_then (any May old mid a.driven) (any Then mid new b.driven)).all;
+performs_giving_up append May Then Fits Less next port old mid new a halted less b = record {
+  does = append a.driven.accesses b.driven.accesses old mid new a.driven.all b.driven.all;
   comes = λ s m reached x fits.
       let c = a.comes s m reached x fits in
       let g = done_goes c.acts (at s old) (at s mid) m x c.done in

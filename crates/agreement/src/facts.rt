@@ -38,6 +38,8 @@ ghost use Rattle.agreement.specs.Slots.{Uses, Free, Own, Serves, IsOver, Brought
 ghost use Rattle.agreement.specs.Spares.{IsOfAnother};
 ghost use Rattle.agreement.specs.Started.{IsUp, IsComingUp, IsStarted, SetsNoStart, ClearsNoStart};
 
+use adapter::laws::steps_keep;
+
 /// A port that has halted stays so, whatever the device does, also over a reset of the adapter that ends, over readings, and over
 /// each write that may be made and doesn't set its ST; and an idle port has halted.
 pub fn halted_stays()

@@ -20,6 +20,8 @@ ghost use Rattle.agreement.specs.Links.{SparesRegister};
 ghost use Rattle.agreement.specs.Recovering.{WorksPlainly};
 ghost use Rattle.agreement.specs.Slots.{Uses, Free, Own, IsOver, op_of, put};
 
+use adapter::laws::accesses_compose;
+
 /// Sets of a port's registers.
 pub trait Registers {
     /// What names a set.
@@ -110,4 +112,6 @@ pub fn stretches_are_parts<K: Kinds>()
         → ((uses : Uses) → AllFree uses port → K.fits then uses) → (b : IsFollowedTo (K.may then) (K.fits then) next mid new)
         → Performs (a.driven.accesses ++ b.driven.accesses) (λ s m. K.fits kind s.uses)
         (λ s. record (given_up port s) { uses = next (given_up port s).uses }) ByDeviceAlone old new }
-{}
+{
+    accesses_compose();
+}

@@ -143,7 +143,7 @@ fn others(outstanding: u32, failed: &Option<Failure>) -> u32
     ensures { Parts outstanding failed.now result }
 {
     match failed {
-        Some(failed) => without_bit(outstanding, u32::from(failed.slot.0)),
+        Some(named) => without_bit(outstanding, u32::from(named.slot.0)),
         None => outstanding,
     }
 }
