@@ -1,6 +1,6 @@
 -- Stretches of accesses: one after another, and what they leave.
 use Rattle.std.proofs.Common.{ℕ, ◌≡◌, ◌≢◌, ◌++◌, true, false, List, [], ◌∷◌, None, Some, length, refl, sym, ◌∙◌, ap, subst, inl, append-nil}
-use Rattle.std.proofs.lemmas.List.Elements.{All-append, All-cons, All-nil, All-head, All-tail}
+use Rattle.std.proofs.lemmas.List.Elements.{All-append, All-cons, All-nil, All-head, All-tail, All-weaker}
 use Rattle.std.specs.List.{All}
 use Rattle.ata_types.specs.declared.Port.{Port}
 use Rattle.ata_types.specs.declared.request.RequestId.{RequestId}
@@ -24,8 +24,9 @@ use Rattle.agreement.specs.Acts.{Act, InSlots, IsDone, at, accesses_of, steps_of
 use Rattle.agreement.specs.Driver.{Knows, ByDevice, LeavesUses, MayStore, IsOwnPrepared}
 use Rattle.agreement.specs.Driven.{known, AnyUse, IsDrivenBy, IsFollowed, IsFollowedTo, IsTold, IsToldTo, NoneWrites, SendsNone}
 use Rattle.agreement.specs.Links.{SparesRegister}
+use Rattle.agreement.specs.Recovering.{WorksPlainly}
 use Rattle.agreement.specs.Slots.{Use, Own, Uses, put, op_of}
-use Rattle.agreement.proofs.Parts.{accesses_append, steps_append, all_acts, done_more, done_goes, done_silent, done_uses}
+use Rattle.agreement.proofs.Parts.{accesses_append, steps_append, all_acts, done_more, done_goes, done_plain, done_silent, done_uses}
 use Rattle.agreement.proofs.Adding.{read_adds, load_adds, store_adds, write_adds}
 use Rattle.agreement.proofs.Calling.{own_adds}
 use Rattle.agreement.proofs.Composing.{goes_access, goes_still, going_reaches}
@@ -123,6 +124,10 @@ module _ (May : Access → Type 0) (Fits : Uses → Type 0) where
       tells = record { only = tt; kept = λ port issues arms. All-nil (λ (act : Act). act.later.uses port.0 ≡ s.uses port.0) };
     };
   }
+
+  pub told_none : (d : Device) → IsTold (λ made. made ≡ []) May Fits d d
+  unfolding followed_none
+  told_none d = record { followed = followed_none d; tells = refl }
 
   pub followed_then : (old mid new : Device) → IsFollowed May Fits old mid → IsFollowed May Fits mid new → IsFollowed May Fits old new
   followed_then old mid new a b = followed_both May Fits Fits (λ uses. uses) (λ uses. uses) (λ uses fits. fits) old mid new a b
@@ -258,6 +263,15 @@ followed_silent {May} {Fits} {next} {old} {new} a uses parked m fits reached x p
     done_silent port.0 o own c.acts (known uses parked old) (known (next uses) parked new) m reached x none
     (all_acts (λ act. act.later.uses port.0 ≡ uses port.0) (λ act. act.later.uses port.0 0 ≡ Own o → ⊥) c.acts
     (λ act e is. none (ap (λ (f : ℕ → Use). f 0) (sym e) ∙ is)) (c.tells.kept port issues arms)) c.done
+
+-- a port that works on plain commands alone, and whose PxSACT isn't written
+pub followed_plain : {May : Access → Type 0} {Fits : Uses → Type 0} {next : Uses → Uses} {old new : Device} → IsFollowedTo May Fits next old new →
+    (uses : Uses) (parked : ℕ → List RequestId) (m : Machine) → Fits uses → IsReached m → Knows m (known uses parked old) → (port : Port) → NoneWrites May (Px port Sact) →
+    WorksPlainly (old.port port.0) → WorksPlainly (new.port port.0)
+followed_plain {May} {Fits} {next} {old} {new} a uses parked m fits reached x port arms =
+    let c = a.comes (record { uses = uses; parked = parked }) m reached x fits in
+    let spares = All-weaker May (SparesRegister (Px port Sact)) arms a.driven.accesses a.driven.only in
+    done_plain c.acts (known uses parked old) (known (next uses) parked new) m port reached x (subst (All (SparesRegister (Px port Sact))) (sym c.accesses_are) spares) c.done
 
 -- ---- one access
 

@@ -53,6 +53,7 @@ pub mod Lasting
 pub mod Finished
 pub mod Setting
 mod Others
+mod Erred
 pub mod Erring
 mod Resetting
 mod Silent
@@ -93,3 +94,4 @@ mod Looked
 mod Recovered
 mod Needing
 mod Logged
+mod Performed

@@ -27,7 +27,7 @@ use Rattle.adapter.proofs.Runs.{Steps-refl, Steps-one}
 use Rattle.agreement.specs.Agrees.{port_at}
 use Rattle.agreement.specs.Facts.{IsHalted, TellsNoTrouble}
 use Rattle.agreement.proofs.Allowing.{write_stays}
-use Rattle.agreement.specs.Recovered.{RecoveryIsFound}
+use Rattle.agreement.specs.Recovered.{FaultIsSeen, RecoveryIsFound}
 use Rattle.agreement.specs.Recovering.{IsLinked, WorksPlainly}
 use Rattle.agreement.proofs.Plainly.{plainly_well}
 
@@ -230,3 +230,9 @@ recovery_is_found = record {
   still_linked = ready_linked;
   well = plainly_well (port_at 0) 0x11 0 ready started found refl states.1 states.2 refl ready_linked ready_plain (writes (port_reg Cmd) 0x11 ready) tells no_trouble;
 }
+
+-- ---- the fault is seen
+
+pub fault_is_seen : FaultIsSeen
+unfolding changed
+fault_is_seen = record { seen = noted (port_reg Ssts) 3 failed; sees = record { mid = failed; steps = fails; shows = refl; effect = refl }; halted = refl }

@@ -85,3 +85,11 @@ pub record Performs (accesses : List Access) (Fits : InSlots → Machine → Typ
     (Tells : InSlots → Machine → List Act → Type 0) (old new : Device) : Type 0 where
   pub does : DoesAll accesses old new
   pub comes : ComesWith accesses Fits next Tells old new
+
+-- whatever is in the slots
+abbrev pub AnySlots : InSlots → Machine → Type 0
+AnySlots s m = Unit {0}
+
+-- the device alone makes steps
+abbrev pub ByDeviceAlone : InSlots → Machine → List Act → Type 0
+ByDeviceAlone s m acts = AllDevices (steps_of acts)

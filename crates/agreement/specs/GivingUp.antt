@@ -6,6 +6,7 @@ use Rattle.adapter.specs.Memory.{changed}
 use Rattle.adapter.specs.declared.command.Operation.{Operation}
 use Rattle.block_machine.specs.State.{Pending, Machine}
 use Rattle.block_machine.specs.Steps.{MayMove}
+use Rattle.agreement.specs.Acts.{InSlots}
 use Rattle.agreement.specs.Driver.{Known}
 use Rattle.agreement.specs.Slots.{Use, Free, Armed, Own, Serves, Uses, IsOver}
 
@@ -31,6 +32,10 @@ parking_all k port = record k {
   uses = changed k.uses port (λ slot. Free);
   parked = changed k.parked port (served_ids k.uses port 32 ++ k.parked port);
 }
+
+-- what is in the slots then, and parked
+abbrev pub given_up : ℕ → InSlots → InSlots
+given_up port s = record { uses = changed s.uses port (λ slot. Free); parked = changed s.parked port (served_ids s.uses port 32 ++ s.parked port) }
 
 -- a request of the port that the device may move, and hasn't ended
 pub record IsUnended (m : Machine) (port : ℕ) (id : RequestId) : Type 0 where

@@ -45,3 +45,9 @@ pub record RecoveryIsFound : Type 0 where
   pub still_plain : WorksPlainly (ready.port 0)
   pub still_linked : IsLinked (ready.port 0)
   pub well : RunsWell (found.port 0)
+
+-- By the time that PxSSTS is read, with a device, the first read may have failed: a fault halts the port.
+pub record FaultIsSeen : Type 0 where
+  pub seen : Device
+  pub sees : Reads (Px (port_at 0) Ssts) 3 first_read seen
+  pub halted : (seen.port 0).halt ≡ HaltedPlain

@@ -38,6 +38,8 @@ ghost use Rattle.agreement.specs.Slots.{Uses, Free, Own, Serves, IsOver, Brought
 ghost use Rattle.agreement.specs.Spares.{IsOfAnother};
 ghost use Rattle.agreement.specs.Started.{IsUp, IsComingUp, IsStarted, SetsNoStart, ClearsNoStart};
 
+use adapter::laws::steps_keep;
+
 /// A port that has halted stays so, whatever the device does, also over a reset of the adapter that ends, over readings, and over
 /// each write that may be made and doesn't set its ST; and an idle port has halted.
 pub fn halted_stays()
@@ -224,6 +226,23 @@ pub fn trouble_is_shown()
         → bit errors 16 ≡ false → bit errors 26 ≡ false → RunsWell (old.port port.0)
         → Undisturbed port.0 old mid × RunsWell (mid.port port.0) }
 {}
+
+/// And each error sets bits of its own, which stay until PxIS is written, while no reset is pending: where TFES, bit 30, is clear, it was,
+/// and no fault of the port came; and where 27 to 29 are clear, they were, and no fatal error came.
+pub fn errors_are_shown()
+    ensures fault { (port : ℕ) (old new : Device) → old.hr ≡ false → Steps old new → (new.port port).is 30 ≡ false
+        → ((old.port port).is 30 ≡ false) × NoneFails port old new }
+    ensures fault_access { (port : Port) (access : Access) (old new : Device) → old.hr ≡ false → SparesRegister (Px port Is) access
+        → Does access old new → (new.port port.0).is 30 ≡ false → ((old.port port.0).is 30 ≡ false) × NoneFails port.0 old new }
+    ensures fatal { (port : ℕ) (old new : Device) → old.hr ≡ false → Steps old new
+        → ((place : ℕ) → 27 ≤ place → place ≤ 29 → (new.port port).is place ≡ false)
+        → ((place : ℕ) → 27 ≤ place → place ≤ 29 → (old.port port).is place ≡ false) × NoneFatal port old new }
+    ensures fatal_access { (port : Port) (access : Access) (old new : Device) → old.hr ≡ false → SparesRegister (Px port Is) access
+        → Does access old new → ((place : ℕ) → 27 ≤ place → place ≤ 29 → (new.port port.0).is place ≡ false)
+        → ((place : ℕ) → 27 ≤ place → place ≤ 29 → (old.port port.0).is place ≡ false) × NoneFatal port.0 old new }
+{
+    steps_keep();
+}
 
 /// From COMRESET or a reset of the adapter on, while the engine stands and the tape tells of no disk of the port that
 /// comes: where PxSSTS.DET is read 3, the link is up. Whatever the device does, also over a reset that ends, and over

@@ -11,10 +11,16 @@ ghost use Rattle.adapter.specs.Access.Access.{Reading, Writing, Loading};
 ghost use Rattle.adapter.specs.Device.{Device};
 ghost use Rattle.adapter.specs.Rules.{MayWrite, Stays};
 ghost use Rattle.adapter.specs.declared.command.Operation.{Operation};
+ghost use Rattle.agreement.specs.Acts.{ByDeviceAlone, Performs};
 ghost use Rattle.agreement.specs.Driven.{IsAgreed, IsControl, IsFollowed, IsFollowedTo, IsOf, IsTold, IsToldTo, NoneWrites, SendsNone};
-ghost use Rattle.agreement.specs.Driver.{LeavesUses, IsOwnPrepared};
+ghost use Rattle.agreement.specs.Driver.{AllFree, LeavesUses, IsOwnPrepared};
+ghost use Rattle.agreement.specs.Facts.{IsHalted};
+ghost use Rattle.agreement.specs.GivingUp.{given_up};
 ghost use Rattle.agreement.specs.Links.{SparesRegister};
+ghost use Rattle.agreement.specs.Recovering.{WorksPlainly};
 ghost use Rattle.agreement.specs.Slots.{Uses, Free, Own, IsOver, op_of, put};
+
+use adapter::laws::accesses_compose;
 
 /// Sets of a port's registers.
 pub trait Registers {
@@ -50,7 +56,7 @@ pub fn controls_are_of_a_port<R: Registers>()
 /// What is a stretch that is followed: no access is; and one of its kind is, where it is a reading, a load, a write that is permitted and
 /// leaves each slot to its use, or the issue of a command of the driver's own.
 pub fn accesses_are_followed<K: Kinds>()
-    ensures none { (kind : K.Kind) (d : Device) → IsFollowed (K.may kind) (K.fits kind) d d }
+    ensures none { (kind : K.Kind) (d : Device) → IsTold (λ made. made ≡ []) (K.may kind) (K.fits kind) d d }
     ensures reads { (kind : K.Kind) (r : Reg) (v : ℕ) (old new : Device) → K.may kind (Reading r v) → Reads r v old new
         → IsTold (λ made. made ≡ Reading r v ∷ []) (K.may kind) (K.fits kind) old new }
     ensures loads { (kind : K.Kind) (at : ℕ) (bytes : List ℕ) (old new : Device) → K.may kind (Loading at bytes)
@@ -83,7 +89,7 @@ pub fn stretches_are_followed<K: Kinds>()
 {}
 
 /// What a stretch that is followed gives: some machine goes on agreeing, with the uses that it leads to. And a port of which it writes
-/// neither PxCI nor PxSACT is sent no page by a command that isn't in its slot 0.
+/// neither PxCI nor PxSACT is sent no page by a command that isn't in its slot 0. One that works on plain commands alone goes on so.
 pub fn followed_stretches_give<K: Kinds>()
     ensures agreed { (kind : K.Kind) (next : Uses → Uses) (uses : Uses) (old new : Device) → K.fits kind uses
         → IsFollowedTo (K.may kind) (K.fits kind) next old new → IsAgreed uses old → IsAgreed (next uses) new }
@@ -91,4 +97,21 @@ pub fn followed_stretches_give<K: Kinds>()
         → K.fits kind uses → NoneWrites (K.may kind) (Px port Ci) → NoneWrites (K.may kind) (Px port Sact) → op_of o ≡ None
         → (uses port.0 0 ≡ Own o → ⊥) → IsFollowedTo (K.may kind) (K.fits kind) next old new → IsAgreed uses old
         → SendsNone port.0 o old new }
+    ensures plain { (kind : K.Kind) (next : Uses → Uses) (uses : Uses) (port : Port) (old new : Device) → K.fits kind uses
+        → NoneWrites (K.may kind) (Px port Sact) → IsFollowedTo (K.may kind) (K.fits kind) next old new → IsAgreed uses old
+        → WorksPlainly (old.port port.0) → WorksPlainly (new.port port.0) }
 {}
+
+/// A stretch that is followed is a part of a call, in which the device alone makes steps. And where a port has halted after it, the driver may
+/// give up all slots of the port, and go on with another stretch, of any kind that a port without a used slot allows: the two are one part, too.
+pub fn stretches_are_parts<K: Kinds>()
+    ensures one { (kind : K.Kind) (next : Uses → Uses) (old new : Device) → (a : IsFollowedTo (K.may kind) (K.fits kind) next old new)
+        → Performs a.driven.accesses (λ s m. K.fits kind s.uses) (λ s. record s { uses = next s.uses }) ByDeviceAlone old new }
+    ensures giving_up { (kind then : K.Kind) (next : Uses → Uses) (port : ℕ) (old mid new : Device)
+        → (a : IsFollowed (K.may kind) (K.fits kind) old mid) → IsHalted (mid.port port)
+        → ((uses : Uses) → AllFree uses port → K.fits then uses) → (b : IsFollowedTo (K.may then) (K.fits then) next mid new)
+        → Performs (a.driven.accesses ++ b.driven.accesses) (λ s m. K.fits kind s.uses)
+        (λ s. record (given_up port s) { uses = next (given_up port s).uses }) ByDeviceAlone old new }
+{
+    accesses_compose();
+}

@@ -10,11 +10,16 @@ ghost use Rattle.agreement.specs.Agrees.{Agrees};
 ghost use Rattle.agreement.specs.Slots.{Uses};
 ghost use Rattle.agreement.specs.Recovering.{WorksPlainly};
 ghost use Rattle.agreement.specs.Logged.{LogIsEnded};
-ghost use Rattle.agreement.specs.Recovered.{RecoveryIsFound};
+ghost use Rattle.agreement.specs.Recovered.{FaultIsSeen, RecoveryIsFound};
 
 /// There is a port that fails and is stopped, cleared and started again without COMRESET: it runs well.
 pub fn a_fault_is_recovered()
     ensures { RecoveryIsFound }
+{}
+
+/// There is a port that fails, as its driver looks at it: it is there for a recovery to be asked for.
+pub fn a_fault_is_seen()
+    ensures { FaultIsSeen }
 {}
 
 /// There is a port that takes READ LOG EXT alone, as after a queued fault, with that command prepared: it is issued and comes to its end, and the

@@ -120,7 +120,7 @@ pub fn causes_stay_clear()
 {}
 
 /// A port none of whose slots has a command moves nothing: whatever the device does, over each access, and over accesses of the
-/// port's registers that write no PxCI, after which none has one still.
+/// port's registers that write no PxCI, after which none has one still. Where none of two parts brings a page, the whole brings none.
 pub fn unused_slots_are_silent()
     ensures steps { (port : ℕ) (o : Operation) (old new : Device) → HasNoCommand (old.port port) → Steps old new
         → SendsNone port o old new }
@@ -128,4 +128,6 @@ pub fn unused_slots_are_silent()
         → Does access old new → SendsNone port o old new }
     ensures controls { (port : Port) (o : Operation) (old new : Device) → IsDrivenBy (IsControl (λ r. r ≢ Ci) port) old new
         → HasNoCommand (old.port port.0) → SendsNone port.0 o old new × HasNoCommand (new.port port.0) }
+    ensures more { (port : ℕ) (o : Operation) (old mid new : Device) → SendsNone port o old mid → SendsNone port o mid new
+        → SendsNone port o old new }
 {}

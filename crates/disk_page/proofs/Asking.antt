@@ -1,5 +1,5 @@
 -- A driver's own command is issued, waited for, and its page loaded.
-use Rattle.std.proofs.Common.{ℕ, ◌≡◌, ◌≢◌, ◌==◌, ◌+◌, ◌*◌, ◌%◌, ◌<◌, ◌≤◌, ◌++◌, Bool, true, false, List, [], ◌∷◌, length, None, refl, sym, ◌∙◌, ap, subst, arith, lit<, le_trans, if◌then◌else◌, nat_eq}
+use Rattle.std.proofs.Common.{ℕ, ◌≡◌, ◌≢◌, ◌==◌, ◌+◌, ◌*◌, ◌%◌, ◌<◌, ◌≤◌, ◌++◌, Bool, true, false, List, [], ◌∷◌, length, None, inl, inr, refl, sym, ◌∙◌, ap, subst, arith, lit<, le_trans, append-nil, if◌then◌else◌, nat_eq}
 use Rattle.std.proofs.lemmas.Bool.{true≢false}
 use Rattle.std.proofs.lemmas.List.{length-append}
 use Rattle.std.specs.List.{All}
@@ -7,11 +7,12 @@ use Rattle.ata_types.specs.declared.Port.{Port}
 use Rattle.hba_regs.specs.Bits.{bit}
 use Rattle.hba_regs.specs.declared.reg.Reg.{Reg}
 use Rattle.hba_regs.specs.declared.reg.Reg.TheVariants.{Ghc, Px}
-use Rattle.hba_regs.specs.declared.reg.PortReg.TheVariants.{Ci}
-use Rattle.adapter.specs.Access.{Access, Reads, Writes, Loads, counted}
+use Rattle.hba_regs.specs.declared.reg.PortReg.TheVariants.{Ci, Sact}
+use Rattle.adapter.specs.Access.{Access, Does, Reads, Writes, Loads, counted}
 use Rattle.adapter.specs.Access.Access.{Reading, Writing, Loading, Storing}
 use Rattle.adapter.specs.Commands.{Meaning, command_of, is_ranged, pieces_moved, reads_memory}
 use Rattle.adapter.specs.Device.{Bases, Notes, PortState, Device}
+use Rattle.adapter.specs.Device.Halt.{NotHalted}
 use Rattle.adapter.specs.Kept.{Keeps, KeepsControls, KeepsPort}
 use Rattle.adapter.specs.Rules.{IsOn, HasPort, IsFree, Stays, MayWrite}
 use Rattle.adapter.specs.Says.{pieces, IsWhole}
@@ -20,19 +21,19 @@ use Rattle.adapter.specs.declared.command.Operation.{Operation}
 use Rattle.adapter.specs.declared.command.Prd.{Prd}
 use Rattle.adapter.specs.Seen.{SeenAt, PutAt}
 use Rattle.adapter.specs.declared.tape.Entry.{Entry}
-use Rattle.agreement.specs.Driven.{IsAgreed, IsDrivenBy, IsFollowed, IsFollowedTo, IsOf, AnyUse, NoneWrites, AnyAccess}
+use Rattle.agreement.specs.Driven.{IsAgreed, IsDrivenBy, IsFollowed, IsFollowedTo, IsOf, IsTold, IsToldTo, AnyUse, NoneWrites, AnyAccess, SendsNone}
 use Rattle.agreement.specs.Driver.{IsOwnPrepared}
 use Rattle.agreement.specs.Facts.{IsClear}
 use Rattle.agreement.specs.Places.{list_of, scratch_of}
-use Rattle.agreement.specs.Slots.{Own, Uses, put as used, Told, IsOver, op_of, Brought}
+use Rattle.agreement.specs.Slots.{Free, Own, Uses, put as used, Told, IsOver, op_of, Brought}
 use Rattle.command_table.specs.Places.{places_of}
 use Rattle.command_table.specs.Written.{IsTableFor, IsTableStore, IsUnused}
-use Rattle.disk_page.specs.Asking.{operation_of, MayAsk, IsAsking, Brings}
+use Rattle.disk_page.specs.Asking.{operation_of, AreInVain, MayAsk, IsAsking, Brings, ShowsIssued, WaitsInVain}
 use Rattle.disk_page.specs.Waiting.{IsWaiting}
 use Rattle.disk_page.specs.declared.Page.{Page}
 use Rattle.disk_page.specs.declared.Page.TheVariants.{Identity, Errors}
 use Rattle.disk_page.specs.Laws.{Laws}
-use Rattle.std.proofs.lemmas.List.Elements.{All-weaker}
+use Rattle.std.proofs.lemmas.List.Elements.{All-nil, All-cons, All-append, All-weaker}
 use Rattle.disk_page.specs.Laws.Stretch.{Asking, Awaiting, Storing as Stored}
 use Rattle.agreement.specs.Links.{SameAdapter}
 use Rattle.std.proofs.lemmas.Nat.Bits.{bit_at_ones_above}
@@ -53,8 +54,8 @@ pub record IsPending (port : Port) (start : Device) (n : ℕ) (d : Device) : Typ
   pub on : IsOn d
   pub there : HasPort d port.0
   pub det : (d.port port.0).sctl_det ≡ 0
-  pub followed : IsFollowed (IsAsking port) AnyUse start d
-  pub waiting : (o : Operation) (since : ℕ) (uses : Uses) → IsWaiting port o since uses start → IsWaiting port o since uses d
+  pub told : IsTold (AreInVain port n) (IsAsking port) AnyUse start d
+  pub waiting : (o : Operation) (since : ℕ) (uses : Uses) (begun : Device) → IsWaiting port o since uses begun start → IsWaiting port o since uses begun d
   pub low : n ≤ (d.port port.0).notes.command_count
   pub high : 0 < n → (d.port port.0).notes.command_count ≤ 64
 
@@ -62,8 +63,8 @@ pub record IsPending (port : Port) (start : Device) (n : ℕ) (d : Device) : Typ
 pub record IsFoundOver (port : Port) (start d : Device) : Type 0 where
   pub on : IsOn d
   pub followed : IsFollowed (IsAsking port) AnyUse start d
-  pub waiting : (o : Operation) (since : ℕ) (uses : Uses) → IsWaiting port o since uses start → IsWaiting port o since uses d
-  pub over : (o : Operation) (since : ℕ) (uses : Uses) → IsWaiting port o since uses start → IsClear (d.port port.0) 0
+  pub waiting : (o : Operation) (since : ℕ) (uses : Uses) (begun : Device) → IsWaiting port o since uses begun start → IsWaiting port o since uses begun d
+  pub over : (o : Operation) (since : ℕ) (uses : Uses) (begun : Device) → IsWaiting port o since uses begun start → IsClear (d.port port.0) 0
 
 abbrev next : Port → Port
 next port = record { 0 = port.0 + 1 }
@@ -129,6 +130,16 @@ page_is_told page command prds written port n memory same is whole places value 
     let P : List Prd → Type 0 = λ es. IsTableFor 0 command es (meaning_of page) (scratch_of port ∷ []) in
     says (meaning_of page) (scratch_of port ∷ []) (subst P (sym value) (table_for page command prds port n same is whole places))
 
+-- one more reading that shows the command
+vain_more : (port : Port) (n v : ℕ) (early late : List Access) → AreInVain port n early → late ≡ Reading (Px port Ci) v ∷ [] → bit v 0 ≡ true → AreInVain port (n + 1) (early ++ late)
+vain_more port n v early late (number, all) is set =
+    let P : List Access → Type 0 = λ last. AreInVain port (n + 1) (early ++ last) in
+    let both = length-append early (Reading (Px port Ci) v ∷ []) in
+    subst P (sym is) (
+      omega (arith, both, number),
+      All-append (ShowsIssued port) early (Reading (Px port Ci) v ∷ []) all (All-cons (ShowsIssued port) (Reading (Px port Ci) v) [] (refl, set) (All-nil (ShowsIssued port))),
+    )
+
 module _ (laws : Laws) where
   -- stores are accesses of any port, so of the next one
   stores_of : (port : Port) (old new : Device) → IsDrivenBy (IsTableStore port.0 0) old new → IsDrivenBy (IsOf (next port)) old new
@@ -168,6 +179,17 @@ module _ (laws : Laws) where
 
   pub asking_spares_ghc : (port : Port) → NoneWrites (IsAsking port) Ghc
   asking_spares_ghc port access is = laws.of_spares_ghc port access (asking_is_of port access is)
+
+  -- an access brings a page of the command in slot 0 alone
+  access_silent : (port : Port) (uses : Uses) (other : Operation) (access : Access) (old new : Device) → IsAgreed uses old → op_of other ≡ None → (uses port.0 0 ≡ Own other → ⊥) → Does access old new →
+      SendsNone port.0 other old new
+  access_silent port uses other access old new a page none x =
+      let g = laws.access_grows access old new x in
+      (g.0, g.1, laws.access_pages uses a.machine access old new port.0 other g.0 a.reached a.knows.agrees x g.1 page (λ is. absurd (none is)))
+
+  -- slot 0 has another command
+  other_own : (port : ℕ) (o other : Operation) (uses : Uses) → uses port 0 ≡ Own o → other ≢ o → uses port 0 ≡ Own other → ⊥
+  other_own port o other uses own differs is = let both : Own other ≡ Own o = sym is ∙ own in let same : other ≡ o = cc in differs same
 
   module _ (port : Port) (page : Page) (mid new : Device) (on : IsOn mid) (there : HasPort mid port.0) (room : 163840 ≤ mid.size) (may : MayAsk port.0 mid)
       (told : Told mid.memory (list_of port.0) port.0 0 (meaning_of page) (scratch_of port.0 ∷ [])) where
@@ -215,12 +237,17 @@ module _ (laws : Laws) where
           let l = grown mid.tape put_ci.mid.tape k.gained k.tape in
           let same = ap (λ (es : List Entry). length es) put_ci.tape in omega (arith, l, same)
 
-      pub asked_waits : (uses : Uses) → IsUnused port.0 0 uses → IsAgreed uses mid → IsWaiting port (operation_of page) (length new.tape) (used uses port.0 0 (Own (operation_of page))) new
-      asked_waits uses free a = record {
+      pub asked_waits : (start : Device) (uses : Uses) → IsUnused port.0 0 uses → IsAgreed uses mid → ((other : Operation) → op_of other ≡ None → SendsNone port.0 other start mid) →
+          IsWaiting port (operation_of page) (length new.tape) (used uses port.0 0 (Own (operation_of page))) start new
+      asked_waits start uses free a before = record {
         on = laws.access_on (Writing (Px port Ci) 1) mid new on (λ v e. absurd cc) call;
         room = let same = (laws.access_same (Writing (Px port Ci) 1) mid new call).size in omega (arith, same, room);
         agreed = laws.agreed (Asking port) (λ uses. used uses port.0 0 (Own (operation_of page))) uses mid new free asked_to a;
         awaits = laws.page_is_issued uses a.machine port (operation_of page) 1 mid new a.reached a.knows.agrees on.no_reset (prepared uses free) call;
+        ends = λ alone. laws.halt_is_issued uses a.machine port (operation_of page) 1 mid new a.reached a.knows.agrees on.no_reset
+            (λ slot other. sym (laws.put_others uses port.0 0 (Own (operation_of page)) port.0 slot (λ same here. other here)) ∙ alone slot other) (prepared uses free) call;
+        silent = λ other page differs. laws.silent_more port.0 other start mid new (before other page)
+            (access_silent port uses other (Writing (Px port Ci) 1) mid new a page (λ is. let e : Free ≡ Own other = sym free ∙ is in absurd cc) call);
       }
 
   -- ---- stretches, one after another
@@ -234,6 +261,19 @@ module _ (laws : Laws) where
   pub asked_then : (port : Port) (next : Uses → Uses) (old mid new : Device) → IsFollowedTo (IsAsking port) (IsUnused port.0 0) next old mid → IsFollowed (IsAsking port) AnyUse mid new →
       IsFollowedTo (IsAsking port) (IsUnused port.0 0) next old new
   asked_then port next old mid new a b = (laws.both (Asking port) (Awaiting port) next (λ uses. uses) (λ access may. may) (λ uses free. tt) old mid new a b).followed
+
+  -- in vain, as is told of the accesses
+  pub asked_in_vain : (port : Port) (next : Uses → Uses) (old mid new : Device) → IsFollowedTo (IsAsking port) (IsUnused port.0 0) next old mid → IsTold (AreInVain port 64) (IsAsking port) AnyUse mid new →
+      IsToldTo (WaitsInVain port) (IsAsking port) (IsUnused port.0 0) next old new
+  asked_in_vain port next old mid new a b =
+      let both = laws.both (Asking port) (Awaiting port) next (λ uses. uses) (λ access may. may) (λ uses free. tt) old mid new a b.followed in
+      let early = a.driven.accesses in
+      let waits = b.followed.driven.accesses in
+      record {
+        followed = both.followed;
+        tells = subst (WaitsInVain port) (sym both.tells)
+            (record { before = early; waits = waits; later = []; here = ap (λ (rest : List Access). early ++ rest) (sym (append-nil waits)); vain = b.tells });
+      }
 
   awaited_then : (port : Port) (old mid new : Device) → IsFollowed (IsAsking port) AnyUse old mid → IsFollowed (IsAsking port) AnyUse mid new → IsFollowed (IsAsking port) AnyUse old new
   awaited_then port old mid new a b = (laws.both (Awaiting port) (Awaiting port) (λ uses. uses) (λ uses. uses) (λ access may. may) (λ uses any. tt) old mid new a b).followed
@@ -261,6 +301,10 @@ module _ (laws : Laws) where
     pub stores_agree : (uses : Uses) → IsUnused port.0 0 uses → IsAgreed uses old → IsAgreed uses mid
     stores_agree uses free = laws.agreed (Stored port) (λ uses. uses) uses old mid free stores
 
+    pub stores_silent : (uses : Uses) (other : Operation) → IsUnused port.0 0 uses → IsAgreed uses old → op_of other ≡ None → SendsNone port.0 other old mid
+    stores_silent uses other free a page = laws.silent (Stored port) (λ uses. uses) uses port other old mid free (laws.stores_spare port.0 0 (Px port Ci)) (laws.stores_spare port.0 0 (Px port Sact)) page
+        (λ is. let e : Free ≡ Own other = sym free ∙ is in absurd cc) stores a
+
     pub stores_there : HasPort old port.0 → HasPort mid port.0
     stores_there there = (there.0, ap (λ (pi : ℕ). bit pi port.0) stores_leave.same.pi ∙ there.1)
 
@@ -275,19 +319,22 @@ module _ (laws : Laws) where
     reads_followed = (laws.reads (Awaiting port) (Px port Ci) v d e refl call).followed
 
     -- the driver goes on to wait
-    reads_wait : (o : Operation) (since : ℕ) (uses : Uses) → IsWaiting port o since uses d → IsWaiting port o since uses e
-    reads_wait o since uses w =
+    reads_wait : (o : Operation) (since : ℕ) (uses : Uses) (begun : Device) → IsWaiting port o since uses begun d → IsWaiting port o since uses begun e
+    reads_wait o since uses begun w =
         let a = w.agreed in
         record {
           on = reads_on;
           room = let same = (laws.access_same (Reading (Px port Ci) v) d e call).size in let room = w.room in omega (arith, same, room);
           agreed = laws.agreed (Awaiting port) (λ uses. uses) uses d e tt reads_followed a;
           awaits = laws.access_waits uses a.machine port o since (Reading (Px port Ci) v) d e a.reached a.knows.agrees (λ w f. absurd cc) reads_on.no_reset call w.awaits;
+          ends = λ alone. laws.access_ends_halt uses a.machine port (Reading (Px port Ci) v) d e a.reached a.knows.agrees (λ w f. absurd cc) tt reads_on.no_reset call (w.ends alone);
+          silent = λ other page differs. laws.silent_more port.0 other begun d e (w.silent other page differs)
+              (access_silent port uses other (Reading (Px port Ci) v) d e a page (other_own port.0 o other uses w.awaits.own differs) call);
         }
 
     -- or it finds the command over
-    reads_over : bit v 0 ≡ false → (o : Operation) (since : ℕ) (uses : Uses) → IsWaiting port o since uses d → IsClear (e.port port.0) 0
-    reads_over clear o since uses w =
+    reads_over : bit v 0 ≡ false → (o : Operation) (since : ℕ) (uses : Uses) (begun : Device) → IsWaiting port o since uses begun d → IsClear (e.port port.0) 0
+    reads_over clear o since uses begun w =
         let a = w.agreed in
         (laws.page_is_found uses a.machine port o since v d e a.reached a.knows.agrees w.awaits call clear).0.clear
 
@@ -308,8 +355,9 @@ module _ (laws : Laws) where
     on = on;
     there = there;
     det = det;
-    followed = laws.none (Awaiting port) d;
-    waiting = λ o since uses w. w;
+    told = let none = laws.none (Awaiting port) d in
+        record { followed = none.followed; tells = subst (AreInVain port 0) (sym none.tells) (refl, All-nil (ShowsIssued port)) };
+    waiting = λ o since uses begun w. w;
     low = omega arith;
     high = λ some. absurd (omega (arith, some));
   }
@@ -324,8 +372,14 @@ module _ (laws : Laws) where
         on = reads_on port v d e p.on call;
         there = reads_there port v d e p.on call p.there;
         det = reads_det port v d e p.on call p.det;
-        followed = awaited_then port start d e p.followed (reads_followed port v d e p.on call);
-        waiting = λ o since uses w. reads_wait port v d e p.on call o since uses (p.waiting o since uses w);
+        told =
+            let more = laws.reads (Awaiting port) (Px port Ci) v d e refl call in
+            let both = laws.both (Awaiting port) (Awaiting port) (λ uses. uses) (λ uses. uses) (λ access may. may) (λ uses any. tt) start d e p.told.followed more.followed in
+            record {
+              followed = both.followed;
+              tells = subst (AreInVain port (n + 1)) (sym both.tells) (vain_more port n v p.told.followed.driven.accesses more.followed.driven.accesses p.told.tells more.tells set);
+            };
+        waiting = λ o since uses begun w. reads_wait port v d e p.on call o since uses begun (p.waiting o since uses begun w);
         low = rw count (omega (arith, low, small));
         high = λ _. rw count (omega arith);
       }
@@ -333,9 +387,9 @@ module _ (laws : Laws) where
   pub pending_over : (port : Port) (start : Device) (n : ℕ) (v : ℕ) (d e : Device) → IsPending port start n d → Reads (Px port Ci) v d e → bit v 0 ≡ false → IsFoundOver port start e
   pending_over port start n v d e p call clear = record {
     on = reads_on port v d e p.on call;
-    followed = awaited_then port start d e p.followed (reads_followed port v d e p.on call);
-    waiting = λ o since uses w. reads_wait port v d e p.on call o since uses (p.waiting o since uses w);
-    over = λ o since uses w. reads_over port v d e p.on call clear o since uses (p.waiting o since uses w);
+    followed = awaited_then port start d e p.told.followed (reads_followed port v d e p.on call);
+    waiting = λ o since uses begun w. reads_wait port v d e p.on call o since uses begun (p.waiting o since uses begun w);
+    over = λ o since uses begun w. reads_over port v d e p.on call clear o since uses begun (p.waiting o since uses begun w);
   }
 
   -- ---- the page
@@ -348,7 +402,7 @@ module _ (laws : Laws) where
     same,
   )
 
-  module _ (port : Port) (o : Operation) (since : ℕ) (uses : Uses) (old : Device) (below : port.0 < 4) (w : IsWaiting port o since uses old) (clear : IsClear (old.port port.0) 0) where
+  module _ (port : Port) (o : Operation) (since : ℕ) (uses : Uses) (begun old : Device) (below : port.0 < 4) (w : IsWaiting port o since uses begun old) (clear : IsClear (old.port port.0) 0) where
     pub page_free : Stays (IsFree (scratch_of port.0) 512) old
     page_free =
         let a = w.agreed in
@@ -374,3 +428,16 @@ module _ (laws : Laws) where
 
       pub load_agrees : IsAgreed uses new
       load_agrees = laws.agreed (Awaiting port) (λ uses. uses) uses old new tt load_followed w.agreed
+
+      pub load_running : ((slot : ℕ) → slot ≢ 0 → uses port.0 slot ≡ Free) → (new.port port.0).halt ≡ NotHalted
+      load_running alone =
+          let a = w.agreed in
+          let h = laws.access_ends_halt uses a.machine port (Loading (scratch_of port.0) bytes) old new a.reached a.knows.agrees (λ v e. absurd cc) tt load_on.no_reset call (w.ends alone) in
+          elim h.ends [
+            | inl issued ↦ absurd (true≢false (sym issued ∙ load_clear.over.issued))
+            | inr running ↦ running
+          ]
+
+      pub load_silent : (other : Operation) → op_of other ≡ None → other ≢ o → SendsNone port.0 other begun new
+      load_silent other page differs = laws.silent_more port.0 other begun old new (w.silent other page differs)
+          (access_silent port uses other (Loading (scratch_of port.0) bytes) old new w.agreed page (other_own port.0 o other uses w.awaits.own differs) call)

@@ -1,6 +1,7 @@
 -- Pages that a disk sends to the driver itself (ACS-3: IDENTIFY DEVICE, READ LOG EXT), and how they are asked for.
-use Rattle.std.specs.Prelude.{ℕ, true, false, ◌≡◌, ◌≢◌, ◌≤◌, List, length, Option, None, Some}
+use Rattle.std.specs.Prelude.{ℕ, true, false, ◌≡◌, ◌≢◌, ◌≤◌, ◌++◌, List, All, length, Option, None, Some}
 use Rattle.ata_types.specs.declared.Port.{Port}
+use Rattle.hba_regs.specs.Bits.{bit}
 use Rattle.hba_regs.specs.declared.reg.Reg.TheVariants.{Px}
 use Rattle.hba_regs.specs.declared.reg.PortReg.TheVariants.{Ci}
 use Rattle.adapter.specs.Access.{Access}
@@ -9,7 +10,7 @@ use Rattle.adapter.specs.Device.{Notes, Device}
 use Rattle.adapter.specs.Kept.{KeepsControls}
 use Rattle.adapter.specs.declared.command.Operation.{Operation}
 use Rattle.adapter.specs.declared.command.Operation.TheVariants.{Identify, ReadLog}
-use Rattle.agreement.specs.Driven.{IsAgreed, IsFollowed, IsFollowedTo}
+use Rattle.agreement.specs.Driven.{IsAgreed, IsFollowed, IsToldTo}
 use Rattle.agreement.specs.Facts.{IsClear, IsRecorded}
 use Rattle.agreement.specs.Places.{list_of, scratch_of}
 use Rattle.agreement.specs.Slots.{Own, Uses, put, Brought}
@@ -53,6 +54,24 @@ pub record LeavesRunning (port : ℕ) (old new : Device) : Type 0 where
   pub later : length old.tape ≤ length new.tape
   pub recorded : IsRecorded old.tape (old.port port) port → IsRecorded new.tape (new.port port) port
 
+-- it reads PxCI, which shows slot 0's command
+abbrev pub ShowsIssued : Port → Access → Type 0
+ShowsIssued port (Reading r v) = (r ≡ Px port Ci) × (bit v 0 ≡ true)
+ShowsIssued port access = ⊥
+
+-- so many such readings, and nothing else
+abbrev pub AreInVain : Port → ℕ → List Access → Type 0
+AreInVain port count accesses = (length accesses ≡ count) × All (ShowsIssued port) accesses
+
+-- 64 of them were made in a row. (The count that stands beside the device's state goes on from earlier calls: it goes back at a write of PxSCTL
+-- alone.)
+pub record WaitsInVain (port : Port) (accesses : List Access) : Type 0 where
+  pub before : List Access
+  pub waits : List Access
+  pub later : List Access
+  pub here : accesses ≡ before ++ (waits ++ later)
+  pub vain : AreInVain port 64 waits
+
 -- What is said of the page: it is the last that the port's command of this operation has moved, the command came after the tape was so
 -- long, and it is over.
 pub record Brings (port : ℕ) (o : Operation) (since : ℕ) (bytes : List ℕ) (d : Device) : Type 0 where
@@ -60,12 +79,12 @@ pub record Brings (port : ℕ) (o : Operation) (since : ℕ) (bytes : List ℕ) 
   pub same : bytes ≡ brought.move.bytes.value
   pub clear : IsClear (d.port port) 0
 
--- The page came: slot 0 isn't used any more. Or 64 readings of PxCI showed its bit: then the command may be in slot 0 still.
+-- The page came: slot 0 isn't used any more. Or 64 readings of PxCI showed its bit, as the accesses tell: then the command may be in slot 0 still.
 abbrev pub Reads : Port → Operation → Option (List ℕ) → Device → Device → Type 0
 Reads port o (Some bytes) old new = Brings port.0 o (length old.tape) bytes new
     × IsFollowed (IsAsking port) (IsUnused port.0 0) old new
 Reads port o None old new = ((new.port port.0).notes.command_count ≡ 64)
-    × IsFollowedTo (IsAsking port) (IsUnused port.0 0) (λ uses. put uses port.0 0 (Own o)) old new
+    × IsToldTo (WaitsInVain port) (IsAsking port) (IsUnused port.0 0) (λ uses. put uses port.0 0 (Own o)) old new
 
 -- Some machine agrees with the slots used as they were; or with the command in slot 0.
 abbrev pub AgreesAfter : Port → Operation → Option (List ℕ) → Uses → Device → Type 0

@@ -1,11 +1,12 @@
 -- What laws of the crates below say of accesses, with the kinds of accesses of this crate: its proofs rest on them.
-use Rattle.std.specs.Prelude.{ℕ, true, false, ◌≡◌, ◌≢◌, ◌+◌, ◌≤◌, ◌<◌, ◌++◌, List, [], ◌∷◌, length}
+use Rattle.std.specs.Prelude.{ℕ, true, false, ◌≡◌, ◌≢◌, ◌+◌, ◌≤◌, ◌<◌, ◌++◌, List, [], ◌∷◌, All, None, length}
 use Rattle.ata_types.specs.declared.Port.{Port}
 use Rattle.adapter.specs.Access.{Access, Does, Loads, Reads, Writes}
 use Rattle.agreement.specs.Agrees.{Agrees}
-use Rattle.agreement.specs.Driven.{AnyAccess, AnyUse, IsAgreed, IsDrivenBy, IsFollowed, IsFollowedTo, IsOf, IsTold, IsToldTo, LeavesPort, NoneWrites}
+use Rattle.agreement.specs.Driven.{AnyAccess, AnyUse, Grows, IsAgreed, IsDrivenBy, IsFollowedTo, IsOf, IsTold, IsToldTo, LeavesPort, NoneWrites, SendsNone}
 use Rattle.agreement.specs.Awaits.{AwaitsPage}
-use Rattle.agreement.specs.Slots.{Brought, Free, IsOver, Own, Uses, put}
+use Rattle.agreement.specs.Recovering.{EndsHalt}
+use Rattle.agreement.specs.Slots.{Brought, Free, IsMove, IsOver, Own, Use, Uses, op_of, put}
 use Rattle.hba_regs.specs.declared.reg.PortReg.TheVariants.{Ci, Sact}
 use Rattle.agreement.specs.Started.{ClearsNoStart}
 use Rattle.adapter.specs.Device.{Device, PortState}
@@ -78,8 +79,14 @@ pub record Laws : Type 0 where
   pub awaited_is_loaded : (uses : Uses) (m : Machine) (port : ℕ) (o : Operation) (since : ℕ) (bytes : List ℕ) (old new : Device) → IsReached m → Agrees uses m old → AwaitsPage uses port o since old → IsOver (old.port port) 0 → Loads (scratch_of port) bytes old new → length bytes ≡ 512 → (b : Brought new.memory new.tape port o since) × (bytes ≡ b.move.bytes.value)
   pub page_is_free : (uses : Uses) (m : Machine) (d : Device) → IsReached m → Agrees uses m d → (port : ℕ) → port < 4 → scratch_of port + 512 ≤ d.size → IsOver (d.port port) 0 → Stays (IsFree (scratch_of port) 512) d
   pub agrees_released : (uses : Uses) (port : ℕ) (o : Operation) (d : Device) → uses port 0 ≡ Free → IsOver (d.port port) 0 → IsAgreed (put uses port 0 (Own o)) d → IsAgreed uses d
+  pub halt_is_issued : (uses : Uses) (m : Machine) (port : Port) (o : Operation) (v : ℕ) (old new : Device) → IsReached m → Agrees uses m old → old.hr ≡ false → ((slot : ℕ) → slot ≢ 0 → uses port.0 slot ≡ Free) → IsOwnPrepared uses old port.0 o v → Writes (Px port Ci) v old new → EndsHalt (put uses port.0 0 (Own o)) port.0 new
+  pub access_ends_halt : (uses : Uses) (m : Machine) (port : Port) (access : Access) (old new : Device) → IsReached m → Agrees uses m old → ClearsNoStart port access → SparesRegister (Px port Sact) access → new.hr ≡ false → Does access old new → EndsHalt uses port.0 old → EndsHalt uses port.0 new
+  pub access_grows : (access : Access) (old new : Device) → Does access old new → Grows old new
+  pub access_pages : (uses : Uses) (m : Machine) (access : Access) (old new : Device) (port : ℕ) (o : Operation) (gained : List Entry) → IsReached m → Agrees uses m old → Does access old new → new.tape ≡ old.tape ++ gained → op_of o ≡ None → (uses port 0 ≡ Own o → IsOver (old.port port) 0) → All (λ e. IsMove port o e → ⊥) gained
+  pub silent_more : (port : ℕ) (o : Operation) (old mid new : Device) → SendsNone port o old mid → SendsNone port o mid new → SendsNone port o old new
+  pub put_others : (uses : Uses) (port slot : ℕ) (u : Use) (other_port other_slot : ℕ) → (other_port ≡ port → other_slot ≡ slot → ⊥) → put uses port slot u other_port other_slot ≡ uses other_port other_slot
   -- this crate's kinds of accesses
-  pub none : (kind : Stretch) (d : Device) → IsFollowed (may_of kind) (fits_of kind) d d
+  pub none : (kind : Stretch) (d : Device) → IsTold (λ made. made ≡ []) (may_of kind) (fits_of kind) d d
   pub reads : (kind : Stretch) (r : Reg) (v : ℕ) (old new : Device) → may_of kind (Reading r v) → Reads r v old new → IsTold (λ made. made ≡ Reading r v ∷ []) (may_of kind) (fits_of kind) old new
   pub loads : (kind : Stretch) (at : ℕ) (bytes : List ℕ) (old new : Device) → may_of kind (Loading at bytes) → Loads at bytes old new → IsTold (λ made. made ≡ Loading at bytes ∷ []) (may_of kind) (fits_of kind) old new
   pub asks : (kind : Stretch) (port : Port) (o : Operation) (v : ℕ) (old new : Device) → may_of kind (Writing (Px port Ci) v) → old.hr ≡ false → ((uses : Uses) → fits_of kind uses → IsOwnPrepared uses old port.0 o v) → Writes (Px port Ci) v old new → IsFollowedTo (may_of kind) (fits_of kind) (λ uses. put uses port.0 0 (Own o)) old new
@@ -87,3 +94,4 @@ pub record Laws : Type 0 where
   pub wider : (kind more : Stretch) (next : Uses → Uses) → ((access : Access) → may_of kind access → may_of more access) → ((uses : Uses) → fits_of more uses → fits_of kind uses) → (old new : Device) → (a : IsFollowedTo (may_of kind) (fits_of kind) next old new) → IsToldTo (λ made. made ≡ a.driven.accesses) (may_of more) (fits_of more) next old new
   pub over : (kind : Stretch) (port : Port) (o : Operation) (v : ℕ) (old new : Device) → may_of kind (Writing (Px port Ci) v) → ((uses : Uses) → fits_of kind uses → uses port.0 0 ≡ Free) → IsOver (new.port port.0) 0 → (a : IsFollowedTo (may_of kind) (fits_of kind) (λ uses. put uses port.0 0 (Own o)) old new) → IsTold (λ made. made ≡ a.driven.accesses) (may_of kind) (fits_of kind) old new
   pub agreed : (kind : Stretch) (next : Uses → Uses) (uses : Uses) (old new : Device) → fits_of kind uses → IsFollowedTo (may_of kind) (fits_of kind) next old new → IsAgreed uses old → IsAgreed (next uses) new
+  pub silent : (kind : Stretch) (next : Uses → Uses) (uses : Uses) (port : Port) (o : Operation) (old new : Device) → fits_of kind uses → NoneWrites (may_of kind) (Px port Ci) → NoneWrites (may_of kind) (Px port Sact) → op_of o ≡ None → (uses port.0 0 ≡ Own o → ⊥) → IsFollowedTo (may_of kind) (fits_of kind) next old new → IsAgreed uses old → SendsNone port.0 o old new

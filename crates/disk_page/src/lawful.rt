@@ -6,8 +6,13 @@ use agreement::facts::{adapter_stays, faults_are_recorded, over_stays, page_is_a
 use agreement::kinds::{
     Kinds, accesses_are_followed, followed_stretches_give, stretches_are_followed,
 };
-use agreement::laws::{own_issuing_is_permitted, pages_are_free};
-use agreement::stretches::{agreeing_goes_on, other_ports_are_left};
+use agreement::laws::{
+    own_issuing_is_permitted, pages_are_free, pages_come_when_asked, putting_is_of_one_slot,
+};
+use agreement::recovering::halt_is_ended;
+use agreement::stretches::{
+    agreeing_goes_on, other_ports_are_left, tapes_grow, unused_slots_are_silent,
+};
 use command_table::laws::stores_are_of_one_port;
 
 /// This crate's kinds of accesses.
@@ -37,6 +42,11 @@ pub fn laws_hold()
     stretches_are_followed::<Pages>();
     own_issuing_is_permitted();
     pages_are_free();
+    pages_come_when_asked();
+    putting_is_of_one_slot();
+    halt_is_ended();
+    tapes_grow();
+    unused_slots_are_silent();
     agreeing_goes_on();
     other_ports_are_left();
     stores_are_of_one_port();

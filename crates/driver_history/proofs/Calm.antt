@@ -21,7 +21,8 @@ use Rattle.block_machine.specs.State.{Machine}
 use Rattle.block_machine.specs.Steps.{Step}
 use Rattle.identify.specs.declared.wanted.Wanted.{Wanted}
 use Rattle.driver_history.specs.Claims.{IsSpared}
-use Rattle.driver_history.specs.Evidence.{Gains, GainsRunning, HasErrors, HasFatalErrors, IsEvidencedOf, IsGone, ShowsFailure, ShowsFatal, StaysHealthy}
+use Rattle.driver_history.specs.Evidence.{Gains, HasErrors, HasFatalErrors, IsEvidencedOf, IsGone, ShowsFailure, StaysHealthy}
+use Rattle.error_recovery.specs.Evidence.{GainsRunning, ShowsFatal}
 use Rattle.driver_history.specs.Histories.{LosesNoTrouble, Ties}
 use Rattle.driver_history.specs.Trace.{LeavesEngine}
 

@@ -26,7 +26,8 @@ use Rattle.block_machine.specs.Events.{Ask, Moment, Said}
 use Rattle.block_machine.specs.Histories.{Instant}
 use Rattle.block_machine.specs.Ports.{Ports, SamePort, SameDisk, Evidence, IsInterrupted}
 use Rattle.port_control.specs.Engines.{Falls, Sticks, Stops}
-use Rattle.driver_history.specs.Evidence.{BringsLog, Gains, HasFailed, HasErrors, HasFatalErrors, IsEvidencedOf, IsGone, IsLost, ShowsChange, ShowsFailure, ShowsFatal, ShowsLoss}
+use Rattle.driver_history.specs.Evidence.{Gains, HasErrors, HasFatalErrors, IsEvidencedOf, IsGone, IsLost, ShowsChange, ShowsFailure, ShowsLoss}
+use Rattle.error_recovery.specs.Evidence.{BringsLog, HasFailed, ShowsFatal}
 use Rattle.driver_history.specs.Laws.{Laws}
 use Rattle.driver_history.specs.Parts.{HasTurnIn, IsOfOther, NamesAlike, all_of}
 use Rattle.driver_history.specs.Trace.{LeavesCommand, LeavesEngine}

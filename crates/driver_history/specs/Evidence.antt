@@ -1,28 +1,26 @@
 -- What stands behind the evidence that a call names: the device when it began, its accesses, and the device at its end (this project's own;
--- PxIS and PxSERR: AHCI 1.3.1, 3.3.5 and 3.3.12; log 10h: ACS-3, A.14).
-use Rattle.std.specs.Prelude.{ℕ, true, false, ◌≡◌, ◌≢◌, ◌⊎◌, ◌+◌, ◌%◌, ◌≤◌, ◌++◌, List, ◌∷◌, length, sum, drop, slice_index, All, Contains, Some, None}
+-- PxIS and PxSERR: AHCI 1.3.1, 3.3.5 and 3.3.12).
+use Rattle.std.specs.Prelude.{ℕ, true, false, ◌≡◌, ◌≢◌, ◌⊎◌, ◌++◌, List, All, Contains, Some, None}
 use Rattle.ata_types.specs.declared.Port.{Port}
 use Rattle.ata_types.specs.declared.PortState.TheVariants.{Ready, Dead}
-use Rattle.hba_regs.specs.Bits.{bit}
 use Rattle.adapter.specs.Access.{Access}
 use Rattle.adapter.specs.Commands.{is_queued}
 use Rattle.adapter.specs.Device.{PortState, Device}
 use Rattle.adapter.specs.declared.access.DeviceStep.{DeviceStep}
-use Rattle.adapter.specs.declared.command.Operation.TheVariants.{ReadLog}
 use Rattle.adapter.specs.declared.tape.Entry.{Entry}
-use Rattle.adapter.specs.declared.tape.Entry.TheVariants as entry
 use Rattle.adapter.specs.declared.tape.Fault as tape_fault
-use Rattle.adapter.specs.declared.tape.Move as tape_move
 use Rattle.agreement.specs.Errors.{IsFatalOf, NoneComes}
 use Rattle.agreement.specs.Facts.{IsFaultOf, RunsWell, Undisturbed}
 use Rattle.agreement.specs.Links.{IsPlugging}
-use Rattle.agreement.specs.Slots.{ServesRequest, IsMove}
+use Rattle.agreement.specs.Slots.{ServesRequest}
 use Rattle.block_machine.specs.Events.{Ask, Reset, Said, WasReset}
 use Rattle.block_machine.specs.Histories.{Instant}
 use Rattle.block_machine.specs.Ports.{Ports, SameDisk, Fault, Evidence, IsInterrupted}
 use Rattle.block_machine.specs.State.{Pending}
 use Rattle.port_control.specs.Engines.{Stops, Sticks}
-use Rattle.driver_history.specs.Trace.{LeavesEngine, IsBeforeStop}
+use Rattle.error_log.specs.Log.{TellsError}
+use Rattle.error_recovery.specs.Evidence.{BringsLog, HasFailed, ShowsFatal}
+use Rattle.driver_history.specs.Trace.{LeavesEngine}
 
 -- the tape gained an entry of this kind
 pub record Gains (Is : Entry → Type 0) (old new : Device) : Type 0 where
@@ -31,15 +29,6 @@ pub record Gains (Is : Entry → Type 0) (old new : Device) : Type 0 where
   pub entry : Entry
   pub here : Contains gained entry
   pub is : Is entry
-
--- it has gained one since ST of the port was last set
-pub record GainsRunning (Is : Entry → Type 0) (port : ℕ) (old new : Device) : Type 0 where
-  pub before : List Entry
-  pub entry : Entry
-  pub later : List Entry
-  pub tape : new.tape ≡ old.tape ++ (before ++ entry ∷ later)
-  pub is : Is entry
-  pub since : (new.port port).notes.st_set_at ≤ length old.tape + length before
 
 -- The port runs well when the call begins, and nothing goes wrong on it meanwhile.
 pub record StaysHealthy (port : ℕ) (old new : Device) : Type 0 where
@@ -52,49 +41,11 @@ pub record StaysHealthy (port : ℕ) (old new : Device) : Type 0 where
 abbrev pub ShowsChange : PortState → Type 0
 ShowsChange p = (p.serr_n ≡ true) ⊎ (p.serr_x ≡ true)
 
--- IFS, HBDS or HBFS is set: an error that a COMRESET alone ends
-pub record ShowsFatal (p : PortState) : Type 0 where
-  pub place : ℕ
-  pub from : 27 ≤ place
-  pub to : place ≤ 29
-  pub set : p.is place ≡ true
-
--- one of these is set, or TFES
+-- an error that a COMRESET alone ends is shown, or TFES is set
 abbrev pub ShowsFailure : PortState → Type 0
 ShowsFailure p = ShowsFatal p ⊎ (p.is 30 ≡ true)
 
--- ---- the log of queued commands' errors
-
--- The page of log 10h has a right checksum and names a queued command (NQ is clear): its tag, with status and error. No other byte is
--- looked at.
-pub record TellsError (page : List ℕ) (tag status error : ℕ) : Type 0 where
-  pub size : length page ≡ 512
-  pub checksum : sum page % 256 ≡ 0
-  pub queued : bit (slice_index page 0) 7 ≡ false
-  pub tag_is : tag ≡ slice_index page 0 % 32
-  pub status_is : status ≡ slice_index page 2
-  pub error_is : error ≡ slice_index page 3
-
--- The last page of the log that the port's disk sent, after the tape was so long.
-pub record BringsLog (port : Port) (old new : Device) (page : List ℕ) : Type 0 where
-  pub gained : List Entry
-  pub tape : new.tape ≡ old.tape ++ gained
-  pub before : List Entry
-  pub move : tape_move.Move
-  pub later : List Entry
-  pub here : gained ≡ before ++ entry.Move move ∷ later
-  pub is_move : IsMove port.0 ReadLog (entry.Move move)
-  pub last : All (λ e. IsMove port.0 ReadLog e → ⊥) later
-  pub bytes : page ≡ move.bytes.value
-
 -- ---- a fault that is told of a request
-
--- A fault of the port stands on the tape since ST was last set before the call, by a moment at which PxCMD hadn't been written in it.
-pub record HasFailed (port : Port) (accesses : List Access) (old new : Device) (fault : tape_fault.Fault) : Type 0 where
-  pub at : Device
-  pub running : IsBeforeStop port accesses old at new
-  pub here : Contains (drop (old.port port.0).notes.st_set_at at.tape) (entry.Fault fault)
-  pub port_is : fault.port.0 ≡ port.0
 
 -- A plain request is the one of its port that is issued, and status and error are those of such a fault of its slot.
 pub record FailsPlain (old : Instant Device) (new : Device) (accesses : List Access) (e : Pending) (slot : ℕ) (told : Fault) : Type 0 where

@@ -32,7 +32,8 @@ use Rattle.block_machine.specs.Steps.{Step, Answer}
 use Rattle.block_machine.specs.declared.due.Mode.{Mode}
 use Rattle.block_machine.specs.declared.due.Unanswered.{Unanswered}
 use Rattle.identify.specs.declared.wanted.Wanted.{Wanted}
-use Rattle.driver_history.specs.Evidence.{Gains, GainsRunning, ShowsChange, ShowsFailure, ShowsFatal, ShowsLoss, IsEvidenced}
+use Rattle.error_recovery.specs.Evidence.{GainsRunning, ShowsFatal}
+use Rattle.driver_history.specs.Evidence.{Gains, ShowsChange, ShowsFailure, ShowsLoss, IsEvidenced}
 use Rattle.driver_history.specs.Guard.{IsAskedOf}
 use Rattle.driver_history.specs.Holds.{HoldsAt}
 use Rattle.driver_history.specs.Trace.{ReadsMasks, ResetsLink, IsServing, IsDriversOwn, IsOfPorts, AwaitsReset, BeginsReset}

@@ -5,9 +5,8 @@ use Rattle.ata_types.specs.declared.memory.TheConstants.{DRIVER_BYTES}
 use Rattle.hba_regs.specs.Bits.{bit}
 use Rattle.hba_regs.specs.declared.reg.Reg.TheVariants.{Ghc, Px}
 use Rattle.hba_regs.specs.declared.reg.PortReg.TheVariants.{Cmd, Sctl, Sact, Ci}
-use Rattle.adapter.specs.Access.{Access, DoesAll}
+use Rattle.adapter.specs.Access.{Access}
 use Rattle.adapter.specs.Access.Access.{Reading, Writing, Loading, Storing}
-use Rattle.adapter.specs.Device.{Device}
 use Rattle.agreement.specs.Links.{SparesRegister}
 
 -- ---- what one access is
@@ -50,15 +49,6 @@ pub record ReadsMasks (port : Port) (ci sact : ℕ) (accesses : List Access) : T
   pub later : List Access
   pub here : accesses ≡ before ++ Reading (Px port Ci) ci ∷ Reading (Px port Sact) sact ∷ later
   pub running : All (LeavesCommand port) before
-
--- A moment of the call up to which PxCMD of the port wasn't written.
-pub record IsBeforeStop (port : Port) (accesses : List Access) (old at new : Device) : Type 0 where
-  pub early : List Access
-  pub late : List Access
-  pub here : accesses ≡ early ++ late
-  pub running : All (LeavesCommand port) early
-  pub first : DoesAll early old at
-  pub rest : DoesAll late at new
 
 -- The port's link was reset by COMRESET: DET of PxSCTL was set to one, and then to zero, and PxSCTL wasn't written again (AHCI 1.3.1, 10.4.2).
 pub record ResetsLink (port : Port) (accesses : List Access) : Type 0 where

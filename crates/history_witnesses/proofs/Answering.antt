@@ -30,7 +30,8 @@ use Rattle.adapter.specs.Access.{Access}
 use Rattle.adapter.specs.Access.Access.{Reading, Writing}
 use Rattle.adapter.specs.declared.access.DeviceStep.{DeviceStep}
 use Rattle.agreement.specs.Links.{IsPlugging}
-use Rattle.driver_history.specs.Evidence.{Gains, IsEvidencedOf, ShowsLoss, ShowsFailure, ShowsFatal}
+use Rattle.error_recovery.specs.Evidence.{ShowsFatal}
+use Rattle.driver_history.specs.Evidence.{Gains, IsEvidencedOf, ShowsLoss, ShowsFailure}
 use Rattle.driver_history.specs.Histories.{FindsDone, IsIssuedOn, Ties, TiesPort, BootsAnew, LosesNoTrouble, RunsWellAnew, TendsPort}
 use Rattle.driver_history.specs.Trace.{LeavesCommand}
 use Rattle.port_control.specs.Engines.{Stops}

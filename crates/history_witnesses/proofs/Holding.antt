@@ -30,7 +30,8 @@ use Rattle.block_machine.specs.Steps.{NoneKept}
 use Rattle.block_machine.specs.declared.due.Mode.{Mode}
 use Rattle.port_boot.specs.States.{told_causes, HasFitDisk}
 use Rattle.port_control.specs.Ports.{programmed}
-use Rattle.driver_history.specs.Evidence.{IsEvidencedOf, ShowsFailure, ShowsLoss, Gains, GainsRunning}
+use Rattle.error_recovery.specs.Evidence.{GainsRunning}
+use Rattle.driver_history.specs.Evidence.{IsEvidencedOf, ShowsFailure, ShowsLoss, Gains}
 use Rattle.driver_history.specs.Histories.{HasBadDisk, TriesDisk, LosesNoTrouble}
 use Rattle.driver_history.specs.Holds.{HasNothing, HasRequests, IsClients, IsOfKind, IsUnservedAt, NoneWaits, Runs}
 use Rattle.driver_history.specs.Trace.{LeavesEngine}

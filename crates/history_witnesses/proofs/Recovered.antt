@@ -35,7 +35,8 @@ use Rattle.block_machine.specs.State.{Pending, Machine}
 use Rattle.block_machine.specs.Steps.{Step, Answer}
 use Rattle.host_boot.specs.Taken.{wanted_of}
 use Rattle.identify.specs.declared.wanted.Wanted.TheVariants.{Any}
-use Rattle.driver_history.specs.Evidence.{Gains, GainsRunning, IsEvidencedOf, ShowsLoss, ShowsFailure}
+use Rattle.error_recovery.specs.Evidence.{GainsRunning}
+use Rattle.driver_history.specs.Evidence.{Gains, IsEvidencedOf, ShowsLoss, ShowsFailure}
 use Rattle.driver_history.specs.Histories.{Ties, TiesPort, FindsDone, IsAnsweredOk, IsIssuedOn, LosesNoTrouble, RunsWellAnew, TendsPort}
 use Rattle.driver_history.specs.Holds.{HoldsOf, HoldsWith, IsReadyAt}
 use Rattle.driver_history.specs.Trace.{LeavesCommand}

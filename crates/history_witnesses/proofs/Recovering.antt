@@ -19,7 +19,8 @@ use Rattle.adapter.specs.declared.tape.Fault as tape_fault
 use Rattle.agreement.specs.Agrees.{port_at}
 use Rattle.block_machine.specs.Ports.{Fault}
 use Rattle.block_machine.specs.State.{Pending}
-use Rattle.driver_history.specs.Evidence.{HasFailed, IsFaultTold}
+use Rattle.error_recovery.specs.Evidence.{HasFailed}
+use Rattle.driver_history.specs.Evidence.{IsFaultTold}
 use Rattle.driver_history.specs.Trace.{LeavesCommand}
 use Rattle.history_witnesses.specs.Recovery.{recovery_accesses, told_fault}
 use Rattle.history_witnesses.specs.Scene.{device_with}

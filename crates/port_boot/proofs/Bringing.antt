@@ -1,5 +1,5 @@
 -- The parts of a boot, one after another.
-use Rattle.std.proofs.Common.{ℕ, ◌≡◌, ◌≢◌, ◌≤◌, ◌+◌, ◌%◌, ◌||◌, Bool, true, false, inl, inr, Option, List, length, refl, sym, ◌∙◌, ap, subst, arith, le_trans}
+use Rattle.std.proofs.Common.{ℕ, ◌≡◌, ◌≢◌, ◌≤◌, ◌+◌, ◌%◌, ◌||◌, Bool, true, false, inl, inr, Option, List, length, refl, sym, ◌∙◌, ap, subst, arith, le_refl, le_trans}
 use Rattle.std.proofs.lemmas.Bool.{true≢false}
 use Rattle.std.proofs.lemmas.List.{length-append}
 use Rattle.ata_types.specs.declared.Port.{Port}
@@ -45,7 +45,7 @@ pub record FoundFault (port : Port) (fault : PortFault) (old new : Device) : Typ
 pub record HasStarted (port : Port) (old new : Device) : Type 0 where
   pub runs : IsRunning port.0 (new.port port.0)
   pub same : SameButStart (old.port port.0) (new.port port.0)
-  pub set : (new.port port.0).notes.st_set_at ≤ length new.tape
+  pub set : (new.port port.0).notes.st_set_at ≡ length new.tape
   pub calm : (place : ℕ) → (old.port port.0).is place ≡ false → (new.port port.0).is place ≡ false
   pub changes : (old.port port.0).link_due ≡ false → ChangesByDisks port.0 old new
   pub recorded : IsQuiet (old.port port.0) → IsRecorded new.tape (new.port port.0) port.0
@@ -177,7 +177,7 @@ module _ (laws : Laws) where
             runs = s.runs;
             det = s.same.0 ∙ f.resets.det;
             saw = (ap (λ (n : Notes). n.last_ssts % 16) s.same.1 ∙ f.saw.0, ap (λ (n : Notes). n.link_count) s.same.1 ∙ f.saw.1);
-            known = s.set;
+            known = subst (λ (n : ℕ). n ≤ length new.tape) (sym s.set) (le_refl (length new.tape));
             since = later_still;
             marked = still;
             way = record { placed = mid; places = first.followed.driven; found = reset; resets = f.resets; starts = third.driven };

@@ -165,7 +165,7 @@ module _ (laws : Laws) where
   module _ (port : Port) (start old mid : Device) (up : IsBroughtUp port start old) (on : IsOn mid) (l : LeavesRunning port.0 old mid)
       (reads : Reads port Identify None old mid) (agrees : (uses : Uses) → IsUnused port.0 0 uses → IsAgreed uses old → IsAgreed (used uses port.0 0 (Own Identify)) mid) where
     pub unasked_there : HasPort mid port.0
-    unasked_there = asked_there port start old mid up on l reads.1.driven
+    unasked_there = asked_there port start old mid up on l reads.1.followed.driven
 
     pub unasked_agreed : AgreesWith AnyUse mid
     unasked_agreed = let a = up.bootable.agreed in (used a.0 port.0 0 (Own Identify), tt, agrees a.0 (a.1 0) a.2)
@@ -177,7 +177,7 @@ module _ (laws : Laws) where
         given = told_both laws (λ early. Unit {0}) Tells Tells (λ early late any is. since early late is) (Booting HeadUnused port) (Booting AnyUses port) (λ uses. used uses port.0 0 (Own Identify)) (λ uses. uses)
             (λ access may. may)
             (λ uses free. tt) old mid new
-            (record { followed = followed_wider laws (Asking port) (Booting HeadUnused port) (λ uses. used uses port.0 0 (Own Identify)) old mid (asking port) (λ uses free. free) reads.1; tells = tt })
+            (record { followed = followed_wider laws (Asking port) (Booting HeadUnused port) (λ uses. used uses port.0 0 (Own Identify)) old mid (asking port) (λ uses free. free) reads.1.followed; tells = tt })
             (stop_boots Tells port mid new stops)
 
         given_boots : IsToldTo Tells (IsOfBoot port) (λ uses. AllFree uses port.0) (λ uses. used uses port.0 0 (Own Identify)) old new

@@ -4,21 +4,21 @@ use Rattle.std.proofs.lemmas.Nat.Bits.{bit_at_ones}
 use Rattle.ata_types.specs.declared.Port.{Port}
 use Rattle.hba_regs.specs.Bits.{bit}
 use Rattle.hba_regs.specs.declared.reg.PortReg.{PortReg}
-use Rattle.hba_regs.specs.declared.reg.PortReg.TheVariants.{Is, Sctl, Serr}
+use Rattle.hba_regs.specs.declared.reg.PortReg.TheVariants.{Is, Sctl, Serr, Ssts, Tfd}
 use Rattle.hba_regs.specs.declared.reg.Reg.TheVariants.{Px}
-use Rattle.adapter.specs.Access.{Writes}
-use Rattle.adapter.specs.Access.Access.{Writing}
+use Rattle.adapter.specs.Access.{Reads, Writes}
+use Rattle.adapter.specs.Access.Access.{Reading, Writing}
 use Rattle.adapter.specs.Device.{Device}
-use Rattle.adapter.specs.Rules.{MayWrite, Stays}
+use Rattle.adapter.specs.Rules.{IsOn, MayWrite, Stays}
 use Rattle.agreement.specs.Driven.{AnyUse, IsControl, IsFollowed}
 use Rattle.agreement.specs.Links.{SparesRegister}
-use Rattle.port_control.specs.Ports.{IsClearing, IsUsable, ReceivesFises, SawDevice, ClearsErrors, HasClearErrors}
+use Rattle.port_control.specs.Ports.{IsClearing, IsUsable, ReceivesFises, SawDevice, ClearsErrors, HasClearErrors, Forgets}
 use Rattle.port_control.proofs.Using.{usable_after}
 use Rattle.port_control.proofs.Settling.{comes_in_parts, plugs_in_parts, Settles, settles}
 use Rattle.port_control.specs.Laws.RegisterSet.{Clearing}
 use Rattle.port_control.specs.Laws.Stretch.{Controlling}
 use Rattle.port_control.specs.Laws.{Laws}
-use Rattle.port_control.proofs.Stretching.{followed_then, followed_write}
+use Rattle.port_control.proofs.Stretching.{followed_read, followed_then, followed_write}
 
 pub ones : (place : ℕ) → place < 32 → bit 0xffffffff place ≡ true
 ones place small = ap (λ (n : ℕ). n == 1) (bit_at_ones 32 place small)
@@ -73,3 +73,62 @@ module _ (laws : Laws) where
             serr_n = λ none. c.serr_n (plugs_in_parts laws port.0 old mid new s.grows t.grows none).1 (errors.0 (ones 16 (omega arith)));
             serr_x = λ none. c.serr_x (comes_in_parts laws port.0 old mid new s.grows t.grows none).1 (errors.1 (ones 26 (omega arith)));
           }
+
+  -- ---- and PxTFD is read then
+
+  module _ (port : Port) (v : ℕ) (old mid new : Device) (u : IsUsable AnyUse port old) (receives : ReceivesFises port.0 (old.port port.0))
+      (undue : (old.port port.0).link_due ≡ false) (det : (old.port port.0).sctl_det ≡ 0) (first : IsFollowed (IsControl IsClearing port) AnyUse old mid)
+      (clears : ClearsErrors port old mid) (read : Reads (Px port Tfd) v mid new) where
+    forgetting : IsUsable AnyUse port mid
+    forgetting = usable_after laws Clearing port old mid u first
+
+    then : IsFollowed (IsControl IsClearing port) AnyUse mid new
+    then = followed_read laws (Controlling Clearing port) (Px port Tfd) v mid new refl read
+
+    pub forgets_followed : IsFollowed (IsControl IsClearing port) AnyUse old new
+    forgets_followed = followed_then laws (Controlling Clearing port) old mid new first then
+
+    pub forgets_on : IsOn new
+    forgets_on = (usable_after laws Clearing port mid new forgetting then).on
+
+    -- neither a write nor a reading of another register leaves another value of PxSSTS, or another count
+    abbrev SameLink : Device → Device → Type 0
+    SameLink a b = ((b.port port.0).notes.last_ssts ≡ (a.port port.0).notes.last_ssts) × ((b.port port.0).notes.link_count ≡ (a.port port.0).notes.link_count)
+
+    same_written : (r : PortReg) (w : ℕ) (a b : Device) → SparesRegister (Px port Sctl) (Writing (Px port r) w) → Writes (Px port r) w a b → SameLink a b
+    same_written r w a b spares call = let link = (laws.access_notes port (Writing (Px port r) w) a b call).link tt in (link.0, link.1 spares)
+
+    same_link : SameLink old new
+    same_link =
+        let first = same_written Serr 0xffffffff old clears.between (λ (e : Px port Serr ≡ Px port Sctl). absurd (cc)) clears.errors in
+        let second = same_written Is 0xffffffff clears.between mid (λ (e : Px port Is ≡ Px port Sctl). absurd (cc)) clears.causes in
+        let third = (laws.access_notes port (Reading (Px port Tfd) v) mid new read).link (λ (e : Px port Tfd ≡ Px port Ssts). absurd (cc)) in
+        (third.0 ∙ second.0 ∙ first.0, third.1 tt ∙ second.1 ∙ first.1)
+
+    pub forgets : ((place : ℕ) → place < 32 → (mid.port port.0).is place ≡ false) → HasClearErrors port.0 old mid → Forgets port v old new
+    forgets calm clear =
+        let s : Settles port old mid = settles laws port old mid u.on first.driven in
+        let t : Settles port mid new = settles laws port mid new forgetting.on then.driven in
+        let c = t.change (s.undue undue) in
+        let still = s.receiving receives in
+        let after = t.receiving still in
+        let quiet : (place : ℕ) → place < 32 → (new.port port.0).is place ≡ false = λ place small. t.calm still place (calm place small) in
+        record {
+          cleared = mid;
+          clears = clears;
+          reads = read;
+          receives = after;
+          file = laws.file_noted port v mid new read;
+          seen = same_link.0;
+          count = same_link.1;
+          calm = quiet;
+          clear = record {
+            serr_n = λ none. let n = plugs_in_parts laws port.0 old mid new s.grows t.grows none in c.serr_n n.1 (clear.serr_n n.0);
+            serr_x = λ none. let n = comes_in_parts laws port.0 old mid new s.grows t.grows none in c.serr_x n.1 (clear.serr_x n.0);
+          };
+          quiet = record {
+            unflagged = (after.stopped.halted.cr, quiet 30 (omega arith));
+            linked = t.undue (s.undue undue);
+            no_comreset = λ e. let d = t.det ∙ s.det ∙ det in absurd (omega (arith, e, d));
+          };
+        }

@@ -35,7 +35,7 @@ programmed_by port list b is = ap (λ (n : ℕ). record b { clb = n; fb = n + 10
 
 module _ (laws : Laws) where
   pub placed_first : (port : Port) (d : Device) → IsUsable AnyUse port d → IsAfterReset (d.port port.0) → 163840 ≤ d.size → IsPlacedBy port d d (d.port port.0).bases
-  placed_first port d u quiet room = record { followed = laws.none (Controlling Placing port) d; usable = u; quiet = quiet; room = room; bases = refl; same = beside_none (d.port port.0) }
+  placed_first port d u quiet room = record { followed = (laws.none (Controlling Placing port) d).followed; usable = u; quiet = quiet; room = room; bases = refl; same = beside_none (d.port port.0) }
 
   module _ (port : Port) (start d e : Device) (b : Bases) (w : IsPlacedBy port start d b) where
     -- one more

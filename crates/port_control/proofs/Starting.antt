@@ -15,6 +15,7 @@ use Rattle.agreement.specs.Driver.{AllFree, LeavesUses}
 use Rattle.agreement.specs.Errors.{ChangesByDisks}
 use Rattle.agreement.specs.Facts.{IsQuiet, IsRecorded}
 use Rattle.agreement.specs.Links.{PlugsNone}
+use Rattle.agreement.specs.Recovering.{IsLinked, RunsLinked}
 use Rattle.agreement.specs.Slots.{Use, Free, Uses, IsOver, IsServed, IsFree}
 use Rattle.agreement.specs.Started.{IsUp, IsStarted}
 use Rattle.agreement.specs.Driven.{Grows}
@@ -128,8 +129,8 @@ module _ (laws : Laws) where
             start_notes (old.port port.0).notes (mid.port port.0).notes (new.port port.0).notes _ _ _ same (laws.command_written_notes port v mid new write),
           )
 
-      pub start_set_at : (new.port port.0).notes.st_set_at ≤ length new.tape
-      start_set_at = let at = started.1 in omega (arith, at)
+      pub start_set_at : (new.port port.0).notes.st_set_at ≡ length new.tape
+      start_set_at = started.1
 
       early : Grows old mid
       early = laws.access_grows (Reading (Px port Cmd) was) old mid read
@@ -149,6 +150,12 @@ module _ (laws : Laws) where
           laws.start_is_made port v mid new here.on.no_reset still.stopped.halted.st still.stopped.halted.cr one write
           (laws.access_up port (Reading (Px port Cmd) was) old mid u.on.no_reset receives.stopped.halted.cr (λ n (e : Reading (Px port Cmd) was ≡ Writing (Px port Cmd) n). absurd (cc)) tt parts.0 read up)
           parts.1
+
+      pub start_linked : IsLinked (old.port port.0) → PlugsNone port.0 old new → RunsLinked (new.port port.0)
+      start_linked link none =
+          let parts = plugs_in_parts laws port.0 old mid new early late none in
+          laws.start_runs_linked port v mid new here.on.no_reset still.stopped.halted.st still.stopped.halted.cr one parts.1 write
+          (laws.access_linked port (Reading (Px port Cmd) was) old mid u.on.no_reset tt parts.0 read link)
 
       -- ---- what was there before: nothing new comes while ST is set
 

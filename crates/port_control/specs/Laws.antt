@@ -14,6 +14,7 @@ use Rattle.hba_regs.specs.declared.reg.Reg.TheVariants.{Ghc, Px}
 use Rattle.adapter.specs.Rules.{HasPort, IsOn, MayReceive, MayStart, MayStopReceiving, MayWrite, Stays}
 use Rattle.agreement.specs.Facts.{IsAfterReset, IsAwaited, IsHalted, IsQuiet, IsRecorded, IsUnflagged, KeepsRecord}
 use Rattle.port_control.specs.Ports.{IsClearing, IsPlacing, IsResetting, WritesCommand}
+use Rattle.agreement.specs.Recovering.{IsLinked, RunsLinked}
 use Rattle.agreement.specs.Started.{IsComingUp, IsStarted, IsUp, SetsNoStart}
 use Rattle.block_machine.specs.Histories.{IsReached}
 use Rattle.adapter.specs.Kept.{Keeps}
@@ -105,6 +106,9 @@ pub record Laws : Type 0 where
   pub access_up : (port : Port) (access : Access) (old new : Device) → old.hr ≡ false → (old.port port.0).cr ≡ false → SetsNoStart port access → SparesRegister (Px port Sctl) access → PlugsNone port.0 old new → Does access old new → IsUp (old.port port.0) → IsUp (new.port port.0)
   pub up_is_found : (port : Port) (v : ℕ) (old new : Device) → NoneComes port.0 old new → Reads (Px port Ssts) v old new → v % 16 ≡ 3 → IsComingUp (old.port port.0) → IsUp (new.port port.0)
   pub start_is_made : (port : Port) (v : ℕ) (old new : Device) → old.hr ≡ false → (old.port port.0).st ≡ false → (old.port port.0).cr ≡ false → bit v 0 ≡ true → Writes (Px port Cmd) v old new → IsUp (old.port port.0) → PlugsNone port.0 old new → IsStarted (new.port port.0)
+  pub access_linked : (port : Port) (access : Access) (old new : Device) → old.hr ≡ false → SparesRegister (Px port Sctl) access → PlugsNone port.0 old new → Does access old new → IsLinked (old.port port.0) → IsLinked (new.port port.0)
+  pub start_runs_linked : (port : Port) (v : ℕ) (old new : Device) → old.hr ≡ false → (old.port port.0).st ≡ false → (old.port port.0).cr ≡ false → bit v 0 ≡ true → PlugsNone port.0 old new → Writes (Px port Cmd) v old new → IsLinked (old.port port.0) → RunsLinked (new.port port.0)
+  pub file_noted : (port : Port) (v : ℕ) (old new : Device) → Reads (Px port Tfd) v old new → (new.port port.0).notes.last_tfd ≡ v
   pub quiet_is_found : (port : Port) (v : ℕ) (old new : Device) → IsAwaited (old.port port.0) → IsUnflagged (old.port port.0) → Reads (Px port Tfd) v old new → bit v 3 ≡ false → IsQuiet (new.port port.0)
   pub steps_quiet : (port : ℕ) (old new : Device) → Steps old new → IsQuiet (old.port port) → IsQuiet (new.port port)
   pub reads_quiet : (port : ℕ) (r : Reg) (v : ℕ) (old new : Device) → Reads r v old new → IsQuiet (old.port port) → IsQuiet (new.port port)
@@ -133,7 +137,7 @@ pub record Laws : Type 0 where
   pub control_of : (set : RegisterSet) (port : Port) (access : Access) → IsControl (registers_of set) port access → IsOf port access
   pub control_spares : (set : RegisterSet) (port : Port) (r : PortReg) → (registers_of set r → ⊥) → (access : Access) → IsControl (registers_of set) port access → SparesRegister (Px port r) access
   pub control_wider : (set more : RegisterSet) (port : Port) → ((r : PortReg) → registers_of set r → registers_of more r) → (access : Access) → IsControl (registers_of set) port access → IsControl (registers_of more) port access
-  pub none : (kind : Stretch) (d : Device) → IsFollowed (may_of kind) (fits_of kind) d d
+  pub none : (kind : Stretch) (d : Device) → IsTold (λ made. made ≡ []) (may_of kind) (fits_of kind) d d
   pub reads : (kind : Stretch) (r : Reg) (v : ℕ) (old new : Device) → may_of kind (Reading r v) → Reads r v old new → IsTold (λ made. made ≡ Reading r v ∷ []) (may_of kind) (fits_of kind) old new
   pub writes : (kind : Stretch) (r : Reg) (v : ℕ) (old new : Device) → may_of kind (Writing r v) → Stays (MayWrite r v) old → ((uses : Uses) → fits_of kind uses → LeavesUses uses r v old) → Writes r v old new → IsTold (λ made. made ≡ Writing r v ∷ []) (may_of kind) (fits_of kind) old new
   pub both : (kind then : Stretch) (first second : Uses → Uses) → ((access : Access) → may_of then access → may_of kind access) → ((uses : Uses) → fits_of kind uses → fits_of then (first uses)) → (old mid new : Device) → (a : IsFollowedTo (may_of kind) (fits_of kind) first old mid) → (b : IsFollowedTo (may_of then) (fits_of then) second mid new) → IsToldTo (λ made. made ≡ a.driven.accesses ++ b.driven.accesses) (may_of kind) (fits_of kind) (λ uses. second (first uses)) old new

@@ -218,6 +218,20 @@ pub record FindsDevice (port : ℕ) (old new : Device) : Type 0 where
   pub up : PlugsNone port old new → IsComingUp (old.port port) → IsUp (new.port port)
   pub quiet : IsAwaited (old.port port) → bit (new.port port).notes.last_tfd 3 ≡ false → IsQuiet (new.port port)
 
+-- Each bit of PxSERR and PxIS was cleared, and PxTFD was read with this value. The port receives FISes still; nothing of before is told, nor
+-- would be at the next start; and what was read last of PxSSTS is as it was.
+pub record Forgets (port : Port) (shown : ℕ) (old new : Device) : Type 0 where
+  pub cleared : Device
+  pub clears : ClearsErrors port old cleared
+  pub reads : Reads (Px port Tfd) shown cleared new
+  pub receives : ReceivesFises port.0 (new.port port.0)
+  pub file : (new.port port.0).notes.last_tfd ≡ shown
+  pub seen : (new.port port.0).notes.last_ssts ≡ (old.port port.0).notes.last_ssts
+  pub count : (new.port port.0).notes.link_count ≡ (old.port port.0).notes.link_count
+  pub calm : (place : ℕ) → place < 32 → (new.port port.0).is place ≡ false
+  pub clear : HasClearErrors port.0 old new
+  pub quiet : IsQuiet (new.port port.0)
+
 -- the signature that was read last is the one that the port shows
 abbrev pub ShowsSignature : PortState → Type 0
 ShowsSignature p = p.notes.last_sig ≡ p.sig

@@ -17,6 +17,7 @@ use agreement::laws::{
     arming_is_followed, clear_bits_stay, commanding_is_permitted, placing_is_permitted,
     writing_is_permitted,
 };
+use agreement::recovering::{link_is_kept, running_goes_on};
 use agreement::stretches::{
     causes_stay_clear, other_ports_are_left, tapes_grow, written_notes_stay,
 };
@@ -72,6 +73,8 @@ pub fn laws_hold()
     commanding_is_permitted();
     placing_is_permitted();
     writing_is_permitted();
+    link_is_kept();
+    running_goes_on();
     causes_stay_clear();
     other_ports_are_left();
     tapes_grow();

@@ -11,9 +11,10 @@ ghost use Rattle.agreement.specs.Driver.{AllFree};
 ghost use Rattle.agreement.specs.Errors.{NoneComes, ChangesByDisks};
 ghost use Rattle.agreement.specs.Facts.{IsAfterReset, IsAwaited, IsQuiet, IsRecorded, IsUnflagged};
 ghost use Rattle.agreement.specs.Links.{PlugsNone};
+ghost use Rattle.agreement.specs.Recovering.{IsLinked, RunsLinked};
 ghost use Rattle.agreement.specs.Started.{IsUp, IsComingUp, IsStarted};
 ghost use Rattle.port_control.specs.Engines.{FailsToStopReceiving, StopsReceiving};
-ghost use Rattle.port_control.specs.Ports.{FailsToHalt, FailsToReceive, Halts, Receives, WritesCommand, IsPlacing, IsClearing, IsResetting, IsUsable, IsStopped, ReceivesFises, IsRunning, SawDevice, SawIdle, Shows, SameBeside, HasStopped, HasLink, ShowsIdle, ReadsWithout, ReadsUntil, ClearsErrors, FindsSignature, Looks, WasReset, HasClearErrors, FindsDevice, IsFound, ShowsSignature, SameButStart, programmed};
+ghost use Rattle.port_control.specs.Ports.{FailsToHalt, FailsToReceive, Halts, Receives, WritesCommand, IsPlacing, IsClearing, IsResetting, IsUsable, IsStopped, ReceivesFises, IsRunning, SawDevice, SawIdle, Shows, SameBeside, HasStopped, HasLink, ShowsIdle, ReadsWithout, ReadsUntil, ClearsErrors, FindsSignature, Looks, WasReset, HasClearErrors, FindsDevice, IsFound, Forgets, ShowsSignature, SameButStart, programmed};
 
 use adapter::Adapter;
 use ata_types::{DRIVER_BYTES, PORT_BYTES, Port, RECEIVED};
@@ -86,8 +87,8 @@ pub enum PortFault {
     NotAta(u32),
 }
 
-// Whether the device is busy or asks for a transfer (AHCI 1.3.1, 3.3.8).
-fn is_occupied(task_file: TaskFile) -> bool
+/// Whether the device is busy or asks for a transfer, BSY or DRQ, so that ST may not be set (AHCI 1.3.1, 3.3.8 and 10.3.1).
+pub fn is_occupied(task_file: TaskFile) -> bool
     ensures { result ≡ (bit task_file.0 7 || bit task_file.0 3) }
 {
     task_file.is_busy() || task_file.has_data_request()
@@ -268,6 +269,24 @@ fn clear_errors<A: Adapter>(adapter: &mut A, port: Port)
     adapter.write(Reg::Px(port, PortReg::Is), ALL_ONES);
 }
 
+/// Has a stopped port that receives FISes forget what it told of errors: clears each bit of PxSERR, and then of PxIS; and
+/// reads what its device shows then, PxTFD (AHCI 1.3.1, 6.2.2). No COMRESET may be under way, so that no link is due.
+pub fn forget_errors<A: Adapter>(adapter: &mut A, port: Port) -> TaskFile
+    requires on { IsOn (A.device adapter.old) }
+    requires there { HasPort (A.device adapter.old) port.0 }
+    requires agreed { AgreesWith AnyUse (A.device adapter.old) }
+    requires receives { ReceivesFises port.0 ((A.device adapter.old).port port.0) }
+    requires undue { ((A.device adapter.old).port port.0).link_due ≡ false }
+    requires det { ((A.device adapter.old).port port.0).sctl_det ≡ 0 }
+    ensures followed { IsFollowed (IsControl IsClearing port) AnyUse (A.device adapter.old) (A.device adapter.new) }
+    ensures on { IsOn (A.device adapter.new) }
+    ensures forgets { Forgets port result.0 (A.device adapter.old) (A.device adapter.new) }
+{
+    laws_hold();
+    clear_errors(adapter, port);
+    TaskFile(adapter.read(Reg::Px(port, PortReg::Tfd)))
+}
+
 // Waits until the device is neither busy nor asks for a transfer, for 64 readings at most.
 fn wait_until_idle<A: Adapter>(adapter: &mut A, port: Port) -> bool
     requires usable { IsUsable AnyUse port (A.device adapter.old) }
@@ -407,13 +426,16 @@ pub fn start<A: Adapter>(
     ensures runs { IsRunning receiving.port.0 ((A.device adapter.new).port receiving.port.0) }
     ensures same { SameButStart ((A.device adapter.old).port receiving.port.0)
         ((A.device adapter.new).port receiving.port.0) }
-    ensures set { ((A.device adapter.new).port receiving.port.0).notes.st_set_at ≤ length (A.device adapter.new).tape }
+    ensures set { ((A.device adapter.new).port receiving.port.0).notes.st_set_at ≡ length (A.device adapter.new).tape }
     ensures marked { ((A.device adapter.old).port receiving.port.0).notes.sctl_written_at ≤ length
         (A.device adapter.old).tape
         → ((A.device adapter.new).port receiving.port.0).notes.sctl_written_at ≤ length (A.device adapter.new).tape }
     ensures well { IsUp ((A.device adapter.old).port receiving.port.0) → PlugsNone receiving.port.0
         (A.device adapter.old) (A.device adapter.new)
         → IsStarted ((A.device adapter.new).port receiving.port.0) }
+    ensures linked { IsLinked ((A.device adapter.old).port receiving.port.0) → PlugsNone receiving.port.0
+        (A.device adapter.old) (A.device adapter.new)
+        → RunsLinked ((A.device adapter.new).port receiving.port.0) }
     ensures recorded { IsQuiet ((A.device adapter.old).port receiving.port.0) → IsRecorded
         (A.device adapter.new).tape ((A.device adapter.new).port receiving.port.0) receiving.port.0 }
     ensures calm { (place : ℕ) → ((A.device adapter.old).port receiving.port.0).is place ≡ false

@@ -46,7 +46,8 @@ use Rattle.host_boot.specs.Taken.{found_of}
 use Rattle.host_boot.specs.declared.Found.{Found}
 use Rattle.host_boot.specs.declared.Found.TheVariants.{Unserved, Ready, Unready}
 use Rattle.identify.specs.declared.DiskInfo.{DiskInfo}
-use Rattle.driver_history.specs.Evidence.{BringsLog, FailsPlain, FailsQueued, HasFailed, IsEvidencedOf, StaysHealthy}
+use Rattle.driver_history.specs.Evidence.{FailsPlain, FailsQueued, IsEvidencedOf, StaysHealthy}
+use Rattle.error_recovery.specs.Evidence.{BringsLog, HasFailed}
 use Rattle.driver_history.specs.Histories.{FindsDone, IssuesDue, TendsPort}
 use Rattle.driver_history.specs.Parts.{HasTurnIn, IsOfOther, NamesAlike}
 use Rattle.driver_history.specs.Trace.{IsDriversOwn, IsServing}

@@ -17,7 +17,8 @@ use Rattle.block_machine.specs.Ports.{Ports, Evidence, IsInterrupted}
 use Rattle.block_machine.specs.Steps.{Step, Again, Answer}
 use Rattle.ata_types.specs.declared.request.Outcome.TheVariants as outcome
 use Rattle.block_machine.proofs.Members.{contains_cases, contains_here, contains_none, contains_there}
-use Rattle.driver_history.specs.Evidence.{IsEvidenced, IsEvidencedOf, ShowsChange, ShowsFailure, ShowsFatal}
+use Rattle.error_recovery.specs.Evidence.{ShowsFatal}
+use Rattle.driver_history.specs.Evidence.{IsEvidenced, IsEvidencedOf, ShowsChange, ShowsFailure}
 use Rattle.driver_history.specs.Trace.{LeavesEngine}
 
 -- no item in any list

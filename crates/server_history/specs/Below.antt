@@ -41,7 +41,8 @@ use Rattle.agreement.specs.Facts.{RunsWell, Undisturbed}
 use Rattle.block_machine.specs.Events.{Ask, Moment, Said}
 use Rattle.block_machine.specs.Histories.{Instant, IsReached}
 use Rattle.block_machine.specs.Ports.{Evidence, Ports, SamePort}
-use Rattle.driver_history.specs.Evidence.{BringsLog, HasErrors, HasFailed, HasFatalErrors, IsEvidencedOf, IsGone, StaysHealthy}
+use Rattle.driver_history.specs.Evidence.{HasErrors, HasFatalErrors, IsEvidencedOf, IsGone, StaysHealthy}
+use Rattle.error_recovery.specs.Evidence.{BringsLog, HasFailed}
 use Rattle.driver_history.specs.Histories.{LosesNoTrouble}
 use Rattle.driver_history.specs.Parts.{HasTurnIn, NamesAlike, all_of}
 use Rattle.port_boot.specs.States.{RunsOn}

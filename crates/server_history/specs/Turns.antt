@@ -18,7 +18,9 @@ use Rattle.block_machine.specs.Left.{after}
 use Rattle.block_machine.specs.Ports.{Evidence, Fault, IsInterrupted, IsServiced, SameDisk, SamePort}
 use Rattle.block_machine.specs.State.{Machine}
 use Rattle.block_machine.specs.Steps.{Step, Again, Answer, Issue}
-use Rattle.driver_history.specs.Evidence.{BringsLog, HasFailed, IsEvidencedOf, StaysHealthy, TellsError}
+use Rattle.driver_history.specs.Evidence.{IsEvidencedOf, StaysHealthy}
+use Rattle.error_recovery.specs.Evidence.{BringsLog, HasFailed}
+use Rattle.error_log.specs.Log.{TellsError}
 use Rattle.driver_history.specs.Histories.{IssuesDue}
 use Rattle.driver_history.specs.Holds.{NoneWaits}
 use Rattle.driver_history.specs.Trace.{IsDriversOwn, ReadsMasks}

@@ -9,6 +9,8 @@ mod command_tables;
 #[cfg(test)]
 mod dues_and_disks;
 #[cfg(test)]
+mod error_logs;
+#[cfg(test)]
 mod frame_information_structures;
 #[cfg(test)]
 mod frame_loans;

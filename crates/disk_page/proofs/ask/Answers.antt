@@ -1,7 +1,7 @@
 use Rattle.std.proofs.Common.{refl, le_trans}
 use Rattle.agreement.specs.Slots.{Own, put}
 use Rattle.disk_page.specs.Asking.{operation_of}
-use Rattle.disk_page.proofs.Asking.{page_is_told, stored_then, may_after, ask_permitted, asked_to, asked_det, asked_on, asked_there, asked_later, asked_waits, stores_leave, stores_asking, stores_agree, stores_there, stores_room}
+use Rattle.disk_page.proofs.Asking.{page_is_told, stored_then, may_after, ask_permitted, asked_to, asked_det, asked_on, asked_there, asked_later, asked_waits, stores_leave, stores_asking, stores_agree, stores_silent, stores_there, stores_room}
 use Rattle.disk_page.proofs.ask.Goals as goal
 
 pub write-requires : goal.write-requires
@@ -27,7 +27,8 @@ returns-clause-waiting g c = λ uses free a.
     let w = c.write_table.ensures in
     let told = page_is_told c.args.page c.command.result c.prds-prds.result.items c.as_slice.result.now c.args.port.0 c.from.result _ c.from.ensures c.command.ensures (c.prds-prds.ensures.whole refl) (c.prds-prds.ensures.places refl) c.as_slice.ensures.value w.says in
     asked_waits c.laws_hold.ensures c.args.port c.args.page _ _ w.on (stores_there c.laws_hold.ensures c.args.port _ _ r.on w.followed r.there) (stores_room c.laws_hold.ensures c.args.port _ _ r.on w.followed r.room)
-    (may_after c.args.port.0 _ _ (stores_leave c.laws_hold.ensures c.args.port _ _ r.on w.followed) r.may) told c.write.ensures uses free (stores_agree c.laws_hold.ensures c.args.port _ _ r.on w.followed uses free a)
+    (may_after c.args.port.0 _ _ (stores_leave c.laws_hold.ensures c.args.port _ _ r.on w.followed) r.may) told c.write.ensures (g.A.Adapter.device c.args.adapter.now) uses free (stores_agree c.laws_hold.ensures c.args.port _ _ r.on w.followed uses free a)
+    (λ other page. stores_silent c.laws_hold.ensures c.args.port _ _ r.on w.followed uses other free a page)
 
 pub returns-clause-later : goal.returns-clause-later
 returns-clause-later g c =

@@ -1,17 +1,17 @@
-use Rattle.std.proofs.Common.{ℕ, ◌≡◌, ◌*◌, sym, subst, arith}
+use Rattle.std.proofs.Common.{ℕ, ◌≡◌, ◌*◌, sym, ◌∙◌, subst, arith}
 use Rattle.adapter.specs.Access.{Loads}
 use Rattle.adapter.specs.Rules.{IsFree, Stays}
 use Rattle.agreement.specs.Places.{scratch_of}
 use Rattle.agreement.specs.Slots.{Own, put}
 use Rattle.disk_page.specs.Asking.{operation_of}
-use Rattle.disk_page.proofs.Asking.{asked_back, asked_then, page_free, load_on, load_clear, load_agrees, load_followed, load_brings}
+use Rattle.disk_page.proofs.Asking.{asked_back, asked_then, asked_in_vain, page_free, load_on, load_clear, load_agrees, load_followed, load_brings, load_running, load_silent}
 use Rattle.disk_page.proofs.Leaving.{asking_leaves_running}
 use Rattle.disk_page.proofs.read_page.Goals as goal
 
 pub returns-then-not-wait-clause-reads : goal.returns-then-not-wait-clause-reads
 returns-then-not-wait-clause-reads g c = (
   c.wait.ensures.still c.if-not-wait.true,
-  asked_then c.laws_hold.ensures c.args.port (λ uses. put uses c.args.port.0 0 (Own (operation_of c.args.page))) _ _ _ c.ask.ensures.followed c.wait.ensures.followed,
+  asked_in_vain c.laws_hold.ensures c.args.port (λ uses. put uses c.args.port.0 0 (Own (operation_of c.args.page))) _ _ _ c.ask.ensures.followed (c.wait.ensures.vain c.if-not-wait.true),
 )
 
 pub load-requires : goal.load-requires
@@ -19,59 +19,87 @@ load-requires g c =
     let r = c.requires in
     let at : 4096 * c.from-scratch.result ≡ scratch_of c.args.port.0 = let x = c.from-scratch.ensures in let y = c.from.ensures in omega (arith, x, y) in
     let asked = c.ask.ensures.waiting r.agreed.0 r.agreed.1 r.agreed.2 in
-    let waiting = c.wait.ensures.waiting _ _ _ asked in
-    let clear = c.wait.ensures.over c.if-not-wait.false _ _ _ asked in
+    let waiting = c.wait.ensures.waiting _ _ _ _ asked in
+    let clear = c.wait.ensures.over c.if-not-wait.false _ _ _ _ asked in
     let F : ℕ → Type 0 = λ place. Stays (IsFree place 512) (g.A.Adapter.device c.wait.new.adapter) in
-    subst F (sym at) (page_free c.laws_hold.ensures c.args.port _ _ _ _ r.there.0 waiting clear)
+    subst F (sym at) (page_free c.laws_hold.ensures c.args.port _ _ _ _ _ r.there.0 waiting clear)
 
 pub returns-clause-on : goal.returns-clause-on
 returns-clause-on g c =
     let r = c.requires in
     let at : 4096 * c.from-scratch.result ≡ scratch_of c.args.port.0 = let x = c.from-scratch.ensures in let y = c.from.ensures in omega (arith, x, y) in
     let asked = c.ask.ensures.waiting r.agreed.0 r.agreed.1 r.agreed.2 in
-    let waiting = c.wait.ensures.waiting _ _ _ asked in
-    let clear = c.wait.ensures.over c.if-not-wait.false _ _ _ asked in
+    let waiting = c.wait.ensures.waiting _ _ _ _ asked in
+    let clear = c.wait.ensures.over c.if-not-wait.false _ _ _ _ asked in
     let L : ℕ → Type 0 = λ place. Loads place c.load.new.out (g.A.Adapter.device c.wait.new.adapter) (g.A.Adapter.device c.load.new.self) in
     let load : Loads (scratch_of c.args.port.0) c.load.new.out (g.A.Adapter.device c.wait.new.adapter) (g.A.Adapter.device c.load.new.self) = subst L at c.load.ensures in
     let size = c.load.auto.out in
-    load_on c.laws_hold.ensures c.args.port _ _ _ _ r.there.0 waiting clear _ _ load size
+    load_on c.laws_hold.ensures c.args.port _ _ _ _ _ r.there.0 waiting clear _ _ load size
 
 pub returns-clause-reads : goal.returns-clause-reads
 returns-clause-reads g c =
     let r = c.requires in
     let at : 4096 * c.from-scratch.result ≡ scratch_of c.args.port.0 = let x = c.from-scratch.ensures in let y = c.from.ensures in omega (arith, x, y) in
     let asked = c.ask.ensures.waiting r.agreed.0 r.agreed.1 r.agreed.2 in
-    let waiting = c.wait.ensures.waiting _ _ _ asked in
-    let clear = c.wait.ensures.over c.if-not-wait.false _ _ _ asked in
+    let waiting = c.wait.ensures.waiting _ _ _ _ asked in
+    let clear = c.wait.ensures.over c.if-not-wait.false _ _ _ _ asked in
     let L : ℕ → Type 0 = λ place. Loads place c.load.new.out (g.A.Adapter.device c.wait.new.adapter) (g.A.Adapter.device c.load.new.self) in
     let load : Loads (scratch_of c.args.port.0) c.load.new.out (g.A.Adapter.device c.wait.new.adapter) (g.A.Adapter.device c.load.new.self) = subst L at c.load.ensures in
     let size = c.load.auto.out in
     let followed =
     asked_then c.laws_hold.ensures c.args.port (λ uses. put uses c.args.port.0 0 (Own (operation_of c.args.page))) _ _ _
     (asked_then c.laws_hold.ensures c.args.port (λ uses. put uses c.args.port.0 0 (Own (operation_of c.args.page))) _ _ _ c.ask.ensures.followed c.wait.ensures.followed)
-    (load_followed c.laws_hold.ensures c.args.port _ _ _ _ r.there.0 waiting clear _ _ load size) in (
-      load_brings c.laws_hold.ensures c.args.port _ _ _ _ r.there.0 waiting clear _ _ load size _ c.ask.ensures.later,
-      asked_back c.laws_hold.ensures c.args.port (operation_of c.args.page) _ _ (load_clear c.laws_hold.ensures c.args.port _ _ _ _ r.there.0 waiting clear _ _ load size).over followed,
+    (load_followed c.laws_hold.ensures c.args.port _ _ _ _ _ r.there.0 waiting clear _ _ load size) in (
+      load_brings c.laws_hold.ensures c.args.port _ _ _ _ _ r.there.0 waiting clear _ _ load size _ c.ask.ensures.later,
+      asked_back c.laws_hold.ensures c.args.port (operation_of c.args.page) _ _ (load_clear c.laws_hold.ensures c.args.port _ _ _ _ _ r.there.0 waiting clear _ _ load size).over followed,
     )
 
 pub returns-then-not-wait-clause-leaves : goal.returns-then-not-wait-clause-leaves
-returns-then-not-wait-clause-leaves g c = asking_leaves_running c.laws_hold.ensures c.args.port _ _ c.requires.on (returns-then-not-wait-clause-reads g c).1.driven
+returns-then-not-wait-clause-leaves g c = asking_leaves_running c.laws_hold.ensures c.args.port _ _ c.requires.on (returns-then-not-wait-clause-reads g c).1.followed.driven
 
 pub returns-clause-leaves : goal.returns-clause-leaves
 returns-clause-leaves g c = asking_leaves_running c.laws_hold.ensures c.args.port _ _ c.requires.on (returns-clause-reads g c).1.driven
 
 pub returns-then-not-wait-clause-agrees : goal.returns-then-not-wait-clause-agrees
-returns-then-not-wait-clause-agrees g c = λ uses free agreed. (c.wait.ensures.waiting _ _ _ (c.ask.ensures.waiting uses free agreed)).agreed
+returns-then-not-wait-clause-agrees g c = λ uses free agreed. (c.wait.ensures.waiting _ _ _ _ (c.ask.ensures.waiting uses free agreed)).agreed
 
 pub returns-clause-agrees : goal.returns-clause-agrees
 returns-clause-agrees g c = λ uses free agreed.
     let r = c.requires in
     let at : 4096 * c.from-scratch.result ≡ scratch_of c.args.port.0 = let x = c.from-scratch.ensures in let y = c.from.ensures in omega (arith, x, y) in
     let asked = c.ask.ensures.waiting uses free agreed in
-    let waiting = c.wait.ensures.waiting _ _ _ asked in
-    let clear = c.wait.ensures.over c.if-not-wait.false _ _ _ asked in
+    let waiting = c.wait.ensures.waiting _ _ _ _ asked in
+    let clear = c.wait.ensures.over c.if-not-wait.false _ _ _ _ asked in
     let L : ℕ → Type 0 = λ place. Loads place c.load.new.out (g.A.Adapter.device c.wait.new.adapter) (g.A.Adapter.device c.load.new.self) in
     let load : Loads (scratch_of c.args.port.0) c.load.new.out (g.A.Adapter.device c.wait.new.adapter) (g.A.Adapter.device c.load.new.self) = subst L at c.load.ensures in
     let size = c.load.auto.out in
-    c.laws_hold.ensures.agrees_released uses c.args.port.0 (operation_of c.args.page) _ free (load_clear c.laws_hold.ensures c.args.port _ _ _ _ r.there.0 waiting clear _ _ load size).over
-    (load_agrees c.laws_hold.ensures c.args.port _ _ _ _ r.there.0 waiting clear _ _ load size)
+    c.laws_hold.ensures.agrees_released uses c.args.port.0 (operation_of c.args.page) _ free (load_clear c.laws_hold.ensures c.args.port _ _ _ _ _ r.there.0 waiting clear _ _ load size).over
+    (load_agrees c.laws_hold.ensures c.args.port _ _ _ _ _ r.there.0 waiting clear _ _ load size)
+
+pub returns-clause-running : goal.returns-clause-running
+returns-clause-running g c = λ (uses, free, agreed).
+    let r = c.requires in
+    let at : 4096 * c.from-scratch.result ≡ scratch_of c.args.port.0 = let x = c.from-scratch.ensures in let y = c.from.ensures in omega (arith, x, y) in
+    let asked = c.ask.ensures.waiting uses (free 0) agreed in
+    let waiting = c.wait.ensures.waiting _ _ _ _ asked in
+    let clear = c.wait.ensures.over c.if-not-wait.false _ _ _ _ asked in
+    let L : ℕ → Type 0 = λ place. Loads place c.load.new.out (g.A.Adapter.device c.wait.new.adapter) (g.A.Adapter.device c.load.new.self) in
+    let load : Loads (scratch_of c.args.port.0) c.load.new.out (g.A.Adapter.device c.wait.new.adapter) (g.A.Adapter.device c.load.new.self) = subst L at c.load.ensures in
+    load_running c.laws_hold.ensures c.args.port _ _ _ _ _ r.there.0 waiting clear _ _ load c.load.auto.out
+    (λ slot other. c.laws_hold.ensures.put_others uses c.args.port.0 0 (Own (operation_of c.args.page)) c.args.port.0 slot (λ same here. other here) ∙ free slot)
+
+pub returns-then-not-wait-clause-silent : goal.returns-then-not-wait-clause-silent
+returns-then-not-wait-clause-silent g c = λ o page differs.
+    let r = c.requires in
+    (c.wait.ensures.waiting _ _ _ _ (c.ask.ensures.waiting r.agreed.0 r.agreed.1 r.agreed.2)).silent o page differs
+
+pub returns-clause-silent : goal.returns-clause-silent
+returns-clause-silent g c = λ o page differs.
+    let r = c.requires in
+    let at : 4096 * c.from-scratch.result ≡ scratch_of c.args.port.0 = let x = c.from-scratch.ensures in let y = c.from.ensures in omega (arith, x, y) in
+    let asked = c.ask.ensures.waiting r.agreed.0 r.agreed.1 r.agreed.2 in
+    let waiting = c.wait.ensures.waiting _ _ _ _ asked in
+    let clear = c.wait.ensures.over c.if-not-wait.false _ _ _ _ asked in
+    let L : ℕ → Type 0 = λ place. Loads place c.load.new.out (g.A.Adapter.device c.wait.new.adapter) (g.A.Adapter.device c.load.new.self) in
+    let load : Loads (scratch_of c.args.port.0) c.load.new.out (g.A.Adapter.device c.wait.new.adapter) (g.A.Adapter.device c.load.new.self) = subst L at c.load.ensures in
+    load_silent c.laws_hold.ensures c.args.port _ _ _ _ _ r.there.0 waiting clear _ _ load c.load.auto.out o page differs

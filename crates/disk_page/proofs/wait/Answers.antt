@@ -1,4 +1,6 @@
-use Rattle.std.proofs.Common.{sym, ◌∙◌}
+use Rattle.std.proofs.Common.{ℕ, ◌≡◌, sym, ◌∙◌, subst, arith}
+use Rattle.agreement.specs.Driven.{AnyUse, IsTold}
+use Rattle.disk_page.specs.Asking.{AreInVain, IsAsking}
 use Rattle.disk_page.proofs.Asking.{pending_first, pending_again, pending_over}
 use Rattle.disk_page.proofs.wait.Goals as goal
 
@@ -24,3 +26,8 @@ returns-then-not-is_set-clause-waiting g c =
 pub returns-then-not-is_set-clause-over : goal.returns-then-not-is_set-clause-over
 returns-then-not-is_set-clause-over g c = λ _.
     (pending_over c.laws_hold.ensures c.args.port _ c.loop-reading._reading c.read-issued.result _ _ c.loop-reading.invariant c.read-issued.ensures (sym c.is_set.ensures ∙ c.if-not-is_set.true)).over
+
+pub returns-clause-vain : goal.returns-clause-vain
+returns-clause-vain g c = λ _.
+    let all : c.loop-reading._reading ≡ 64 = omega arith in
+    subst (λ (n : ℕ). IsTold (AreInVain c.args.port n) (IsAsking c.args.port) AnyUse (g.A.Adapter.device c.args.adapter.now) (g.A.Adapter.device c.loop-reading.adapter)) all c.loop-reading.invariant.told

@@ -63,7 +63,7 @@ returns-in-Err-clause-boots_to g c =
 pub returns-in_default-clause-stops : goal.returns-in_default-clause-stops
 returns-in_default-clause-stops g c =
     let e = c.in_default.ensures in
-    stops_then c.laws_hold.ensures c.args.port _ _ _ c.requires.up.1 e.reads.1.driven _ e.on e.leaves (halt_driven c.args.port _ _ _ _ c.halt.ensures.halted)
+    stops_then c.laws_hold.ensures c.args.port _ _ _ c.requires.up.1 e.reads.1.followed.driven _ e.on e.leaves (halt_driven c.args.port _ _ _ _ c.halt.ensures.halted)
 
 pub returns-in-Ok-clause-runs_on : goal.returns-in-Ok-clause-runs_on
 returns-in-Ok-clause-runs_on g c =

@@ -1,4 +1,4 @@
-use Rattle.port_control.proofs.Starting.{start_may, start_followed, start_usable, start_runs, start_same, start_set_at, start_marked, start_well, start_recorded, start_calm, start_undue, start_changes}
+use Rattle.port_control.proofs.Starting.{start_may, start_followed, start_usable, start_runs, start_same, start_set_at, start_marked, start_well, start_linked, start_recorded, start_calm, start_undue, start_changes}
 use Rattle.port_control.proofs.start.Goals as goal
 
 pub write-requires : goal.write-requires
@@ -24,6 +24,9 @@ returns-clause-marked g c = start_marked c.laws_hold.ensures c.args.receiving.po
 
 pub returns-clause-well : goal.returns-clause-well
 returns-clause-well g c = start_well c.laws_hold.ensures c.args.receiving.port _ _ _ _ (record { on = c.requires.on; there = c.requires.there; agreed = c.requires.agreed }) c.read.ensures c.requires.receives c.requires.linked c.requires.idle c.with_start.ensures.set c.with_start.ensures.others _ c.write.ensures
+
+pub returns-clause-linked : goal.returns-clause-linked
+returns-clause-linked g c = start_linked c.laws_hold.ensures c.args.receiving.port _ _ _ _ (record { on = c.requires.on; there = c.requires.there; agreed = c.requires.agreed }) c.read.ensures c.requires.receives c.requires.linked c.requires.idle c.with_start.ensures.set c.with_start.ensures.others _ c.write.ensures
 
 pub returns-clause-recorded : goal.returns-clause-recorded
 returns-clause-recorded g c = start_recorded c.laws_hold.ensures c.args.receiving.port _ _ _ _ (record { on = c.requires.on; there = c.requires.there; agreed = c.requires.agreed }) c.read.ensures c.requires.receives c.requires.linked c.requires.idle c.with_start.ensures.set c.with_start.ensures.others _ c.write.ensures

@@ -8,7 +8,7 @@ use Rattle.port_control.specs.Laws.Stretch.{Controlling}
 
 pub loop-reading-init : goal.loop-reading-init
 loop-reading-init g c = record {
-  followed = c.laws_hold.ensures.none (Controlling Clearing c.args.port) _;
+  followed = (c.laws_hold.ensures.none (Controlling Clearing c.args.port) _).followed;
   usable = c.requires.usable;
   on = c.requires.usable;
   det = c.requires.det;

@@ -1,11 +1,11 @@
 use Rattle.std.proofs.Common.{◌≡◌, [], ◌∷◌}
 use Rattle.adapter.specs.Access.Access.{Reading, Loading}
 use Rattle.agreement.specs.Driven.{AnyUse}
-use Rattle.agreement.proofs.Driven.{followed_asking, followed_none, told_as, told_load, told_read, told_write}
+use Rattle.agreement.proofs.Driven.{followed_asking, told_none, told_as, told_load, told_read, told_write}
 use Rattle.agreement.proofs.kinds.accesses_are_followed.Goals as goal
 
 pub returns-clause-none : goal.returns-clause-none
-returns-clause-none g c = λ kind. followed_none (g.K.Kinds.may kind) (g.K.Kinds.fits kind)
+returns-clause-none g c = λ kind. told_none (g.K.Kinds.may kind) (g.K.Kinds.fits kind)
 
 pub returns-clause-reads : goal.returns-clause-reads
 returns-clause-reads g c = λ kind r v old new is call.

@@ -1,5 +1,7 @@
 use Rattle.hba_regs.specs.declared.reg.PortReg.TheVariants.{Ci}
 use Rattle.std.proofs.Common.{◌≢◌, refl}
+use Rattle.agreement.specs.Slots.{IsMove}
+use Rattle.agreement.proofs.Gaining.{gains_more}
 use Rattle.agreement.proofs.Unmoving.{steps_unmoving, access_unmoving, controls_unmoving}
 use Rattle.agreement.proofs.stretches.unused_slots_are_silent.Goals as goal
 
@@ -11,3 +13,6 @@ returns-clause-access c = access_unmoving
 
 pub returns-clause-controls : goal.returns-clause-controls
 returns-clause-controls c = controls_unmoving (λ r. r ≢ Ci) (λ same. same refl)
+
+pub returns-clause-more : goal.returns-clause-more
+returns-clause-more c = λ port o. gains_more (IsMove port o)

@@ -34,4 +34,11 @@ returns c = record {
   wider = c.stretches_are_followed.ensures.wider;
   over = c.stretches_are_followed.ensures.over;
   agreed = c.followed_stretches_give.ensures.agreed;
+  silent = c.followed_stretches_give.ensures.silent;
+  halt_is_issued = c.halt_is_ended.ensures.issued;
+  access_ends_halt = c.halt_is_ended.ensures.access;
+  access_grows = c.tapes_grow.ensures.access;
+  access_pages = c.pages_come_when_asked.ensures.access;
+  silent_more = c.unused_slots_are_silent.ensures.more;
+  put_others = c.putting_is_of_one_slot.ensures.others;
 }

@@ -1,0 +1,14 @@
+use Rattle.agreement.proofs.Erred.{steps_fault, access_fault, steps_fatal, access_fatal}
+use Rattle.agreement.proofs.facts.errors_are_shown.Goals as goal
+
+pub returns-clause-fault : goal.returns-clause-fault
+returns-clause-fault c = steps_fault c.steps_keep.ensures
+
+pub returns-clause-fault_access : goal.returns-clause-fault_access
+returns-clause-fault_access c = access_fault c.steps_keep.ensures
+
+pub returns-clause-fatal : goal.returns-clause-fatal
+returns-clause-fatal c = steps_fatal c.steps_keep.ensures
+
+pub returns-clause-fatal_access : goal.returns-clause-fatal_access
+returns-clause-fatal_access c = access_fatal c.steps_keep.ensures

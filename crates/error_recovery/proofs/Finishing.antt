@@ -1,0 +1,351 @@
+-- Recovery to its ends: the port runs again, has to be booted, or is dead.
+use Rattle.std.proofs.Common.{ℕ, Bool, ◌≡◌, ◌≢◌, ◌%◌, ◌/◌, ◌||◌, true, false, List, [], Option, None, Some, IfSome, IfNone, length, inl, inr, refl, sym, ◌∙◌, ap, subst, append-nil, ◌⊎◌}
+use Rattle.std.proofs.lemmas.Bool.{true≢false}
+use Rattle.std.proofs.lemmas.List.Elements.{All-nil, All-weaker}
+use Rattle.ata_types.specs.declared.Port.{Port}
+use Rattle.hba_regs.specs.Bits.{bit}
+use Rattle.hba_regs.specs.declared.reg.PortReg.{PortReg}
+use Rattle.hba_regs.specs.declared.reg.PortReg.TheVariants.{Ci, Cmd}
+use Rattle.adapter.specs.Access.{Access}
+use Rattle.adapter.specs.Device.{Device}
+use Rattle.adapter.specs.Device.Halt.{NotHalted}
+use Rattle.adapter.specs.Rules.{IsOn}
+use Rattle.adapter.specs.declared.command.Operation.TheVariants.{Identify, ReadLog}
+use Rattle.agreement.specs.Driven.{AgreesWith, AnyUse, IsAgreed, IsControl, IsDrivenBy, IsFollowed, IsFollowedTo, IsToldTo, SendsNone}
+use Rattle.agreement.specs.Driver.{AllFree}
+use Rattle.agreement.specs.Slots.{Free, IsMove, Own, Uses, put}
+use Rattle.disk_page.specs.Asking.{Brings, IsAsking, LeavesRunning, WaitsInVain}
+use Rattle.command_table.specs.Written.{IsUnused}
+use Rattle.error_log.specs.Log.{TellsNoError}
+use Rattle.error_log.specs.declared.Failure.{Failure}
+use Rattle.port_control.specs.Engines.{FailsToStop, Sticks, Stops}
+use Rattle.port_control.specs.Ports.{FailsToHalt, Halts, HasStopped, WritesCommand}
+use Rattle.port_control.specs.declared.Running as running_token
+use Rattle.port_control.specs.declared.Stopped as stopped_token
+use Rattle.error_recovery.specs.Evidence.{BringsLog}
+use Rattle.error_recovery.specs.declared.Next.{Next}
+use Rattle.error_recovery.specs.declared.Next.TheVariants.{Running, Restart, Dead}
+use Rattle.error_recovery.specs.declared.Recovered as recovered
+use Rattle.error_recovery.specs.Laws.{Laws}
+use Rattle.error_recovery.specs.Laws.Fitting.{AnyUses, PortUnused}
+use Rattle.error_recovery.specs.Laws.RegisterSet.{ButIssued, Commanding}
+use Rattle.error_recovery.specs.Laws.Stretch.{Asking, Controlling, Recovering}
+use Rattle.error_recovery.specs.Parts.{GetsStuck, GoesOn, HasRoom, MayGoOn, ReadsLog, Resumes}
+use Rattle.error_recovery.specs.Recovery.{EndsIn, IsRecovering, LeavesRecovery, LeavesSlots, MayRecover, NamesForeign, Parts, Recovers, Rests}
+use Rattle.error_recovery.proofs.Going.{Asks, Goes, asks_over, goes_over}
+use Rattle.error_recovery.proofs.Quieting.{commands_silent, starting_silent}
+use Rattle.error_recovery.proofs.Resting.{IsTold, brings_log}
+use Rattle.error_recovery.proofs.Running.{asked_running, no_command, runs_plain, runs_queued}
+use Rattle.error_recovery.proofs.Starting.{tag_is_small}
+use Rattle.error_recovery.proofs.Stretching.{commands_recover, followed_commands, room_after, told_both}
+use Rattle.error_recovery.proofs.Whole.{asked, goes, only, performs, quieted, started, stops, told, total, vain_since, vain_then}
+
+-- nobody is named
+pub all_go_again : (outstanding : ℕ) → Parts outstanding None outstanding
+all_go_again outstanding = record { split = λ slot small set. inr set; apart = λ slot small set. (set, λ named. named) }
+
+-- what a plain command that is named rests on
+pub rests_on_fault : (port : Port) (outstanding shown : ℕ) (accesses : List Access) (old new : Device) → IsTold port false shown accesses old new → (failed : Option Failure) →
+    IfSome failed (λ f. (f.slot.0 ≡ 0) × (bit outstanding 0 ≡ true) × (f.status ≡ shown % 256) × (f.error ≡ shown / 256 % 256)) → Rests false port outstanding accesses old new failed
+rests_on_fault port outstanding shown accesses old new t None is = tt
+rests_on_fault port outstanding shown accesses old new t (Some f) is = record {
+  slot_is = is.0;
+  among = is.1;
+  fault = t.fault;
+  has_failed = t.has_failed;
+  at = t.at refl;
+  status_is = t.status_is ∙ sym is.2;
+  error_is = t.error_is ∙ sym is.3;
+}
+
+-- an outstanding plain command is named
+pub is_named : (outstanding : ℕ) (failed : Option Failure) → IfNone failed (bit outstanding 0 ≡ false) → bit outstanding 0 ≡ true → failed ≢ None
+is_named outstanding None none set = absurd (true≢false (sym set ∙ none))
+is_named outstanding (Some f) none set = λ e. absurd cc
+
+-- ST may be set
+pub may_go_on : (port : Port) (outstanding : ℕ) (queued : Bool) (before after : ℕ) (old d : Device) → Resumes port outstanding queued before after old d → bit after 7 || bit after 3 ≡ false → MayGoOn port.0 d
+may_go_on port outstanding queued before after old d r idle =
+    let q = r.quiets in
+    record { room = q.room; receives = q.receives; linked = q.linked; idle = ap (λ (v : ℕ). bit v 7 || bit v 3) q.file ∙ idle; quiet = q.quiet; agreed = q.agreed }
+
+-- of what a call is asked, so it goes on
+pub resumes_at : (port at : Port) (outstanding : ℕ) (queued is : Bool) (before after : ℕ) (old d : Device) → at ≡ port → queued ≡ is → Resumes port outstanding queued before after old d →
+    Resumes at outstanding is before after old d
+resumes_at port at outstanding queued is before after old d names same r =
+    let P : Port → Type 0 = λ p. Resumes p outstanding is before after old d in
+    subst P (sym names) (subst (λ (q : Bool). Resumes port outstanding q before after old d) same r)
+
+pub recovers_at : (port at : Port) (outstanding : ℕ) (queued is : Bool) (result : recovered.Recovered) (old new : Device) → at ≡ port → queued ≡ is → Recovers at outstanding is result old new →
+    Recovers port outstanding queued result old new
+recovers_at port at outstanding queued is result old new names same r =
+    let P : Port → Type 0 = λ p. Recovers p outstanding is result old new in
+    subst (λ (q : Bool). Recovers port outstanding q result old new) (sym same) (subst P names r)
+
+module _ (laws : Laws) where
+  -- the log was read, and named none
+  pub log_room : (port : Port) (outstanding : ℕ) (start log : Device) → IsOn log → ReadsLog port outstanding None start log → HasRoom port.0 start → HasRoom port.0 log
+  log_room port outstanding start log on (inl (count, a)) room = room_after laws (IsAsking port) port.0 start log a.followed.driven on room
+  log_room port outstanding start log on (inr (page, (brings, a), why)) room = room_after laws (IsAsking port) port.0 start log a.driven on room
+
+  -- ---- the port wasn't even stopped
+
+  pub is_stuck : (port : Port) (outstanding : ℕ) (queued : Bool) (old new : Device) → IsOn old → MayRecover port.0 old → GetsStuck port old new →
+      Recovers port outstanding queued (record { failed = None; again = outstanding; next = Dead }) old new
+  is_stuck port outstanding queued old new on may g =
+      let made = g.told.followed.driven in
+      let went : Goes port old new = goes_over laws port made.accesses old new on made.only made.all in
+      record {
+        accesses = made.accesses;
+        does = record { only = made.only; slots = inl (laws.one (Recovering AnyUses port) (λ uses. uses) old new g.told.followed); engine = g.told.tells };
+        tells = record {
+          parts = all_go_again outstanding;
+          rests = tt;
+          named = λ token is run. absurd cc;
+          told = λ is set alive. absurd (alive refl);
+          dead = λ e. refl;
+          restarts = λ token run. absurd cc;
+        };
+        leaves = record { ends = (g.st, g.stuck); det = went.det ∙ may.det; written = went.written; enabled = went.enabled; silent = g.silent };
+      }
+
+  module _ (port : Port) (outstanding : ℕ) (queued : Bool) (before after : ℕ) (old d : Device) (r : Resumes port outstanding queued before after old d) where
+    went : Goes port old d
+    went = goes laws port outstanding queued before after old d r (λ uses. uses) d (quieted laws port outstanding queued before after old d r)
+
+    -- what a recovery leaves, however it ends
+    leaves : (next : Next) (new : Device) → Goes port old new → EndsIn queued port next old new → (AgreesWith (λ uses. uses port.0 0 ≡ Own Identify → ⊥) old → SendsNone port.0 Identify old new) →
+        LeavesRecovery port queued next old new
+    leaves next new w ends silent = record { ends = ends; det = w.det ∙ r.may.det; written = w.written; enabled = w.enabled; silent = silent }
+
+    -- ---- its disk is busy
+
+    pub is_busy : (failed : Option Failure) (again : ℕ) (token : stopped_token.Stopped) → token.port ≡ port → bit after 7 || bit after 3 ≡ true → Parts outstanding failed again →
+        (Rests queued port outstanding (total laws port outstanding queued before after old d r (λ uses. uses) d (quieted laws port outstanding queued before after old d r)) old d failed) →
+        (queued ≡ false → bit outstanding 0 ≡ true → failed ≢ None) → Recovers port outstanding queued (record { failed = failed; again = again; next = Restart token }) old d
+    is_busy failed again token names occupied parts rests named =
+        let b = quieted laws port outstanding queued before after old d r in
+        record {
+          accesses = total laws port outstanding queued before after old d r (λ uses. uses) d b;
+          does = record {
+            only = only laws port outstanding queued before after old d r (λ uses. uses) d b;
+            slots = performs laws port outstanding queued before after old d r (λ uses. uses) d b;
+            engine = stops laws port outstanding queued before after old d r (λ uses. uses) d b;
+          };
+          tells = record {
+            parts = parts;
+            rests = rests;
+            named = λ at is run. absurd cc;
+            told = λ is set alive. named is set;
+            dead = λ e. absurd cc;
+            restarts = λ at run. inl (λ idle. absurd (true≢false (sym occupied ∙ (ap (λ (v : ℕ). bit v 7 || bit v 3) (sym r.quiets.file) ∙ idle))));
+          };
+          leaves = leaves (Restart token) d went (names, r.quiets.receives.stopped) r.quiets.silent;
+        }
+
+    -- ---- it was started again
+
+    module _ (start : Device) (s : GoesOn port d start) where
+      pub b_start : IsFollowed (IsRecovering port) (λ uses. AllFree uses port.0) r.quiets.stopped start
+      b_start = started laws port outstanding queued before after old d r start s
+
+      goes_start : Goes port old start
+      goes_start = goes laws port outstanding queued before after old d r (λ uses. uses) start b_start
+
+      starting : Goes port d start
+      starting = let made = (followed_commands laws PortUnused port d start s.starts).driven in goes_over laws port made.accesses d start went.on made.only made.all
+
+      silent_start : AgreesWith (λ uses. uses port.0 0 ≡ Own Identify → ⊥) old → SendsNone port.0 Identify old start
+      silent_start a = laws.silent_more port.0 Identify old d start (r.quiets.silent a) (starting_silent laws port d start s.starts r.quiets.agreed)
+
+      -- a plain command failed
+      pub goes_again : (failed : Option Failure) (again : ℕ) (token : running_token.Running) → token.port ≡ port → queued ≡ false → Parts outstanding failed again →
+          Rests queued port outstanding (total laws port outstanding queued before after old d r (λ uses. uses) start b_start) old start failed →
+          (bit outstanding 0 ≡ true → failed ≢ None) → Recovers port outstanding queued (record { failed = failed; again = again; next = Running token }) old start
+      goes_again failed again token names is parts rests named = record {
+        accesses = total laws port outstanding queued before after old d r (λ uses. uses) start b_start;
+        does = record {
+          only = only laws port outstanding queued before after old d r (λ uses. uses) start b_start;
+          slots = performs laws port outstanding queued before after old d r (λ uses. uses) start b_start;
+          engine = stops laws port outstanding queued before after old d r (λ uses. uses) start b_start;
+        };
+        tells = record {
+          parts = parts;
+          rests = rests;
+          named = λ at on run. absurd (true≢false (sym on ∙ is));
+          told = λ off set alive. named set;
+          dead = λ e. absurd cc;
+          restarts = λ at run. absurd cc;
+        };
+        leaves = leaves (Running token) start goes_start (names, runs_plain laws port outstanding queued before after old d r went start s starting goes_start is) silent_start;
+      }
+
+      pub goes_again_told : IsTold port queued before (total laws port outstanding queued before after old d r (λ uses. uses) start b_start) old start
+      goes_again_told = told laws port outstanding queued before after old d r (λ uses. uses) start b_start
+
+      -- ---- its log was read
+
+      module _ (log : Device) (on : queued ≡ true) (l : LeavesRunning port.0 start log) (silent_log : SendsNone port.0 Identify start log) where
+        silent_now : AgreesWith (λ uses. uses port.0 0 ≡ Own Identify → ⊥) old → SendsNone port.0 Identify old log
+        silent_now a = laws.silent_more port.0 Identify old start log (silent_start a) silent_log
+
+        b_log : IsFollowed (IsAsking port) (IsUnused port.0 0) start log → IsFollowed (IsRecovering port) (λ uses. AllFree uses port.0) r.quiets.stopped log
+        b_log a = (asked laws port outstanding queued before after old d r (λ made. Unit {0}) (λ early late is. is) (λ uses. uses) start log s (record { followed = a; tells = tt })).followed
+
+        b_vain : IsToldTo (WaitsInVain port) (IsAsking port) (IsUnused port.0 0) (λ uses. put uses port.0 0 (Own ReadLog)) start log →
+            IsToldTo (WaitsInVain port) (IsRecovering port) (λ uses. AllFree uses port.0) (λ uses. put uses port.0 0 (Own ReadLog)) r.quiets.stopped log
+        b_vain a = asked laws port outstanding queued before after old d r (WaitsInVain port) (vain_since port) (λ uses. put uses port.0 0 (Own ReadLog)) start log s a
+
+        asking : (next : Uses → Uses) → IsFollowedTo (IsAsking port) (IsUnused port.0 0) next start log → Asks port start log
+        asking next a = asks_over laws port a.driven.accesses start log goes_start.on a.driven.only a.driven.all
+
+        recovers_asked : (next : Uses → Uses) → IsFollowedTo (IsAsking port) (IsUnused port.0 0) next start log → Goes port start log
+        recovers_asked next a =
+            goes_over laws port a.driven.accesses start log goes_start.on (All-weaker (IsAsking port) (IsRecovering port) (λ access is. inr is) a.driven.accesses a.driven.only) a.driven.all
+
+        -- and names one
+        pub names_one : (failed : Failure) (again : ℕ) (token : running_token.Running) → token.port ≡ port → (log.port port.0).halt ≡ NotHalted → ReadsLog port outstanding (Some failed) start log →
+            Parts outstanding (Some failed) again → Recovers port outstanding queued (record { failed = Some failed; again = again; next = Running token }) old log
+        names_one failed again token names running (page, (brings, a), tells, among) parts =
+            let b = b_log a in
+            let w = goes laws port outstanding queued before after old d r (λ uses. uses) log b in
+            let t = told laws port outstanding queued before after old d r (λ uses. uses) log b in
+            let came = brings_log port old start log log page goes_start.grows w.grows brings ([], sym (append-nil log.tape), All-nil (λ e. IsMove port.0 ReadLog e → ⊥)) in
+            let Q : Bool → Type 0 = λ q. Rests q port outstanding (total laws port outstanding queued before after old d r (λ uses. uses) log b) old log (Some failed) in
+            record {
+              accesses = total laws port outstanding queued before after old d r (λ uses. uses) log b;
+              does = record {
+                only = only laws port outstanding queued before after old d r (λ uses. uses) log b;
+                slots = performs laws port outstanding queued before after old d r (λ uses. uses) log b;
+                engine = stops laws port outstanding queued before after old d r (λ uses. uses) log b;
+              };
+              tells = record {
+                parts = parts;
+                rests = subst Q (sym on) (record {
+                  small = tag_is_small page failed.slot.0 failed.status failed.error tells;
+                  among = among;
+                  fault = t.fault;
+                  has_failed = t.has_failed;
+                  page = page;
+                  brings = came;
+                  tells = tells;
+                });
+                named = λ at is run e. absurd cc;
+                told = λ off. absurd (true≢false (sym on ∙ off));
+                dead = λ e. absurd cc;
+                restarts = λ at run. absurd cc;
+              };
+              leaves = leaves (Running token) log w
+                  (names, runs_queued laws port outstanding queued before after old d r went start log s starting l (asking (λ uses. uses) a) (recovers_asked (λ uses. uses) a) brings.clear.over running on) silent_now;
+            }
+
+        -- ---- or none, and the port was to stop
+
+        module _ (new : Device) where
+          page_free : IsFollowed (IsAsking port) (IsUnused port.0 0) start log → AgreesWith (λ uses. AllFree uses port.0) log
+          page_free a = let g = s.agreed in (g.0, g.1, laws.agreed (Asking port) (λ uses. uses) g.0 start log (g.1 0) a g.2)
+
+          -- no page of IDENTIFY DEVICE comes meanwhile
+          stop_silent : (uses : Uses) → IsAgreed uses log → (uses port.0 0 ≡ Own Identify → ⊥) → IsFollowed (IsControl WritesCommand port) AnyUse log new →
+              AgreesWith (λ uses. uses port.0 0 ≡ Own Identify → ⊥) old → SendsNone port.0 Identify old new
+          stop_silent uses agreed none a o = laws.silent_more port.0 Identify old log new (silent_now o) (commands_silent laws port uses log new a agreed none)
+
+          page_silent : IsFollowed (IsAsking port) (IsUnused port.0 0) start log → IsFollowed (IsControl WritesCommand port) AnyUse log new →
+              AgreesWith (λ uses. uses port.0 0 ≡ Own Identify → ⊥) old → SendsNone port.0 Identify old new
+          page_silent a c = let g = page_free a in stop_silent g.0 g.2 (λ own. let e : Free ≡ Own Identify = sym (g.1 0) ∙ own in absurd cc) c
+
+          vain_silent : IsFollowedTo (IsAsking port) (IsUnused port.0 0) (λ uses. put uses port.0 0 (Own ReadLog)) start log → IsFollowed (IsControl WritesCommand port) AnyUse log new →
+              AgreesWith (λ uses. uses port.0 0 ≡ Own Identify → ⊥) old → SendsNone port.0 Identify old new
+          vain_silent a c =
+              let g = s.agreed in
+              let agreed = laws.agreed (Asking port) (λ uses. put uses port.0 0 (Own ReadLog)) g.0 start log (g.1 0) a g.2 in
+              stop_silent (put g.0 port.0 0 (Own ReadLog)) agreed (λ own. let e : Own ReadLog ≡ Own Identify = sym (laws.put_here g.0 port.0 0 ReadLog) ∙ own in absurd cc) c
+
+          -- the page that came is the last one still
+          still_last : (page : List ℕ) → Brings port.0 ReadLog (length start.tape) page log → IsFollowed (IsAsking port) (IsUnused port.0 0) start log → IsDrivenBy (IsControl WritesCommand port) log new →
+              BringsLog port old new page
+          still_last page brings a c =
+              let w = goes laws port outstanding queued before after old d r (λ uses. uses) log (b_log a) in
+              let runs = asked_running port.0 start log s.runs l brings.clear.over in
+              let others : (q : PortReg) → WritesCommand q → q ≢ Ci = λ q is same. let e : Cmd ≡ Ci = sym is ∙ same in absurd cc in
+              let unissued : IsDrivenBy (IsControl (λ q. q ≢ Ci) port) log new = record {
+                accesses = c.accesses;
+                all = c.all;
+                only = All-weaker (IsControl WritesCommand port) (IsControl (λ q. q ≢ Ci) port) (laws.control_wider Commanding ButIssued port others) c.accesses c.only;
+              } in
+              brings_log port old start log new page goes_start.grows w.grows brings (laws.controls_unmoving port ReadLog log new unissued (no_command port.0 (log.port port.0) runs)).0
+
+          -- the engine stopped: the port has to be booted
+          stopped : (token : stopped_token.Stopped) → token.port ≡ port → (b : IsFollowed (IsRecovering port) (λ uses. AllFree uses port.0) r.quiets.stopped new) → Halts port log new →
+              (WaitsInVain port (total laws port outstanding queued before after old d r (λ uses. uses) new b) ⊎ ((page : List ℕ) × BringsLog port old new page × (TellsNoError page ⊎ NamesForeign outstanding page))) →
+              (AgreesWith (λ uses. uses port.0 0 ≡ Own Identify → ⊥) old → SendsNone port.0 Identify old new) →
+              Recovers port outstanding queued (record { failed = None; again = outstanding; next = Restart token }) old new
+          stopped token names b halts why silent = record {
+            accesses = total laws port outstanding queued before after old d r (λ uses. uses) new b;
+            does = record {
+              only = only laws port outstanding queued before after old d r (λ uses. uses) new b;
+              slots = performs laws port outstanding queued before after old d r (λ uses. uses) new b;
+              engine = stops laws port outstanding queued before after old d r (λ uses. uses) new b;
+            };
+            tells = record {
+              parts = all_go_again outstanding;
+              rests = tt;
+              named = λ at is run. absurd cc;
+              told = λ off. absurd (true≢false (sym on ∙ off));
+              dead = λ e. absurd cc;
+              restarts = λ at run. inr (on, why);
+            };
+            leaves = leaves (Restart token) new (goes laws port outstanding queued before after old d r (λ uses. uses) new b) (names, halts.stopped) silent;
+          }
+
+          pub restarts : (token : stopped_token.Stopped) → token.port ≡ port → Halts port log new → ReadsLog port outstanding None start log →
+              Recovers port outstanding queued (record { failed = None; again = outstanding; next = Restart token }) old new
+          restarts token names halts (inl (count, a)) =
+              let t = told_both laws (WaitsInVain port) (Stops port) (WaitsInVain port) (λ early late w is. vain_then port early late w) (Recovering PortUnused port) (Controlling Commanding AnyUses port)
+              (λ uses. put uses port.0 0 (Own ReadLog)) (λ uses. uses) (commands_recover laws port) (λ uses free. tt) r.quiets.stopped log new (b_vain a) halts.told in
+              let o = laws.over (Recovering PortUnused port) port ReadLog 1 r.quiets.stopped new (inr (refl, refl)) (λ uses free. free 0)
+              (record { issued = halts.stopped.halted.ci 0; free = halts.stopped.halted.taken 0 }) t.followed in
+              let b = o.followed in
+              stopped token names b halts (inl (vain_since port r.quiets.stops.followed.driven.accesses b.driven.accesses (subst (WaitsInVain port) (sym o.tells) t.tells))) (vain_silent a.followed halts.told.followed)
+          restarts token names halts (inr (page, (brings, a), why)) =
+              let b = (told_both laws (λ made. Unit {0}) (Stops port) (λ made. Unit {0}) (λ early late w is. tt) (Recovering PortUnused port) (Controlling Commanding AnyUses port)
+              (λ uses. uses) (λ uses. uses) (commands_recover laws port) (λ uses free. tt) r.quiets.stopped log new (record { followed = b_log a; tells = tt }) halts.told).followed in
+              stopped token names b halts (inr (page, still_last page brings a halts.told.followed.driven, why)) (page_silent a halts.told.followed)
+
+          -- or it is stuck
+          module _ (has : HasStopped (log.port port.0) (new.port port.0)) (fails : FailsToHalt port log new) where
+            failing : (First : List Access → Type 0) (next : Uses → Uses) → IsToldTo First (IsRecovering port) (λ uses. AllFree uses port.0) next r.quiets.stopped log →
+                IsToldTo (Sticks port) (IsRecovering port) (λ uses. AllFree uses port.0) next r.quiets.stopped new
+            failing First next t = told_both laws First (FailsToStop port) (Sticks port) (λ early late w is. laws.sticks_since early late port (laws.failing_sticks port late is)) (Recovering PortUnused port)
+                (Controlling Commanding AnyUses port) next (λ uses. uses) (commands_recover laws port) (λ uses free. tt) r.quiets.stopped log new t fails.told
+
+            stuck : (next : Uses → Uses) (t : IsToldTo (Sticks port) (IsRecovering port) (λ uses. AllFree uses port.0) next r.quiets.stopped new) →
+                LeavesSlots port.0 Dead (total laws port outstanding queued before after old d r next new t.followed) old new →
+                (AgreesWith (λ uses. uses port.0 0 ≡ Own Identify → ⊥) old → SendsNone port.0 Identify old new) →
+                Recovers port outstanding queued (record { failed = None; again = outstanding; next = Dead }) old new
+            stuck next t slots silent = record {
+              accesses = total laws port outstanding queued before after old d r next new t.followed;
+              does = record {
+                only = only laws port outstanding queued before after old d r next new t.followed;
+                slots = slots;
+                engine = laws.sticks_since r.quiets.stops.followed.driven.accesses t.followed.driven.accesses port t.tells;
+              };
+              tells = record {
+                parts = all_go_again outstanding;
+                rests = tt;
+                named = λ at is run. absurd cc;
+                told = λ off set alive. absurd (alive refl);
+                dead = λ e. refl;
+                restarts = λ at run. absurd cc;
+              };
+              leaves = leaves Dead new (goes laws port outstanding queued before after old d r next new t.followed) (has.st, fails.stuck) silent;
+            }
+
+            pub gets_stuck : ReadsLog port outstanding None start log → Recovers port outstanding queued (record { failed = None; again = outstanding; next = Dead }) old new
+            gets_stuck (inl (count, a)) =
+                let t = failing (WaitsInVain port) (λ uses. put uses port.0 0 (Own ReadLog)) (b_vain a) in
+                stuck (λ uses. put uses port.0 0 (Own ReadLog)) t
+                (inr (inr (performs laws port outstanding queued before after old d r (λ uses. put uses port.0 0 (Own ReadLog)) new t.followed))) (vain_silent a.followed fails.told.followed)
+            gets_stuck (inr (page, (brings, a), why)) =
+                let t = failing (λ made. Unit {0}) (λ uses. uses) (record { followed = b_log a; tells = tt }) in
+                stuck (λ uses. uses) t (inr (inl (performs laws port outstanding queued before after old d r (λ uses. uses) new t.followed))) (page_silent a fails.told.followed)

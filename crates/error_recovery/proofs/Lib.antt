@@ -1,0 +1,10 @@
+mod Going
+mod Stretching
+mod Quieting
+mod Starting
+mod Lists
+mod Resting
+mod Whole
+mod Running
+mod Finishing
+mod Witness

@@ -1,0 +1,180 @@
+-- A port's task file is read, the port is stopped, and its errors are forgotten.
+use Rattle.std.proofs.Common.{ℕ, ◌≡◌, ◌%◌, ◌++◌, false, List, [], ◌∷◌, inl, inr, refl, sym, ◌∙◌, ap}
+use Rattle.ata_types.specs.declared.Port.{Port}
+use Rattle.hba_regs.specs.declared.reg.PortReg.TheVariants.{Ci, Cmd, Sact, Ssts, Tfd}
+use Rattle.hba_regs.specs.declared.reg.Reg.TheVariants.{Px}
+use Rattle.adapter.specs.Access.{Access, Reads}
+use Rattle.adapter.specs.Access.Access.{Reading}
+use Rattle.adapter.specs.Device.{Device, Notes}
+use Rattle.adapter.specs.declared.command.Operation.TheVariants.{Identify}
+use Rattle.agreement.specs.Driven.{AgreesWith, AnyUse, IsAgreed, IsControl, IsFollowed, IsTold, NoneWrites, SendsNone}
+use Rattle.agreement.specs.Driver.{AllFree}
+use Rattle.agreement.specs.Recovering.{WorksPlainly}
+use Rattle.agreement.specs.Slots.{Free, Own, Uses}
+use Rattle.port_control.specs.Engines.{FailsToStop, Sticks, Stops}
+use Rattle.port_control.specs.Ports.{FailsToHalt, Forgets, Halts, HasStopped, IsClearing, ReceivesFises, WritesCommand}
+use Rattle.error_recovery.specs.Laws.{Laws}
+use Rattle.error_recovery.specs.Laws.RegisterSet.{Commanding, Clearing}
+use Rattle.error_recovery.specs.Laws.Stretch.{Controlling, Recovering}
+use Rattle.error_recovery.specs.Laws.Fitting.{AnyUses, PortUnused}
+use Rattle.error_recovery.specs.Parts.{GetsStuck, HasRoom, Quiets, ReadsAndStops}
+use Rattle.error_recovery.specs.Recovery.{IsRecovering, MayRecover}
+use Rattle.error_recovery.proofs.Going.{Goes, goes_over, plugs_in_parts, spares_active}
+use Rattle.error_recovery.proofs.Stretching.{agreed_free, followed_clears, room_after, told_both, told_commands}
+
+reads_and_stops : (port : Port) (v : ℕ) (early late : List Access) → early ≡ Reading (Px port Tfd) v ∷ [] → (Stops port late → Stops port (early ++ late)) → Stops port late → ReadsAndStops port v (early ++ late)
+reads_and_stops port v early late is since stops =
+    (record { rest = late; here = ap (λ (made : List Access). made ++ late) is }, since stops)
+
+module _ (laws : Laws) where
+  -- neither PxCI nor PxSACT is written while PxCMD, PxSERR and PxIS are
+  commanding_issues : (port : Port) → NoneWrites (IsControl WritesCommand port) (Px port Ci)
+  commanding_issues port = laws.control_spares Commanding port Ci (λ e. absurd (let k : Ci ≡ Cmd = e in cc))
+
+  commanding_arms : (port : Port) → NoneWrites (IsControl WritesCommand port) (Px port Sact)
+  commanding_arms port = laws.control_spares Commanding port Sact (λ e. absurd (let k : Sact ≡ Cmd = e in cc))
+
+  -- PxCMD alone is written, and no page comes by a command that isn't there
+  pub commands_silent : (port : Port) (uses : Uses) (old new : Device) → IsFollowed (IsControl WritesCommand port) AnyUse old new → IsAgreed uses old → (uses port.0 0 ≡ Own Identify → ⊥) → SendsNone port.0 Identify old new
+  commands_silent port uses old new a agreed none =
+      laws.silent (Controlling Commanding AnyUses port) (λ uses. uses) uses port Identify old new tt (commanding_issues port) (commanding_arms port) refl none a agreed
+
+  clears_silent : (port : Port) (uses : Uses) (old new : Device) → IsFollowed (IsControl IsClearing port) AnyUse old new → IsAgreed uses old → (uses port.0 0 ≡ Own Identify → ⊥) → SendsNone port.0 Identify old new
+  clears_silent port uses old new a agreed none =
+      laws.silent (Controlling Clearing AnyUses port) (λ uses. uses) uses port Identify old new tt
+      (laws.control_spares Clearing port Ci no_issue) (laws.control_spares Clearing port Sact no_arm) refl none a agreed
+    where
+      no_issue : IsClearing Ci → ⊥
+      no_issue (inl e) = absurd cc
+      no_issue (inr e) = absurd cc
+
+      no_arm : IsClearing Sact → ⊥
+      no_arm (inl e) = absurd cc
+      no_arm (inr e) = absurd cc
+
+  -- plain work goes on over any accesses of a recovery
+  pub plain_over : (port : Port) (uses : Uses) (old new : Device) → IsFollowed (IsRecovering port) AnyUse old new → IsAgreed uses old → WorksPlainly (old.port port.0) → WorksPlainly (new.port port.0)
+  plain_over port uses old new a agreed =
+      laws.plain (Recovering AnyUses port) (λ uses. uses) uses port old new tt (spares_active laws port) a agreed
+
+  -- also while it is started
+  pub commands_plain : (port : Port) (old new : Device) → IsFollowed (IsControl WritesCommand port) (λ uses. AllFree uses port.0) old new → AgreesWith (λ uses. AllFree uses port.0) old →
+      WorksPlainly (old.port port.0) → WorksPlainly (new.port port.0)
+  commands_plain port old new a (uses, free, agreed) = laws.plain (Controlling Commanding PortUnused port) (λ uses. uses) uses port old new free (commanding_arms port) a agreed
+
+  pub starting_silent : (port : Port) (old new : Device) → IsFollowed (IsControl WritesCommand port) (λ uses. AllFree uses port.0) old new → AgreesWith (λ uses. AllFree uses port.0) old →
+      SendsNone port.0 Identify old new
+  starting_silent port old new a (uses, free, agreed) =
+      laws.silent (Controlling Commanding PortUnused port) (λ uses. uses) uses port Identify old new free (commanding_issues port) (commanding_arms port) refl
+      (λ own. let e : Free ≡ Own Identify = sym (free 0) ∙ own in absurd cc) a agreed
+
+  module _ (port : Port) (v : ℕ) (old at : Device) (room : HasRoom port.0 old) (may : MayRecover port.0 old) (agreed : AgreesWith AnyUse old) (read : Reads (Px port Tfd) v old at) where
+    reading : IsTold (λ made. made ≡ Reading (Px port Tfd) v ∷ []) (IsControl WritesCommand port) AnyUse old at
+    reading = laws.reads (Controlling Commanding AnyUses port) (Px port Tfd) v old at refl read
+
+    wide : IsTold (λ made. made ≡ Reading (Px port Tfd) v ∷ []) (IsRecovering port) AnyUse old at
+    wide = told_commands laws (λ made. made ≡ Reading (Px port Tfd) v ∷ []) AnyUses port old at reading
+
+    goes : Goes port old at
+    goes = goes_over laws port wide.followed.driven.accesses old at room.on wide.followed.driven.only wide.followed.driven.all
+
+    pub read_room : HasRoom port.0 at
+    read_room = room_after laws (IsRecovering port) port.0 old at wide.followed.driven goes.on room
+
+    pub read_agreed : AgreesWith AnyUse at
+    read_agreed = (agreed.0, tt, laws.agreed (Recovering AnyUses port) (λ uses. uses) agreed.0 old at tt wide.followed agreed.2)
+
+    -- what the reading left of the notes on the link
+    same_link : ((at.port port.0).notes.last_ssts ≡ (old.port port.0).notes.last_ssts) × ((at.port port.0).notes.link_count ≡ (old.port port.0).notes.link_count)
+    same_link =
+        let link = (laws.access_notes port (Reading (Px port Tfd) v) old at read).link (λ (e : Px port Tfd ≡ Px port Ssts). absurd cc) in
+        (link.0, link.1 tt)
+
+    -- ---- its engine is stuck
+
+    pub read_stuck : (new : Device) → HasStopped (at.port port.0) (new.port port.0) → FailsToHalt port at new → GetsStuck port old new
+    read_stuck new has fails = record {
+      told = told_commands laws (Sticks port) AnyUses port old new both;
+      st = has.st;
+      stuck = fails.stuck;
+      silent = λ (uses, none, agreed). commands_silent port uses old new both.followed agreed none;
+    }
+      where
+        both : IsTold (Sticks port) (IsControl WritesCommand port) AnyUse old new
+        both = told_both laws (λ made. made ≡ Reading (Px port Tfd) v ∷ []) (FailsToStop port) (Sticks port) (λ early late is late_is. laws.sticks_since early late port (laws.failing_sticks port late late_is))
+            (Controlling Commanding AnyUses port) (Controlling Commanding AnyUses port) (λ uses. uses) (λ uses. uses) (λ access is. is) (λ uses fits. fits) old at new reading fails.told
+
+    -- ---- or it was stopped
+
+    module _ (mid : Device) (has : HasStopped (at.port port.0) (mid.port port.0)) (halts : Halts port at mid) where
+      stopping : IsTold (ReadsAndStops port v) (IsControl WritesCommand port) AnyUse old mid
+      stopping = told_both laws (λ made. made ≡ Reading (Px port Tfd) v ∷ []) (Stops port) (ReadsAndStops port v)
+          (λ early late is stops. reads_and_stops port v early late is (laws.falls_since early late 0 15 port) stops)
+          (Controlling Commanding AnyUses port) (Controlling Commanding AnyUses port) (λ uses. uses) (λ uses. uses) (λ access is. is) (λ uses fits. fits) old at mid reading halts.told
+
+      stops : IsTold (ReadsAndStops port v) (IsRecovering port) AnyUse old mid
+      stops = told_commands laws (ReadsAndStops port v) AnyUses port old mid stopping
+
+      goes_mid : Goes port old mid
+      goes_mid = goes_over laws port stops.followed.driven.accesses old mid room.on stops.followed.driven.only stops.followed.driven.all
+
+      pub stopped_room : HasRoom port.0 mid
+      stopped_room = room_after laws (IsRecovering port) port.0 old mid stops.followed.driven goes_mid.on room
+
+      stopped_uses : IsAgreed agreed.0 mid
+      stopped_uses = laws.agreed (Recovering AnyUses port) (λ uses. uses) agreed.0 old mid tt stops.followed agreed.2
+
+      pub stopped_agreed : AgreesWith AnyUse mid
+      stopped_agreed = (agreed.0, tt, stopped_uses)
+
+      pub stopped_receives : ReceivesFises port.0 (mid.port port.0)
+      stopped_receives =
+          let s = laws.seen port Tfd v old at read room.on.no_reset in
+          record {
+            stopped = halts.stopped;
+            fre = has.fre ∙ ((s.keeps.on.controls port.0).fre ∙ may.fre);
+            bases = has.bases ∙ ((s.keeps.port port.0).bases ∙ may.bases);
+          }
+
+      pub stopped_undue : (mid.port port.0).link_due ≡ false
+      stopped_undue = goes_mid.undue may.recorded.linked
+
+      pub stopped_det : (mid.port port.0).sctl_det ≡ 0
+      stopped_det = goes_mid.det ∙ may.det
+
+      module _ (after : ℕ) (new : Device) (followed : IsFollowed (IsControl IsClearing port) AnyUse mid new) (f : Forgets port after mid new) where
+        forgets : IsFollowed (IsRecovering port) AnyUse mid new
+        forgets = followed_clears laws AnyUses port mid new followed
+
+        goes_new : Goes port mid new
+        goes_new = goes_over laws port forgets.driven.accesses mid new goes_mid.on forgets.driven.only forgets.driven.all
+
+        free : AgreesWith (λ uses. (slot : ℕ) → uses port.0 slot ≡ Free) new
+        free =
+            let g = agreed_free laws agreed.0 port.0 mid halts.stopped.halted stopped_uses in
+            (g.0, g.1, laws.agreed (Recovering AnyUses port) (λ uses. uses) g.0 mid new tt forgets g.2)
+
+        pub quiets : Quiets port v after old new
+        quiets = record {
+          room = room_after laws (IsRecovering port) port.0 mid new forgets.driven goes_new.on stopped_room;
+          stopped = mid;
+          stops = stops;
+          stands = halts.stopped.halted;
+          forgets = forgets;
+          receives = f.receives;
+          det = goes_new.det ∙ stopped_det;
+          file = f.file;
+          linked = ap (λ (n : ℕ). n % 16) (f.seen ∙ (ap (λ (n : Notes). n.last_ssts) has.notes ∙ same_link.0)) ∙ may.linked;
+          count = f.count ∙ (ap (λ (n : Notes). n.link_count) has.notes ∙ same_link.1);
+          calm = f.calm;
+          clear = record {
+            serr_n = λ none. f.clear.serr_n (plugs_in_parts laws port.0 old mid new goes_mid.grows goes_new.grows none).1;
+            serr_x = λ none. f.clear.serr_x (laws.comes_parts port.0 old mid new goes_mid.grows.0 goes_new.grows.0 goes_mid.grows.1 goes_new.grows.1 none).1;
+          };
+          quiet = f.quiet;
+          agreed = free;
+          plain = λ plain. plain_over port agreed.0 mid new forgets stopped_uses (plain_over port agreed.0 old mid stops.followed agreed.2 plain);
+          silent = λ (uses, none, here).
+              laws.silent_more port.0 Identify old mid new (commands_silent port uses old mid stopping.followed here none)
+              (clears_silent port uses mid new followed (laws.agreed (Recovering AnyUses port) (λ uses. uses) uses old mid tt stops.followed here) none);
+        }

@@ -1,0 +1,161 @@
+-- A port that runs again: what it shows, and that it goes well.
+use Rattle.std.proofs.Common.{ℕ, Bool, ◌≡◌, ◌≤◌, ◌++◌, true, false, List, ◌∷◌, length, inl, inr, refl, sym, ◌∙◌, ap, subst, arith, append_assoc, ⊎_elim}
+use Rattle.std.specs.Prelude.{All, Contains}
+use Rattle.std.proofs.lemmas.Bool.{true≢false, cases_eq}
+use Rattle.std.proofs.lemmas.List.{length-append}
+use Rattle.std.proofs.lemmas.List.Elements.{All-contains}
+use Rattle.ata_types.specs.declared.Port.{Port}
+use Rattle.adapter.specs.Device.{Device, Notes, PortState}
+use Rattle.adapter.specs.Device.Halt.{NotHalted}
+use Rattle.adapter.specs.declared.tape.Entry.{Entry}
+use Rattle.agreement.specs.Driven.{HasNoCommand}
+use Rattle.agreement.specs.Errors.{IsFatalOf}
+use Rattle.agreement.specs.Facts.{HasFaults, IsFaultOf, IsFaulted}
+use Rattle.agreement.specs.Links.{IsPlugging}
+use Rattle.agreement.specs.Slots.{IsOver}
+use Rattle.disk_page.specs.Asking.{LeavesRunning}
+use Rattle.port_control.specs.Ports.{IsRunning}
+use Rattle.error_recovery.specs.Evidence.{GainsRunning, ShowsFatal, ShowsTrouble}
+use Rattle.error_recovery.specs.Laws.{Laws}
+use Rattle.error_recovery.specs.Parts.{GoesOn, Resumes}
+use Rattle.error_recovery.specs.Recovery.{RunsAgain}
+use Rattle.error_recovery.proofs.Going.{Asks, Goes, plugs_in_parts, fatal_in_parts}
+use Rattle.error_recovery.proofs.Lists.{behind, stands}
+use Rattle.error_recovery.proofs.Quieting.{commands_plain}
+
+-- an entry that has come since ST was set isn't one that a stretch from then on hasn't gained
+gained_since : (Is : Entry → Type 0) (port : ℕ) (old start new : Device) → (new.port port).notes.st_set_at ≡ length start.tape → (gained : List Entry) → new.tape ≡ start.tape ++ gained →
+    All (λ e. Is e → ⊥) gained → GainsRunning Is port old new → ⊥
+gained_since Is port old start new set gained is none g =
+    let at : start.tape ++ gained ≡ (old.tape ++ g.before) ++ (g.entry ∷ g.later) = sym is ∙ (g.tape ∙ sym (append_assoc old.tape g.before (g.entry ∷ g.later))) in
+    let long = length-append old.tape g.before in
+    let since = g.since in
+    let split = behind start.tape gained (old.tape ++ g.before) g.entry g.later at (omega (arith, set, long, since)) in
+    let here : Contains gained g.entry = subst (λ (es : List Entry). Contains es g.entry) (sym split.1) (stands split.0 g.entry g.later) in
+    All-contains (λ e. Is e → ⊥) gained g.entry none here g.is
+
+-- where a bit isn't clear, it is set
+set_unless_clear : (b : Bool) → (b ≡ false → ⊥) → b ≡ true
+set_unless_clear true not = refl
+set_unless_clear false not = absurd (not refl)
+
+-- one of the three bits is set, unless all are clear
+fatal_unless_clear : (p : PortState) → (((place : ℕ) → 27 ≤ place → place ≤ 29 → p.is place ≡ false) → ⊥) → ShowsFatal p
+fatal_unless_clear p not = by (p.is 27) (p.is 28) (p.is 29) refl refl refl
+  where
+    by : (a b c : Bool) → p.is 27 ≡ a → p.is 28 ≡ b → p.is 29 ≡ c → ShowsFatal p
+    by true b c x y z = record { place = 27; from = omega arith; to = omega arith; set = x }
+    by false true c x y z = record { place = 28; from = omega arith; to = omega arith; set = y }
+    by false false true x y z = record { place = 29; from = omega arith; to = omega arith; set = z }
+    by false false false x y z = absurd (not (λ place from to. at place from to))
+      where
+        at : (place : ℕ) → 27 ≤ place → place ≤ 29 → p.is place ≡ false
+        at place from to = ⊎_elim (λ (e : place ≡ 27). rw e x)
+            (λ (ne : place ≡ 27 → ⊥). ⊎_elim (λ (e : place ≡ 28). rw e y) (λ (other : place ≡ 28 → ⊥). let e : place ≡ 29 = omega (arith, from, to, ne, other) in rw e z) (cases_eq place 28))
+            (cases_eq place 27)
+
+-- trouble since ST was set is shown, where what isn't shown hasn't come
+shows_trouble : (port : Port) (old start new : Device) → (new.port port.0).notes.st_set_at ≡ length start.tape → Asks port start new → ShowsTrouble port.0 old new
+shows_trouble port old start new set a = record {
+  fault = λ g. set_unless_clear ((new.port port.0).is 30) (λ clear. let n = (a.fault clear).1 in gained_since (IsFaultOf port.0) port.0 old start new set n.gained n.tape n.none g);
+  fatal = λ g. fatal_unless_clear (new.port port.0) (λ clear. let n = (a.fatal clear).1 in gained_since (IsFatalOf port.0) port.0 old start new set n.gained n.tape n.none g);
+  disk = λ g. set_unless_clear (new.port port.0).serr_n (λ clear. let n = (a.disk clear).1 in gained_since (IsPlugging port.0) port.0 old start new set n.gained n.tape n.none g);
+}
+
+-- a port that runs with no command, and had its log read
+pub asked_running : (port : ℕ) (start new : Device) → IsRunning port (start.port port) → LeavesRunning port start new → IsOver (new.port port) 0 → IsRunning port (new.port port)
+asked_running port start new runs l over = record {
+  st = l.controls.st ∙ runs.st;
+  cr = l.controls.runs runs.st runs.cr;
+  fre = l.controls.fre ∙ runs.fre;
+  bases = l.bases ∙ runs.bases;
+  ci = λ slot. ⊎_elim (λ (e : slot ≡ 0). rw e over.issued) (λ (ne : slot ≡ 0 → ⊥). l.ci slot ne (runs.ci slot)) (cases_eq slot 0);
+  sact = λ slot. l.sact slot (runs.sact slot);
+  taken = λ slot. ⊎_elim (λ (e : slot ≡ 0). rw e over.free) (λ (ne : slot ≡ 0 → ⊥). l.taken slot ne (runs.ci slot) (runs.taken slot)) (cases_eq slot 0);
+}
+
+pub no_command : (port : ℕ) (p : PortState) → IsRunning port p → HasNoCommand p
+no_command port p runs slot = record { issued = runs.ci slot; free = runs.taken slot }
+
+module _ (laws : Laws) (port : Port) (outstanding : ℕ) (queued : Bool) (before after : ℕ) (old d : Device) (r : Resumes port outstanding queued before after old d) (first : Goes port old d) where
+  -- ---- that was started, and no more
+
+  module _ (new : Device) (s : GoesOn port d new) (then : Goes port d new) (whole : Goes port old new) where
+    nothing_came : (Is : Entry → Type 0) → GainsRunning Is port.0 old new → ⊥
+    nothing_came Is g =
+        let n = ap (λ (es : List Entry). length es) g.tape ∙ length-append old.tape (g.before ++ g.entry ∷ g.later) in
+        let m = length-append g.before (g.entry ∷ g.later) in
+        let set = s.set in
+        let since = g.since in
+        omega (arith, n, m, set, since)
+
+    pub runs_plain : queued ≡ false → RunsAgain queued port.0 old new
+    runs_plain is = record {
+      runs = s.runs;
+      recorded = s.recorded;
+      count = ap (λ (n : Notes). n.link_count) s.same.1 ∙ r.quiets.count;
+      ended = λ on. absurd (true≢false (sym on ∙ is));
+      plain = λ _ plain. commands_plain laws port d new s.starts r.quiets.agreed (r.quiets.plain plain);
+      shows = record {
+        fault = λ g. absurd (nothing_came (IsFaultOf port.0) g);
+        fatal = λ g. absurd (nothing_came (IsFatalOf port.0) g);
+        disk = λ g. absurd (nothing_came (IsPlugging port.0) g);
+      };
+      well = λ none calm linked plain.
+          let n = plugs_in_parts laws port.0 old d new first.grows then.grows none in
+          let up = laws.up_of (d.port port.0) (first.linked n.0 linked) (r.quiets.plain (plain is)) in
+          laws.well_of (new.port port.0) (s.well up n.1)
+          (record {
+            serr_n = s.changes.serr_n n.1 (r.quiets.clear.serr_n n.0);
+            serr_x = s.changes.serr_x (laws.plugs_come port.0 d new n.1) (r.quiets.clear.serr_x (laws.plugs_come port.0 old d n.0));
+            quiet = λ place from to. s.calm place (r.quiets.calm place (omega (arith, to)));
+          });
+    }
+
+  -- ---- whose log was read
+
+  module _ (start new : Device) (s : GoesOn port d start) (then : Goes port d start) (l : LeavesRunning port.0 start new) (a : Asks port start new) (later : Goes port start new)
+      (over : IsOver (new.port port.0) 0) (running : (new.port port.0).halt ≡ NotHalted) where
+    runs : IsRunning port.0 (new.port port.0)
+    runs = asked_running port.0 start new s.runs l over
+
+    recorded : HasFaults new.tape (new.port port.0) port.0
+    recorded = l.recorded (λ _. s.recorded) runs.st
+
+    -- no fault halts it, so TFES is clear
+    unflagged : (new.port port.0).is 30 ≡ false
+    unflagged = by ((new.port port.0).is 30) refl
+      where
+        unhalted : IsFaulted (new.port port.0).halt → ⊥
+        unhalted f = not_faulted (subst IsFaulted running f)
+          where
+            not_faulted : IsFaulted NotHalted → ⊥
+            not_faulted (inl e) = absurd cc
+            not_faulted (inr e) = absurd cc
+
+        by : (b : Bool) → (new.port port.0).is 30 ≡ b → (new.port port.0).is 30 ≡ false
+        by true is = absurd (unhalted (recorded.flag is))
+        by false is = is
+
+    undue : (d.port port.0).link_due ≡ false
+    undue = r.quiets.quiet.linked
+
+    pub runs_queued : queued ≡ true → RunsAgain queued port.0 old new
+    runs_queued is = record {
+      runs = runs;
+      recorded = recorded;
+      count = ap (λ (n : Notes). n.link_count) l.notes ∙ (ap (λ (n : Notes). n.link_count) s.same.1 ∙ r.quiets.count);
+      ended = λ _. running;
+      plain = λ off. absurd (true≢false (sym is ∙ off));
+      shows = shows_trouble port old start new (ap (λ (n : Notes). n.st_set_at) l.notes ∙ s.set) a;
+      well = λ none calm linked plain.
+          let n = plugs_in_parts laws port.0 old d new first.grows (laws.grows_more d start new then.grows later.grows) none in
+          let m = plugs_in_parts laws port.0 d start new then.grows later.grows n.1 in
+          let f = fatal_in_parts laws port.0 old d new first.grows (laws.grows_more d start new then.grows later.grows) calm in
+          let k = fatal_in_parts laws port.0 d start new then.grows later.grows f.1 in
+          let c = later.changes (then.undue undue) in
+          laws.runs_well (new.port port.0) (a.runs m.1 k.1 (s.linked (first.linked n.0 linked) m.0)) running unflagged
+          (c.serr_n m.1 (s.changes.serr_n m.0 (r.quiets.clear.serr_n n.0)))
+          (c.serr_x (laws.plugs_come port.0 start new m.1) (s.changes.serr_x (laws.plugs_come port.0 d start m.0) (r.quiets.clear.serr_x (laws.plugs_come port.0 old d n.0))))
+          (a.raises k.1 (λ place from to. s.calm place (r.quiets.calm place (omega (arith, to)))));
+    }

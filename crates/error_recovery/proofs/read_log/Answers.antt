@@ -1,0 +1,34 @@
+use Rattle.std.proofs.Common.{ℕ, inr, refl, sym, ◌∙◌, ap, arith}
+use Rattle.hba_regs.specs.Bits.{bit}
+use Rattle.error_recovery.proofs.Starting.{tag_is_small}
+use Rattle.error_recovery.proofs.read_log.Goals as goal
+
+pub returns-in_default-clause-agreed : goal.returns-in_default-clause-agreed
+returns-in_default-clause-agreed g c = let a = c.requires.agreed in (_, tt, c.in_default.ensures.agrees a.0 (a.1 0) a.2)
+
+pub is_set-requires : goal.is_set-requires
+is_set-requires g c =
+    let told = (c.in-Some-parse_log.ensures.told c.in-Some-parse_log.failed).0 refl in
+    let small = tag_is_small _ _ _ _ told in
+    let same = c.from.ensures in
+    omega (arith, small, same)
+
+pub returns-then-is_set-clause-reads : goal.returns-then-is_set-clause-reads
+returns-then-is_set-clause-reads g c =
+    let told = (c.in-Some-parse_log.ensures.told c.in-Some-parse_log.failed).0 refl in
+    (_, c.in-Some.ensures.reads, told, ap (λ (n : ℕ). bit c.args.outstanding n) (sym c.from.ensures) ∙ (sym c.is_set.ensures ∙ c.if-is_set.true))
+
+pub returns-else-is_set-clause-reads : goal.returns-else-is_set-clause-reads
+returns-else-is_set-clause-reads g c =
+    let told = (c.in-Some-parse_log.ensures.told c.in-Some-parse_log.failed).0 refl in
+    inr (
+      _,
+      c.in-Some.ensures.reads,
+      inr (record {
+        tag = _;
+        status = _;
+        error = _;
+        tells = told;
+        foreign = ap (λ (n : ℕ). bit c.args.outstanding n) (sym c.from.ensures) ∙ (sym c.is_set.ensures ∙ c.if-is_set.false);
+      }),
+    )

@@ -1,0 +1,4 @@
+pub mod Evidence
+pub mod Recovery
+pub mod Parts
+pub mod Laws

@@ -1,0 +1,202 @@
+-- What recovery asks, and what it promises (this project's own; recovery: AHCI 1.3.1, 6.2.2; log 10h: ACS-3, A.14).
+use Rattle.std.specs.Prelude.{ℕ, Bool, true, false, ◌≡◌, ◌≢◌, ◌⊎◌, ◌<◌, ◌≤◌, ◌%◌, List, All, Option, None, Some}
+use Rattle.ata_types.specs.declared.Port.{Port}
+use Rattle.ata_types.specs.declared.memory.TheConstants.{DRIVER_BYTES}
+use Rattle.hba_regs.specs.Bits.{bit}
+use Rattle.hba_regs.specs.declared.reg.PortReg.{PortReg}
+use Rattle.adapter.specs.Access.{Access}
+use Rattle.adapter.specs.Device.{Device}
+use Rattle.adapter.specs.Device.Halt.{NotHalted}
+use Rattle.adapter.specs.Rules.{HasPort, IsOn}
+use Rattle.adapter.specs.declared.command.Operation.{Operation}
+use Rattle.adapter.specs.declared.command.Operation.TheVariants.{Identify, ReadLog}
+use Rattle.adapter.specs.declared.tape.Fault as tape_fault
+use Rattle.agreement.specs.Acts.{AnySlots, ByDeviceAlone, InSlots, Performs}
+use Rattle.agreement.specs.Driven.{AgreesWith, IsControl, SendsNone}
+use Rattle.agreement.specs.Errors.{NoneFatal}
+use Rattle.agreement.specs.Facts.{HasFaults, IsFaulted, RunsWell}
+use Rattle.agreement.specs.GivingUp.{given_up}
+use Rattle.agreement.specs.Links.{PlugsNone}
+use Rattle.agreement.specs.Recovering.{IsLinked, WorksPlainly}
+use Rattle.agreement.specs.Slots.{Free, Own, Uses, put}
+use Rattle.disk_page.specs.Asking.{IsAsking, WaitsInVain}
+use Rattle.error_log.specs.Log.{TellsError, TellsNoError}
+use Rattle.error_log.specs.declared.Failure.{Failure}
+use Rattle.port_control.specs.Engines.{Sticks, Stops}
+use Rattle.port_control.specs.Ports.{IsClearing, IsRunning, IsStopped, Shows, ShowsIdle, WritesCommand, programmed}
+use Rattle.port_control.specs.declared.PortFault.TheVariants.{EngineStuck}
+use Rattle.port_control.specs.declared.Running as running_token
+use Rattle.port_control.specs.declared.Stopped as stopped_token
+use Rattle.error_recovery.specs.Evidence.{BringsLog, HasFailed, ShowsTrouble}
+use Rattle.error_recovery.specs.declared.Next.{Next}
+use Rattle.error_recovery.specs.declared.Next.TheVariants.{Running, Restart, Dead}
+use Rattle.error_recovery.specs.declared.Recovered.{Recovered}
+
+-- ---- what is asked
+
+-- where the outstanding commands aren't queued, there is one alone, in slot 0
+abbrev pub FitsFor : Bool → ℕ → Uses → Type 0
+FitsFor queued port uses = queued ≡ false → (slot : ℕ) → slot ≢ 0 → uses port slot ≡ Free
+
+-- so tell the outstanding slots, by bit
+abbrev pub IsAloneIn : Bool → ℕ → Type 0
+IsAloneIn queued outstanding = queued ≡ false → (slot : ℕ) → slot < 32 → bit outstanding slot ≡ true → slot ≡ 0
+
+-- A fault has halted the port, which runs with its areas in their places; a device with a link was seen last, no COMRESET is being sent, and the
+-- faults since ST was set are on record.
+pub record MayRecover (port : ℕ) (d : Device) : Type 0 where
+  pub st : (d.port port).st ≡ true
+  pub cr : (d.port port).cr ≡ true
+  pub fre : (d.port port).fre ≡ true
+  pub bases : (d.port port).bases ≡ programmed port
+  pub det : (d.port port).sctl_det ≡ 0
+  pub linked : (d.port port).notes.last_ssts % 16 ≡ 3
+  pub recorded : HasFaults d.tape (d.port port) port
+  pub halted : IsFaulted (d.port port).halt
+
+-- ---- what is done
+
+-- PxCMD, PxSERR and PxIS
+abbrev pub IsRecovered : PortReg → Type 0
+IsRecovered r = WritesCommand r ⊎ IsClearing r
+
+-- it reads a register of the port, writes one of these three, or asks for the log: by slot 0's header and table, bit 0 of PxCI, and a load of the
+-- scratch frame
+abbrev pub IsRecovering : Port → Access → Type 0
+IsRecovering port access = IsControl IsRecovered port access ⊎ IsAsking port access
+
+-- slot 0 has a command of the driver's own
+abbrev pub with_own : ℕ → Operation → InSlots → InSlots
+with_own port o s = record s { uses = put s.uses port 0 (Own o) }
+
+-- Each slot of the port was given up once the port had stopped, and the requests that they served are parked; the device alone made steps. Of a
+-- dead port the slots are as they were, or READ LOG EXT may be in slot 0 still.
+abbrev pub LeavesSlots : ℕ → Next → List Access → Device → Device → Type 0
+LeavesSlots port Dead accesses old new =
+    Performs accesses AnySlots (λ s. s) ByDeviceAlone old new
+    ⊎ (Performs accesses AnySlots (given_up port) ByDeviceAlone old new
+    ⊎ Performs accesses AnySlots (λ s. with_own port ReadLog (given_up port s)) ByDeviceAlone old new)
+LeavesSlots port _ accesses old new = Performs accesses AnySlots (given_up port) ByDeviceAlone old new
+
+-- the accesses tell that the port was stopped; or that its engine is stuck
+abbrev pub TellsEngine : Port → Next → List Access → Type 0
+TellsEngine port Dead accesses = Sticks port accesses
+TellsEngine port _ accesses = Stops port accesses
+
+-- ---- what is told
+
+-- the slot is the one that is named
+abbrev pub IsNamed : Option Failure → ℕ → Type 0
+IsNamed None slot = ⊥
+IsNamed (Some failed) slot = slot ≡ failed.slot.0
+
+-- The outstanding slots are the one that is named and those that go again, and no slot is both.
+pub record Parts (outstanding : ℕ) (failed : Option Failure) (again : ℕ) : Type 0 where
+  pub split : (slot : ℕ) → slot < 32 → bit outstanding slot ≡ true → IsNamed failed slot ⊎ (bit again slot ≡ true)
+  pub apart : (slot : ℕ) → slot < 32 → bit again slot ≡ true → (bit outstanding slot ≡ true) × (IsNamed failed slot → ⊥)
+
+-- A plain command that is named rests on a fault of its slot, with this status and error.
+pub record RestsOnFault (port : Port) (outstanding : ℕ) (accesses : List Access) (old new : Device) (failed : Failure) : Type 0 where
+  pub slot_is : failed.slot.0 ≡ 0
+  pub among : bit outstanding 0 ≡ true
+  pub fault : tape_fault.Fault
+  pub has_failed : HasFailed port accesses old new fault
+  pub at : fault.slot.0 ≡ 0
+  pub status_is : fault.status ≡ failed.status
+  pub error_is : fault.error ≡ failed.error
+
+-- A queued one rests on a fault of the port, and on the last page of the log that the call brought, which names it.
+pub record RestsOnLog (port : Port) (outstanding : ℕ) (accesses : List Access) (old new : Device) (failed : Failure) : Type 0 where
+  pub small : failed.slot.0 < 32
+  pub among : bit outstanding failed.slot.0 ≡ true
+  pub fault : tape_fault.Fault
+  pub has_failed : HasFailed port accesses old new fault
+  pub page : List ℕ
+  pub brings : BringsLog port old new page
+  pub tells : TellsError page failed.slot.0 failed.status failed.error
+
+abbrev pub Rests : Bool → Port → ℕ → List Access → Device → Device → Option Failure → Type 0
+Rests queued port outstanding accesses old new None = Unit {0}
+Rests false port outstanding accesses old new (Some failed) = RestsOnFault port outstanding accesses old new failed
+Rests true port outstanding accesses old new (Some failed) = RestsOnLog port outstanding accesses old new failed
+
+-- the page names a slot that isn't outstanding
+pub record NamesForeign (outstanding : ℕ) (page : List ℕ) : Type 0 where
+  pub tag : ℕ
+  pub status : ℕ
+  pub error : ℕ
+  pub tells : TellsError page tag status error
+  pub foreign : bit outstanding tag ≡ false
+
+-- Why a port has to be booted: BSY or DRQ is what was read last of PxTFD. Or, where queued commands are outstanding, the log named none of
+-- them: 64 readings in a row showed READ LOG EXT issued still, or its page names no command, or one that isn't outstanding.
+abbrev pub MayRestart : Bool → Port → ℕ → List Access → Device → Device → Type 0
+MayRestart queued port outstanding accesses old new =
+    (ShowsIdle (new.port port.0).notes.last_tfd → ⊥)
+    ⊎ ((queued ≡ true) × (WaitsInVain port accesses
+    ⊎ ((page : List ℕ) × BringsLog port old new page × (TellsNoError page ⊎ NamesForeign outstanding page))))
+
+-- ---- how it ends
+
+-- The port runs, with its areas in their places and no command in a slot; the record of its faults has begun anew, and the count of PxSSTS is as it was.
+-- No halt of a fault is left: of queued commands none at all, and a port that worked on plain commands alone does so. What came since ST was
+-- set is shown. And where the link was up, no disk went or came and no fatal error came, the port runs well; one without queued commands, if it
+-- worked on plain ones alone.
+pub record RunsAgain (queued : Bool) (port : ℕ) (old new : Device) : Type 0 where
+  pub runs : IsRunning port (new.port port)
+  pub recorded : HasFaults new.tape (new.port port) port
+  pub count : (new.port port).notes.link_count ≡ (old.port port).notes.link_count
+  pub ended : queued ≡ true → (new.port port).halt ≡ NotHalted
+  pub plain : queued ≡ false → WorksPlainly (old.port port) → WorksPlainly (new.port port)
+  pub shows : ShowsTrouble port old new
+  pub well : PlugsNone port old new → NoneFatal port old new → IsLinked (old.port port) → (queued ≡ false → WorksPlainly (old.port port))
+      → RunsWell (new.port port)
+
+-- It is as `next` says: it runs; it is stopped, so that it can be booted; or its engine was awaited in vain.
+abbrev pub EndsIn : Bool → Port → Next → Device → Device → Type 0
+EndsIn queued port (Running token) old new = (token.port ≡ port) × RunsAgain queued port.0 old new
+EndsIn queued port (Restart token) old new = (token.port ≡ port) × IsStopped (new.port port.0)
+EndsIn queued port Dead old new = ((new.port port.0).st ≡ false) × Shows EngineStuck (new.port port.0).notes
+
+-- ---- the whole
+
+-- What recovery does: its accesses are of its kind; what becomes of the slots; and what is told of the port's engine.
+pub record DoesRecovery (port : Port) (result : Recovered) (accesses : List Access) (old new : Device) : Type 0 where
+  pub only : All (IsRecovering port) accesses
+  pub slots : LeavesSlots port.0 result.next accesses old new
+  pub engine : TellsEngine port result.next accesses
+
+-- What it tells: who failed, and on what that rests; who goes again; and why the port has to be booted. Where queued commands are outstanding,
+-- it runs only with one of them named; an outstanding plain one is named unless the port is dead; and then nobody is.
+pub record TellsRecovery (port : Port) (outstanding : ℕ) (queued : Bool) (result : Recovered) (accesses : List Access) (old new : Device) : Type 0 where
+  pub parts : Parts outstanding result.failed result.again
+  pub rests : Rests queued port outstanding accesses old new result.failed
+  pub named : (token : running_token.Running) → queued ≡ true → result.next ≡ Running token → result.failed ≢ None
+  pub told : queued ≡ false → bit outstanding 0 ≡ true → result.next ≢ Dead → result.failed ≢ None
+  pub dead : result.next ≡ Dead → result.failed ≡ None
+  pub restarts : (token : stopped_token.Stopped) → result.next ≡ Restart token → MayRestart queued port outstanding accesses old new
+
+-- What it leaves: the port as `next` says; DET of PxSCTL and when it was written, and PxIE, as they were. And where slot 0 had no IDENTIFY
+-- DEVICE, the disk has sent no page of it.
+pub record LeavesRecovery (port : Port) (queued : Bool) (next : Next) (old new : Device) : Type 0 where
+  pub ends : EndsIn queued port next old new
+  pub det : (new.port port.0).sctl_det ≡ 0
+  pub written : (new.port port.0).notes.sctl_written_at ≡ (old.port port.0).notes.sctl_written_at
+  pub enabled : (new.port port.0).ie ≡ (old.port port.0).ie
+  pub silent : AgreesWith (λ uses. uses port.0 0 ≡ Own Identify → ⊥) old → SendsNone port.0 Identify old new
+
+-- All that recovery promises, of one list of accesses.
+pub record Recovers (port : Port) (outstanding : ℕ) (queued : Bool) (result : Recovered) (old new : Device) : Type 0 where
+  pub accesses : List Access
+  pub does : DoesRecovery port result accesses old new
+  pub tells : TellsRecovery port outstanding queued result accesses old new
+  pub leaves : LeavesRecovery port queued result.next old new
+
+-- There is a port with a plain command that failed, of which all is so that is asked.
+pub record MayBeAsked : Type 0 where
+  pub device : Device
+  pub on : IsOn device
+  pub there : HasPort device 0
+  pub room : DRIVER_BYTES ≤ device.size
+  pub agreed : AgreesWith (FitsFor false 0) device
+  pub may : MayRecover 0 device

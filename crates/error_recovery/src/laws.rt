@@ -1,0 +1,42 @@
+// Laws of the definitions, for callers: the clause is the theorem. Nothing that runs calls these functions.
+ghost use Rattle.std.specs.Prelude.{ℕ, ◌+◌, ◌<◌, ◌≤◌, List, length};
+ghost use Rattle.ata_types.specs.declared.Port.{Port};
+ghost use Rattle.ata_types.specs.declared.memory.TheConstants.{DRIVER_BYTES};
+ghost use Rattle.hba_regs.specs.declared.reg.PortReg.TheVariants.{Ie, Sact, Sctl};
+ghost use Rattle.hba_regs.specs.declared.reg.Reg.TheVariants.{Ghc, Px};
+ghost use Rattle.adapter.specs.Access.{Access};
+ghost use Rattle.adapter.specs.Access.Access.{Loading, Storing};
+ghost use Rattle.agreement.specs.Driven.{IsOf};
+ghost use Rattle.agreement.specs.Links.{SparesRegister};
+ghost use Rattle.error_recovery.specs.Recovery.{IsRecovering, MayBeAsked};
+
+use super::lawful::laws_hold;
+use agreement::facts::faults_are_recorded;
+use agreement::laws::{a_first_read_agrees, putting_is_of_one_slot};
+use agreement::limits::a_fault_is_seen;
+
+/// Recovery touches no register of another port, nor another port's bit of IS: so what is said of such accesses (`IsOf`) is so of each of
+/// its own. They write no register of the adapter's own, and of the port's none but PxCMD, PxSERR, PxIS and PxCI: neither PxSCTL nor PxIE nor
+/// PxSACT. What they load and store lies in the driver's frames.
+pub fn recovery_is_of_its_port()
+    ensures of { (port : Port) (access : Access) → IsRecovering port access → IsOf port access }
+    ensures host { (port : Port) (access : Access) → IsRecovering port access → SparesRegister Ghc access }
+    ensures link { (port : Port) (access : Access) → IsRecovering port access → SparesRegister (Px port Sctl) access }
+    ensures interrupts { (port : Port) (access : Access) → IsRecovering port access → SparesRegister (Px port Ie) access }
+    ensures active { (port : Port) (access : Access) → IsRecovering port access → SparesRegister (Px port Sact) access }
+    ensures loads { (port : Port) (at : ℕ) (bytes : List ℕ) → port.0 < 4 → IsRecovering port (Loading at bytes) → at + length bytes ≤ DRIVER_BYTES }
+    ensures stores { (port : Port) (at : ℕ) (bytes : List ℕ) → port.0 < 4 → IsRecovering port (Storing at bytes) → at + length bytes ≤ DRIVER_BYTES }
+{
+    laws_hold();
+}
+
+/// What `recover` asks can be met: there is a port with a plain read that failed.
+pub fn a_port_may_be_recovered()
+    ensures { MayBeAsked }
+{
+    a_fault_is_seen();
+    a_first_read_agrees();
+    faults_are_recorded();
+    putting_is_of_one_slot();
+    laws_hold();
+}

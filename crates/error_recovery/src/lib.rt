@@ -1,0 +1,247 @@
+//! Recovery of a port that told the error of a command by TFES: which command failed, and how the port runs again without
+//! COMRESET, where it can (AHCI 1.3.1, 6.2.2; ACS-3, 7.24 and A.14).
+#![tactic(auto)]
+
+ghost use Rattle.std.specs.Prelude.{ℕ, Bool, true, false, None, Some, ◌≡◌, ◌≢◌, ◌<◌, ◌≤◌, ◌%◌, ◌/◌, ◌+◌, ◌||◌, IfSome, IfNone};
+ghost use Rattle.hba_regs.specs.Bits.{bit};
+ghost use Rattle.adapter.specs.Device.{Device};
+ghost use Rattle.adapter.specs.Device.Halt.{NotHalted};
+ghost use Rattle.adapter.specs.Rules.{IsOn, HasPort};
+ghost use Rattle.adapter.specs.declared.command.Operation.TheVariants.{Identify, ReadLog};
+ghost use Rattle.agreement.specs.Driven.{AgreesWith, AnyUse, IsAgreed, SendsNone};
+ghost use Rattle.agreement.specs.Driver.{AllFree};
+ghost use Rattle.agreement.specs.Slots.{Uses};
+ghost use Rattle.disk_page.specs.Asking.{AgreesAfter, LeavesRunning, MayAsk};
+ghost use Rattle.error_recovery.specs.Parts.{GetsStuck, GoesOn, HasRoom, MayGoOn, Quiets, ReadsLog, Resumes};
+ghost use Rattle.error_recovery.specs.Recovery.{FitsFor, IsAloneIn, IsNamed, MayRecover, Parts, Recovers};
+
+mod lawful;
+pub mod laws;
+
+use adapter::Adapter;
+use ata_types::{DRIVER_BYTES, Port, Slot};
+use disk_page::{Page, read_page};
+pub use error_log::Failure;
+use error_log::parse_log;
+use hba_regs::{PortReg, Reg, TaskFile, is_set, without_bit};
+use lawful::laws_hold;
+use port_control::{Running, Stopped, forget_errors, is_occupied, keep_receiving, start, stop};
+
+/// What a port is after recovery.
+#[derive(Debug, Drop)]
+pub enum Next {
+    /// It runs, with no command in a slot.
+    Running(Running),
+    /// It is stopped, and has to be booted.
+    Restart(Stopped),
+    /// Its engine is stuck.
+    Dead,
+}
+
+/// What came of recovery.
+#[derive(Debug, Drop)]
+pub struct Recovered {
+    /// The command that failed, where it is known.
+    pub failed: Option<Failure>,
+    /// The other slots whose commands were outstanding, by bit: they failed by no fault of their own.
+    pub again: u32,
+    /// What the port is.
+    pub next: Next,
+}
+
+/// A port that was stopped, and told to forget its errors.
+#[derive(Debug, Drop)]
+struct Quieted {
+    /// What PxTFD showed before: status and error of the fault.
+    fault: TaskFile,
+    /// What it shows now.
+    shown: TaskFile,
+    stopped: Stopped,
+}
+
+/// Reads PxTFD, stops the port, has it forget its errors, and reads PxTFD again. `None` where the engine is stuck.
+fn quiet<A: Adapter>(adapter: &mut A, port: Port) -> Option<Quieted>
+    requires room { HasRoom port.0 (A.device adapter.old) }
+    requires may { MayRecover port.0 (A.device adapter.old) }
+    requires agreed { AgreesWith AnyUse (A.device adapter.old) }
+    ensures on { IsOn (A.device adapter.new) }
+    ensures names { IfSome result (λ q. q.stopped.port ≡ port) }
+    ensures quiets { IfSome result (λ q. Quiets port q.fault.0 q.shown.0 (A.device adapter.old) (A.device adapter.new)) }
+    ensures sticks { IfNone result (GetsStuck port (A.device adapter.old) (A.device adapter.new)) }
+{
+    laws_hold();
+    let fault = TaskFile(adapter.read(Reg::Px(port, PortReg::Tfd)));
+    let Ok(stopped) = stop(adapter, port) else {
+        return None;
+    };
+    let shown = forget_errors(adapter, port);
+    Some(Quieted {
+        fault,
+        shown,
+        stopped,
+    })
+}
+
+/// Has a port that was quieted, and is idle, work on its command list again.
+fn go_on<A: Adapter>(adapter: &mut A, stopped: Stopped) -> Running
+    requires may { MayGoOn stopped.port.0 (A.device adapter.old) }
+    ensures names { result.port ≡ stopped.port }
+    ensures goes { GoesOn stopped.port (A.device adapter.old) (A.device adapter.new) }
+{
+    laws_hold();
+    let receiving = keep_receiving(adapter, stopped);
+    match start(adapter, receiving) {
+        Ok(running) => running,
+        Err(_) => unreachable!(),
+    }
+}
+
+/// Which of the outstanding queued commands failed, as the disk's log tells.
+fn read_log<A: Adapter>(adapter: &mut A, port: Port, outstanding: u32) -> Option<Failure>
+    requires room { HasRoom port.0 (A.device adapter.old) }
+    requires may { MayAsk port.0 (A.device adapter.old) }
+    requires agreed { AgreesWith (λ uses. AllFree uses port.0) (A.device adapter.old) }
+    ensures on { IsOn (A.device adapter.new) }
+    ensures leaves { LeavesRunning port.0 (A.device adapter.old) (A.device adapter.new) }
+    ensures agreed { AgreesWith AnyUse (A.device adapter.new) }
+    ensures reads { ReadsLog port outstanding result (A.device adapter.old) (A.device adapter.new) }
+    ensures running { IfSome result (λ _. ((A.device adapter.new).port port.0).halt ≡ NotHalted) }
+    ensures silent { SendsNone port.0 Identify (A.device adapter.old) (A.device adapter.new) }
+{
+    let Some(page) = read_page(adapter, port, Page::Errors) else {
+        return None;
+    };
+    let Some(failed) = parse_log(&page) else {
+        return None;
+    };
+    if is_set(outstanding, u32::from(failed.slot.0)) {
+        Some(failed)
+    } else {
+        None
+    }
+}
+
+/// Which plain command failed: the one that is outstanding, with status and error as the task file showed them.
+fn fault_of(outstanding: u32, fault: TaskFile) -> Option<Failure>
+    ensures named { IfSome result (λ failed. (failed.slot.0 ≡ 0) × (bit outstanding 0 ≡ true) × (failed.status ≡ fault.0 % 256) × (failed.error ≡ fault.0 / 256 % 256)) }
+    ensures none { IfNone result (bit outstanding 0 ≡ false) }
+{
+    if !is_set(outstanding, 0) {
+        return None;
+    }
+    Some(Failure {
+        slot: Slot(0),
+        status: fault.status(),
+        error: fault.error(),
+    })
+}
+
+/// The outstanding slots without the one that is named.
+fn others(outstanding: u32, failed: &Option<Failure>) -> u32
+    requires small { (slot : ℕ) → IsNamed failed.now slot → slot < 32 }
+    requires named { (slot : ℕ) → IsNamed failed.now slot → bit outstanding slot ≡ true }
+    ensures { Parts outstanding failed.now result }
+{
+    match failed {
+        Some(named) => without_bit(outstanding, u32::from(named.slot.0)),
+        None => outstanding,
+    }
+}
+
+/// Goes on with a port that was quieted: names the plain command that failed, if one is outstanding, and has the port run again, unless
+/// its disk is busy or asks for a transfer.
+fn finish_plain<A: Adapter>(adapter: &mut A, quieted: Quieted, outstanding: u32) -> Recovered
+    requires resumes { (old : Device) × Resumes quieted.stopped.port outstanding false quieted.fault.0 quieted.shown.0 old (A.device adapter.old) }
+    ensures on { IsOn (A.device adapter.new) }
+    ensures recovers { (old : Device) → Resumes quieted.stopped.port outstanding false quieted.fault.0 quieted.shown.0 old (A.device adapter.old)
+        → Recovers quieted.stopped.port outstanding false result old (A.device adapter.new) }
+{
+    laws_hold();
+    let failed = fault_of(outstanding, quieted.fault);
+    let again = others(outstanding, &failed);
+    if is_occupied(quieted.shown) {
+        let next = Next::Restart(quieted.stopped);
+        return Recovered {
+            failed,
+            again,
+            next,
+        };
+    }
+    let next = Next::Running(go_on(adapter, quieted.stopped));
+    Recovered {
+        failed,
+        again,
+        next,
+    }
+}
+
+/// Goes on with a port that was quieted: has it run again, unless its disk is busy or asks for a transfer, and asks the log which of the
+/// outstanding queued commands failed. Where it names none of them, the port is stopped again.
+fn finish_queued<A: Adapter>(adapter: &mut A, quieted: Quieted, outstanding: u32) -> Recovered
+    requires resumes { (old : Device) × Resumes quieted.stopped.port outstanding true quieted.fault.0 quieted.shown.0 old (A.device adapter.old) }
+    ensures on { IsOn (A.device adapter.new) }
+    ensures recovers { (old : Device) → Resumes quieted.stopped.port outstanding true quieted.fault.0 quieted.shown.0 old (A.device adapter.old)
+        → Recovers quieted.stopped.port outstanding true result old (A.device adapter.new) }
+{
+    laws_hold();
+    if is_occupied(quieted.shown) {
+        return unnamed(outstanding, Next::Restart(quieted.stopped));
+    }
+    let running = go_on(adapter, quieted.stopped);
+    let port = running.port();
+    if let Some(failed) = read_log(adapter, port, outstanding) {
+        let failed = Some(failed);
+        let again = others(outstanding, &failed);
+        let next = Next::Running(running);
+        return Recovered {
+            failed,
+            again,
+            next,
+        };
+    }
+    match stop(adapter, port) {
+        Ok(stopped) => unnamed(outstanding, Next::Restart(stopped)),
+        Err(_) => unnamed(outstanding, Next::Dead),
+    }
+}
+
+/// Nobody is named: all that is outstanding goes again.
+fn unnamed(outstanding: u32, next: Next) -> Recovered
+    ensures { result ≡ record { failed = None; again = outstanding; next = next } }
+{
+    Recovered {
+        failed: None,
+        again: outstanding,
+        next,
+    }
+}
+
+/// Finds out which command of a port has failed, and has the port run again without COMRESET, where that can be (AHCI 1.3.1, 6.2.2).
+/// It is called once PxIS was read with TFES, and then PxSSTS with DET 3, PxCI and PxSACT. `outstanding` are the slots whose commands aren't done, bit k for slot k; `queued` says whether these are
+/// queued commands: a plain one is alone, in slot 0.
+///
+/// PxTFD is read, the port is stopped, PxSERR and PxIS are cleared, and PxTFD is read again. A plain command failed with the status and error
+/// that the first reading showed. Where the second shows BSY or DRQ, the port is left stopped, and has to be booted; else ST is set. Of
+/// queued commands the disk's log of errors (READ LOG EXT, log 10h) names the one that failed; where its page doesn't come in 64 readings of PxCI, is refused,
+/// or names a slot that isn't outstanding, the port is stopped again, nobody is named, and it has to be booted. Where an engine is stuck
+/// for 64 readings of PxCMD, the port is dead, and nobody is named.
+pub fn recover<A: Adapter>(adapter: &mut A, port: Port, outstanding: u32, queued: bool) -> Recovered
+    requires on { IsOn (A.device adapter.old) }
+    requires there { HasPort (A.device adapter.old) port.0 }
+    requires room { DRIVER_BYTES ≤ (A.device adapter.old).size }
+    requires agreed { AgreesWith (FitsFor queued port.0) (A.device adapter.old) }
+    requires may { MayRecover port.0 (A.device adapter.old) }
+    requires alone { IsAloneIn queued outstanding }
+    ensures on { IsOn (A.device adapter.new) }
+    ensures recovers { Recovers port outstanding queued result (A.device adapter.old) (A.device adapter.new) }
+{
+    laws_hold();
+    let Some(quieted) = quiet(adapter, port) else {
+        return unnamed(outstanding, Next::Dead);
+    };
+    if queued {
+        finish_queued(adapter, quieted, outstanding)
+    } else {
+        finish_plain(adapter, quieted, outstanding)
+    }
+}

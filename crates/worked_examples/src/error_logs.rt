@@ -1,0 +1,35 @@
+// Pages of log 10h, worked out by hand from ACS-3: bits 4:0 of byte 0 are the tag, bit 7 is NQ; byte 2 is the status and byte 3 the error.
+use ata_types::Slot;
+use error_log::{Failure, parse_log};
+
+/// Tag 1 with status 41h and error 40h, and a last byte.
+fn page(first: u8, last: u8) -> [u8; 512] {
+    let mut page = [0; 512];
+    page[0] = first;
+    page[2] = 0x41;
+    page[3] = 0x40;
+    page[511] = last;
+    page
+}
+
+const FAILED: Failure = Failure {
+    slot: Slot(1),
+    status: 0x41,
+    error: 0x40,
+};
+
+/// Where all bytes are zero, their sum is right and NQ is clear.
+const ZEROS: Failure = Failure {
+    slot: Slot(0),
+    status: 0,
+    error: 0,
+};
+
+#[test]
+fn pages_of_the_log_are_read(rt: HostRuntime) {
+    assert_eq!(rt; parse_log(&page(0x01, 0x7e)), Some(FAILED));
+    assert_eq!(rt; parse_log(&page(0x01, 0x7f)), None);
+    assert_eq!(rt; parse_log(&page(0x81, 0xfe)), None);
+    assert_eq!(rt; parse_log(&page(0x61, 0x1e)), Some(FAILED));
+    assert_eq!(rt; parse_log(&[0; 512]), Some(ZEROS));
+}
