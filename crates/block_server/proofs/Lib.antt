@@ -10,3 +10,4 @@ pub mod Finishing
 mod Sending
 pub mod Healthy
 pub mod Keeping
+pub mod Settling

@@ -6,3 +6,4 @@ pub mod Calls
 pub mod Running
 pub mod Ports
 pub mod Healthy
+pub mod Fates

@@ -2,6 +2,7 @@
 #![tactic(auto)]
 
 mod answering;
+mod fates;
 mod kept;
 pub mod laws;
 mod modes;

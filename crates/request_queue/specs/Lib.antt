@@ -1,3 +1,4 @@
 pub mod Entries
 pub mod Store
 pub mod Machine
+pub mod Fates

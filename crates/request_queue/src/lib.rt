@@ -3,11 +3,13 @@
 
 mod book;
 mod due;
+mod fate;
 pub mod laws;
 mod store;
 
 use ata_types::{ClientId, Op, Port, Range, RequestId};
 pub use book::{Book, NoMemory};
+pub use fate::{Failed, Fate, Prospect};
 
 /// An unanswered request, and how far it is.
 #[derive(Clone, Copy, Debug, Default, PartialEq, Eq)]

@@ -1,0 +1,11 @@
+use Rattle.std.proofs.Common.{drop, filter}
+use Rattle.block_server.specs.Fates.{holding}
+use Rattle.block_server.proofs.Settling.{SoFar}
+use Rattle.request_queue.specs.Entries.{Held, is_of}
+use Rattle.request_queue.specs.Fates.{fate_of}
+use Rattle.block_server.proofs.fates.settle.Given as goal
+
+abbrev pub invariant-loop-place : goal.invariant-loop-place
+invariant-loop-place l =
+    SoFar (fate_of l.failed l.prospect) (filter (λ (e : Held). is_of l.fn.port e.entry) l.fn.book) (holding l.fn.book l.fn.table l.fn.kept) l.fn.replies.items
+    (drop l.place (filter (λ (e : Held). is_of l.fn.port e.entry) l.fn.book)) (holding l.book l.table l.kept) l.replies.items

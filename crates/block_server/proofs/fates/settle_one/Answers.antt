@@ -1,0 +1,128 @@
+use Rattle.std.proofs.Common.{◌≡◌, ◌++◌, List, [], ◌∷◌, refl, sym, ap, ◌∙◌, subst, append-nil, arith, length, None}
+use Rattle.std.specs.List.{All, Contains}
+use Rattle.ata_types.specs.declared.request.Reply.{Reply}
+use Rattle.ata_types.specs.declared.request.RequestId.{RequestId}
+use Rattle.dma_frames.specs.Table.{Table, LendsOnly}
+use Rattle.request_queue.specs.Entries.{Held, IsAccepted, requeued, without}
+use Rattle.request_queue.specs.Fates.{MeetsFate, fate_of, keeps_loan, reply_to}
+use Rattle.request_queue.specs.declared.Entry.{Entry}
+use Rattle.request_queue.specs.declared.fate.Fate.{Fate}
+use Rattle.block_server.specs.Fates.{HavePlaces, IsSound, holding}
+use Rattle.block_server.proofs.Settling.{again, ends_back, ends_kept, kept_issued, left_each, may_go_again, places_kept, places_left, shorter}
+use Rattle.block_server.proofs.fates.settle_one.Goals as goal
+use Rattle.block_server.proofs.fates.settle_one.Goals.{then-keeps_loan, else-keeps_loan}
+
+pub keep-requires : goal.keep-requires
+keep-requires c =
+    let r = c.request-entry.ensures in
+    let q = c.requires.here in
+    let same : r.0 ≡ q.0 = c.an_id_is_one_request.ensures.one c.args.book.now r.0 q.0 c.requires.sound.ordered r.1 q.1 (ap (λ (e : Entry). e.id) r.2 ∙ r.3 ∙ sym q.2) in
+    q.3 (ap (λ (h : Held). h.entry.issued) (sym same) ∙ ap (λ (e : Entry). e.issued) r.2 ∙ kept_issued c.in-Ends.outcome c.request-entry.result (sym c.keeps_loan.ensures ∙ c.if-keeps_loan.true))
+
+pub returns-in-Waits-clause-meets : goal.returns-in-Waits-clause-meets
+returns-in-Waits-clause-meets c = λ request here its.
+    let r = c.request-entry.ensures in
+    let same : r.0 ≡ request = c.an_id_is_one_request.ensures.one c.args.book.now r.0 request c.requires.sound.ordered r.1 here (ap (λ (e : Entry). e.id) r.2 ∙ r.3 ∙ sym its) in
+    let entry : request.entry ≡ c.request-entry.result = ap (λ (h : Held). h.entry) (sym same) ∙ r.2 in
+    let fate = ap (fate_of c.args.failed.now c.args.prospect) entry ∙ sym c.fate.ensures ∙ c.in-Waits.is in
+    let h = holding c.args.book.now c.args.table.now c.args.kept.now in
+    ([], sym (append-nil c.args.replies.now.items), subst (λ (f : Fate). MeetsFate request f [] h h) (sym fate) (refl, refl))
+
+pub returns-in-GoesAgain-clause-meets : goal.returns-in-GoesAgain-clause-meets
+returns-in-GoesAgain-clause-meets c = λ request here its.
+    let r = c.request-entry.ensures in
+    let same : r.0 ≡ request = c.an_id_is_one_request.ensures.one c.args.book.now r.0 request c.requires.sound.ordered r.1 here (ap (λ (e : Entry). e.id) r.2 ∙ r.3 ∙ sym its) in
+    let entry : request.entry ≡ c.request-entry.result = ap (λ (h : Held). h.entry) (sym same) ∙ r.2 in
+    let fate = ap (fate_of c.args.failed.now c.args.prospect) entry ∙ sym c.fate.ensures ∙ c.in-GoesAgain.is in
+    let h = holding c.args.book.now c.args.table.now c.args.kept.now in
+    let n = holding c.requeue.new.self c.args.table.now c.args.kept.now in
+    ([], sym (append-nil c.args.replies.now.items), subst (λ (f : Fate). MeetsFate request f [] h n) (sym fate) (refl, again c.args.id request.entry.id c.args.book.now c.requeue.new.self c.args.table.now c.args.kept.now its c.requeue.ensures))
+
+pub returns-after-keeps_loan-clause-meets : goal.returns-after-keeps_loan-clause-meets
+returns-after-keeps_loan-clause-meets c = λ request here its.
+    let r = c.request-entry.ensures in
+    let one = c.an_id_is_one_request.ensures.one c.args.book.now in
+    let same : r.0 ≡ request = one r.0 request c.requires.sound.ordered r.1 here (ap (λ (e : Entry). e.id) r.2 ∙ r.3 ∙ sym its) in
+    let entry : request.entry ≡ c.request-entry.result = ap (λ (h : Held). h.entry) (sym same) ∙ r.2 in
+    let outcome = c.in-Ends.outcome in
+    let fate = ap (fate_of c.args.failed.now c.args.prospect) entry ∙ sym c.fate.ensures ∙ c.in-Ends.is in
+    let loan = c.answer-loan.result.1 in
+    let taken : Held = record { entry = c.answer-loan.result.0; frames = loan.frames } in
+    let left : taken ≡ request = one taken request c.requires.sound.ordered c.answer-loan.ensures.entry here (c.answer-loan.ensures.id.0 ∙ sym its) in
+    let its_loan : Held = record { entry = request.entry; frames = loan.frames } in
+    let whole : its_loan ≡ request = (λ i. record { entry = ap (λ (h : Held). h.entry) (sym left) i; frames = loan.frames }) ∙ left in
+    let whose = c.answer-loan.ensures.id.1 ∙ sym its in
+    let rest = c.answer-loan.ensures.rest ∙ ap (λ (i : RequestId). without i c.args.book.now) (sym its) in
+    let keeps = ap (keeps_loan outcome) entry ∙ sym c.keeps_loan.ensures in
+    let reply : record { id = c.args.id; client = c.request-entry.result.client; outcome = outcome } ≡ reply_to request outcome = (λ i. record { id = sym its i; client = ap (λ (e : Entry). e.client) (sym entry) i; outcome = outcome }) in
+    (
+      reply_to request outcome ∷ [],
+      c.push.ensures.items ∙ ap (λ (x : Reply). c.args.replies.now.items ++ x ∷ []) reply,
+      elim c.if-keeps_loan.branch [
+        then-keeps_loan w ↦ ends_kept request outcome c.args.book.now c.answer-loan.new.self c.args.table.now c.if-keeps_loan.table c.args.kept.now c.if-keeps_loan.kept loan whole whose rest
+            (fate_of c.args.failed.now c.args.prospect request.entry) fate (keeps ∙ w.if-keeps_loan.true) (w.kept-is ∙ w.keep.ensures) w.table-is
+      | else-keeps_loan w ↦ ends_back request outcome c.args.book.now c.answer-loan.new.self c.args.table.now c.if-keeps_loan.table c.args.kept.now c.if-keeps_loan.kept loan whole whose rest
+            (fate_of c.args.failed.now c.args.prospect request.entry) fate (keeps ∙ w.if-keeps_loan.false) w.kept-is
+            (subst (λ (table : Table). LendsOnly c.args.table.now table loan.frames None) (sym w.table-is) w.give_back.ensures)
+      ],
+    )
+
+pub returns-in-GoesAgain-clause-others : goal.returns-in-GoesAgain-clause-others
+returns-in-GoesAgain-clause-others c = λ e here ne.
+    subst (λ (book : List Held). Contains book e) (sym c.requeue.ensures) (c.operations_change_one_request.ensures.others c.args.book.now c.args.id requeued e here ne)
+
+pub returns-in-GoesAgain-clause-sound : goal.returns-in-GoesAgain-clause-sound
+returns-in-GoesAgain-clause-sound c =
+    let r = c.request-entry.ensures in
+    let sound = c.requires.sound in
+    let its = may_go_again c.args.failed.now c.args.prospect r.0 c.args.book.now sound.ordered r.1
+    (ap (fate_of c.args.failed.now c.args.prospect) r.2 ∙ sym c.fate.ensures ∙ c.in-GoesAgain.is) in
+    subst (IsSound c.args.table.now) (sym c.requeue.ensures) (record {
+      ordered = c.the_book_stays_in_order.ensures.requeued c.args.book.now c.args.id sound.ordered (r.0, r.1, ap (λ (e : Entry). e.id) r.2 ∙ r.3, its.0, its.1);
+      rows = sound.rows;
+      accepted = c.accepted_requests_stay.ensures.requeued sound.rows c.args.table.now c.args.book.now c.args.id sound.accepted;
+    })
+
+pub returns-after-keeps_loan-clause-others : goal.returns-after-keeps_loan-clause-others
+returns-after-keeps_loan-clause-others c = λ e here ne.
+    subst (λ (book : List Held). Contains book e) (sym c.answer-loan.ensures.rest) ((c.operations_change_one_request.ensures.answered c.args.book.now c.args.id e).1 (here, ne))
+
+pub returns-after-keeps_loan-clause-places : goal.returns-after-keeps_loan-clause-places
+returns-after-keeps_loan-clause-places c = λ request rest here its places.
+    let r = c.request-entry.ensures in
+    let same : r.0 ≡ request = c.an_id_is_one_request.ensures.one c.args.book.now r.0 request c.requires.sound.ordered r.1 here (ap (λ (e : Entry). e.id) r.2 ∙ r.3 ∙ sym its) in
+    let entry : request.entry ≡ c.request-entry.result = ap (λ (h : Held). h.entry) (sym same) ∙ r.2 in
+    let keeps = ap (keeps_loan c.in-Ends.outcome) entry ∙ sym c.keeps_loan.ensures in
+    elim c.if-keeps_loan.branch [
+      then-keeps_loan w ↦ subst (HavePlaces rest) (sym (w.kept-is ∙ w.keep.ensures))
+          (places_kept request rest c.args.kept.now c.answer-loan.result.1 (kept_issued c.in-Ends.outcome request.entry (keeps ∙ w.if-keeps_loan.true)) places)
+    | else-keeps_loan w ↦ subst (HavePlaces rest) (sym w.kept-is) (places_left request rest c.args.kept.now places)
+    ]
+
+pub returns-after-keeps_loan-clause-sound : goal.returns-after-keeps_loan-clause-sound
+returns-after-keeps_loan-clause-sound c =
+    let sound = c.requires.sound in
+    let taken : Held = record { entry = c.answer-loan.result.0; frames = c.answer-loan.result.1.frames } in
+    let rest = c.answer-loan.ensures.rest in
+    let left = c.operations_change_one_request.ensures.answered c.args.book.now c.args.id in
+    let ordered = c.the_book_stays_in_order.ensures.answered c.args.book.now c.args.id sound.ordered in
+    elim c.if-keeps_loan.branch [
+      then-keeps_loan w ↦ subst (λ (table : Table). IsSound table c.answer-loan.new.self) (sym w.table-is) (subst (IsSound c.args.table.now) (sym rest) (record {
+        ordered = ordered;
+        rows = sound.rows;
+        accepted = left_each c.args.id c.args.book.now left (IsAccepted sound.rows c.args.table.now) sound.accepted;
+      }))
+    | else-keeps_loan w ↦ subst (λ (table : Table). IsSound table c.answer-loan.new.self) (sym w.table-is) (subst (IsSound w.give_back.new.self) (sym rest) (record {
+        ordered = ordered;
+        rows = sound.rows;
+        accepted = subst (λ (id : RequestId). All (IsAccepted sound.rows w.give_back.new.self) (without id c.args.book.now)) c.answer-loan.ensures.id.0
+            (c.accepted_requests_stay.ensures.answered sound.rows c.args.table.now w.give_back.new.self c.args.book.now taken c.answer-loan.ensures.entry w.give_back.ensures sound.accepted);
+      }))
+    ]
+
+pub returns-after-keeps_loan-clause-room : goal.returns-after-keeps_loan-clause-room
+returns-after-keeps_loan-clause-room c =
+    let n = c.push.ensures.len in
+    let r = c.requires.room in
+    let f = shorter c.args.id c.args.book.now c.answer-loan.new.self (record { entry = c.answer-loan.result.0; frames = c.answer-loan.result.1.frames }) c.answer-loan.ensures.entry c.answer-loan.ensures.id.0 c.answer-loan.ensures.rest in
+    omega (arith, n, r, f)

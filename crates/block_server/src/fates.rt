@@ -1,0 +1,86 @@
+// What becomes of the unanswered requests of a port that was stopped.
+ghost use Rattle.std.specs.Prelude.{ℕ, ◌≡◌, ◌≢◌, ◌≤◌, ◌+◌, ◌++◌, ◌∷◌, Contains, List, filter, length};
+ghost use Rattle.ata_types.specs.declared.request.Reply.{Reply};
+ghost use Rattle.block_server.specs.Fates.{HasPlaces, HavePlaces, IsSound, holding};
+ghost use Rattle.request_queue.specs.Entries.{Held, is_of};
+ghost use Rattle.request_queue.specs.Fates.{MeetFates, MeetsFate, fate_of};
+
+use super::kept::KeptLoans;
+use ata_types::{Port, Replies, Reply, RequestId};
+use dma_frames::FrameTable;
+use request_queue::laws::{
+    accepted_requests_stay, an_id_is_one_request, operations_change_one_request,
+    the_book_stays_in_order,
+};
+use request_queue::{Book, Failed, Fate, Prospect};
+
+/// Has one request meet its fate.
+fn settle_one(
+    book: &mut Book,
+    table: &mut FrameTable,
+    kept: &mut KeptLoans,
+    id: RequestId,
+    failed: &Option<Failed>,
+    prospect: Prospect,
+    replies: &mut Replies,
+)
+    requires sound { IsSound table.old book.old }
+    requires here { (request : Held) × Contains book.old request × (request.entry.id ≡ id) × HasPlaces request kept.old }
+    requires room { length replies.old.items + length book.old ≤ 128 }
+    ensures meets { (request : Held) → Contains book.old request → request.entry.id ≡ id
+        → (its : List Reply) × (replies.new.items ≡ replies.old.items ++ its)
+        × MeetsFate request (fate_of failed.now prospect request.entry) its (holding book.old table.old kept.old) (holding book.new table.new kept.new) }
+    ensures others { (e : Held) → Contains book.old e → e.entry.id ≢ id → Contains book.new e }
+    ensures places { (request : Held) (rest : List Held) → Contains book.old request → request.entry.id ≡ id
+        → HavePlaces (request ∷ rest) kept.old → HavePlaces rest kept.new }
+    ensures sound { IsSound table.new book.new }
+    ensures room { length replies.new.items + length book.new ≤ 128 }
+{
+    an_id_is_one_request();
+    accepted_requests_stay();
+    operations_change_one_request();
+    the_book_stays_in_order();
+    let entry = book.request(id);
+    match entry.fate(failed, prospect) {
+        Fate::Waits => {}
+        Fate::GoesAgain => book.requeue(id),
+        Fate::Ends(outcome) => {
+            let (_, loan) = book.answer(id);
+            if entry.keeps_loan(outcome) {
+                kept.keep(loan);
+            } else {
+                table.give_back(loan);
+            }
+            replies.push(Reply {
+                id,
+                client: entry.client,
+                outcome,
+            });
+        }
+    }
+}
+
+/// Has the unanswered requests of a port meet their fates, in order of acceptance. The replies come after those that there are.
+pub(crate) fn settle(
+    book: &mut Book,
+    table: &mut FrameTable,
+    kept: &mut KeptLoans,
+    port: Port,
+    failed: &Option<Failed>,
+    prospect: Prospect,
+    replies: &mut Replies,
+)
+    requires sound { IsSound table.old book.old }
+    requires places { HavePlaces (filter (λ (e : Held). is_of port e.entry) book.old) kept.old }
+    requires room { length replies.old.items + length book.old ≤ 128 }
+    ensures meet { (its : List Reply) × (replies.new.items ≡ replies.old.items ++ its)
+        × MeetFates (fate_of failed.now prospect) (filter (λ (e : Held). is_of port e.entry) book.old) its
+            (holding book.old table.old kept.old) (holding book.new table.new kept.new) }
+    ensures sound { IsSound table.new book.new }
+    ensures room { length replies.new.items + length book.new ≤ 128 }
+{
+    let ids = book.ids_of(port);
+    for place in 0..ids.len() {
+        settle_one(book, table, kept, ids[place], failed, prospect, replies);
+    }
+}
