@@ -94,15 +94,21 @@ module _ (request : Held) (outcome : Outcome) (book later : List Held) (old new 
 
   pub ends_kept : (fate : Fate) → fate ≡ Ends outcome → keeps_loan outcome request.entry ≡ true → more ≡ kept ++ loan ∷ [] → new ≡ old
       → MeetsFate request fate (reply_to request outcome ∷ []) (holding book old kept) (holding later new more)
-  ends_kept fate is keeps more_is same = subst (λ (f : Fate). MeetsFate request f (reply_to request outcome ∷ []) (holding book old kept) (holding later new more)) (sym is)
-      (refl, rest, subst (λ (b : Bool). EndsLoan b request (holding book old kept) (holding later new more)) (sym keeps)
-      (more_is ∙ (λ i. kept ++ record { frames = frames_are i; request = whose i } ∷ []), same))
+  ends_kept fate is keeps more_is same = subst (λ (f : Fate). MeetsFate request f (reply_to request outcome ∷ []) (holding book old kept) (holding later new more)) (sym is) (
+    refl,
+    rest,
+    subst (λ (b : Bool). EndsLoan b request (holding book old kept) (holding later new more)) (sym keeps)
+        (more_is ∙ (λ i. kept ++ record { frames = frames_are i; request = whose i } ∷ []), same),
+  )
 
   pub ends_back : (fate : Fate) → fate ≡ Ends outcome → keeps_loan outcome request.entry ≡ false → more ≡ kept → LendsOnly old new loan.frames None
       → MeetsFate request fate (reply_to request outcome ∷ []) (holding book old kept) (holding later new more)
-  ends_back fate is keeps same lends = subst (λ (f : Fate). MeetsFate request f (reply_to request outcome ∷ []) (holding book old kept) (holding later new more)) (sym is)
-      (refl, rest, subst (λ (b : Bool). EndsLoan b request (holding book old kept) (holding later new more)) (sym keeps)
-      (same, subst (λ frames. LendsOnly old new frames None) frames_are lends))
+  ends_back fate is keeps same lends = subst (λ (f : Fate). MeetsFate request f (reply_to request outcome ∷ []) (holding book old kept) (holding later new more)) (sym is) (
+    refl,
+    rest,
+    subst (λ (b : Bool). EndsLoan b request (holding book old kept) (holding later new more)) (sym keeps)
+        (same, subst (λ frames. LendsOnly old new frames None) frames_are lends),
+  )
 
 -- ---- one after another
 

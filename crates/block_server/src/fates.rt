@@ -75,7 +75,7 @@ pub(crate) fn settle(
     requires room { length replies.old.items + length book.old ≤ 128 }
     ensures meet { (its : List Reply) × (replies.new.items ≡ replies.old.items ++ its)
         × MeetFates (fate_of failed.now prospect) (filter (λ (e : Held). is_of port e.entry) book.old) its
-            (holding book.old table.old kept.old) (holding book.new table.new kept.new) }
+        (holding book.old table.old kept.old) (holding book.new table.new kept.new) }
     ensures sound { IsSound table.new book.new }
     ensures room { length replies.new.items + length book.new ≤ 128 }
 {

@@ -106,7 +106,7 @@ pub record IsCalmTurn (port : Port) (replies : List Reply) (accesses : List Acce
 
 -- What a turn that made these accesses and said these replies has made of the machine: its steps may come, and lead to a machine that stands for
 -- the new server; the tape backs them; and they are the device's own, or of requests of the port. Its evidence names the port alone, and is
--- backed by the device. What a service owes and claims, the turn owes and claims of its port.
+-- backed by the device. Of what a service owes and claims it owes and claims what the block machine asks, and what is asked of a port that stays healthy.
 pub record MakesTurn (port : Port) (replies : List Reply) (accesses : List Access) (old new : Server) (m : Machine) : Type 0 where
   pub steps : List Step
   pub evidence : Evidence
@@ -129,7 +129,8 @@ pub record MakesTurn (port : Port) (replies : List Reply) (accesses : List Acces
   pub faults : (told : Fault) → Contains evidence.faults told → TellsFault port accesses old new told
   pub calm : StaysHealthy port.0 old.device new.device → IsCalmTurn port replies accesses old new evidence steps
 
--- what a turn of the port leaves of the server: grants, owners and wanted disks, the id that was handed out last, and all of the other ports
+-- what a turn of the port leaves of the server: its grants, the disks that are wanted, the id that was handed out last, and what it has of other ports and their
+-- requests (the machine that stands for it has the owners, and the loans that are kept)
 pub record LeavesOthers (port : Port) (old new : Server) : Type 0 where
   pub grants : new.grants ≡ old.grants
   pub wanted : new.wanted ≡ old.wanted

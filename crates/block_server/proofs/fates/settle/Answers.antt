@@ -21,8 +21,7 @@ pub settle_one-requires-clause-here : goal.settle_one-requires-clause-here
 settle_one-requires-clause-here c =
     let all = filter (λ (e : Held). is_of c.args.port e.entry) c.args.book.now in
     let n = settling.next_of all c.loop-place.place (settling.as_many c.args.port c.args.book.now c.ids_of-ids.result.items c.loop-place.place c.len-place-end.result c.ids_of-ids.ensures c.len-place-end.ensures.value c.loop-place-test.true) in
-    let f = c.loop-place.invariant in
-    (
+    let f = c.loop-place.invariant in (
       n.0,
       f.here n.0 (subst (λ (list : List Held). Contains list n.0) (sym n.1) (Contains-get_or (n.0 ∷ drop (c.loop-place.place + 1) all) 0 n.0 (omega arith))),
       sym (ap (λ (ids : List RequestId). get_or ids c.loop-place.place (record { 0 = 0 })) (c.deref.ensures.0 ∙ c.ids_of-ids.ensures) ∙ n.2 (record { 0 = 0 })),
@@ -43,7 +42,7 @@ loop-place-preserved c =
     let left = drop (c.loop-place.place + 1) all in
     let n = settling.next_of all c.loop-place.place (settling.as_many port c.args.book.now c.ids_of-ids.result.items c.loop-place.place c.len-place-end.result c.ids_of-ids.ensures c.len-place-end.ensures.value c.loop-place-test.true) in
     let f : settling.SoFar fate all start c.args.replies.now.items (n.0 ∷ left) now c.loop-place.replies.items =
-        subst (λ (list : List Held). settling.SoFar fate all start c.args.replies.now.items list now c.loop-place.replies.items) n.1 c.loop-place.invariant in
+    subst (λ (list : List Held). settling.SoFar fate all start c.args.replies.now.items list now c.loop-place.replies.items) n.1 c.loop-place.invariant in
     let here = f.here n.0 (Contains-get_or (n.0 ∷ left) 0 n.0 (omega arith)) in
     let its_id = sym (ap (λ (ids : List RequestId). get_or ids c.loop-place.place (record { 0 = 0 })) (c.deref.ensures.0 ∙ c.ids_of-ids.ensures) ∙ n.2 (record { 0 = 0 })) in
     let m = c.settle_one.ensures.meets n.0 here its_id in

@@ -54,14 +54,13 @@ returns-after-keeps_loan-clause-meets c = λ request here its.
     let whose = c.answer-loan.ensures.id.1 ∙ sym its in
     let rest = c.answer-loan.ensures.rest ∙ ap (λ (i : RequestId). without i c.args.book.now) (sym its) in
     let keeps = ap (keeps_loan outcome) entry ∙ sym c.keeps_loan.ensures in
-    let reply : record { id = c.args.id; client = c.request-entry.result.client; outcome = outcome } ≡ reply_to request outcome = (λ i. record { id = sym its i; client = ap (λ (e : Entry). e.client) (sym entry) i; outcome = outcome }) in
-    (
+    let reply : record { id = c.args.id; client = c.request-entry.result.client; outcome = outcome } ≡ reply_to request outcome = (λ i. record { id = sym its i; client = ap (λ (e : Entry). e.client) (sym entry) i; outcome = outcome }) in (
       reply_to request outcome ∷ [],
       c.push.ensures.items ∙ ap (λ (x : Reply). c.args.replies.now.items ++ x ∷ []) reply,
       elim c.if-keeps_loan.branch [
-        then-keeps_loan w ↦ ends_kept request outcome c.args.book.now c.answer-loan.new.self c.args.table.now c.if-keeps_loan.table c.args.kept.now c.if-keeps_loan.kept loan whole whose rest
+        | then-keeps_loan w ↦ ends_kept request outcome c.args.book.now c.answer-loan.new.self c.args.table.now c.if-keeps_loan.table c.args.kept.now c.if-keeps_loan.kept loan whole whose rest
             (fate_of c.args.failed.now c.args.prospect request.entry) fate (keeps ∙ w.if-keeps_loan.true) (w.kept-is ∙ w.keep.ensures) w.table-is
-      | else-keeps_loan w ↦ ends_back request outcome c.args.book.now c.answer-loan.new.self c.args.table.now c.if-keeps_loan.table c.args.kept.now c.if-keeps_loan.kept loan whole whose rest
+        | else-keeps_loan w ↦ ends_back request outcome c.args.book.now c.answer-loan.new.self c.args.table.now c.if-keeps_loan.table c.args.kept.now c.if-keeps_loan.kept loan whole whose rest
             (fate_of c.args.failed.now c.args.prospect request.entry) fate (keeps ∙ w.if-keeps_loan.false) w.kept-is
             (subst (λ (table : Table). LendsOnly c.args.table.now table loan.frames None) (sym w.table-is) w.give_back.ensures)
       ],
@@ -94,9 +93,9 @@ returns-after-keeps_loan-clause-places c = λ request rest here its places.
     let entry : request.entry ≡ c.request-entry.result = ap (λ (h : Held). h.entry) (sym same) ∙ r.2 in
     let keeps = ap (keeps_loan c.in-Ends.outcome) entry ∙ sym c.keeps_loan.ensures in
     elim c.if-keeps_loan.branch [
-      then-keeps_loan w ↦ subst (HavePlaces rest) (sym (w.kept-is ∙ w.keep.ensures))
+      | then-keeps_loan w ↦ subst (HavePlaces rest) (sym (w.kept-is ∙ w.keep.ensures))
           (places_kept request rest c.args.kept.now c.answer-loan.result.1 (kept_issued c.in-Ends.outcome request.entry (keeps ∙ w.if-keeps_loan.true)) places)
-    | else-keeps_loan w ↦ subst (HavePlaces rest) (sym w.kept-is) (places_left request rest c.args.kept.now places)
+      | else-keeps_loan w ↦ subst (HavePlaces rest) (sym w.kept-is) (places_left request rest c.args.kept.now places)
     ]
 
 pub returns-after-keeps_loan-clause-sound : goal.returns-after-keeps_loan-clause-sound
@@ -107,12 +106,12 @@ returns-after-keeps_loan-clause-sound c =
     let left = c.operations_change_one_request.ensures.answered c.args.book.now c.args.id in
     let ordered = c.the_book_stays_in_order.ensures.answered c.args.book.now c.args.id sound.ordered in
     elim c.if-keeps_loan.branch [
-      then-keeps_loan w ↦ subst (λ (table : Table). IsSound table c.answer-loan.new.self) (sym w.table-is) (subst (IsSound c.args.table.now) (sym rest) (record {
+      | then-keeps_loan w ↦ subst (λ (table : Table). IsSound table c.answer-loan.new.self) (sym w.table-is) (subst (IsSound c.args.table.now) (sym rest) (record {
         ordered = ordered;
         rows = sound.rows;
         accepted = left_each c.args.id c.args.book.now left (IsAccepted sound.rows c.args.table.now) sound.accepted;
       }))
-    | else-keeps_loan w ↦ subst (λ (table : Table). IsSound table c.answer-loan.new.self) (sym w.table-is) (subst (IsSound w.give_back.new.self) (sym rest) (record {
+      | else-keeps_loan w ↦ subst (λ (table : Table). IsSound table c.answer-loan.new.self) (sym w.table-is) (subst (IsSound w.give_back.new.self) (sym rest) (record {
         ordered = ordered;
         rows = sound.rows;
         accepted = subst (λ (id : RequestId). All (IsAccepted sound.rows w.give_back.new.self) (without id c.args.book.now)) c.answer-loan.ensures.id.0
