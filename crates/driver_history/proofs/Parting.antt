@@ -173,7 +173,7 @@ module _ (laws : Laws) (port : Port) where
   -- ---- a turn in a call
 
   module _ (old : Instant Device) (begun : Moment) (ended ports : Ports) (new : Device) (turn call : Evidence) (ask : Ask DeviceStep) (said : Said)
-      (on : IsOn old.device) (linked : (old.device.port port.0).link_due ≡ false) (t : HasTurnIn port old.device new) (on_then : IsOn t.end)
+      (on : IsOn old.device) (linked : (old.moment.ports.state port ≡ Ready) ⊎ Contains turn.lost port → (old.device.port port.0).link_due ≡ false) (t : HasTurnIn port old.device new) (on_then : IsOn t.end)
       (was : SamePort old.moment.ports begun.ports port) (stays : SamePort ended ports port) (alike : NamesAlike port turn call)
       (its : IsEvidencedOf ask said t.turn (record { device = t.start; moment = begun }) ended t.end turn port) where
     first : IsLeft old.device t.start
@@ -201,18 +201,18 @@ module _ (laws : Laws) (port : Port) where
     Plugs = Gains (IsPlugging port.0) old.device new
 
     -- what the port shows when its turn begins, it showed when the call began, or the call gained what it tells of
-    changes : ShowsChange (t.start.port port.0) → ShowsChange (old.device.port port.0) ⊎ Gains (IsPlugging port.0) old.device new
-    changes shown = ⊎_elim (λ g. inr (before (IsPlugging port.0) g)) (λ none. inl (⊎_elim (n none) (x none) shown)) plugged
+    changes : (old.device.port port.0).link_due ≡ false → ShowsChange (t.start.port port.0) → ShowsChange (old.device.port port.0) ⊎ Gains (IsPlugging port.0) old.device new
+    changes undue shown = ⊎_elim (λ g. inr (before (IsPlugging port.0) g)) (λ none. inl (⊎_elim (n none) (x none) shown)) plugged
       where
         n : PlugsNone port.0 old.device t.start → (t.start.port port.0).serr_n ≡ true → ShowsChange (old.device.port port.0)
-        n none is = ⊎_elim (λ set. inl set) (λ clear. absurd (false≢true (sym ((first.disks linked).serr_n none clear) ∙ is))) (cases_Bool (old.device.port port.0).serr_n)
+        n none is = ⊎_elim (λ set. inl set) (λ clear. absurd (false≢true (sym ((first.disks undue).serr_n none clear) ∙ is))) (cases_Bool (old.device.port port.0).serr_n)
 
         x : PlugsNone port.0 old.device t.start → (t.start.port port.0).serr_x ≡ true → ShowsChange (old.device.port port.0)
-        x none is = ⊎_elim (λ set. inr set) (λ clear. absurd (false≢true (sym ((first.disks linked).serr_x (laws.plugs_come port.0 old.device t.start none) clear) ∙ is)))
+        x none is = ⊎_elim (λ set. inr set) (λ clear. absurd (false≢true (sym ((first.disks undue).serr_x (laws.plugs_come port.0 old.device t.start none) clear) ∙ is)))
             (cases_Bool (old.device.port port.0).serr_x)
 
-    missing : (t.start.port port.0).ssts_det ≢ 3 → ((old.device.port port.0).ssts_det ≢ 3) ⊎ Gains (IsPlugging port.0) old.device new
-    missing gone = ⊎_elim (λ g. inr (before (IsPlugging port.0) g)) (λ none. inl (λ there. gone (first.shows linked none ∙ there))) plugged
+    missing : (old.device.port port.0).link_due ≡ false → (t.start.port port.0).ssts_det ≢ 3 → ((old.device.port port.0).ssts_det ≢ 3) ⊎ Gains (IsPlugging port.0) old.device new
+    missing undue gone = ⊎_elim (λ g. inr (before (IsPlugging port.0) g)) (λ none. inl (λ there. gone (first.shows undue none ∙ there))) plugged
 
     fatal : ShowsFatal (t.start.port port.0) → ShowsFatal (old.device.port port.0) ⊎ Gains (IsFatalOf port.0) old.device new
     unfolding GainsOrNone
@@ -254,27 +254,27 @@ module _ (laws : Laws) (port : Port) where
     ready_then : begun.ports.state port ≡ Ready → old.moment.ports.state port ≡ Ready
     ready_then is = sym was.1 ∙ is
 
-    lost : IsLost port (record { device = t.start; moment = begun }) ended t.end → IsLost port old ports new
-    lost (inl shown) = ⊎_elim (λ change. inl change) (λ g. inr (inr (inl g))) (changes shown)
-    lost (inr (inl gone)) = ⊎_elim (λ out. inr (inl out)) (λ g. inr (inr (inl g))) (missing gone)
-    lost (inr (inr (inl g))) = inr (inr (inl (within (IsPlugging port.0) g)))
-    lost (inr (inr (inr end))) = inr (inr (inr (
+    lost : (old.device.port port.0).link_due ≡ false → IsLost port (record { device = t.start; moment = begun }) ended t.end → IsLost port old ports new
+    lost undue (inl shown) = ⊎_elim (λ change. inl change) (λ g. inr (inr (inl g))) (changes undue shown)
+    lost undue (inr (inl gone)) = ⊎_elim (λ out. inr (inl out)) (λ g. inr (inr (inl g))) (missing undue gone)
+    lost undue (inr (inr (inl g))) = inr (inr (inl (within (IsPlugging port.0) g)))
+    lost undue (inr (inr (inr end))) = inr (inr (inr (
       (λ dead. end.0 (sym stays.1 ∙ dead)),
       (λ is same. end.1 (sym stays.1 ∙ is) (sym stays.2 ∙ same.0 ∙ sym was.2, sym stays.3 ∙ same.1 ∙ sym was.3)),
     )))
 
     gone_only : IsGone port (record { device = t.start; moment = begun }) t.end → IsGone port old new
-    gone_only (is, inl shown) = (ready_then is, ⊎_elim (λ change. inl change) (λ g. inr (inr g)) (changes shown))
-    gone_only (is, inr (inl gone)) = (ready_then is, ⊎_elim (λ out. inr (inl out)) (λ g. inr (inr g)) (missing gone))
+    gone_only (is, inl shown) = (ready_then is, ⊎_elim (λ change. inl change) (λ g. inr (inr g)) (changes (linked (inl (ready_then is))) shown))
+    gone_only (is, inr (inl gone)) = (ready_then is, ⊎_elim (λ out. inr (inl out)) (λ g. inr (inr g)) (missing (linked (inl (ready_then is))) gone))
     gone_only (is, inr (inr g)) = (ready_then is, inr (inr (within (IsPlugging port.0) g)))
 
-    gone_all : ShowsLoss port old.device new → ShowsLoss port t.start t.end
-    gone_all (inl change) = inl (kept_change change)
-    gone_all (inr (out, none)) =
+    gone_all : old.moment.ports.state port ≡ Ready → ShowsLoss port old.device new → ShowsLoss port t.start t.end
+    gone_all is (inl change) = inl (kept_change change)
+    gone_all is (inr (out, none)) =
         let a = laws.comes_parts port.0 old.device t.start new first.grows.0 since.0 first.grows.1 since.1 none in
         let middle = grows_over t.turn t.start t.end t.then in
         let b = laws.comes_parts port.0 t.start t.end new middle.0 last.grows.0 middle.1 last.grows.1 a.1 in
-        inr ((λ there. out ((first.disks linked).det a.0 there).0), b.0)
+        inr ((λ there. out ((first.disks (linked (inl is))).det a.0 there).0), b.0)
 
     errors : HasErrors port (record { device = t.start; moment = begun }) t.end → HasErrors port old new
     errors (is, inl (inl shown)) = (ready_then is, ⊎_elim (λ f. inl (inl f)) (λ g. inr (inr g)) (fatal shown))
@@ -288,8 +288,8 @@ module _ (laws : Laws) (port : Port) where
 
     pub evidence_is_the_calls : IsEvidencedOf ask said (all_of t) old ports new call port
     evidence_is_the_calls = record {
-      lost = λ named. lost (its.lost (alike.lost.1 named));
-      gone_all = λ is loss. alike.gone.0 (its.gone_all (ready is) (gone_all loss));
+      lost = λ named. lost (linked (inr (alike.lost.1 named))) (its.lost (alike.lost.1 named));
+      gone_all = λ is loss. alike.gone.0 (its.gone_all (ready is) (gone_all is loss));
       gone_only = λ named. gone_only (its.gone_only (alike.gone.1 named));
       failed_all = λ is failure. alike.failed.0 (its.failed_all (ready is) (kept_failure failure));
       failed_only = λ named. errors (its.failed_only (alike.failed.1 named));

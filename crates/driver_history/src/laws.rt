@@ -167,11 +167,13 @@ pub fn due_are_issued()
 {}
 
 /// What stands behind a port's evidence in its own turn of a call stands behind it in the whole call, where the turn's and the call's evidence name the
-/// port in the same lists, no link of the port is due when the call begins, and but for the turn the call's accesses are of other ports. So it is with a
-/// fault that stood on the tape before the port was stopped, and with the last page of the log that its disk sent, where it sends none after the turn.
+/// port in the same lists, and but for the turn the call's accesses are of other ports; of a ready port, and of one that is named as lost, no link may be due
+/// when the call begins. So it is with a fault that stood on the tape before the port was stopped, and with the last page of the log that its disk sent, where
+/// it sends none after the turn.
 pub fn a_turns_evidence_is_the_calls()
     ensures evidence { (port : Port) (old : Instant Device) (begun : Moment) (ended ports : Ports) (new : Device) (turn call : Evidence)
-        (ask : Ask DeviceStep) (said : Said) → IsOn old.device → (old.device.port port.0).link_due ≡ false
+        (ask : Ask DeviceStep) (said : Said) → IsOn old.device
+        → ((old.moment.ports.state port ≡ Ready) ⊎ Contains turn.lost port → (old.device.port port.0).link_due ≡ false)
         → (t : HasTurnIn port old.device new) → IsOn t.end → SamePort old.moment.ports begun.ports port → SamePort ended ports port
         → NamesAlike port turn call
         → IsEvidencedOf ask said t.turn (record { device = t.start; moment = begun }) ended t.end turn port

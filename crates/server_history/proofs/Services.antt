@@ -227,7 +227,7 @@ module _ (laws : LawsBelow) (s : Server) (start : IsSettled s) (old : Moment) (r
     evidenced_n : IsEvidencedOf Service (Served []) accesses began (ports_of mid) mid.device evidence (port_at n)
     unfolding turn_of
     evidenced_n = subst (λ (list : List Access). IsEvidencedOf Service (Served []) (p.accesses ++ list) began (ports_of mid) mid.device evidence (port_at n)) (append-nil part.accesses)
-        (laws.evidence (port_at n) began (moment_of c m) (ports_of mid) (ports_of mid) mid.device x.evidence evidence Service (Served []) kept.on (undue (port_at n) ready) turn_of on_mid same_n
+        (laws.evidence (port_at n) began (moment_of c m) (ports_of mid) (ports_of mid) mid.device x.evidence evidence Service (Served []) kept.on (λ _. undue (port_at n) ready) turn_of on_mid same_n
         (same_self (ports_of mid) (port_at n)) alike_n
         (any_said its [] part.accesses (record { device = c.device; moment = moment_of c m }) (ports_of mid) mid.device x.evidence (port_at n) x.evidenced))
 
@@ -235,7 +235,7 @@ module _ (laws : LawsBelow) (s : Server) (start : IsSettled s) (old : Moment) (r
         → IsEvidencedOf Service (Served []) accesses began (ports_of mid) mid.device evidence q
     unfolding turn_before
     evidenced_before q lt is v =
-        laws.evidence q began old (ports_of c) (ports_of mid) mid.device p.evidence evidence Service (Served []) kept.on (undue q is) (turn_before q (λ same. omega (arith, lt, same))) p.on
+        laws.evidence q began old (ports_of c) (ports_of mid) mid.device p.evidence evidence Service (Served []) kept.on (λ _. undue q is) (turn_before q (λ same. omega (arith, lt, same))) p.on
         (same_self old.ports q) (same_other q (λ same. omega (arith, lt, same))) (alike_other q (earlier q lt)) v
 
     -- ---- requests

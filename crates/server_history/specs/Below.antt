@@ -1,6 +1,7 @@
 -- What laws of the crates below say of requests, of transfers, and of accesses that serve ports: the laws of this crate rest on them.
-use Rattle.std.specs.Prelude.{ℕ, true, false, ◌≡◌, ◌≢◌, ◌≤◌, ◌<◌, ◌↔◌, List, [], ◌∷◌, ◌++◌, map, Option, None, All, Contains, length}
+use Rattle.std.specs.Prelude.{ℕ, true, false, ◌≡◌, ◌≢◌, ◌⊎◌, ◌≤◌, ◌<◌, ◌↔◌, List, [], ◌∷◌, ◌++◌, map, Option, None, All, Contains, length}
 use Rattle.ata_types.specs.declared.Port.{Port}
+use Rattle.ata_types.specs.declared.PortState.TheVariants.{Ready}
 use Rattle.ata_types.specs.declared.grant.GrantRow.{GrantRow}
 use Rattle.ata_types.specs.declared.request.Frame.{Frame}
 use Rattle.ata_types.specs.declared.request.Outcome.{Outcome}
@@ -120,7 +121,8 @@ pub record LawsBelow : Type 0 where
   pub runs_on : (port : Port) (accesses : List Access) (old new : Device) → IsOn old → DoesAll accesses old new → All (SparesRegister Ghc) accesses → All (SparesRegister (Px port Sctl)) accesses → All (SparesRegister (Px port Cmd)) accesses → RunsOn port.0 old new
   pub runs_well : (port : ℕ) (old new : Device) → RunsOn port old new → Undisturbed port old new → RunsWell (old.port port) → RunsWell (new.port port)
   -- a port's turn in a call
-  pub evidence : (port : Port) (old : Instant Device) (begun : Moment) (ended ports : Ports) (new : Device) (turn call : Evidence) (ask : Ask DeviceStep) (said : Said) → IsOn old.device → (old.device.port port.0).link_due ≡ false
+  pub evidence : (port : Port) (old : Instant Device) (begun : Moment) (ended ports : Ports) (new : Device) (turn call : Evidence) (ask : Ask DeviceStep) (said : Said) → IsOn old.device
+      → ((old.moment.ports.state port ≡ Ready) ⊎ Contains turn.lost port → (old.device.port port.0).link_due ≡ false)
       → (t : HasTurnIn port old.device new) → IsOn t.end → SamePort old.moment.ports begun.ports port → SamePort ended ports port → NamesAlike port turn call
       → IsEvidencedOf ask said t.turn (record { device = t.start; moment = begun }) ended t.end turn port → IsEvidencedOf ask said (all_of t) old ports new call port
   pub failed : (port : Port) (old new : Device) (fault : Fault) → IsOn old → (t : HasTurnIn port old new) → HasFailed port t.turn t.start t.end fault → HasFailed port (all_of t) old new fault
