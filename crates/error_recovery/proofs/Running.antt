@@ -6,7 +6,8 @@ use Rattle.std.proofs.lemmas.List.{length-append}
 use Rattle.std.proofs.lemmas.List.Elements.{All-contains}
 use Rattle.ata_types.specs.declared.Port.{Port}
 use Rattle.adapter.specs.Device.{Device, Notes, PortState}
-use Rattle.adapter.specs.Device.Halt.{NotHalted}
+use Rattle.adapter.specs.Device.Halt.{LogOnly, NotHalted}
+use Rattle.adapter.specs.Steps.{restarted}
 use Rattle.adapter.specs.declared.tape.Entry.{Entry}
 use Rattle.agreement.specs.Driven.{HasNoCommand}
 use Rattle.agreement.specs.Errors.{IsFatalOf}
@@ -96,6 +97,9 @@ module _ (laws : Laws) (port : Port) (outstanding : ℕ) (queued : Bool) (before
       count = ap (λ (n : Notes). n.link_count) s.same.1 ∙ r.quiets.count;
       ended = λ on. absurd (true≢false (sym on ∙ is));
       plain = λ _ plain. commands_plain laws port d new s.starts r.quiets.agreed (r.quiets.plain plain);
+      unhalted = λ plain log.
+          let w = commands_plain laws port d new s.starts r.quiets.agreed (r.quiets.plain (plain is)) in
+          let e : LogOnly ≡ NotHalted = ap restarted (sym log) ∙ w.restarts in absurd cc;
       shows = record {
         fault = λ g. absurd (nothing_came (IsFaultOf port.0) g);
         fatal = λ g. absurd (nothing_came (IsFatalOf port.0) g);
@@ -147,6 +151,7 @@ module _ (laws : Laws) (port : Port) (outstanding : ℕ) (queued : Bool) (before
       count = ap (λ (n : Notes). n.link_count) l.notes ∙ (ap (λ (n : Notes). n.link_count) s.same.1 ∙ r.quiets.count);
       ended = λ _. running;
       plain = λ off. absurd (true≢false (sym is ∙ off));
+      unhalted = λ plain log. let e : LogOnly ≡ NotHalted = sym log ∙ running in absurd cc;
       shows = shows_trouble port old start new (ap (λ (n : Notes). n.st_set_at) l.notes ∙ s.set) a;
       well = λ none calm linked plain.
           let n = plugs_in_parts laws port.0 old d new first.grows (laws.grows_more d start new then.grows later.grows) none in

@@ -6,7 +6,7 @@ use Rattle.hba_regs.specs.Bits.{bit}
 use Rattle.hba_regs.specs.declared.reg.PortReg.{PortReg}
 use Rattle.adapter.specs.Access.{Access}
 use Rattle.adapter.specs.Device.{Device}
-use Rattle.adapter.specs.Device.Halt.{NotHalted}
+use Rattle.adapter.specs.Device.Halt.{LogOnly, NotHalted}
 use Rattle.adapter.specs.Rules.{HasPort, IsOn}
 use Rattle.adapter.specs.declared.command.Operation.{Operation}
 use Rattle.adapter.specs.declared.command.Operation.TheVariants.{Identify, ReadLog}
@@ -138,16 +138,17 @@ MayRestart queued port outstanding accesses old new =
 
 -- ---- how it ends
 
--- The port runs, with its areas in their places and no command in a slot; the record of its faults has begun anew, and the count of PxSSTS is as it was.
--- No halt of a fault is left: of queued commands none at all, and a port that worked on plain commands alone does so. What came since ST was
--- set is shown. And where the link was up, no disk went or came and no fatal error came, the port runs well; one without queued commands, if it
--- worked on plain ones alone.
+-- The port runs, with its areas in their places and no command in a slot; the record of its faults has begun anew, and the count of PxSSTS is as
+-- it was. After queued commands no fault halts it, and one that worked on plain commands alone does so; so none takes READ LOG EXT alone. What came
+-- since ST was set is shown. And where the link was up, no disk went or came and no fatal error came, the port runs well; one without queued commands,
+-- if it worked on plain ones alone.
 pub record RunsAgain (queued : Bool) (port : ℕ) (old new : Device) : Type 0 where
   pub runs : IsRunning port (new.port port)
   pub recorded : HasFaults new.tape (new.port port) port
   pub count : (new.port port).notes.link_count ≡ (old.port port).notes.link_count
   pub ended : queued ≡ true → (new.port port).halt ≡ NotHalted
   pub plain : queued ≡ false → WorksPlainly (old.port port) → WorksPlainly (new.port port)
+  pub unhalted : (queued ≡ false → WorksPlainly (old.port port)) → (new.port port).halt ≢ LogOnly
   pub shows : ShowsTrouble port old new
   pub well : PlugsNone port old new → NoneFatal port old new → IsLinked (old.port port) → (queued ≡ false → WorksPlainly (old.port port))
       → RunsWell (new.port port)
