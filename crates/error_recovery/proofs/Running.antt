@@ -63,20 +63,22 @@ shows_trouble port old start new set a = record {
   disk = λ g. set_unless_clear (new.port port.0).serr_n (λ clear. let n = (a.disk clear).1 in gained_since (IsPlugging port.0) port.0 old start new set n.gained n.tape n.none g);
 }
 
--- a port that runs with no command, and had its log read
-pub asked_running : (port : ℕ) (start new : Device) → IsRunning port (start.port port) → LeavesRunning port start new → IsOver (new.port port) 0 → IsRunning port (new.port port)
-asked_running port start new runs l over = record {
-  st = l.controls.st ∙ runs.st;
-  cr = l.controls.runs runs.st runs.cr;
-  fre = l.controls.fre ∙ runs.fre;
-  bases = l.bases ∙ runs.bases;
-  ci = λ slot. ⊎_elim (λ (e : slot ≡ 0). rw e over.issued) (λ (ne : slot ≡ 0 → ⊥). l.ci slot ne (runs.ci slot)) (cases_eq slot 0);
-  sact = λ slot. l.sact slot (runs.sact slot);
-  taken = λ slot. ⊎_elim (λ (e : slot ≡ 0). rw e over.free) (λ (ne : slot ≡ 0 → ⊥). l.taken slot ne (runs.ci slot) (runs.taken slot)) (cases_eq slot 0);
-}
-
 pub no_command : (port : ℕ) (p : PortState) → IsRunning port p → HasNoCommand p
 no_command port p runs slot = record { issued = runs.ci slot; free = runs.taken slot }
+
+-- a port that runs with no command, and had its log read
+pub asked_running : (laws : Laws) (port : ℕ) (start new : Device) → IsRunning port (start.port port) → LeavesRunning port start new → IsOver (new.port port) 0 → IsRunning port (new.port port)
+asked_running laws port start new runs l over =
+    let none = laws.asked_none port start new l (no_command port (start.port port) runs) over in
+    record {
+      st = l.controls.st ∙ runs.st;
+      cr = l.controls.runs runs.st runs.cr;
+      fre = l.controls.fre ∙ runs.fre;
+      bases = l.bases ∙ runs.bases;
+      ci = λ slot. (none slot).issued;
+      sact = λ slot. l.sact slot (runs.sact slot);
+      taken = λ slot. (none slot).free;
+    }
 
 module _ (laws : Laws) (port : Port) (outstanding : ℕ) (queued : Bool) (before after : ℕ) (old d : Device) (r : Resumes port outstanding queued before after old d) (first : Goes port old d) where
   -- ---- that was started, and no more
@@ -121,7 +123,7 @@ module _ (laws : Laws) (port : Port) (outstanding : ℕ) (queued : Bool) (before
   module _ (start new : Device) (s : GoesOn port d start) (then : Goes port d start) (l : LeavesRunning port.0 start new) (a : Asks port start new) (later : Goes port start new)
       (over : IsOver (new.port port.0) 0) (running : (new.port port.0).halt ≡ NotHalted) where
     runs : IsRunning port.0 (new.port port.0)
-    runs = asked_running port.0 start new s.runs l over
+    runs = asked_running laws port.0 start new s.runs l over
 
     recorded : HasFaults new.tape (new.port port.0) port.0
     recorded = l.recorded (λ _. s.recorded) runs.st
