@@ -104,6 +104,7 @@ module _ (laws : Laws) where
           named = λ token is run. absurd cc;
           told = λ is set alive. absurd (alive refl);
           dead = λ e. refl;
+          unnamed = λ token is run. absurd cc;
           restarts = λ token run. absurd cc;
         };
         leaves = record { ends = (g.st, g.stuck); det = went.det ∙ may.det; written = went.written; enabled = went.enabled; silent = g.silent };
@@ -122,8 +123,8 @@ module _ (laws : Laws) where
 
     pub is_busy : (failed : Option Failure) (again : ℕ) (token : stopped_token.Stopped) → token.port ≡ port → bit after 7 || bit after 3 ≡ true → Parts outstanding failed again →
         (Rests queued port outstanding (total laws port outstanding queued before after old d r (λ uses. uses) d (quieted laws port outstanding queued before after old d r)) old d failed) →
-        (queued ≡ false → bit outstanding 0 ≡ true → failed ≢ None) → Recovers port outstanding queued (record { failed = failed; again = again; next = Restart token }) old d
-    is_busy failed again token names occupied parts rests named =
+        (queued ≡ false → bit outstanding 0 ≡ true → failed ≢ None) → (queued ≡ true → failed ≡ None) → Recovers port outstanding queued (record { failed = failed; again = again; next = Restart token }) old d
+    is_busy failed again token names occupied parts rests named unnamed =
         let b = quieted laws port outstanding queued before after old d r in
         record {
           accesses = total laws port outstanding queued before after old d r (λ uses. uses) d b;
@@ -138,6 +139,7 @@ module _ (laws : Laws) where
             named = λ at is run. absurd cc;
             told = λ is set alive. named is set;
             dead = λ e. absurd cc;
+            unnamed = λ at is run. unnamed is;
             restarts = λ at run. inl (λ idle. absurd (true≢false (sym occupied ∙ (ap (λ (v : ℕ). bit v 7 || bit v 3) (sym r.quiets.file) ∙ idle))));
           };
           leaves = leaves (Restart token) d went (names, r.quiets.receives.stopped) r.quiets.silent;
@@ -175,6 +177,7 @@ module _ (laws : Laws) where
           named = λ at on run. absurd (true≢false (sym on ∙ is));
           told = λ off set alive. named set;
           dead = λ e. absurd cc;
+          unnamed = λ at on run. absurd cc;
           restarts = λ at run. absurd cc;
         };
         leaves = leaves (Running token) start goes_start (names, runs_plain laws port outstanding queued before after old d r went start s starting goes_start is) silent_start;
@@ -233,6 +236,7 @@ module _ (laws : Laws) where
                 named = λ at is run e. absurd cc;
                 told = λ off. absurd (true≢false (sym on ∙ off));
                 dead = λ e. absurd cc;
+                unnamed = λ at is run. absurd cc;
                 restarts = λ at run. absurd cc;
               };
               leaves = leaves (Running token) log w
@@ -293,6 +297,7 @@ module _ (laws : Laws) where
               named = λ at is run. absurd cc;
               told = λ off. absurd (true≢false (sym on ∙ off));
               dead = λ e. absurd cc;
+              unnamed = λ at is run. refl;
               restarts = λ at run. inr (on, why);
             };
             leaves = leaves (Restart token) new (goes laws port outstanding queued before after old d r (λ uses. uses) new b) (names, halts.stopped) silent;
@@ -336,6 +341,7 @@ module _ (laws : Laws) where
                 named = λ at is run. absurd cc;
                 told = λ off set alive. absurd (alive refl);
                 dead = λ e. refl;
+                unnamed = λ at is run. absurd cc;
                 restarts = λ at run. absurd cc;
               };
               leaves = leaves Dead new (goes laws port outstanding queued before after old d r next new t.followed) (has.st, fails.stuck) silent;

@@ -9,7 +9,7 @@ use Rattle.adapter.specs.Device.{Device, Notes, PortState}
 use Rattle.adapter.specs.Device.Halt.{LogOnly, NotHalted}
 use Rattle.adapter.specs.Steps.{restarted}
 use Rattle.adapter.specs.declared.tape.Entry.{Entry}
-use Rattle.agreement.specs.Driven.{HasNoCommand}
+use Rattle.agreement.specs.Driven.{Grows, HasNoCommand}
 use Rattle.agreement.specs.Errors.{IsFatalOf}
 use Rattle.agreement.specs.Facts.{HasFaults, IsFaultOf, IsFaulted}
 use Rattle.agreement.specs.Links.{IsPlugging}
@@ -66,6 +66,11 @@ shows_trouble port old start new set a = record {
 pub no_command : (port : ℕ) (p : PortState) → IsRunning port p → HasNoCommand p
 no_command port p runs slot = record { issued = runs.ci slot; free = runs.taken slot }
 
+-- ST was set at such a moment
+since_set : (port : Port) (old at new : Device) → Grows old at → (new.port port.0).notes.st_set_at ≡ length at.tape → length old.tape ≤ (new.port port.0).notes.st_set_at
+since_set port old at new grows set =
+    let n = ap (λ (es : List Entry). length es) grows.1 ∙ length-append old.tape grows.0 in omega (arith, n, set)
+
 -- a port that runs with no command, and had its log read
 pub asked_running : (laws : Laws) (port : ℕ) (start new : Device) → IsRunning port (start.port port) → LeavesRunning port start new → IsOver (new.port port) 0 → IsRunning port (new.port port)
 asked_running laws port start new runs l over =
@@ -96,6 +101,7 @@ module _ (laws : Laws) (port : Port) (outstanding : ℕ) (queued : Bool) (before
     runs_plain is = record {
       runs = s.runs;
       recorded = s.recorded;
+      since = since_set port old new new whole.grows (s.set);
       count = ap (λ (n : Notes). n.link_count) s.same.1 ∙ r.quiets.count;
       ended = λ on. absurd (true≢false (sym on ∙ is));
       plain = λ _ plain. commands_plain laws port d new s.starts r.quiets.agreed (r.quiets.plain plain);
@@ -150,6 +156,7 @@ module _ (laws : Laws) (port : Port) (outstanding : ℕ) (queued : Bool) (before
     runs_queued is = record {
       runs = runs;
       recorded = recorded;
+      since = since_set port old start new (laws.grows_more old d start first.grows then.grows) (ap (λ (n : Notes). n.st_set_at) l.notes ∙ s.set);
       count = ap (λ (n : Notes). n.link_count) l.notes ∙ (ap (λ (n : Notes). n.link_count) s.same.1 ∙ r.quiets.count);
       ended = λ _. running;
       plain = λ off. absurd (true≢false (sym is ∙ off));
