@@ -1,5 +1,5 @@
 -- A driver's own command is issued, waited for, and its page loaded.
-use Rattle.std.proofs.Common.{ℕ, ◌≡◌, ◌≢◌, ◌==◌, ◌+◌, ◌*◌, ◌%◌, ◌<◌, ◌≤◌, ◌++◌, Bool, true, false, List, [], ◌∷◌, length, None, inl, inr, refl, sym, ◌∙◌, ap, subst, arith, lit<, le_trans, append-nil, if◌then◌else◌, nat_eq}
+use Rattle.std.proofs.Common.{ℕ, ◌≡◌, ◌≢◌, ◌==◌, ◌+◌, ◌*◌, ◌%◌, ◌<◌, ◌≤◌, ◌++◌, Bool, true, false, List, [], ◌∷◌, length, None, inl, inr, refl, sym, ◌∙◌, ap, subst, arith, lit<, le_trans, append_assoc, append-nil, if◌then◌else◌, nat_eq}
 use Rattle.std.proofs.lemmas.Bool.{true≢false}
 use Rattle.std.proofs.lemmas.List.{length-append}
 use Rattle.std.specs.List.{All}
@@ -139,6 +139,26 @@ vain_more port n v early late (number, all) is set =
       omega (arith, both, number),
       All-append (ShowsIssued port) early (Reading (Px port Ci) v ∷ []) all (All-cons (ShowsIssued port) (Reading (Px port Ci) v) [] (refl, set) (All-nil (ShowsIssued port))),
     )
+
+-- what is told of a wait, is told of more
+pub vain_then : (port : Port) (early late : List Access) → WaitsInVain port early → WaitsInVain port (early ++ late)
+vain_then port early late w = record {
+  before = w.before;
+  waits = w.waits;
+  later = w.later ++ late;
+  here = ap (λ (made : List Access). made ++ late) w.here
+      ∙ (append_assoc w.before (w.waits ++ w.later) late ∙ ap (λ (made : List Access). w.before ++ made) (append_assoc w.waits w.later late));
+  vain = w.vain;
+}
+
+pub vain_since : (port : Port) (early late : List Access) → WaitsInVain port late → WaitsInVain port (early ++ late)
+vain_since port early late w = record {
+  before = early ++ w.before;
+  waits = w.waits;
+  later = w.later;
+  here = ap (λ (made : List Access). early ++ made) w.here ∙ sym (append_assoc early w.before (w.waits ++ w.later));
+  vain = w.vain;
+}
 
 module _ (laws : Laws) where
   -- stores are accesses of any port, so of the next one

@@ -1,5 +1,5 @@
 -- What asking for a page leaves of a port.
-use Rattle.std.proofs.Common.{ℕ, ◌≡◌, ◌≢◌, ◌≤◌, false, List, [], ◌∷◌, length, None, refl, sym, ◌∙◌, ap, subst, le_refl, le_trans}
+use Rattle.std.proofs.Common.{ℕ, ◌≡◌, ◌≢◌, ◌≤◌, false, List, [], ◌∷◌, length, None, inl, inr, refl, sym, ◌∙◌, ap, subst, le_refl, le_trans}
 use Rattle.ata_types.specs.declared.Port.{Port}
 use Rattle.hba_regs.specs.declared.reg.Reg.{Reg}
 use Rattle.hba_regs.specs.declared.reg.Reg.TheVariants.{Px, Ghc}
@@ -14,11 +14,13 @@ use Rattle.adapter.specs.Steps.{Steps}
 use Rattle.adapter.specs.declared.tape.Entry.{Entry}
 use Rattle.adapter.specs.Seen.{SeenAt}
 use Rattle.adapter.specs.Seen.{PutAt}
-use Rattle.agreement.specs.Driven.{IsDrivenBy}
+use Rattle.agreement.specs.Driven.{HasNoCommand, IsDrivenBy}
+use Rattle.agreement.specs.Slots.{IsOver}
 use Rattle.disk_page.specs.Asking.{IsAsking, LeavesRunning, SameButIssued}
 use Rattle.disk_page.proofs.Asking.{reading_leaves, grown, asking_spares_ghc, bit_one_other}
 use Rattle.disk_page.specs.Laws.{Laws}
 use Rattle.std.specs.List.{All}
+use Rattle.std.proofs.lemmas.Bool.{cases_eq}
 use Rattle.std.proofs.lemmas.List.Elements.{All-head, All-tail}
 use Rattle.agreement.specs.Links.{SparesRegister}
 
@@ -50,6 +52,13 @@ same_read : (v : ℕ) (old : Notes) (p : PortState) → p.notes ≡ note Ci v (r
 same_read v old p is =
     let P : Notes → Type 0 = λ n. SameButIssued old n in
     subst P (sym is) refl
+
+-- a port without a command, but for slot 0's, which is over
+pub asked_none : (port : ℕ) (old new : Device) → LeavesRunning port old new → HasNoCommand (old.port port) → IsOver (new.port port) 0 → HasNoCommand (new.port port)
+asked_none port old new l none over slot = elim (cases_eq slot 0) [
+  | inl e ↦ let P : ℕ → Type 0 = λ k. IsOver (new.port port) k in subst P (sym e) over
+  | inr ne ↦ record { issued = l.ci slot ne (none slot).issued; free = l.taken slot ne (none slot).issued (none slot).free }
+]
 
 module _ (laws : Laws) where
   pub running_none : (port : ℕ) (d : Device) → LeavesRunning port d d

@@ -38,7 +38,7 @@ use Rattle.error_recovery.proofs.Resting.{IsTold, brings_log}
 use Rattle.error_recovery.proofs.Running.{asked_running, no_command, runs_plain, runs_queued}
 use Rattle.error_recovery.proofs.Starting.{tag_is_small}
 use Rattle.error_recovery.proofs.Stretching.{commands_recover, followed_commands, room_after, told_both}
-use Rattle.error_recovery.proofs.Whole.{asked, goes, only, performs, quieted, started, stops, told, total, vain_since, vain_then}
+use Rattle.error_recovery.proofs.Whole.{asked, goes, only, performs, quieted, started, stops, told, total}
 
 -- nobody is named
 pub all_go_again : (outstanding : ℕ) → Parts outstanding None outstanding
@@ -104,6 +104,7 @@ module _ (laws : Laws) where
           named = λ token is run. absurd cc;
           told = λ is set alive. absurd (alive refl);
           dead = λ e. refl;
+          unnamed = λ token is run. absurd cc;
           restarts = λ token run. absurd cc;
         };
         leaves = record { ends = (g.st, g.stuck); det = went.det ∙ may.det; written = went.written; enabled = went.enabled; silent = g.silent };
@@ -122,8 +123,8 @@ module _ (laws : Laws) where
 
     pub is_busy : (failed : Option Failure) (again : ℕ) (token : stopped_token.Stopped) → token.port ≡ port → bit after 7 || bit after 3 ≡ true → Parts outstanding failed again →
         (Rests queued port outstanding (total laws port outstanding queued before after old d r (λ uses. uses) d (quieted laws port outstanding queued before after old d r)) old d failed) →
-        (queued ≡ false → bit outstanding 0 ≡ true → failed ≢ None) → Recovers port outstanding queued (record { failed = failed; again = again; next = Restart token }) old d
-    is_busy failed again token names occupied parts rests named =
+        (queued ≡ false → bit outstanding 0 ≡ true → failed ≢ None) → (queued ≡ true → failed ≡ None) → Recovers port outstanding queued (record { failed = failed; again = again; next = Restart token }) old d
+    is_busy failed again token names occupied parts rests named unnamed =
         let b = quieted laws port outstanding queued before after old d r in
         record {
           accesses = total laws port outstanding queued before after old d r (λ uses. uses) d b;
@@ -138,6 +139,7 @@ module _ (laws : Laws) where
             named = λ at is run. absurd cc;
             told = λ is set alive. named is set;
             dead = λ e. absurd cc;
+            unnamed = λ at is run. unnamed is;
             restarts = λ at run. inl (λ idle. absurd (true≢false (sym occupied ∙ (ap (λ (v : ℕ). bit v 7 || bit v 3) (sym r.quiets.file) ∙ idle))));
           };
           leaves = leaves (Restart token) d went (names, r.quiets.receives.stopped) r.quiets.silent;
@@ -175,6 +177,7 @@ module _ (laws : Laws) where
           named = λ at on run. absurd (true≢false (sym on ∙ is));
           told = λ off set alive. named set;
           dead = λ e. absurd cc;
+          unnamed = λ at on run. absurd cc;
           restarts = λ at run. absurd cc;
         };
         leaves = leaves (Running token) start goes_start (names, runs_plain laws port outstanding queued before after old d r went start s starting goes_start is) silent_start;
@@ -194,7 +197,7 @@ module _ (laws : Laws) where
 
         b_vain : IsToldTo (WaitsInVain port) (IsAsking port) (IsUnused port.0 0) (λ uses. put uses port.0 0 (Own ReadLog)) start log →
             IsToldTo (WaitsInVain port) (IsRecovering port) (λ uses. AllFree uses port.0) (λ uses. put uses port.0 0 (Own ReadLog)) r.quiets.stopped log
-        b_vain a = asked laws port outstanding queued before after old d r (WaitsInVain port) (vain_since port) (λ uses. put uses port.0 0 (Own ReadLog)) start log s a
+        b_vain a = asked laws port outstanding queued before after old d r (WaitsInVain port) (λ early late is. laws.vain_since port early late is) (λ uses. put uses port.0 0 (Own ReadLog)) start log s a
 
         asking : (next : Uses → Uses) → IsFollowedTo (IsAsking port) (IsUnused port.0 0) next start log → Asks port start log
         asking next a = asks_over laws port a.driven.accesses start log goes_start.on a.driven.only a.driven.all
@@ -233,6 +236,7 @@ module _ (laws : Laws) where
                 named = λ at is run e. absurd cc;
                 told = λ off. absurd (true≢false (sym on ∙ off));
                 dead = λ e. absurd cc;
+                unnamed = λ at is run. absurd cc;
                 restarts = λ at run. absurd cc;
               };
               leaves = leaves (Running token) log w
@@ -266,7 +270,7 @@ module _ (laws : Laws) where
               BringsLog port old new page
           still_last page brings a c =
               let w = goes laws port outstanding queued before after old d r (λ uses. uses) log (b_log a) in
-              let runs = asked_running port.0 start log s.runs l brings.clear.over in
+              let runs = asked_running laws port.0 start log s.runs l brings.clear.over in
               let others : (q : PortReg) → WritesCommand q → q ≢ Ci = λ q is same. let e : Cmd ≡ Ci = sym is ∙ same in absurd cc in
               let unissued : IsDrivenBy (IsControl (λ q. q ≢ Ci) port) log new = record {
                 accesses = c.accesses;
@@ -293,6 +297,7 @@ module _ (laws : Laws) where
               named = λ at is run. absurd cc;
               told = λ off. absurd (true≢false (sym on ∙ off));
               dead = λ e. absurd cc;
+              unnamed = λ at is run. refl;
               restarts = λ at run. inr (on, why);
             };
             leaves = leaves (Restart token) new (goes laws port outstanding queued before after old d r (λ uses. uses) new b) (names, halts.stopped) silent;
@@ -301,12 +306,12 @@ module _ (laws : Laws) where
           pub restarts : (token : stopped_token.Stopped) → token.port ≡ port → Halts port log new → ReadsLog port outstanding None start log →
               Recovers port outstanding queued (record { failed = None; again = outstanding; next = Restart token }) old new
           restarts token names halts (inl (count, a)) =
-              let t = told_both laws (WaitsInVain port) (Stops port) (WaitsInVain port) (λ early late w is. vain_then port early late w) (Recovering PortUnused port) (Controlling Commanding AnyUses port)
+              let t = told_both laws (WaitsInVain port) (Stops port) (WaitsInVain port) (λ early late w is. laws.vain_then port early late w) (Recovering PortUnused port) (Controlling Commanding AnyUses port)
               (λ uses. put uses port.0 0 (Own ReadLog)) (λ uses. uses) (commands_recover laws port) (λ uses free. tt) r.quiets.stopped log new (b_vain a) halts.told in
               let o = laws.over (Recovering PortUnused port) port ReadLog 1 r.quiets.stopped new (inr (refl, refl)) (λ uses free. free 0)
               (record { issued = halts.stopped.halted.ci 0; free = halts.stopped.halted.taken 0 }) t.followed in
               let b = o.followed in
-              stopped token names b halts (inl (vain_since port r.quiets.stops.followed.driven.accesses b.driven.accesses (subst (WaitsInVain port) (sym o.tells) t.tells))) (vain_silent a.followed halts.told.followed)
+              stopped token names b halts (inl (laws.vain_since port r.quiets.stops.followed.driven.accesses b.driven.accesses (subst (WaitsInVain port) (sym o.tells) t.tells))) (vain_silent a.followed halts.told.followed)
           restarts token names halts (inr (page, (brings, a), why)) =
               let b = (told_both laws (λ made. Unit {0}) (Stops port) (λ made. Unit {0}) (λ early late w is. tt) (Recovering PortUnused port) (Controlling Commanding AnyUses port)
               (λ uses. uses) (λ uses. uses) (commands_recover laws port) (λ uses free. tt) r.quiets.stopped log new (record { followed = b_log a; tells = tt }) halts.told).followed in
@@ -336,6 +341,7 @@ module _ (laws : Laws) where
                 named = λ at is run. absurd cc;
                 told = λ off set alive. absurd (alive refl);
                 dead = λ e. refl;
+                unnamed = λ at is run. absurd cc;
                 restarts = λ at run. absurd cc;
               };
               leaves = leaves Dead new (goes laws port outstanding queued before after old d r next new t.followed) (has.st, fails.stuck) silent;

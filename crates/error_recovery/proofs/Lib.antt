@@ -8,3 +8,4 @@ mod Whole
 mod Running
 mod Finishing
 mod Witness
+mod Standing

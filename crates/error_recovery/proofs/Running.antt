@@ -6,9 +6,10 @@ use Rattle.std.proofs.lemmas.List.{length-append}
 use Rattle.std.proofs.lemmas.List.Elements.{All-contains}
 use Rattle.ata_types.specs.declared.Port.{Port}
 use Rattle.adapter.specs.Device.{Device, Notes, PortState}
-use Rattle.adapter.specs.Device.Halt.{NotHalted}
+use Rattle.adapter.specs.Device.Halt.{LogOnly, NotHalted}
+use Rattle.adapter.specs.Steps.{restarted}
 use Rattle.adapter.specs.declared.tape.Entry.{Entry}
-use Rattle.agreement.specs.Driven.{HasNoCommand}
+use Rattle.agreement.specs.Driven.{Grows, HasNoCommand}
 use Rattle.agreement.specs.Errors.{IsFatalOf}
 use Rattle.agreement.specs.Facts.{HasFaults, IsFaultOf, IsFaulted}
 use Rattle.agreement.specs.Links.{IsPlugging}
@@ -62,20 +63,27 @@ shows_trouble port old start new set a = record {
   disk = λ g. set_unless_clear (new.port port.0).serr_n (λ clear. let n = (a.disk clear).1 in gained_since (IsPlugging port.0) port.0 old start new set n.gained n.tape n.none g);
 }
 
--- a port that runs with no command, and had its log read
-pub asked_running : (port : ℕ) (start new : Device) → IsRunning port (start.port port) → LeavesRunning port start new → IsOver (new.port port) 0 → IsRunning port (new.port port)
-asked_running port start new runs l over = record {
-  st = l.controls.st ∙ runs.st;
-  cr = l.controls.runs runs.st runs.cr;
-  fre = l.controls.fre ∙ runs.fre;
-  bases = l.bases ∙ runs.bases;
-  ci = λ slot. ⊎_elim (λ (e : slot ≡ 0). rw e over.issued) (λ (ne : slot ≡ 0 → ⊥). l.ci slot ne (runs.ci slot)) (cases_eq slot 0);
-  sact = λ slot. l.sact slot (runs.sact slot);
-  taken = λ slot. ⊎_elim (λ (e : slot ≡ 0). rw e over.free) (λ (ne : slot ≡ 0 → ⊥). l.taken slot ne (runs.ci slot) (runs.taken slot)) (cases_eq slot 0);
-}
-
 pub no_command : (port : ℕ) (p : PortState) → IsRunning port p → HasNoCommand p
 no_command port p runs slot = record { issued = runs.ci slot; free = runs.taken slot }
+
+-- ST was set at such a moment
+since_set : (port : Port) (old at new : Device) → Grows old at → (new.port port.0).notes.st_set_at ≡ length at.tape → length old.tape ≤ (new.port port.0).notes.st_set_at
+since_set port old at new grows set =
+    let n = ap (λ (es : List Entry). length es) grows.1 ∙ length-append old.tape grows.0 in omega (arith, n, set)
+
+-- a port that runs with no command, and had its log read
+pub asked_running : (laws : Laws) (port : ℕ) (start new : Device) → IsRunning port (start.port port) → LeavesRunning port start new → IsOver (new.port port) 0 → IsRunning port (new.port port)
+asked_running laws port start new runs l over =
+    let none = laws.asked_none port start new l (no_command port (start.port port) runs) over in
+    record {
+      st = l.controls.st ∙ runs.st;
+      cr = l.controls.runs runs.st runs.cr;
+      fre = l.controls.fre ∙ runs.fre;
+      bases = l.bases ∙ runs.bases;
+      ci = λ slot. (none slot).issued;
+      sact = λ slot. l.sact slot (runs.sact slot);
+      taken = λ slot. (none slot).free;
+    }
 
 module _ (laws : Laws) (port : Port) (outstanding : ℕ) (queued : Bool) (before after : ℕ) (old d : Device) (r : Resumes port outstanding queued before after old d) (first : Goes port old d) where
   -- ---- that was started, and no more
@@ -93,9 +101,13 @@ module _ (laws : Laws) (port : Port) (outstanding : ℕ) (queued : Bool) (before
     runs_plain is = record {
       runs = s.runs;
       recorded = s.recorded;
+      since = since_set port old new new whole.grows (s.set);
       count = ap (λ (n : Notes). n.link_count) s.same.1 ∙ r.quiets.count;
       ended = λ on. absurd (true≢false (sym on ∙ is));
       plain = λ _ plain. commands_plain laws port d new s.starts r.quiets.agreed (r.quiets.plain plain);
+      unhalted = λ plain log.
+          let w = commands_plain laws port d new s.starts r.quiets.agreed (r.quiets.plain (plain is)) in
+          let e : LogOnly ≡ NotHalted = ap restarted (sym log) ∙ w.restarts in absurd cc;
       shows = record {
         fault = λ g. absurd (nothing_came (IsFaultOf port.0) g);
         fatal = λ g. absurd (nothing_came (IsFatalOf port.0) g);
@@ -117,7 +129,7 @@ module _ (laws : Laws) (port : Port) (outstanding : ℕ) (queued : Bool) (before
   module _ (start new : Device) (s : GoesOn port d start) (then : Goes port d start) (l : LeavesRunning port.0 start new) (a : Asks port start new) (later : Goes port start new)
       (over : IsOver (new.port port.0) 0) (running : (new.port port.0).halt ≡ NotHalted) where
     runs : IsRunning port.0 (new.port port.0)
-    runs = asked_running port.0 start new s.runs l over
+    runs = asked_running laws port.0 start new s.runs l over
 
     recorded : HasFaults new.tape (new.port port.0) port.0
     recorded = l.recorded (λ _. s.recorded) runs.st
@@ -144,9 +156,11 @@ module _ (laws : Laws) (port : Port) (outstanding : ℕ) (queued : Bool) (before
     runs_queued is = record {
       runs = runs;
       recorded = recorded;
+      since = since_set port old start new (laws.grows_more old d start first.grows then.grows) (ap (λ (n : Notes). n.st_set_at) l.notes ∙ s.set);
       count = ap (λ (n : Notes). n.link_count) l.notes ∙ (ap (λ (n : Notes). n.link_count) s.same.1 ∙ r.quiets.count);
       ended = λ _. running;
       plain = λ off. absurd (true≢false (sym is ∙ off));
+      unhalted = λ plain log. let e : LogOnly ≡ NotHalted = sym log ∙ running in absurd cc;
       shows = shows_trouble port old start new (ap (λ (n : Notes). n.st_set_at) l.notes ∙ s.set) a;
       well = λ none calm linked plain.
           let n = plugs_in_parts laws port.0 old d new first.grows (laws.grows_more d start new then.grows later.grows) none in

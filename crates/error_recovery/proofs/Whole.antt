@@ -1,5 +1,5 @@
 -- A recovery as a whole: from the first reading of PxTFD to the end.
-use Rattle.std.proofs.Common.{ℕ, Bool, ◌++◌, List, inr, sym, ◌∙◌, ap, append_assoc}
+use Rattle.std.proofs.Common.{ℕ, Bool, ◌++◌, List, inr, ap}
 use Rattle.std.specs.Prelude.{All}
 use Rattle.std.proofs.lemmas.List.Elements.{All-append}
 use Rattle.ata_types.specs.declared.Port.{Port}
@@ -10,7 +10,7 @@ use Rattle.agreement.specs.Driven.{IsFollowed, IsFollowedTo, IsToldTo}
 use Rattle.agreement.specs.Driver.{AllFree}
 use Rattle.agreement.specs.GivingUp.{given_up}
 use Rattle.agreement.specs.Slots.{Uses}
-use Rattle.disk_page.specs.Asking.{IsAsking, WaitsInVain}
+use Rattle.disk_page.specs.Asking.{IsAsking}
 use Rattle.command_table.specs.Written.{IsUnused}
 use Rattle.port_control.specs.Engines.{Stops}
 use Rattle.error_recovery.specs.Laws.{Laws}
@@ -21,26 +21,6 @@ use Rattle.error_recovery.specs.Recovery.{IsRecovering}
 use Rattle.error_recovery.proofs.Going.{Goes, goes_over}
 use Rattle.error_recovery.proofs.Resting.{IsTold, is_told}
 use Rattle.error_recovery.proofs.Stretching.{followed_commands, told_both, told_wider}
-
--- what is told of a wait, is told of more
-pub vain_then : (port : Port) (early late : List Access) → WaitsInVain port early → WaitsInVain port (early ++ late)
-vain_then port early late w = record {
-  before = w.before;
-  waits = w.waits;
-  later = w.later ++ late;
-  here = ap (λ (made : List Access). made ++ late) w.here
-      ∙ (append_assoc w.before (w.waits ++ w.later) late ∙ ap (λ (made : List Access). w.before ++ made) (append_assoc w.waits w.later late));
-  vain = w.vain;
-}
-
-pub vain_since : (port : Port) (early late : List Access) → WaitsInVain port late → WaitsInVain port (early ++ late)
-vain_since port early late w = record {
-  before = early ++ w.before;
-  waits = w.waits;
-  later = w.later;
-  here = ap (λ (made : List Access). early ++ made) w.here ∙ sym (append_assoc early w.before (w.waits ++ w.later));
-  vain = w.vain;
-}
 
 module _ (laws : Laws) (port : Port) (outstanding : ℕ) (queued : Bool) (before after : ℕ) (old d : Device) (r : Resumes port outstanding queued before after old d) where
   abbrev first : List Access

@@ -28,7 +28,7 @@ use Rattle.agreement.specs.Recovering.{IsLinked, RunsLinked, WorksPlainly}
 use Rattle.agreement.specs.Slots.{Free, IsOver, Own, Uses, op_of, put}
 use Rattle.agreement.specs.Started.{ClearsNoStart, IsStarted, IsUp}
 use Rattle.command_table.specs.Written.{IsUnused}
-use Rattle.disk_page.specs.Asking.{IsAsking}
+use Rattle.disk_page.specs.Asking.{IsAsking, LeavesRunning, WaitsInVain}
 use Rattle.port_control.specs.Engines.{FailsToStop, Falls, Sticks}
 use Rattle.port_control.specs.Ports.{IsClearing, WritesCommand}
 use Rattle.error_recovery.specs.Recovery.{IsRecovered, IsRecovering}
@@ -124,11 +124,14 @@ pub record Laws : Type 0 where
   pub same_any : (old new : Device) → IsDrivenBy AnyAccess old new → SameAdapter old new
   pub of_spares_ghc : (port : Port) (access : Access) → IsOf port access → SparesRegister Ghc access
   pub asking_is_of : (port : Port) (access : Access) → IsAsking port access → IsOf port access
-  -- what is told of engines
+  pub asked_none : (port : ℕ) (old new : Device) → LeavesRunning port old new → HasNoCommand (old.port port) → IsOver (new.port port) 0 → HasNoCommand (new.port port)
+  -- what is told of engines, and of waits
   pub failing_sticks : (port : Port) (accesses : List Access) → FailsToStop port accesses → Sticks port accesses
   pub falls_then : (early late : List Access) (start running : ℕ) (port : Port) → Falls start running port early → Falls start running port (early ++ late)
   pub falls_since : (early late : List Access) (start running : ℕ) (port : Port) → Falls start running port late → Falls start running port (early ++ late)
   pub sticks_since : (early late : List Access) (port : Port) → Sticks port late → Sticks port (early ++ late)
+  pub vain_then : (port : Port) (early late : List Access) → WaitsInVain port early → WaitsInVain port (early ++ late)
+  pub vain_since : (port : Port) (early late : List Access) → WaitsInVain port late → WaitsInVain port (early ++ late)
   -- this crate's kinds of accesses
   pub control_of : (set : RegisterSet) (port : Port) (access : Access) → IsControl (registers_of set) port access → IsOf port access
   pub control_spares : (set : RegisterSet) (port : Port) (r : PortReg) → (registers_of set r → ⊥) → (access : Access) → IsControl (registers_of set) port access → SparesRegister (Px port r) access

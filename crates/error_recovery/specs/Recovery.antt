@@ -1,12 +1,12 @@
 -- What recovery asks, and what it promises (this project's own; recovery: AHCI 1.3.1, 6.2.2; log 10h: ACS-3, A.14).
-use Rattle.std.specs.Prelude.{ℕ, Bool, true, false, ◌≡◌, ◌≢◌, ◌⊎◌, ◌<◌, ◌≤◌, ◌%◌, List, All, Option, None, Some}
+use Rattle.std.specs.Prelude.{ℕ, Bool, true, false, ◌≡◌, ◌≢◌, ◌⊎◌, ◌<◌, ◌≤◌, ◌%◌, List, All, Option, None, Some, length}
 use Rattle.ata_types.specs.declared.Port.{Port}
 use Rattle.ata_types.specs.declared.memory.TheConstants.{DRIVER_BYTES}
 use Rattle.hba_regs.specs.Bits.{bit}
 use Rattle.hba_regs.specs.declared.reg.PortReg.{PortReg}
 use Rattle.adapter.specs.Access.{Access}
 use Rattle.adapter.specs.Device.{Device}
-use Rattle.adapter.specs.Device.Halt.{NotHalted}
+use Rattle.adapter.specs.Device.Halt.{LogOnly, NotHalted}
 use Rattle.adapter.specs.Rules.{HasPort, IsOn}
 use Rattle.adapter.specs.declared.command.Operation.{Operation}
 use Rattle.adapter.specs.declared.command.Operation.TheVariants.{Identify, ReadLog}
@@ -138,16 +138,18 @@ MayRestart queued port outstanding accesses old new =
 
 -- ---- how it ends
 
--- The port runs, with its areas in their places and no command in a slot; the record of its faults has begun anew, and the count of PxSSTS is as it was.
--- No halt of a fault is left: of queued commands none at all, and a port that worked on plain commands alone does so. What came since ST was
--- set is shown. And where the link was up, no disk went or came and no fatal error came, the port runs well; one without queued commands, if it
--- worked on plain ones alone.
+-- The port runs, with its areas in their places and no command in a slot; ST was set in the call, so that the record of its faults has begun anew;
+-- and the count of PxSSTS is as it was. After queued commands no fault halts it, and one that worked on plain commands alone does so; so none takes
+-- READ LOG EXT alone. What came since ST was set is shown. And where the link was up, no disk went or came and no fatal error came, the port runs well;
+-- one without queued commands, if it worked on plain ones alone.
 pub record RunsAgain (queued : Bool) (port : ℕ) (old new : Device) : Type 0 where
   pub runs : IsRunning port (new.port port)
   pub recorded : HasFaults new.tape (new.port port) port
+  pub since : length old.tape ≤ (new.port port).notes.st_set_at
   pub count : (new.port port).notes.link_count ≡ (old.port port).notes.link_count
   pub ended : queued ≡ true → (new.port port).halt ≡ NotHalted
   pub plain : queued ≡ false → WorksPlainly (old.port port) → WorksPlainly (new.port port)
+  pub unhalted : (queued ≡ false → WorksPlainly (old.port port)) → (new.port port).halt ≢ LogOnly
   pub shows : ShowsTrouble port old new
   pub well : PlugsNone port old new → NoneFatal port old new → IsLinked (old.port port) → (queued ≡ false → WorksPlainly (old.port port))
       → RunsWell (new.port port)
@@ -167,13 +169,14 @@ pub record DoesRecovery (port : Port) (result : Recovered) (accesses : List Acce
   pub engine : TellsEngine port result.next accesses
 
 -- What it tells: who failed, and on what that rests; who goes again; and why the port has to be booted. Where queued commands are outstanding,
--- it runs only with one of them named; an outstanding plain one is named unless the port is dead; and then nobody is.
+-- it runs only with one of them named, and has to be booted only with none; an outstanding plain one is named unless the port is dead; and then nobody is.
 pub record TellsRecovery (port : Port) (outstanding : ℕ) (queued : Bool) (result : Recovered) (accesses : List Access) (old new : Device) : Type 0 where
   pub parts : Parts outstanding result.failed result.again
   pub rests : Rests queued port outstanding accesses old new result.failed
   pub named : (token : running_token.Running) → queued ≡ true → result.next ≡ Running token → result.failed ≢ None
   pub told : queued ≡ false → bit outstanding 0 ≡ true → result.next ≢ Dead → result.failed ≢ None
   pub dead : result.next ≡ Dead → result.failed ≡ None
+  pub unnamed : (token : stopped_token.Stopped) → queued ≡ true → result.next ≡ Restart token → result.failed ≡ None
   pub restarts : (token : stopped_token.Stopped) → result.next ≡ Restart token → MayRestart queued port outstanding accesses old new
 
 -- What it leaves: the port as `next` says; DET of PxSCTL and when it was written, and PxIE, as they were. And where slot 0 had no IDENTIFY

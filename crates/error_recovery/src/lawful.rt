@@ -17,7 +17,7 @@ use agreement::recovering::{
     faults_are_plain, faults_show_before_the_end, link_is_kept, running_goes_on,
 };
 use agreement::stretches::{other_ports_are_left, tapes_grow, unused_slots_are_silent};
-use disk_page::laws::asking_is_of_one_port;
+use disk_page::laws::{asking_is_of_one_port, what_is_told_of_waits_stays};
 use port_control::laws::what_is_told_of_engines_stays;
 
 /// This crate's kinds of accesses.
@@ -72,5 +72,6 @@ pub fn laws_hold()
     tapes_grow();
     unused_slots_are_silent();
     asking_is_of_one_port();
+    what_is_told_of_waits_stays();
     what_is_told_of_engines_stays();
 }

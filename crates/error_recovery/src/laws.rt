@@ -1,16 +1,22 @@
 // Laws of the definitions, for callers: the clause is the theorem. Nothing that runs calls these functions.
-ghost use Rattle.std.specs.Prelude.{ℕ, ◌+◌, ◌<◌, ◌≤◌, List, length};
+ghost use Rattle.std.specs.Prelude.{ℕ, ◌+◌, ◌<◌, ◌≤◌, ◌++◌, All, List, length};
 ghost use Rattle.ata_types.specs.declared.Port.{Port};
 ghost use Rattle.ata_types.specs.declared.memory.TheConstants.{DRIVER_BYTES};
-ghost use Rattle.hba_regs.specs.declared.reg.PortReg.TheVariants.{Ie, Sact, Sctl};
+ghost use Rattle.hba_regs.specs.declared.reg.PortReg.TheVariants.{Cmd, Ie, Sact, Sctl};
 ghost use Rattle.hba_regs.specs.declared.reg.Reg.TheVariants.{Ghc, Px};
-ghost use Rattle.adapter.specs.Access.{Access};
+ghost use Rattle.adapter.specs.Access.{Access, DoesAll};
 ghost use Rattle.adapter.specs.Access.Access.{Loading, Storing};
-ghost use Rattle.agreement.specs.Driven.{IsOf};
+ghost use Rattle.adapter.specs.Device.{Device};
+ghost use Rattle.adapter.specs.Rules.{IsOn};
+ghost use Rattle.adapter.specs.declared.command.Operation.TheVariants.{ReadLog};
+ghost use Rattle.adapter.specs.declared.tape.Fault.{Fault};
+ghost use Rattle.agreement.specs.Driven.{Grows, IsOf, SendsNone};
 ghost use Rattle.agreement.specs.Links.{SparesRegister};
+ghost use Rattle.error_recovery.specs.Evidence.{BringsLog, HasFailed};
 ghost use Rattle.error_recovery.specs.Recovery.{IsRecovering, MayBeAsked};
 
 use super::lawful::laws_hold;
+use adapter::laws::accesses_compose;
 use agreement::facts::faults_are_recorded;
 use agreement::laws::{a_first_read_agrees, putting_is_of_one_slot};
 use agreement::limits::a_fault_is_seen;
@@ -27,6 +33,19 @@ pub fn recovery_is_of_its_port()
     ensures loads { (port : Port) (at : ℕ) (bytes : List ℕ) → port.0 < 4 → IsRecovering port (Loading at bytes) → at + length bytes ≤ DRIVER_BYTES }
     ensures stores { (port : Port) (at : ℕ) (bytes : List ℕ) → port.0 < 4 → IsRecovering port (Storing at bytes) → at + length bytes ≤ DRIVER_BYTES }
 {
+    laws_hold();
+}
+
+/// What stands behind a fault in a part of a call stands behind it in the whole: a fault on the tape, where PxCMD wasn't written before the part
+/// either; and the page of the log, where no other came after the part.
+pub fn what_stands_behind_a_fault_stays()
+    ensures failed { (port : Port) (early part late : List Access) (start old new end : Device) (fault : Fault) → IsOn start
+        → All (SparesRegister Ghc) early → All (SparesRegister (Px port Cmd)) early → DoesAll early start old → DoesAll late new end
+        → HasFailed port part old new fault → HasFailed port (early ++ (part ++ late)) start end fault }
+    ensures log { (port : Port) (start old new end : Device) (page : List ℕ) → Grows start old → SendsNone port.0 ReadLog new end
+        → BringsLog port old new page → BringsLog port start end page }
+{
+    accesses_compose();
     laws_hold();
 }
 

@@ -123,7 +123,8 @@ fn read_log<A: Adapter>(adapter: &mut A, port: Port, outstanding: u32) -> Option
 
 /// Which plain command failed: the one that is outstanding, with status and error as the task file showed them.
 fn fault_of(outstanding: u32, fault: TaskFile) -> Option<Failure>
-    ensures named { IfSome result (λ failed. (failed.slot.0 ≡ 0) × (bit outstanding 0 ≡ true) × (failed.status ≡ fault.0 % 256) × (failed.error ≡ fault.0 / 256 % 256)) }
+    ensures named { IfSome result (λ failed. (failed.slot.0 ≡ 0) × (bit outstanding 0 ≡ true)
+        × (failed.status ≡ fault.0 % 256) × (failed.error ≡ fault.0 / 256 % 256)) }
     ensures none { IfNone result (bit outstanding 0 ≡ false) }
 {
     if !is_set(outstanding, 0) {
@@ -217,14 +218,15 @@ fn unnamed(outstanding: u32, next: Next) -> Recovered
 }
 
 /// Finds out which command of a port has failed, and has the port run again without COMRESET, where that can be (AHCI 1.3.1, 6.2.2).
-/// It is called once PxIS was read with TFES, and then PxSSTS with DET 3, PxCI and PxSACT. `outstanding` are the slots whose commands aren't done, bit k for slot k; `queued` says whether these are
-/// queued commands: a plain one is alone, in slot 0.
+/// It is called once PxIS was read with TFES, and then PxSSTS with DET 3, PxCI and PxSACT. `outstanding` are the slots whose
+/// commands aren't done, bit k for slot k; `queued` says whether these are queued commands: a plain one is alone, in slot 0.
 ///
-/// PxTFD is read, the port is stopped, PxSERR and PxIS are cleared, and PxTFD is read again. A plain command failed with the status and error
-/// that the first reading showed. Where the second shows BSY or DRQ, the port is left stopped, and has to be booted; else ST is set. Of
-/// queued commands the disk's log of errors (READ LOG EXT, log 10h) names the one that failed; where its page doesn't come in 64 readings of PxCI, is refused,
-/// or names a slot that isn't outstanding, the port is stopped again, nobody is named, and it has to be booted. Where an engine is stuck
-/// for 64 readings of PxCMD, the port is dead, and nobody is named.
+/// PxTFD is read, the port is stopped, PxSERR and PxIS are cleared, and PxTFD is read again. A plain command failed with the
+/// status and error that the first reading showed. Where the second shows BSY or DRQ, the port is left stopped, and has to be
+/// booted; else ST is set. Of queued commands the disk's log of errors (READ LOG EXT, log 10h) names the one that failed. Where
+/// its page doesn't come in 64 readings of PxCI, is refused, or names a slot that isn't outstanding, the port is stopped again,
+/// nobody is named, and it has to be booted. Where an engine is stuck for 64 readings of PxCMD, the port is dead, and nobody is
+/// named.
 pub fn recover<A: Adapter>(adapter: &mut A, port: Port, outstanding: u32, queued: bool) -> Recovered
     requires on { IsOn (A.device adapter.old) }
     requires there { HasPort (A.device adapter.old) port.0 }

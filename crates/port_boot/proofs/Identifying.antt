@@ -1,8 +1,7 @@
 -- A disk is asked for its page, and the port goes on or is stopped.
-use Rattle.std.proofs.Common.{ℕ, ◌≡◌, ◌≢◌, ◌≤◌, ◌%◌, ◌++◌, inl, inr, false, List, ◌∷◌, Option, None, Some, length, refl, sym, ◌∙◌, ap, subst, arith, append_assoc}
+use Rattle.std.proofs.Common.{ℕ, ◌≡◌, ◌≢◌, ◌≤◌, ◌%◌, ◌++◌, inl, inr, List, ◌∷◌, Option, None, Some, length, refl, sym, ◌∙◌, ap, subst, arith, append_assoc}
 use Rattle.std.specs.Prelude.{Result, Ok, Err, OnOk, IfErr}
 use Rattle.std.proofs.lemmas.List.Elements.{All-append}
-use Rattle.std.proofs.lemmas.Bool.{cases_eq}
 use Rattle.ata_types.specs.declared.Port.{Port}
 use Rattle.ata_types.specs.declared.PortState.{PortState}
 use Rattle.ata_types.specs.declared.PortState.TheVariants.{Absent, Ready, Foreign, Unfit, Dead}
@@ -65,23 +64,18 @@ module _ (port : Port) (start old mid : Device) (up : IsBroughtUp port start old
   pub asked_saw : SawDevice (mid.port port.0).notes
   asked_saw = (ap (λ (n : Notes). n.last_ssts % 16) l.notes ∙ up.saw.0, ap (λ (n : Notes). n.link_count) l.notes ∙ up.saw.1)
 
-  pub asked_running : IsOver (mid.port port.0) 0 → IsRunning port.0 (mid.port port.0)
-  asked_running over =
+  pub asked_running : Laws → IsOver (mid.port port.0) 0 → IsRunning port.0 (mid.port port.0)
+  asked_running laws over =
       let r = up.runs in
+      let none = laws.asked_none port.0 old mid l (λ slot. record { issued = r.ci slot; free = r.taken slot }) over in
       record {
         st = l.controls.st ∙ r.st;
         cr = l.controls.runs r.st r.cr;
         fre = l.controls.fre ∙ r.fre;
         bases = l.bases ∙ r.bases;
-        ci = λ slot. elim (cases_eq slot 0) [
-          | inl e ↦ let P : ℕ → Type 0 = λ k. (mid.port port.0).ci k ≡ false in subst P (sym e) over.issued
-          | inr ne ↦ l.ci slot ne (r.ci slot)
-        ];
+        ci = λ slot. (none slot).issued;
         sact = λ slot. l.sact slot (r.sact slot);
-        taken = λ slot. elim (cases_eq slot 0) [
-          | inl e ↦ let P : ℕ → Type 0 = λ k. (mid.port port.0).taken k ≡ None in subst P (sym e) over.free
-          | inr ne ↦ l.taken slot ne (r.ci slot) (r.taken slot)
-        ];
+        taken = λ slot. (none slot).free;
       }
 
   pub asked_page : (page : List ℕ) → Brings port.0 Identify (length old.tape) page mid → HasPage port.0 mid page
@@ -222,7 +216,7 @@ module _ (laws : Laws) where
             room = asked_room port start old mid up on l reads.1.driven;
             agreed = (a.0, a.1, agrees a.0 (a.1 0) a.2);
           };
-          runs = asked_running port start old mid up l reads.0.clear.over;
+          runs = asked_running port start old mid up l laws reads.0.clear.over;
           det = l.controls.sctl_det ∙ up.det;
           saw = asked_saw port start old mid up l;
           has = asked_page port start old mid up l page reads.0;

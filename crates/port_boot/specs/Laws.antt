@@ -12,7 +12,7 @@ use Rattle.adapter.specs.declared.tape.Entry.{Entry}
 use Rattle.port_control.specs.Engines.{FailsToStop, FailsToStopReceiving, Falls, Sticks}
 use Rattle.agreement.specs.Slots.{Free, IsOver, Own, Uses, put}
 use Rattle.hba_regs.specs.declared.reg.Reg.TheVariants.{Ghc, Px}
-use Rattle.disk_page.specs.Asking.{IsAsking}
+use Rattle.disk_page.specs.Asking.{IsAsking, LeavesRunning}
 use Rattle.port_boot.specs.States.{IsBooting, IsOfBoot}
 use Rattle.adapter.specs.Rules.{IsOn, MayWrite, Stays}
 use Rattle.port_control.specs.Ports.{IsPlacing, IsResetting, WritesCommand}
@@ -110,6 +110,7 @@ pub record Laws : Type 0 where
   pub tape_any : (old new : Device) → IsDrivenBy AnyAccess old new → (gained : List Entry) × (new.tape ≡ old.tape ++ gained)
   pub of_spares_ghc : (port : Port) (access : Access) → IsOf port access → SparesRegister Ghc access
   pub asking_is_of : (port : Port) (access : Access) → IsAsking port access → IsOf port access
+  pub asked_none : (port : ℕ) (old new : Device) → LeavesRunning port old new → HasNoCommand (old.port port) → IsOver (new.port port) 0 → HasNoCommand (new.port port)
   -- what is told of engines
   pub failing_sticks : (port : Port) (accesses : List Access) → FailsToStop port accesses → Sticks port accesses
   pub failing_receiving_sticks : (port : Port) (accesses : List Access) → FailsToStopReceiving port accesses → Sticks port accesses

@@ -1,4 +1,5 @@
 use Rattle.std.proofs.Common.{false, refl, sym, ◌∙◌}
+use Rattle.std.proofs.lemmas.Bool.{false≢true}
 use Rattle.error_recovery.proofs.Finishing.{goes_again, goes_again_told, is_busy, is_named, may_go_on, rests_on_fault}
 use Rattle.error_recovery.proofs.Whole.{quieted, told}
 use Rattle.error_recovery.proofs.finish_plain.Goals as goal
@@ -10,7 +11,7 @@ returns-then-is_occupied-clause-recovers g c = λ old r.
     let t = told laws port c.args.outstanding false _ _ old _ r (λ uses. uses) _ (quieted laws port c.args.outstanding false _ _ old _ r) in
     is_busy laws port c.args.outstanding false _ _ old _ r c.fault_of-failed.result c.others-again.result c.args.quieted.stopped refl (sym c.is_occupied.ensures ∙ c.if-is_occupied.true) c.others-again.ensures
     (rests_on_fault port c.args.outstanding c.args.quieted.fault.0 _ old _ t c.fault_of-failed.result c.fault_of-failed.ensures.named)
-    (λ is. is_named c.args.outstanding c.fault_of-failed.result c.fault_of-failed.ensures.none)
+    (λ is. is_named c.args.outstanding c.fault_of-failed.result c.fault_of-failed.ensures.none) (λ on. absurd (false≢true on))
 
 pub go_on-requires : goal.go_on-requires
 go_on-requires g c =

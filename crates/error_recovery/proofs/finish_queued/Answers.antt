@@ -19,7 +19,7 @@ returns-then-is_occupied-clause-recovers g c = λ old r.
     let R : recovered.Recovered → Type 0 = λ result. Recovers port c.args.outstanding true result old (g.A.Adapter.device c.args.adapter.now) in
     subst R (sym c.unnamed.ensures)
     (is_busy c.laws_hold.ensures port c.args.outstanding true _ _ old _ r None c.args.outstanding c.args.quieted.stopped refl (sym c.is_occupied.ensures ∙ c.if-is_occupied.true) (all_go_again c.args.outstanding) tt
-    (λ off. absurd cc))
+    (λ off. absurd cc) (λ on. refl))
 
 pub go_on-running-requires : goal.go_on-running-requires
 go_on-running-requires g c =

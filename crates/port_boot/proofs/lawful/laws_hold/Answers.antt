@@ -35,6 +35,7 @@ returns c = record {
   tape_any = c.other_ports_are_left.ensures.tape;
   of_spares_ghc = c.other_ports_are_left.ensures.spares_host;
   asking_is_of = c.asking_is_of_one_port.ensures.of;
+  asked_none = c.asking_is_of_one_port.ensures.none;
   failing_sticks = c.what_is_told_of_engines_stays.ensures.fails;
   failing_receiving_sticks = c.what_is_told_of_engines_stays.ensures.fails_receiving;
   falls_then = c.what_is_told_of_engines_stays.ensures.falls_then;
