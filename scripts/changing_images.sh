@@ -52,13 +52,13 @@ lift_limit() {
 
 cp fresh.img disk.img
 cp fresh.img wanted.img
-for sector in 100 101 102; do
+for sector in 100 101; do
     clear_sector wanted.img $sector
 done
-compare 'a write that the system refuses goes on later' $'move 0 0 identify 0 00009000\nok 1\nmove 0 0 write 100 00028000\nmove 0 0 write 101 00028200\ndid\nno\nno\nquiet\nno\nmove 0 0 write 102 00028400\ndid\nreply 1 Ok' \
+compare 'a write that the system refuses fails, and halts the port' $'move 0 0 identify 0 00009000\nok 1\nmove 0 0 write 100 00028000\nmove 0 0 write 101 00028200\ndid\nno\nno\nquiet\nno\nno\nquiet' \
     "$(limit=51
     played_around 'write 1 0 100 3 40\ndev finish 0 0\ndev finish 0 0\ndev move 0 0\nservice\ndev done 0 0\n' 'dev finish 0 0\nservice\n' lift_limit)"
-compare 'and writes the sector that was left' "$(bytes_of wanted.img)" "$(bytes_of disk.img)"
+compare 'and the sector that was left is as it was' "$(bytes_of wanted.img)" "$(bytes_of disk.img)"
 compare 'an image that is not there is not made' $'blockd: image\nnot there' \
     "$("$blockd" --config blockd.toml --image missing.img --script /dev/null 2>&1 || true; [[ -e missing.img ]] || echo 'not there')"
 compare 'an image that runs' 'blockd: image' "$("$blockd" --config blockd.toml --image "$blockd" --script /dev/null 2>&1 || true)"

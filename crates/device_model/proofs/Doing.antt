@@ -228,7 +228,7 @@ module _ {S : Type 0} (size : S → ℕ) (told : S → Option (ℕ → List ℕ)
           device_at size told mid,
           before_it p slot did _ _ went stayed,
           inl (subst (λ was. FailsToMove p.0 slot.0 was (failures new.disk) old.says new.says (device_at size told mid) (device_at size told new)) fine
-          (subst (λ says. FailsToMove p.0 slot.0 (failures mid.disk) (failures new.disk) says new.says (device_at size told mid) (device_at size told new)) meanwhile.says f)),
+              (subst (λ says. FailsToMove p.0 slot.0 (failures mid.disk) (failures new.disk) says new.says (device_at size told mid) (device_at size told new)) meanwhile.says f)),
         )
 
     pub clear_fails : (most : ℕ) → Did size told failures (asked.Clear p slot most) mid new → HasFailed size told failures (asked.Clear p slot most) mid new →
@@ -238,7 +238,7 @@ module _ {S : Type 0} (size : S → ℕ) (told : S → Option (ℕ → List ℕ)
           last,
           on cleared,
           inr (subst (λ was. FailsToClear p.0 slot.0 was (failures new.disk) old.says new.says last (device_at size told new)) fine
-          (subst (λ says. FailsToClear p.0 slot.0 (failures mid.disk) (failures new.disk) says new.says last (device_at size told new)) meanwhile.says f)),
+              (subst (λ says. FailsToClear p.0 slot.0 (failures mid.disk) (failures new.disk) says new.says last (device_at size told new)) meanwhile.says f)),
         )
       where
         on : (last ≡ device_at size told mid) ⊎ DoesClear p.0 slot.0 most (device_at size told mid) last →

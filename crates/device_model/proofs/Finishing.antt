@@ -1,5 +1,5 @@
 -- A command that may be done is taken, goes on piece by piece and clear by clear, and ends.
-use Rattle.std.proofs.Common.{ℕ, Bool, true, false, zero, suc, ◌≡◌, ◌≢◌, ◌<◌, ◌≤◌, ◌+◌, ◌^◌, ◌⊎◌, ◌&&◌, List, [], ◌∷◌, ◌++◌, length, slice_index, slice_index_or, Option, None, Some, refl, sym, ◌∙◌, ap, subst, inl, inr, arith}
+use Rattle.std.proofs.Common.{ℕ, Bool, true, false, zero, suc, ◌≡◌, ◌<◌, ◌≤◌, ◌+◌, ◌⊎◌, ◌&&◌, List, [], ◌∷◌, ◌++◌, length, slice_index, slice_index_or, Option, None, Some, refl, sym, ◌∙◌, ap, subst, inl, inr, arith}
 use Rattle.std.specs.Prelude.{is_some, if◌then◌else◌}
 use Rattle.std.proofs.lemmas.Bool.Decides.{eqb_tells}
 use Rattle.adapter.specs.Asked.{DoesClear, DoesFetch, DoesMove, DoesDone, DoesOne, DoesSome, Ends, GoesOn}
@@ -12,7 +12,7 @@ use Rattle.adapter.specs.Steps.{Can, IsWorking, WorksOn, admits, begun, Brings, 
 use Rattle.adapter.specs.Steps.Step.{Fetch, Move, Done}
 use Rattle.adapter.specs.declared.command.Operation.{Operation}
 use Rattle.adapter.specs.declared.command.Operation.TheVariants.{Trim}
-use Rattle.device_model.proofs.Absurd.{some-none, some_one, true-false}
+use Rattle.device_model.proofs.Absurd.{some-none, some_one}
 use Rattle.adapter.proofs.Changed.{fun_ext, changed_same, changed_other}
 use Rattle.adapter.proofs.SaysLemmas.{says_meaning, says_places}
 use Rattle.device_model.specs.Does.{HasCleared, HasEnded}

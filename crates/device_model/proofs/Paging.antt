@@ -22,11 +22,10 @@ use Rattle.ata_types.specs.declared.Slot.{Slot}
 use Rattle.adapter.specs.declared.access.DeviceStep.TheVariants as asked
 use Rattle.sector_store.specs.declared.store.Failures.{Failures}
 use Rattle.device_model.specs.Does.{AnswersStep, AsksFor, AsksStore, Completes, Did, StepFails, FailsToClear, FailsToMove}
-use Rattle.device_model.specs.Finishing.{AreInside, HasPage, HasMove, FindsPage, IsCovered, MayFinish, MayPage, sends_page}
+use Rattle.device_model.specs.Finishing.{AreInside, HasPage, FindsPage, IsCovered, MayFinish, MayPage, sends_page}
 use Rattle.device_model.specs.Modelled.{device_at}
 use Rattle.device_model.specs.Sent.{SendsEnd}
 use Rattle.device_model.specs.Slots.{IsNext}
-use Rattle.device_model.specs.Trims.{HasClear}
 use Rattle.device_model.specs.View.{operation_of, taken_of}
 use Rattle.device_model.specs.Whole.{Outside, device_of}
 use Rattle.device_model.specs.declared.hardware.Hardware.{Hardware}
@@ -34,7 +33,6 @@ use Rattle.device_model.specs.declared.model.Description.{Description}
 use Rattle.device_model.specs.declared.model.Model.{Model}
 use Rattle.device_model.specs.declared.port.TakenCommand.{TakenCommand}
 use Rattle.device_model.specs.declared.port.Transfer.{Transfer}
-use Rattle.device_model.specs.declared.port.Transfer.TheVariants as transfer
 use Rattle.device_model.specs.declared.steps.NextMove.{NextMove}
 use Rattle.adapter.proofs.Going.{goes_one}
 use Rattle.device_model.proofs.Finishing.{fetched_goes, next_has_move}
@@ -412,7 +410,7 @@ has_noted d f n slot is has = record {
   left = has.left;
   ready = record {
     t = has.ready.t;
-      covered = has.ready.covered;
+    covered = has.ready.covered;
     clearing = has.ready.clearing;
     begins = by has.ready.begins;
   };

@@ -27,8 +27,6 @@ use Rattle.device_model.proofs.Finishing.{holds}
 use Rattle.device_model.proofs.SlotLemmas.{new_begun}
 use Rattle.device_model.proofs.Trimming.{page_clears}
 use Rattle.device_model.proofs.Stepping.{fetch_takes, fetch_says}
-use Rattle.device_model.specs.declared.port.Transfer.{Transfer}
-use Rattle.device_model.specs.declared.port.Transfer.TheVariants as transfer
 
 -- ---- pieces inside a memory
 

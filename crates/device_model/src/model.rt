@@ -352,7 +352,11 @@ impl<S: SectorStore> Model<S> {
         if count == run.count {
             return Outcome::Done;
         }
-        let error = if count < on_disk.count { STORE_FAILED } else { PAST_THE_DISK };
+        let error = if count < on_disk.count {
+            STORE_FAILED
+        } else {
+            PAST_THE_DISK
+        };
         let _failed = self.fail(port, slot, error);
         Outcome::Failed
     }

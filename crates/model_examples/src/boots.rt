@@ -208,7 +208,7 @@ fn has_page(tape: &[Entry], page: bool) -> bool {
             Entry::Move(moved),
             Entry::Done(done),
         ] => { page && is_page(moved) && done.operation == Operation::Identify }
-        [] | [Entry::Unplug(_)] => !page,
+        [] | [Entry::Unplug(_)] | [Entry::Fault(_)] => !page,
         _ => false,
     }
 }
@@ -343,5 +343,28 @@ fn models_are_found_as_they_are(rt: HostRuntime) -> Result<(), Fail> {
             assert!(rt; holds(rt.alloc(), &case)?, "before access {access}");
         }
     }
+    // IDENTIFY DEVICE fails as it is told before one access alone, at which it is issued and not taken yet: the first reading of PxCI. Its bit
+    // stays set, and no page comes.
+    let mut has_failed = false;
+    for access in 1..60 {
+        let queued = [
+            (access, DeviceStep::Fetch(Port(0), Slot(0))),
+            (access, DeviceStep::Fault(Port(0), Slot(0), 0x04)),
+        ];
+        let unfit = Case {
+            queued,
+            found: Found::Unready(PortState::Unfit(9)),
+            page: None,
+            ..PLAIN
+        };
+        if holds(rt.alloc(), &unfit)? {
+            assert!(rt; !has_failed, "again before access {access}");
+            has_failed = true;
+        } else {
+            let left = Case { queued, ..PLAIN };
+            assert!(rt; holds(rt.alloc(), &left)?, "left before access {access}");
+        }
+    }
+    assert!(rt; has_failed, "at some access");
     Ok(())
 }

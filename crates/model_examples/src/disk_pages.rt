@@ -1,5 +1,5 @@
-// Pages of IDENTIFY DEVICE, byte by byte, worked out by hand (ACS-3, 7.12.7).
-use sector_store::pages::{Abilities, Trim, identify_page};
+// Pages of IDENTIFY DEVICE and of log 10h, byte by byte, worked out by hand (ACS-3, 7.12.7 and A.14).
+use sector_store::pages::{Abilities, FailedCommand, Trim, identify_page, log_page};
 
 /// A disk, and what its page holds.
 struct Case {
@@ -100,6 +100,59 @@ const CASES: [Case; 4] = [
     },
 ];
 
+/// The queued command that the log names, and what its page holds.
+struct LogCase {
+    what: &'static str,
+    failed: Option<FailedCommand>,
+    /// Bytes 0, 2, 3 and 511; elsewhere there are zeros.
+    bytes: [u8; 4],
+}
+
+const LOG_CASES: [LogCase; 5] = [
+    // NQ alone: 128, and 256 - 128.
+    LogCase {
+        what: "none has failed",
+        failed: None,
+        bytes: [0x80, 0, 0, 0x80],
+    },
+    // 1, 65 and 64 sum to 130; 256 - 130 is 126.
+    LogCase {
+        what: "slot 1, on which the store failed",
+        failed: Some(FailedCommand {
+            tag: 1,
+            error: 0x40,
+        }),
+        bytes: [1, 0x41, 0x40, 126],
+    },
+    // 65 and 16 sum to 81; 256 - 81 is 175.
+    LogCase {
+        what: "slot 0, past the disk",
+        failed: Some(FailedCommand {
+            tag: 0,
+            error: 0x10,
+        }),
+        bytes: [0, 0x41, 0x10, 175],
+    },
+    // 31, 65 and 255 sum to 351, or 95 modulo 256; 256 - 95 is 161.
+    LogCase {
+        what: "slot 31, and all bits of the error",
+        failed: Some(FailedCommand {
+            tag: 31,
+            error: 0xff,
+        }),
+        bytes: [31, 0x41, 0xff, 161],
+    },
+    // 65 and 191 sum to 256, which is 0 already.
+    LogCase {
+        what: "a sum of 256",
+        failed: Some(FailedCommand {
+            tag: 0,
+            error: 0xbf,
+        }),
+        bytes: [0, 0x41, 0xbf, 0],
+    },
+];
+
 /// A page with these words, and with these bytes at places.
 fn page_of(words: &[u8; 20], bytes: &[(usize, u8)]) -> [u8; 512] {
     let mut page = [0; 512];
@@ -123,5 +176,23 @@ fn is_sent(case: &Case) -> bool {
 fn pages_say_what_disks_are(rt: HostRuntime) {
     for case in &CASES {
         assert!(rt; is_sent(case), "{}", case.what);
+    }
+}
+
+/// Whether the case's page is read.
+fn is_read(case: &LogCase) -> bool {
+    let [first, status, error, sum] = case.bytes;
+    let mut page = [0; 512];
+    page[0] = first;
+    page[2] = status;
+    page[3] = error;
+    page[511] = sum;
+    log_page(case.failed) == page
+}
+
+#[test]
+fn pages_say_what_failed(rt: HostRuntime) {
+    for case in &LOG_CASES {
+        assert!(rt; is_read(case), "{}", case.what);
     }
 }

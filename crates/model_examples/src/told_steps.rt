@@ -50,7 +50,7 @@ const PLUGGED: Change = Change::Plugged(Port(0), 0);
 
 const OTHER_PLUGGED: Change = Change::Plugged(Port(0), 1);
 
-const CASES: [(&str, &[Act]); 8] = [
+const CASES: [(&str, &[Act]); 9] = [
     (
         "ports, slots, disks and bytes that aren't there",
         &[
@@ -61,6 +61,19 @@ const CASES: [(&str, &[Act]); 8] = [
             Act::Refuses(DeviceStep::Fetch(Port(0), Slot(99))),
             Act::Refuses(DeviceStep::Hold(Port(4))),
             Act::Refuses(DeviceStep::Lie(Port(0), DiskPage::Identity, 512, 0xff)),
+            Act::Refuses(DeviceStep::Lie(Port(0), DiskPage::Log, 512, 0xff)),
+            Act::Refuses(DeviceStep::Fault(Port(9), Slot(0), 0x40)),
+            Act::Refuses(DeviceStep::Fault(Port(0), Slot(99), 0x40)),
+            Act::Tape(&[]),
+        ],
+    ),
+    (
+        "a command that isn't taken doesn't fail, on no port; the page of the log is lied of",
+        &[
+            Act::Refuses(DeviceStep::Fault(Port(0), Slot(0), 0x40)),
+            Act::Refuses(DeviceStep::Fault(Port(3), Slot(31), 0x10)),
+            Act::Does(DeviceStep::Lie(Port(0), DiskPage::Log, 511, 0xff)),
+            Act::Does(DeviceStep::Truth(Port(0))),
             Act::Tape(&[]),
         ],
     ),

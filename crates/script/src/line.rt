@@ -81,12 +81,7 @@ fn lie(port: &str, page: DiskPage, offset: &str, bits: &str) -> Option<DeviceSte
     ensures only { (s : DeviceStep) → IsStep s → step_words s ≡ codes "lie" ∷ port.now ∷ page_word page ∷ offset.now ∷ bits.now ∷ [] → result ≡ Some s }
 {
     let offset = fields::number(offset, 511)? as u16;
-    Some(DeviceStep::Lie(
-        fields::port(port)?,
-        page,
-        offset,
-        fields::byte(bits)?,
-    ))
+    Some(DeviceStep::Lie(fields::port(port)?, page, offset, fields::byte(bits)?))
 }
 
 /// The clear that the device is to do: where, and of how many sectors.

@@ -160,10 +160,10 @@ pub fn log_page(failed: Option<FailedCommand>) -> [u8; 512]
     ensures page { IsLogPage failed result }
     ensures bytes { IsSector result }
 {
-    let mut page = [0; 512];
-    page[0] = log_tag(failed);
-    page[2] = log_status(failed);
-    page[3] = log_error(failed);
-    page[511] = 0u8.wrapping_sub(sum_of(&page));
-    page
+    let mut log = [0; 512];
+    log[0] = log_tag(failed);
+    log[2] = log_status(failed);
+    log[3] = log_error(failed);
+    log[511] = 0u8.wrapping_sub(sum_of(&log));
+    log
 }

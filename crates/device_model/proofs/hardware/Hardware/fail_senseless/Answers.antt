@@ -1,10 +1,8 @@
-use Rattle.std.proofs.Common.{rules, true, ◌≡◌, ◌∙◌, ◌<◌, ℕ, arith, inl, inr, length, refl, subst, sym, slice_index_or}
-use Rattle.adapter.specs.Steps.{MayFetchFault, admits}
+use Rattle.std.proofs.Common.{rules, ◌∙◌, ◌<◌, ℕ, arith, inl, inr, length, refl, subst, sym}
+use Rattle.adapter.specs.Steps.{MayFetchFault}
 use Rattle.adapter.specs.declared.command.Operation.TheVariants.{Identify}
 use Rattle.device_model.proofs.Absurd.{true-false}
-use Rattle.device_model.specs.Slots.{HasUntaken}
-use Rattle.device_model.specs.View.{blank, halt_of}
-use Rattle.device_model.specs.Whole.{Outside, device_of}
+use Rattle.device_model.specs.Whole.{device_of}
 use Rattle.device_model.specs.declared.hardware.Hardware.{Hardware}
 use Rattle.device_model.proofs.SlotLemmas.{at_port}
 use Rattle.device_model.proofs.Stepping.{may_fail_senseless, port_fails_senseless}

@@ -1,6 +1,5 @@
-use Rattle.std.proofs.Common.{rules, ◌<◌, length, Bool, Option, refl, slice_index_or, subst, sym}
+use Rattle.std.proofs.Common.{rules, ◌<◌, length, Bool, Option, refl, subst, sym}
 use Rattle.device_model.specs.Finishing.{FindsPage}
-use Rattle.device_model.specs.View.{blank}
 use Rattle.device_model.specs.Whole.{device_of}
 use Rattle.device_model.proofs.Ready.{finds, page_crowded, page_said, page_unmeant, page_unsaid, page_endless, may_page, ready_may}
 use Rattle.device_model.proofs.SlotLemmas.{at_port}
