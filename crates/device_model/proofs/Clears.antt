@@ -14,7 +14,7 @@ use Rattle.ata_types.specs.declared.Port.{Port}
 use Rattle.ata_types.specs.declared.Slot.{Slot}
 use Rattle.sector_store.specs.declared.store.Failures.{Failures}
 use Rattle.device_model.specs.Disks.{disk_over}
-use Rattle.device_model.specs.Does.{HasCleared, HasFailed, IsCause}
+use Rattle.device_model.specs.Does.{ClearsFewer, HasCleared, HasFailed, IsCause}
 use Rattle.device_model.specs.Modelled.{device_at, outside_at}
 use Rattle.device_model.specs.Paged.{GainsPages}
 use Rattle.device_model.specs.Slots.{IsNextRun}
@@ -111,7 +111,7 @@ found_clear h o d port slot most run r at_zero same is = next_has_clear h o d po
 
 -- So many of the next sectors of a trim are cleared, or none: the rest is as it was, and the next one, if there is one, can be cleared.
 pub record IsPart {S : Type 0} (size : S → ℕ) (told : S → Option (ℕ → List ℕ)) (p : Port) (slot : Slot) (most first count : ℕ) (t : Taken) (old new : Model S) : Type 0 where
-  pub before : (device_at size told new ≡ device_at size told old) ⊎ DoesClear p.0 slot.0 most (device_at size told old) (device_at size told new)
+  pub before : count < span most t → (device_at size told new ≡ device_at size told old) ⊎ ClearsFewer p.0 slot.0 most (device_at size told old) (device_at size told new)
   pub whole : 1 ≤ count → DoesClear p.0 slot.0 most (device_at size told old) (device_at size told new)
   pub all : 1 ≤ count → count ≡ span most t → HasCleared (device_at size told old) (device_at size told new) p.0 slot.0 most
   pub more : count < span most t → HasClear (device_at size told new) p.0 slot.0 1 (record t { cleared = t.cleared + count })
@@ -157,7 +157,7 @@ module _ {S : Type 0} (size : S → ℕ) (told : S → Option (ℕ → List ℕ)
           effect = clear_effect;
         } in
         record {
-          before = inr did;
+          before = λ fewer. inr (did, omega (arith, fewer, limit));
           whole = λ _. did;
           all = λ _ is. all_cleared old_device _ p.0 slot.0 most first count (taken_of r) has clear_effect is;
           more = λ fewer. more_clear old_device _ p.0 slot.0 most first count (taken_of r) has clear_effect fewer;
@@ -178,7 +178,7 @@ module _ {S : Type 0} (size : S → ℕ) (told : S → Option (ℕ → List ℕ)
       let enough = has.enough in
       let P : Device → Type 0 = λ d. HasClear d p.0 slot.0 1 t in
       record {
-        before = inl kept;
+        before = λ _. inl kept;
         whole = λ some. absurd (omega (arith, some, none));
         all = λ some. absurd (omega (arith, some, none));
         more = λ fewer.
@@ -234,7 +234,7 @@ module _ {S : Type 0} (size : S → ℕ) (told : S → Option (ℕ → List ℕ)
       let plain : is_queued t.meaning.operation ≡ false = ap is_queued has.trim in
       let one : failed.fault.t ≡ t = failed.same in (
         device_at size told then_model,
-        part.before,
+        part.before fewer,
         record {
           t = t;
           clear = more;

@@ -11,7 +11,7 @@ use Rattle.adapter.proofs.Runs.{Steps-refl}
 use Rattle.adapter.specs.Steps.{Can, Steps}
 use Rattle.adapter.specs.Steps.Step.{Fault}
 use Rattle.sector_store.specs.declared.store.Failures.{Failures}
-use Rattle.device_model.specs.Does.{AnswersStep, AsksStore, Did, FailsToClear, FailsToMove, GoesOnSo, HasFailed, IsLeftOut, LacksMemory, NeedsAddresses, NoneFails, StepKeeps, Possible, says_failed}
+use Rattle.device_model.specs.Does.{AnswersStep, AsksStore, ClearsFewer, Did, FailsToClear, FailsToMove, GoesOnSo, HasFailed, IsLeftOut, LacksMemory, NeedsAddresses, NoneFails, StepKeeps, Possible, says_failed}
 use Rattle.device_model.specs.Disks.{store_of}
 use Rattle.device_model.specs.Modelled.{device_at}
 use Rattle.device_model.specs.Paged.{GainsPages}
@@ -241,12 +241,12 @@ module _ {S : Type 0} (size : S → ℕ) (told : S → Option (ℕ → List ℕ)
               (subst (λ says. FailsToClear p.0 slot.0 (failures mid.disk) (failures new.disk) says new.says last (device_at size told new)) meanwhile.says f)),
         )
       where
-        on : (last ≡ device_at size told mid) ⊎ DoesClear p.0 slot.0 most (device_at size told mid) last →
+        on : (last ≡ device_at size told mid) ⊎ ClearsFewer p.0 slot.0 most (device_at size told mid) last →
             (last ≡ device_at size told old) ⊎ GoesOn (SendsEnd slot.0) p.0 slot.0 (device_at size told old) last
         on (inl same) =
             subst (λ (d : Device). (d ≡ device_at size told old) ⊎ GoesOn (SendsEnd slot.0) p.0 slot.0 (device_at size told old) d) (sym same)
             (before_it p slot did _ _ went stayed)
-        on (inr more) = inr (goes_next (SendsEnd slot.0) p.0 slot.0 _ _ last did went stayed (inr (inr (inr (most, more)))))
+        on (inr more) = inr (goes_next (SendsEnd slot.0) p.0 slot.0 _ _ last did went stayed (inr (inr (inr (most, more.0)))))
 
   -- ---- a command that is taken fails
 

@@ -11,7 +11,7 @@ use Rattle.adapter.specs.declared.command.Operation.{Operation}
 use Rattle.adapter.specs.declared.command.Operation.TheVariants as operation
 use Rattle.adapter.proofs.Going.{post_steps}
 use Rattle.sector_store.specs.declared.store.Failures.{Failures}
-use Rattle.device_model.specs.Does.{Did, StepFails, FailsToClear, FailsToMove}
+use Rattle.device_model.specs.Does.{ClearsFewer, Did, StepFails, FailsToClear, FailsToMove}
 use Rattle.device_model.specs.Modelled.{device_at}
 use Rattle.device_model.specs.Sent.{IsSent, Sends, SendsAfter, SendsEnd, is_received}
 use Rattle.device_model.specs.declared.model.Description.{Description}
@@ -126,7 +126,7 @@ fails_may : (s : DeviceStep) (was now : Option Failures) (says later : Descripti
 fails_may (asked.Fetch p s) was now says later old new f = inr (record { queued = false; can = f.can; effect = f.effect })
 fails_may (asked.Move p s) was now says later old new f = inr (f.error, moving_fails p.0 s.0 was now says later old new f)
 fails_may (asked.Clear p s most) was now says later old new (mid, before, f) =
-    inr (fails_after_may p.0 s.0 f.error (DoesClear p.0 s.0 most) (DoesClear p.0 s.0 most) (λ a b some. some) old mid new before
+    inr (fails_after_may p.0 s.0 f.error (ClearsFewer p.0 s.0 most) (DoesClear p.0 s.0 most) (λ a b some. some.0) old mid new before
     (clearing_fails p.0 s.0 was now says later mid new f))
 fails_may (asked.Finish p s) was now says later old new (mid, before, inl f) =
     inr (fails_after_may p.0 s.0 f.error (GoesOn (SendsEnd s.0) p.0 s.0) (GoesOn MayPost p.0 s.0) (λ a b g. (g.0, some_may (suc g.0) p.0 s.0 a b g.1)) old mid new before

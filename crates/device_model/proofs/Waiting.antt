@@ -11,7 +11,7 @@ use Rattle.adapter.specs.declared.access.DeviceStep.{DeviceStep}
 use Rattle.adapter.specs.declared.access.DeviceStep.TheVariants as asked
 use Rattle.sector_store.specs.declared.store.Failures.{Failures}
 use Rattle.device_model.specs.Disks.{disk_number, store_of}
-use Rattle.device_model.specs.Does.{AnswersStep, AsksStore, StepFails, FailsToClear, FailsToMove, Possible, PutsIn, which_after}
+use Rattle.device_model.specs.Does.{AnswersStep, AsksStore, ClearsFewer, StepFails, FailsToClear, FailsToMove, Possible, PutsIn, which_after}
 use Rattle.device_model.specs.Finishing.{HasMove}
 use Rattle.device_model.specs.Modelled.{device_at}
 use Rattle.device_model.specs.Queue.{DoesEach}
@@ -75,9 +75,9 @@ still_failed (asked.Move p s) was now says later old new empty f = moving_keeps 
 still_failed (asked.Clear p s most) was now says later old new empty (mid, before, f) =
     clearing_keeps p.0 s.0 was now says later mid new f ∙ (by before ∙ empty)
   where
-    by : (mid ≡ old) ⊎ DoesClear p.0 s.0 most old mid → (mid.port 0).present ≡ (old.port 0).present
+    by : (mid ≡ old) ⊎ ClearsFewer p.0 s.0 most old mid → (mid.port 0).present ≡ (old.port 0).present
     by (inl same) = ap (λ (d : Device). (d.port 0).present) same
-    by (inr did) = one_keeps_present p.0 s.0 old mid (inr (inr (inr (most, did))))
+    by (inr did) = one_keeps_present p.0 s.0 old mid (inr (inr (inr (most, did.0))))
 still_failed (asked.Finish p s) was now says later old new empty (mid, before, f) = by f ∙ (went before ∙ empty)
   where
     went : (mid ≡ old) ⊎ GoesOn (SendsEnd s.0) p.0 s.0 old mid → (mid.port 0).present ≡ (old.port 0).present

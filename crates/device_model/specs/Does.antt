@@ -160,13 +160,17 @@ pub record FailsToClear (port slot : ℕ) (was now : Option Failures) (says afte
 abbrev pub After : (Part Fails : Device → Device → Type 0) → Device → Device → Type 0
 After Part Fails old new = (mid : Device) × ((mid ≡ old) ⊎ Part old mid) × Fails mid new
 
--- The command of a step fails in its place, or on the way: a Fetch since it means none; and a Move, a Clear and a Finish as they come to a sector on which it
+-- fewer sectors of the slot's trim were cleared than so many
+abbrev pub ClearsFewer : (port slot most : ℕ) → Device → Device → Type 0
+ClearsFewer port slot most old new = (did : DoesClear port slot most old new) × (did.count < most)
+
+-- The command of a step fails in its place, or on the way: a Fetch since it means none; and a Move, a Clear and a Finish as they come to a sector of those that they ask for on which it
 -- fails, a Move as it begins, and the others once they have done what comes before it. What the disks say after it tells of a queued one.
 abbrev pub StepFails : DeviceStep → (was now : Option Failures) → (says after_it : Description) → Device → Device → Type 0
 StepFails (asked.Fetch p s) was now says after_it old new = FailsToFetch p.0 s.0 was now says after_it old new
 StepFails (asked.Move p s) was now says after_it old new = FailsToMove p.0 s.0 was now says after_it old new
 StepFails (asked.Clear p s most) was now says after_it old new =
-    After (DoesClear p.0 s.0 most) (FailsToClear p.0 s.0 was now says after_it) old new
+    After (ClearsFewer p.0 s.0 most) (FailsToClear p.0 s.0 was now says after_it) old new
 StepFails (asked.Finish p s) was now says after_it old new =
     After (GoesOn (SendsEnd s.0) p.0 s.0) (λ mid last. FailsToMove p.0 s.0 was now says after_it mid last ⊎ FailsToClear p.0 s.0 was now says after_it mid last) old new
 StepFails step was now says after_it old new = ⊥
