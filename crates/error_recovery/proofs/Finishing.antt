@@ -5,7 +5,8 @@ use Rattle.std.proofs.lemmas.List.Elements.{All-nil, All-weaker}
 use Rattle.ata_types.specs.declared.Port.{Port}
 use Rattle.hba_regs.specs.Bits.{bit}
 use Rattle.hba_regs.specs.declared.reg.PortReg.{PortReg}
-use Rattle.hba_regs.specs.declared.reg.PortReg.TheVariants.{Ci, Cmd}
+use Rattle.adapter.specs.declared.command.Operation.{Operation}
+use Rattle.hba_regs.specs.declared.reg.PortReg.TheVariants.{Ci, Cmd, Sact}
 use Rattle.adapter.specs.Access.{Access}
 use Rattle.adapter.specs.Device.{Device}
 use Rattle.adapter.specs.Device.Halt.{NotHalted}
@@ -13,7 +14,7 @@ use Rattle.adapter.specs.Rules.{IsOn}
 use Rattle.adapter.specs.declared.command.Operation.TheVariants.{Identify, ReadLog}
 use Rattle.agreement.specs.Driven.{AgreesWith, AnyUse, IsAgreed, IsControl, IsDrivenBy, IsFollowed, IsFollowedTo, IsToldTo, SendsNone}
 use Rattle.agreement.specs.Driver.{AllFree}
-use Rattle.agreement.specs.Slots.{Free, IsMove, Own, Uses, put}
+use Rattle.agreement.specs.Slots.{Free, IsMove, Own, Uses, put, op_of}
 use Rattle.disk_page.specs.Asking.{Brings, IsAsking, LeavesRunning, WaitsInVain}
 use Rattle.command_table.specs.Written.{IsUnused}
 use Rattle.error_log.specs.Log.{TellsNoError}
@@ -38,7 +39,7 @@ use Rattle.error_recovery.proofs.Resting.{IsTold, brings_log}
 use Rattle.error_recovery.proofs.Running.{asked_running, no_command, runs_plain, runs_queued}
 use Rattle.error_recovery.proofs.Starting.{tag_is_small}
 use Rattle.error_recovery.proofs.Stretching.{commands_recover, followed_commands, room_after, told_both}
-use Rattle.error_recovery.proofs.Whole.{asked, goes, only, performs, quieted, started, stops, told, total}
+use Rattle.error_recovery.proofs.Whole.{silent_others, spares_other, asked, goes, only, performs, quieted, started, stops, told, total}
 
 -- nobody is named
 pub all_go_again : (outstanding : ℕ) → Parts outstanding None outstanding
@@ -107,7 +108,8 @@ module _ (laws : Laws) where
           unnamed = λ token is run. absurd cc;
           restarts = λ token run. absurd cc;
         };
-        leaves = record { ends = (g.st, g.stuck); det = went.det ∙ may.det; written = went.written; enabled = went.enabled; silent = g.silent };
+        leaves = record { ends = (g.st, g.stuck); det = went.det ∙ may.det; written = went.written; enabled = went.enabled; silent = g.silent; others = λ q o apart own (uses, none, agreed).
+            laws.silent (Recovering AnyUses port) (λ uses. uses) uses q o old new tt (spares_other laws port q Ci apart) (spares_other laws port q Sact apart) own none g.told.followed agreed };
       }
 
   module _ (port : Port) (outstanding : ℕ) (queued : Bool) (before after : ℕ) (old d : Device) (r : Resumes port outstanding queued before after old d) where
@@ -116,8 +118,8 @@ module _ (laws : Laws) where
 
     -- what a recovery leaves, however it ends
     leaves : (next : Next) (new : Device) → Goes port old new → EndsIn queued port next old new → (AgreesWith (λ uses. uses port.0 0 ≡ Own Identify → ⊥) old → SendsNone port.0 Identify old new) →
-        LeavesRecovery port queued next old new
-    leaves next new w ends silent = record { ends = ends; det = w.det ∙ r.may.det; written = w.written; enabled = w.enabled; silent = silent }
+        ((q : Port) (o : Operation) → q.0 ≢ port.0 → op_of o ≡ None → AgreesWith (λ uses. uses q.0 0 ≡ Own o → ⊥) old → SendsNone q.0 o old new) → LeavesRecovery port queued next old new
+    leaves next new w ends silent others = record { ends = ends; det = w.det ∙ r.may.det; written = w.written; enabled = w.enabled; silent = silent; others = others }
 
     -- ---- its disk is busy
 
@@ -142,7 +144,7 @@ module _ (laws : Laws) where
             unnamed = λ at is run. unnamed is;
             restarts = λ at run. inl (λ idle. absurd (true≢false (sym occupied ∙ (ap (λ (v : ℕ). bit v 7 || bit v 3) (sym r.quiets.file) ∙ idle))));
           };
-          leaves = leaves (Restart token) d went (names, r.quiets.receives.stopped) r.quiets.silent;
+          leaves = leaves (Restart token) d went (names, r.quiets.receives.stopped) r.quiets.silent (silent_others laws port outstanding queued before after old d r (λ uses. uses) d b);
         }
 
     -- ---- it was started again
@@ -180,7 +182,7 @@ module _ (laws : Laws) where
           unnamed = λ at on run. absurd cc;
           restarts = λ at run. absurd cc;
         };
-        leaves = leaves (Running token) start goes_start (names, runs_plain laws port outstanding queued before after old d r went start s starting goes_start is) silent_start;
+        leaves = leaves (Running token) start goes_start (names, runs_plain laws port outstanding queued before after old d r went start s starting goes_start is) silent_start (silent_others laws port outstanding queued before after old d r (λ uses. uses) start b_start);
       }
 
       pub goes_again_told : IsTold port queued before (total laws port outstanding queued before after old d r (λ uses. uses) start b_start) old start
@@ -240,7 +242,7 @@ module _ (laws : Laws) where
                 restarts = λ at run. absurd cc;
               };
               leaves = leaves (Running token) log w
-                  (names, runs_queued laws port outstanding queued before after old d r went start log s starting l (asking (λ uses. uses) a) (recovers_asked (λ uses. uses) a) brings.clear.over running on) silent_now;
+                  (names, runs_queued laws port outstanding queued before after old d r went start log s starting l (asking (λ uses. uses) a) (recovers_asked (λ uses. uses) a) brings.clear.over running on) silent_now (silent_others laws port outstanding queued before after old d r (λ uses. uses) log b);
             }
 
         -- ---- or none, and the port was to stop
@@ -300,7 +302,7 @@ module _ (laws : Laws) where
               unnamed = λ at is run. refl;
               restarts = λ at run. inr (on, why);
             };
-            leaves = leaves (Restart token) new (goes laws port outstanding queued before after old d r (λ uses. uses) new b) (names, halts.stopped) silent;
+            leaves = leaves (Restart token) new (goes laws port outstanding queued before after old d r (λ uses. uses) new b) (names, halts.stopped) silent (silent_others laws port outstanding queued before after old d r (λ uses. uses) new b);
           }
 
           pub restarts : (token : stopped_token.Stopped) → token.port ≡ port → Halts port log new → ReadsLog port outstanding None start log →
@@ -344,7 +346,7 @@ module _ (laws : Laws) where
                 unnamed = λ at is run. absurd cc;
                 restarts = λ at run. absurd cc;
               };
-              leaves = leaves Dead new (goes laws port outstanding queued before after old d r next new t.followed) (has.st, fails.stuck) silent;
+              leaves = leaves Dead new (goes laws port outstanding queued before after old d r next new t.followed) (has.st, fails.stuck) silent (silent_others laws port outstanding queued before after old d r next new t.followed);
             }
 
             pub gets_stuck : ReadsLog port outstanding None start log → Recovers port outstanding queued (record { failed = None; again = outstanding; next = Dead }) old new

@@ -1,26 +1,35 @@
 -- A recovery as a whole: from the first reading of PxTFD to the end.
-use Rattle.std.proofs.Common.{ℕ, Bool, ◌++◌, List, inr, ap}
+use Rattle.std.proofs.Common.{ℕ, Bool, ◌≡◌, ◌≢◌, ◌++◌, List, None, inr, sym, ap, ◌∙◌, ⊎_elim}
 use Rattle.std.specs.Prelude.{All}
 use Rattle.std.proofs.lemmas.List.Elements.{All-append}
 use Rattle.ata_types.specs.declared.Port.{Port}
 use Rattle.adapter.specs.Access.{Access}
 use Rattle.adapter.specs.Device.{Device}
 use Rattle.agreement.specs.Acts.{AnySlots, ByDeviceAlone, Performs}
-use Rattle.agreement.specs.Driven.{IsFollowed, IsFollowedTo, IsToldTo}
-use Rattle.agreement.specs.Driver.{AllFree}
-use Rattle.agreement.specs.GivingUp.{given_up}
-use Rattle.agreement.specs.Slots.{Uses}
+use Rattle.adapter.specs.declared.command.Operation.{Operation}
+use Rattle.hba_regs.specs.declared.reg.PortReg.{PortReg}
+use Rattle.hba_regs.specs.declared.reg.PortReg.TheVariants.{Ci, Sact}
+use Rattle.hba_regs.specs.declared.reg.Reg.TheVariants.{Px}
+use Rattle.agreement.specs.Driven.{known, AgreesWith, IsFollowed, IsFollowedTo, IsToldTo, NoneWrites, SendsNone}
+use Rattle.agreement.specs.Driver.{AllFree, Known}
+use Rattle.agreement.specs.GivingUp.{given_up, parking_all}
+use Rattle.agreement.specs.Slots.{Own, Use, Uses, op_of}
 use Rattle.disk_page.specs.Asking.{IsAsking}
 use Rattle.command_table.specs.Written.{IsUnused}
 use Rattle.port_control.specs.Engines.{Stops}
 use Rattle.error_recovery.specs.Laws.{Laws}
 use Rattle.error_recovery.specs.Laws.Fitting.{AnyUses, PortUnused}
+use Rattle.error_recovery.specs.Laws.RegisterSet.{Recovered}
 use Rattle.error_recovery.specs.Laws.Stretch.{Asking, Recovering}
 use Rattle.error_recovery.specs.Parts.{GoesOn, Resumes}
 use Rattle.error_recovery.specs.Recovery.{IsRecovering}
 use Rattle.error_recovery.proofs.Going.{Goes, goes_over}
 use Rattle.error_recovery.proofs.Resting.{IsTold, is_told}
 use Rattle.error_recovery.proofs.Stretching.{followed_commands, told_both, told_wider}
+
+-- recovery spares the registers of another port
+pub spares_other : Laws → (port q : Port) (r : PortReg) → q.0 ≢ port.0 → NoneWrites (IsRecovering port) (Px q r)
+spares_other laws port q r apart access is = laws.of_spares port q r apart access (⊎_elim (laws.control_of Recovered port access) (laws.asking_is_of port access) is)
 
 module _ (laws : Laws) (port : Port) (outstanding : ℕ) (queued : Bool) (before after : ℕ) (old d : Device) (r : Resumes port outstanding queued before after old d) where
   abbrev first : List Access
@@ -67,3 +76,15 @@ module _ (laws : Laws) (port : Port) (outstanding : ℕ) (queued : Bool) (before
     told =
         let begins = r.quiets.stops.tells.0 in
         is_told laws port outstanding queued before after old d r total (begins.rest ++ b.driven.accesses) new (ap (λ (made : List Access). made ++ b.driven.accesses) begins.here) performs.does
+
+    -- another port's disk sends no page for a command that its slot 0 hasn't
+    pub silent_others : (q : Port) (o : Operation) → q.0 ≢ port.0 → op_of o ≡ None → AgreesWith (λ uses. uses q.0 0 ≡ Own o → ⊥) old → SendsNone q.0 o old new
+    silent_others q o apart own (uses, none, agreed) =
+        let stopped = laws.agreed (Recovering AnyUses port) (λ uses. uses) uses old r.quiets.stopped tt r.quiets.stops.followed agreed in
+        let k : Known = known uses stopped.parked r.quiets.stopped in
+        let left : (parking_all k port.0).uses q.0 ≡ uses q.0 = (laws.given_up_others k port.0 q.0 apart).0 in
+        laws.silent_more q.0 o old r.quiets.stopped new
+        (laws.silent (Recovering AnyUses port) (λ uses. uses) uses q o old r.quiets.stopped tt (spares_other laws port q Ci apart) (spares_other laws port q Sact apart) own none r.quiets.stops.followed agreed)
+        (laws.silent (Recovering PortUnused port) next (parking_all k port.0).uses q o r.quiets.stopped new (laws.given_up_free k port.0) (spares_other laws port q Ci apart) (spares_other laws port q Sact apart) own
+        (λ is. none (ap (λ (slots : ℕ → Use). slots 0) (sym left) ∙ is)) b
+        (record { machine = stopped.machine; parked = (parking_all k port.0).parked; reached = stopped.reached; knows = laws.given_up_halted k stopped.machine port.0 stopped.knows r.quiets.stands }))

@@ -119,10 +119,12 @@ pub record Laws : Type 0 where
   pub controls_unmoving : (port : Port) (o : Operation) (old new : Device) → IsDrivenBy (IsControl (λ r. r ≢ Ci) port) old new → HasNoCommand (old.port port.0) → SendsNone port.0 o old new × HasNoCommand (new.port port.0)
   pub given_up_halted : (k : Known) (m : Machine) (port : ℕ) → Knows m k → IsHalted (k.device.port port) → Knows m (parking_all k port)
   pub given_up_free : (k : Known) (port : ℕ) → AllFree (parking_all k port).uses port
+  pub given_up_others : (k : Known) (port other : ℕ) → other ≢ port → ((parking_all k port).uses other ≡ k.uses other) × ((parking_all k port).parked other ≡ k.parked other)
   pub put_here : (uses : Uses) (port slot : ℕ) (o : Operation) → put uses port slot (Own o) port slot ≡ Own o
   -- stretches
   pub same_any : (old new : Device) → IsDrivenBy AnyAccess old new → SameAdapter old new
   pub of_spares_ghc : (port : Port) (access : Access) → IsOf port access → SparesRegister Ghc access
+  pub of_spares : (port q : Port) (r : PortReg) → q.0 ≢ port.0 → (access : Access) → IsOf port access → SparesRegister (Px q r) access
   pub asking_is_of : (port : Port) (access : Access) → IsAsking port access → IsOf port access
   pub asked_none : (port : ℕ) (old new : Device) → LeavesRunning port old new → HasNoCommand (old.port port) → IsOver (new.port port) 0 → HasNoCommand (new.port port)
   -- what is told of engines, and of waits

@@ -18,7 +18,7 @@ use Rattle.agreement.specs.Facts.{HasFaults, IsFaulted, RunsWell}
 use Rattle.agreement.specs.GivingUp.{given_up}
 use Rattle.agreement.specs.Links.{PlugsNone}
 use Rattle.agreement.specs.Recovering.{IsLinked, WorksPlainly}
-use Rattle.agreement.specs.Slots.{Free, Own, Uses, put}
+use Rattle.agreement.specs.Slots.{Free, Own, Uses, op_of, put}
 use Rattle.disk_page.specs.Asking.{IsAsking, WaitsInVain}
 use Rattle.error_log.specs.Log.{TellsError, TellsNoError}
 use Rattle.error_log.specs.declared.Failure.{Failure}
@@ -180,13 +180,14 @@ pub record TellsRecovery (port : Port) (outstanding : ℕ) (queued : Bool) (resu
   pub restarts : (token : stopped_token.Stopped) → result.next ≡ Restart token → MayRestart queued port outstanding accesses old new
 
 -- What it leaves: the port as `next` says; DET of PxSCTL and when it was written, and PxIE, as they were. And where slot 0 had no IDENTIFY
--- DEVICE, the disk has sent no page of it.
+-- DEVICE, the disk has sent no page of it; nor has another port's disk sent a page for a command that its slot 0 hadn't.
 pub record LeavesRecovery (port : Port) (queued : Bool) (next : Next) (old new : Device) : Type 0 where
   pub ends : EndsIn queued port next old new
   pub det : (new.port port.0).sctl_det ≡ 0
   pub written : (new.port port.0).notes.sctl_written_at ≡ (old.port port.0).notes.sctl_written_at
   pub enabled : (new.port port.0).ie ≡ (old.port port.0).ie
   pub silent : AgreesWith (λ uses. uses port.0 0 ≡ Own Identify → ⊥) old → SendsNone port.0 Identify old new
+  pub others : (q : Port) (o : Operation) → q.0 ≢ port.0 → op_of o ≡ None → AgreesWith (λ uses. uses q.0 0 ≡ Own o → ⊥) old → SendsNone q.0 o old new
 
 -- All that recovery promises, of one list of accesses.
 pub record Recovers (port : Port) (outstanding : ℕ) (queued : Bool) (result : Recovered) (old new : Device) : Type 0 where
