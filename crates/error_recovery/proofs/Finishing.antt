@@ -1,7 +1,9 @@
 -- Recovery to its ends: the port runs again, has to be booted, or is dead.
+use Rattle.hba_regs.specs.declared.reg.Reg.TheVariants.{Px}
+use Rattle.agreement.specs.Links.{SparesRegister}
 use Rattle.std.proofs.Common.{ℕ, Bool, ◌≡◌, ◌≢◌, ◌%◌, ◌/◌, ◌||◌, true, false, List, [], Option, None, Some, IfSome, IfNone, length, inl, inr, refl, sym, ◌∙◌, ap, subst, append-nil, ◌⊎◌}
 use Rattle.std.proofs.lemmas.Bool.{true≢false}
-use Rattle.std.proofs.lemmas.List.Elements.{All-nil, All-weaker}
+use Rattle.std.proofs.lemmas.List.Elements.{All-nil, All-weaker, All-append}
 use Rattle.ata_types.specs.declared.Port.{Port}
 use Rattle.hba_regs.specs.Bits.{bit}
 use Rattle.hba_regs.specs.declared.reg.PortReg.{PortReg}
@@ -32,14 +34,14 @@ use Rattle.error_recovery.specs.Laws.Fitting.{AnyUses, PortUnused}
 use Rattle.error_recovery.specs.Laws.RegisterSet.{ButIssued, Commanding}
 use Rattle.error_recovery.specs.Laws.Stretch.{Asking, Controlling, Recovering}
 use Rattle.error_recovery.specs.Parts.{GetsStuck, GoesOn, HasRoom, MayGoOn, ReadsLog, Resumes}
-use Rattle.error_recovery.specs.Recovery.{EndsIn, IsRecovering, LeavesRecovery, LeavesSlots, MayRecover, NamesForeign, Parts, Recovers, Rests}
+use Rattle.error_recovery.specs.Recovery.{EndsIn, IsRecovering, LeavesRecovery, LeavesSlots, MayRecover, NamesForeign, Parts, Recovers, Rests, WaitsAnew}
 use Rattle.error_recovery.proofs.Going.{Asks, Goes, asks_over, goes_over}
 use Rattle.error_recovery.proofs.Quieting.{commands_silent, starting_silent}
 use Rattle.error_recovery.proofs.Resting.{IsTold, brings_log}
 use Rattle.error_recovery.proofs.Running.{asked_running, no_command, runs_plain, runs_queued}
 use Rattle.error_recovery.proofs.Starting.{tag_is_small}
 use Rattle.error_recovery.proofs.Stretching.{commands_recover, followed_commands, room_after, told_both}
-use Rattle.error_recovery.proofs.Whole.{silent_others, spares_other, asked, goes, only, performs, quieted, started, stops, told, total}
+use Rattle.error_recovery.proofs.Whole.{quieted_told, silent_others, spares_other, asked, goes, only, performs, quieted, started, stops, told, total}
 
 -- nobody is named
 pub all_go_again : (outstanding : ℕ) → Parts outstanding None outstanding
@@ -142,7 +144,8 @@ module _ (laws : Laws) where
             told = λ is set alive. named is set;
             dead = λ e. absurd cc;
             unnamed = λ at is run. unnamed is;
-            restarts = λ at run. inl (λ idle. absurd (true≢false (sym occupied ∙ (ap (λ (v : ℕ). bit v 7 || bit v 3) (sym r.quiets.file) ∙ idle))));
+            restarts = λ at run. inl (All-append (SparesRegister (Px port Ci)) r.quiets.stops.followed.driven.accesses b.driven.accesses r.quiets.stops.tells.2 (quieted_told laws port outstanding queued before after old d r).tells,
+                λ idle. absurd (true≢false (sym occupied ∙ (ap (λ (v : ℕ). bit v 7 || bit v 3) (sym r.quiets.file) ∙ idle))));
           };
           leaves = leaves (Restart token) d went (names, r.quiets.receives.stopped) r.quiets.silent (silent_others laws port outstanding queued before after old d r (λ uses. uses) d b);
         }
@@ -283,7 +286,7 @@ module _ (laws : Laws) where
 
           -- the engine stopped: the port has to be booted
           stopped : (token : stopped_token.Stopped) → token.port ≡ port → (b : IsFollowed (IsRecovering port) (λ uses. AllFree uses port.0) r.quiets.stopped new) → Halts port log new →
-              (WaitsInVain port (total laws port outstanding queued before after old d r (λ uses. uses) new b) ⊎ ((page : List ℕ) × BringsLog port old new page × (TellsNoError page ⊎ NamesForeign outstanding page))) →
+              (WaitsAnew port (total laws port outstanding queued before after old d r (λ uses. uses) new b) ⊎ ((page : List ℕ) × BringsLog port old new page × (TellsNoError page ⊎ NamesForeign outstanding page))) →
               (AgreesWith (λ uses. uses port.0 0 ≡ Own Identify → ⊥) old → SendsNone port.0 Identify old new) →
               Recovers port outstanding queued (record { failed = None; again = outstanding; next = Restart token }) old new
           stopped token names b halts why silent = record {
@@ -313,7 +316,7 @@ module _ (laws : Laws) where
               let o = laws.over (Recovering PortUnused port) port ReadLog 1 r.quiets.stopped new (inr (refl, refl)) (λ uses free. free 0)
               (record { issued = halts.stopped.halted.ci 0; free = halts.stopped.halted.taken 0 }) t.followed in
               let b = o.followed in
-              stopped token names b halts (inl (laws.vain_since port r.quiets.stops.followed.driven.accesses b.driven.accesses (subst (WaitsInVain port) (sym o.tells) t.tells))) (vain_silent a.followed halts.told.followed)
+              stopped token names b halts (inl (record { early = r.quiets.stops.followed.driven.accesses; late = b.driven.accesses; here = refl; stopped = r.quiets.stops.tells.1; vain = subst (WaitsInVain port) (sym o.tells) t.tells })) (vain_silent a.followed halts.told.followed)
           restarts token names halts (inr (page, (brings, a), why)) =
               let b = (told_both laws (λ made. Unit {0}) (Stops port) (λ made. Unit {0}) (λ early late w is. tt) (Recovering PortUnused port) (Controlling Commanding AnyUses port)
               (λ uses. uses) (λ uses. uses) (commands_recover laws port) (λ uses free. tt) r.quiets.stopped log new (record { followed = b_log a; tells = tt }) halts.told).followed in

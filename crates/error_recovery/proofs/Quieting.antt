@@ -1,5 +1,7 @@
 -- A port's task file is read, the port is stopped, and its errors are forgotten.
-use Rattle.std.proofs.Common.{ℕ, ◌≡◌, ◌%◌, ◌++◌, false, List, [], ◌∷◌, inl, inr, refl, sym, ◌∙◌, ap}
+use Rattle.agreement.specs.Links.{SparesRegister}
+use Rattle.std.proofs.lemmas.List.Elements.{All-cons, All-weaker}
+use Rattle.std.proofs.Common.{ℕ, ◌≡◌, ◌%◌, ◌++◌, false, List, [], ◌∷◌, inl, inr, refl, sym, ◌∙◌, ap, subst}
 use Rattle.ata_types.specs.declared.Port.{Port}
 use Rattle.hba_regs.specs.declared.reg.PortReg.TheVariants.{Ci, Cmd, Sact, Ssts, Tfd}
 use Rattle.hba_regs.specs.declared.reg.Reg.TheVariants.{Px}
@@ -7,7 +9,7 @@ use Rattle.adapter.specs.Access.{Access, Reads}
 use Rattle.adapter.specs.Access.Access.{Reading}
 use Rattle.adapter.specs.Device.{Device, Notes}
 use Rattle.adapter.specs.declared.command.Operation.TheVariants.{Identify}
-use Rattle.agreement.specs.Driven.{AgreesWith, AnyUse, IsAgreed, IsControl, IsFollowed, IsTold, NoneWrites, SendsNone}
+use Rattle.agreement.specs.Driven.{AgreesWith, AnyUse, IsAgreed, IsControl, IsFollowed, IsTold, NoneWrites, SendsNone, IsDrivenBy}
 use Rattle.agreement.specs.Driver.{AllFree}
 use Rattle.agreement.specs.Recovering.{WorksPlainly}
 use Rattle.agreement.specs.Slots.{Free, Own, Uses}
@@ -18,13 +20,14 @@ use Rattle.error_recovery.specs.Laws.RegisterSet.{Commanding, Clearing}
 use Rattle.error_recovery.specs.Laws.Stretch.{Controlling, Recovering}
 use Rattle.error_recovery.specs.Laws.Fitting.{AnyUses, PortUnused}
 use Rattle.error_recovery.specs.Parts.{GetsStuck, HasRoom, Quiets, ReadsAndStops}
-use Rattle.error_recovery.specs.Recovery.{IsRecovering, MayRecover}
+use Rattle.error_recovery.specs.Recovery.{IsRecovering, IssueNone, MayRecover}
 use Rattle.error_recovery.proofs.Going.{Goes, goes_over, plugs_in_parts, spares_active}
-use Rattle.error_recovery.proofs.Stretching.{agreed_free, followed_clears, room_after, told_both, told_commands}
+use Rattle.error_recovery.proofs.Stretching.{agreed_free, followed_clears, room_after, told_both, told_commands, told_wider, clears_recover}
 
-reads_and_stops : (port : Port) (v : ℕ) (early late : List Access) → early ≡ Reading (Px port Tfd) v ∷ [] → (Stops port late → Stops port (early ++ late)) → Stops port late → ReadsAndStops port v (early ++ late)
-reads_and_stops port v early late is since stops =
-    (record { rest = late; here = ap (λ (made : List Access). made ++ late) is }, since stops)
+reads_and_stops : (port : Port) (v : ℕ) (early late : List Access) → early ≡ Reading (Px port Tfd) v ∷ [] → (Stops port late → Stops port (early ++ late)) → Stops port late → IssueNone port late → ReadsAndStops port v (early ++ late)
+reads_and_stops port v early late is since stops none =
+    (record { rest = late; here = ap (λ (made : List Access). made ++ late) is }, since stops,
+    subst (λ (made : List Access). IssueNone port (made ++ late)) (sym is) (All-cons (SparesRegister (Px port Ci)) (Reading (Px port Tfd) v) late tt none))
 
 module _ (laws : Laws) where
   -- neither PxCI nor PxSACT is written while PxCMD, PxSERR and PxIS are
@@ -39,15 +42,22 @@ module _ (laws : Laws) where
   commands_silent port uses old new a agreed none =
       laws.silent (Controlling Commanding AnyUses port) (λ uses. uses) uses port Identify old new tt (commanding_issues port) (commanding_arms port) refl none a agreed
 
-  clears_silent : (port : Port) (uses : Uses) (old new : Device) → IsFollowed (IsControl IsClearing port) AnyUse old new → IsAgreed uses old → (uses port.0 0 ≡ Own Identify → ⊥) → SendsNone port.0 Identify old new
-  clears_silent port uses old new a agreed none =
-      laws.silent (Controlling Clearing AnyUses port) (λ uses. uses) uses port Identify old new tt
-      (laws.control_spares Clearing port Ci no_issue) (laws.control_spares Clearing port Sact no_arm) refl none a agreed
+  clearing_issues : (port : Port) → NoneWrites (IsControl IsClearing port) (Px port Ci)
+  clearing_issues port = laws.control_spares Clearing port Ci no_issue
     where
       no_issue : IsClearing Ci → ⊥
       no_issue (inl e) = absurd cc
       no_issue (inr e) = absurd cc
 
+  -- so no command is issued
+  unissued : {port : Port} (May : Access → Type 0) → NoneWrites May (Px port Ci) → {old new : Device} (made : IsDrivenBy May old new) → IssueNone port made.accesses
+  unissued {port} May none made = All-weaker May (SparesRegister (Px port Ci)) none made.accesses made.only
+
+  clears_silent : (port : Port) (uses : Uses) (old new : Device) → IsFollowed (IsControl IsClearing port) AnyUse old new → IsAgreed uses old → (uses port.0 0 ≡ Own Identify → ⊥) → SendsNone port.0 Identify old new
+  clears_silent port uses old new a agreed none =
+      laws.silent (Controlling Clearing AnyUses port) (λ uses. uses) uses port Identify old new tt
+      (clearing_issues port) (laws.control_spares Clearing port Sact no_arm) refl none a agreed
+    where
       no_arm : IsClearing Sact → ⊥
       no_arm (inl e) = absurd cc
       no_arm (inr e) = absurd cc
@@ -108,9 +118,10 @@ module _ (laws : Laws) where
 
     module _ (mid : Device) (has : HasStopped (at.port port.0) (mid.port port.0)) (halts : Halts port at mid) where
       stopping : IsTold (ReadsAndStops port v) (IsControl WritesCommand port) AnyUse old mid
-      stopping = told_both laws (λ made. made ≡ Reading (Px port Tfd) v ∷ []) (Stops port) (ReadsAndStops port v)
-          (λ early late is stops. reads_and_stops port v early late is (laws.falls_since early late 0 15 port) stops)
-          (Controlling Commanding AnyUses port) (Controlling Commanding AnyUses port) (λ uses. uses) (λ uses. uses) (λ access is. is) (λ uses fits. fits) old at mid reading halts.told
+      stopping = told_both laws (λ made. made ≡ Reading (Px port Tfd) v ∷ []) (λ made. Stops port made × IssueNone port made) (ReadsAndStops port v)
+          (λ early late is stops. reads_and_stops port v early late is (laws.falls_since early late 0 15 port) stops.0 stops.1)
+          (Controlling Commanding AnyUses port) (Controlling Commanding AnyUses port) (λ uses. uses) (λ uses. uses) (λ access is. is) (λ uses fits. fits) old at mid reading
+          (record { followed = halts.told.followed; tells = (halts.told.tells, unissued (IsControl WritesCommand port) (commanding_issues port) halts.told.followed.driven) })
 
       stops : IsTold (ReadsAndStops port v) (IsRecovering port) AnyUse old mid
       stops = told_commands laws (ReadsAndStops port v) AnyUses port old mid stopping
@@ -143,20 +154,21 @@ module _ (laws : Laws) where
       stopped_det = goes_mid.det ∙ may.det
 
       module _ (after : ℕ) (new : Device) (followed : IsFollowed (IsControl IsClearing port) AnyUse mid new) (f : Forgets port after mid new) where
-        forgets : IsFollowed (IsRecovering port) AnyUse mid new
-        forgets = followed_clears laws AnyUses port mid new followed
+        forgets : IsTold (IssueNone port) (IsRecovering port) AnyUse mid new
+        forgets = told_wider laws (IssueNone port) (Controlling Clearing AnyUses port) (Recovering AnyUses port) (λ uses. uses) mid new (clears_recover laws port) (λ uses fits. fits)
+            (record { followed = followed; tells = unissued (IsControl IsClearing port) (clearing_issues port) followed.driven })
 
         goes_new : Goes port mid new
-        goes_new = goes_over laws port forgets.driven.accesses mid new goes_mid.on forgets.driven.only forgets.driven.all
+        goes_new = goes_over laws port forgets.followed.driven.accesses mid new goes_mid.on forgets.followed.driven.only forgets.followed.driven.all
 
         free : AgreesWith (λ uses. (slot : ℕ) → uses port.0 slot ≡ Free) new
         free =
             let g = agreed_free laws agreed.0 port.0 mid halts.stopped.halted stopped_uses in
-            (g.0, g.1, laws.agreed (Recovering AnyUses port) (λ uses. uses) g.0 mid new tt forgets g.2)
+            (g.0, g.1, laws.agreed (Recovering AnyUses port) (λ uses. uses) g.0 mid new tt forgets.followed g.2)
 
         pub quiets : Quiets port v after old new
         quiets = record {
-          room = room_after laws (IsRecovering port) port.0 mid new forgets.driven goes_new.on stopped_room;
+          room = room_after laws (IsRecovering port) port.0 mid new forgets.followed.driven goes_new.on stopped_room;
           stopped = mid;
           stops = stops;
           stands = halts.stopped.halted;
@@ -173,7 +185,7 @@ module _ (laws : Laws) where
           };
           quiet = f.quiet;
           agreed = free;
-          plain = λ plain. plain_over port agreed.0 mid new forgets stopped_uses (plain_over port agreed.0 old mid stops.followed agreed.2 plain);
+          plain = λ plain. plain_over port agreed.0 mid new forgets.followed stopped_uses (plain_over port agreed.0 old mid stops.followed agreed.2 plain);
           silent = λ (uses, none, here).
               laws.silent_more port.0 Identify old mid new (commands_silent port uses old mid stopping.followed here none)
               (clears_silent port uses mid new followed (laws.agreed (Recovering AnyUses port) (λ uses. uses) uses old mid tt stops.followed here) none);

@@ -22,7 +22,7 @@ use Rattle.error_recovery.specs.Laws.Fitting.{AnyUses, PortUnused}
 use Rattle.error_recovery.specs.Laws.RegisterSet.{Recovered}
 use Rattle.error_recovery.specs.Laws.Stretch.{Asking, Recovering}
 use Rattle.error_recovery.specs.Parts.{GoesOn, Resumes}
-use Rattle.error_recovery.specs.Recovery.{IsRecovering}
+use Rattle.error_recovery.specs.Recovery.{IsRecovering, IssueNone}
 use Rattle.error_recovery.proofs.Going.{Goes, goes_over}
 use Rattle.error_recovery.proofs.Resting.{IsTold, is_told}
 use Rattle.error_recovery.proofs.Stretching.{followed_commands, told_both, told_wider}
@@ -37,9 +37,11 @@ module _ (laws : Laws) (port : Port) (outstanding : ℕ) (queued : Bool) (before
 
   -- ---- what came since the port was stopped
 
-  pub quieted : IsFollowed (IsRecovering port) (λ uses. AllFree uses port.0) r.quiets.stopped d
-  quieted = (told_wider laws (λ made. Unit {0}) (Recovering AnyUses port) (Recovering PortUnused port) (λ uses. uses) r.quiets.stopped d (λ access is. is) (λ uses free. tt)
-      (record { followed = r.quiets.forgets; tells = tt })).followed
+  pub quieted_told : IsToldTo (IssueNone port) (IsRecovering port) (λ uses. AllFree uses port.0) (λ uses. uses) r.quiets.stopped d
+  quieted_told = told_wider laws (IssueNone port) (Recovering AnyUses port) (Recovering PortUnused port) (λ uses. uses) r.quiets.stopped d (λ access is. is) (λ uses free. tt) r.quiets.forgets
+
+  abbrev pub quieted : IsFollowed (IsRecovering port) (λ uses. AllFree uses port.0) r.quiets.stopped d
+  quieted = quieted_told.followed
 
   -- it was started
   pub started : (new : Device) → GoesOn port d new → IsFollowed (IsRecovering port) (λ uses. AllFree uses port.0) r.quiets.stopped new

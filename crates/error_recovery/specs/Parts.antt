@@ -24,7 +24,7 @@ use Rattle.error_log.specs.declared.Failure.{Failure}
 use Rattle.port_control.specs.Engines.{Sticks, Stops}
 use Rattle.port_control.specs.Ports.{HasClearErrors, IsRunning, ReceivesFises, SameButStart, Shows, ShowsIdle, WritesCommand}
 use Rattle.port_control.specs.declared.PortFault.TheVariants.{EngineStuck}
-use Rattle.error_recovery.specs.Recovery.{FitsFor, IsAloneIn, IsRecovering, MayRecover, NamesForeign}
+use Rattle.error_recovery.specs.Recovery.{FitsFor, IsAloneIn, IsRecovering, IssueNone, MayRecover, NamesForeign}
 
 -- the adapter is on and has the port and memory for the driver's frames
 pub record HasRoom (port : ℕ) (d : Device) : Type 0 where
@@ -39,9 +39,9 @@ pub record Begins (port : Port) (shown : ℕ) (accesses : List Access) : Type 0 
   pub rest : List Access
   pub here : accesses ≡ Reading (Px port Tfd) shown ∷ rest
 
--- so it was, and the port was stopped
+-- so it was, and the port was stopped; no command was issued
 abbrev pub ReadsAndStops : Port → ℕ → List Access → Type 0
-ReadsAndStops port shown accesses = Begins port shown accesses × Stops port accesses
+ReadsAndStops port shown accesses = Begins port shown accesses × Stops port accesses × IssueNone port accesses
 
 -- The port's task file was read, the port was stopped, its errors were forgotten, and the task file was read again. It receives FISes, is quiet,
 -- and tells nothing of before.
@@ -50,7 +50,7 @@ pub record Quiets (port : Port) (before after : ℕ) (old new : Device) : Type 0
   pub stopped : Device
   pub stops : IsTold (ReadsAndStops port before) (IsRecovering port) AnyUse old stopped
   pub stands : IsHalted (stopped.port port.0)
-  pub forgets : IsFollowed (IsRecovering port) AnyUse stopped new
+  pub forgets : IsTold (IssueNone port) (IsRecovering port) AnyUse stopped new
   pub receives : ReceivesFises port.0 (new.port port.0)
   pub det : (new.port port.0).sctl_det ≡ 0
   pub file : (new.port port.0).notes.last_tfd ≡ after

@@ -1,9 +1,11 @@
 -- What recovery asks, and what it promises (this project's own; recovery: AHCI 1.3.1, 6.2.2; log 10h: ACS-3, A.14).
-use Rattle.std.specs.Prelude.{ℕ, Bool, true, false, ◌≡◌, ◌≢◌, ◌⊎◌, ◌<◌, ◌≤◌, ◌%◌, List, All, Option, None, Some, length}
+use Rattle.std.specs.Prelude.{ℕ, Bool, true, false, ◌≡◌, ◌≢◌, ◌⊎◌, ◌<◌, ◌≤◌, ◌%◌, ◌++◌, List, All, Option, None, Some, length}
 use Rattle.ata_types.specs.declared.Port.{Port}
 use Rattle.ata_types.specs.declared.memory.TheConstants.{DRIVER_BYTES}
 use Rattle.hba_regs.specs.Bits.{bit}
 use Rattle.hba_regs.specs.declared.reg.PortReg.{PortReg}
+use Rattle.hba_regs.specs.declared.reg.PortReg.TheVariants.{Ci}
+use Rattle.hba_regs.specs.declared.reg.Reg.TheVariants.{Px}
 use Rattle.adapter.specs.Access.{Access}
 use Rattle.adapter.specs.Device.{Device}
 use Rattle.adapter.specs.Device.Halt.{LogOnly, NotHalted}
@@ -16,7 +18,7 @@ use Rattle.agreement.specs.Driven.{AgreesWith, IsControl, SendsNone}
 use Rattle.agreement.specs.Errors.{NoneFatal}
 use Rattle.agreement.specs.Facts.{HasFaults, IsFaulted, RunsWell}
 use Rattle.agreement.specs.GivingUp.{given_up}
-use Rattle.agreement.specs.Links.{PlugsNone}
+use Rattle.agreement.specs.Links.{PlugsNone, SparesRegister}
 use Rattle.agreement.specs.Recovering.{IsLinked, WorksPlainly}
 use Rattle.agreement.specs.Slots.{Free, Own, Uses, op_of, put}
 use Rattle.disk_page.specs.Asking.{IsAsking, WaitsInVain}
@@ -128,12 +130,25 @@ pub record NamesForeign (outstanding : ℕ) (page : List ℕ) : Type 0 where
   pub tells : TellsError page tag status error
   pub foreign : bit outstanding tag ≡ false
 
--- Why a port has to be booted: BSY or DRQ is what was read last of PxTFD. Or, where queued commands are outstanding, the log named none of
--- them: 64 readings in a row showed READ LOG EXT issued still, or its page names no command, or one that isn't outstanding.
+-- they issue no command of the port
+abbrev pub IssueNone : Port → List Access → Type 0
+IssueNone port accesses = All (SparesRegister (Px port Ci)) accesses
+
+-- The port was stopped, which clears PxCI; and then 64 readings in a row showed slot 0's bit, of a command that was issued since.
+pub record WaitsAnew (port : Port) (accesses : List Access) : Type 0 where
+  pub early : List Access
+  pub late : List Access
+  pub here : accesses ≡ early ++ late
+  pub stopped : Stops port early
+  pub vain : WaitsInVain port late
+
+-- Why a port has to be booted: BSY or DRQ is what was read last of PxTFD, and no command was issued of which they could be. Or, where queued
+-- commands are outstanding, the log named none of them: once the port had stopped, 64 readings in a row showed READ LOG EXT issued, or its page
+-- names no command, or one that isn't outstanding.
 abbrev pub MayRestart : Bool → Port → ℕ → List Access → Device → Device → Type 0
 MayRestart queued port outstanding accesses old new =
-    (ShowsIdle (new.port port.0).notes.last_tfd → ⊥)
-    ⊎ ((queued ≡ true) × (WaitsInVain port accesses
+    (IssueNone port accesses × (ShowsIdle (new.port port.0).notes.last_tfd → ⊥))
+    ⊎ ((queued ≡ true) × (WaitsAnew port accesses
     ⊎ ((page : List ℕ) × BringsLog port old new page × (TellsNoError page ⊎ NamesForeign outstanding page))))
 
 -- ---- how it ends
