@@ -110,8 +110,15 @@ module _ (laws : Laws) where
           unnamed = λ token is run. absurd cc;
           restarts = λ token run. absurd cc;
         };
-        leaves = record { ends = (g.st, g.stuck); det = went.det ∙ may.det; written = went.written; enabled = went.enabled; silent = g.silent; others = λ q o apart own (uses, none, agreed).
-            laws.silent (Recovering AnyUses port) (λ uses. uses) uses q o old new tt (spares_other laws port q Ci apart) (spares_other laws port q Sact apart) own none g.told.followed agreed };
+        leaves = record {
+          ends = (g.st, g.stuck);
+          det = went.det ∙ may.det;
+          written = went.written;
+          enabled = went.enabled;
+          silent = g.silent;
+          others = λ q o apart own (uses, none, agreed).
+              laws.silent (Recovering AnyUses port) (λ uses. uses) uses q o old new tt (spares_other laws port q Ci apart) (spares_other laws port q Sact apart) own none g.told.followed agreed;
+        };
       }
 
   module _ (port : Port) (outstanding : ℕ) (queued : Bool) (before after : ℕ) (old d : Device) (r : Resumes port outstanding queued before after old d) where
@@ -144,8 +151,10 @@ module _ (laws : Laws) where
             told = λ is set alive. named is set;
             dead = λ e. absurd cc;
             unnamed = λ at is run. unnamed is;
-            restarts = λ at run. inl (All-append (SparesRegister (Px port Ci)) r.quiets.stops.followed.driven.accesses b.driven.accesses r.quiets.stops.tells.2 (quieted_told laws port outstanding queued before after old d r).tells,
-                λ idle. absurd (true≢false (sym occupied ∙ (ap (λ (v : ℕ). bit v 7 || bit v 3) (sym r.quiets.file) ∙ idle))));
+            restarts = λ at run. inl (
+              All-append (SparesRegister (Px port Ci)) r.quiets.stops.followed.driven.accesses b.driven.accesses r.quiets.stops.tells.2 (quieted_told laws port outstanding queued before after old d r).tells,
+              λ idle. absurd (true≢false (sym occupied ∙ (ap (λ (v : ℕ). bit v 7 || bit v 3) (sym r.quiets.file) ∙ idle))),
+            );
           };
           leaves = leaves (Restart token) d went (names, r.quiets.receives.stopped) r.quiets.silent (silent_others laws port outstanding queued before after old d r (λ uses. uses) d b);
         }

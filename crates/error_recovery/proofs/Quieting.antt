@@ -22,12 +22,14 @@ use Rattle.error_recovery.specs.Laws.Fitting.{AnyUses, PortUnused}
 use Rattle.error_recovery.specs.Parts.{GetsStuck, HasRoom, Quiets, ReadsAndStops}
 use Rattle.error_recovery.specs.Recovery.{IsRecovering, IssueNone, MayRecover}
 use Rattle.error_recovery.proofs.Going.{Goes, goes_over, plugs_in_parts, spares_active}
-use Rattle.error_recovery.proofs.Stretching.{agreed_free, followed_clears, room_after, told_both, told_commands, told_wider, clears_recover}
+use Rattle.error_recovery.proofs.Stretching.{agreed_free, room_after, told_both, told_commands, told_wider, clears_recover}
 
 reads_and_stops : (port : Port) (v : ℕ) (early late : List Access) → early ≡ Reading (Px port Tfd) v ∷ [] → (Stops port late → Stops port (early ++ late)) → Stops port late → IssueNone port late → ReadsAndStops port v (early ++ late)
-reads_and_stops port v early late is since stops none =
-    (record { rest = late; here = ap (λ (made : List Access). made ++ late) is }, since stops,
-    subst (λ (made : List Access). IssueNone port (made ++ late)) (sym is) (All-cons (SparesRegister (Px port Ci)) (Reading (Px port Tfd) v) late tt none))
+reads_and_stops port v early late is since stops none = (
+  record { rest = late; here = ap (λ (made : List Access). made ++ late) is },
+  since stops,
+  subst (λ (made : List Access). IssueNone port (made ++ late)) (sym is) (All-cons (SparesRegister (Px port Ci)) (Reading (Px port Tfd) v) late tt none),
+)
 
 module _ (laws : Laws) where
   -- neither PxCI nor PxSACT is written while PxCMD, PxSERR and PxIS are

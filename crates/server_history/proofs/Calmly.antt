@@ -1,5 +1,5 @@
 -- A turn on a port that stays healthy: who had ended is told, and who is told had ended.
-use Rattle.std.proofs.Common.{◌⊎◌, ◌&&◌, ℕ, ◌≡◌, ◌≢◌, ◌<◌, ◌+◌, ◌-◌, not, Bool, true, false, List, ◌∷◌, ◌++◌, Some, None, refl, sym, ap, ◌∙◌, subst, inl, inr, ⊎_elim, arith, append_assoc}
+use Rattle.std.proofs.Common.{◌&&◌, ℕ, ◌≡◌, ◌≢◌, ◌<◌, not, Bool, true, false, List, ◌∷◌, ◌++◌, Some, None, refl, sym, ap, ◌∙◌, subst, inl, inr, ⊎_elim, arith, append_assoc}
 use Rattle.std.specs.List.{Contains}
 use Rattle.std.specs.Prelude.{◌↔◌}
 use Rattle.std.proofs.lemmas.Bool.{and_from, and_parts, cases_eq, false≢true}

@@ -1,5 +1,5 @@
 -- Answers and evidence of two parts of a call, joined.
-use Rattle.std.proofs.Common.{get_or, ◌⊎◌, suc, ◌≡◌, ◌≢◌, ◌+◌, ◌-◌, not, List, [], ◌∷◌, ◌++◌, refl, sym, ap, ◌∙◌, subst, inl, inr, ⊎_elim, arith, append_assoc, append-nil}
+use Rattle.std.proofs.Common.{get_or, ◌⊎◌, suc, ◌≡◌, ◌≢◌, not, List, [], ◌∷◌, ◌++◌, refl, sym, ap, ◌∙◌, subst, inl, inr, ⊎_elim, arith, append_assoc, append-nil}
 use Rattle.std.specs.List.{All, AllPairs, Contains}
 use Rattle.std.specs.Prelude.{◌↔◌}
 use Rattle.std.proofs.lemmas.List.Elements.{All-nil, All-append, All-cons, All-contains, All-contains_itself, All-weaker, Contains-append_cases, Contains-append_left, Contains-append_right}
@@ -10,7 +10,6 @@ use Rattle.ata_types.specs.declared.PortState.TheVariants.{Absent, Dead, Foreign
 use Rattle.ata_types.specs.declared.request.Outcome.{Outcome}
 use Rattle.ata_types.specs.declared.request.Outcome.TheVariants.{Aborted, DeviceError, Ok, PortDead, Unplugged}
 use Rattle.block_machine.specs.Events.{IsLawful, Moment, WasIssued, answers_of}
-use Rattle.block_machine.specs.Left.{after}
 use Rattle.block_machine.specs.Ports.{Evidence, Fault, IsServiced, Ports, SameDisk, SamePort}
 use Rattle.block_machine.specs.State.{Pending}
 use Rattle.block_machine.specs.Steps.{Step, Answer}

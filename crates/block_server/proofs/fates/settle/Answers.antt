@@ -1,4 +1,4 @@
-use Rattle.std.proofs.Common.{◌≡◌, ◌++◌, ◌+◌, List, [], ◌∷◌, sym, ap, ◌∙◌, subst, arith, length, filter, drop, get_or}
+use Rattle.std.proofs.Common.{◌+◌, List, ◌∷◌, sym, ap, ◌∙◌, subst, arith, filter, drop, get_or}
 use Rattle.std.specs.List.{Contains}
 use Rattle.std.proofs.lemmas.List.{drop_all}
 use Rattle.std.proofs.lemmas.List.Elements.{Contains-get_or}

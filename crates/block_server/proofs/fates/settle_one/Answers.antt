@@ -1,4 +1,4 @@
-use Rattle.std.proofs.Common.{◌≡◌, ◌++◌, List, [], ◌∷◌, refl, sym, ap, ◌∙◌, subst, append-nil, arith, length, None}
+use Rattle.std.proofs.Common.{◌≡◌, ◌++◌, List, [], ◌∷◌, refl, sym, ap, ◌∙◌, subst, append-nil, arith, None}
 use Rattle.std.specs.List.{All, Contains}
 use Rattle.ata_types.specs.declared.request.Reply.{Reply}
 use Rattle.ata_types.specs.declared.request.RequestId.{RequestId}
