@@ -38,7 +38,7 @@ use Rattle.server_history.proofs.Slots.{IsServedBy, its_mode, used_low, used_or_
 -- ---- loans
 
 -- the frames of the request given back, in the machine and in the table
-given_back : (m : Machine) (e : Held) (x : Pending) (old new : Table) → IsReached m → IsLiving m x → IsEntry e x → ((f : Frame) → m.lent f ≡ lent_to old f)
+pub given_back : (m : Machine) (e : Held) (x : Pending) (old new : Table) → IsReached m → IsLiving m x → IsEntry e x → ((f : Frame) → m.lent f ≡ lent_to old f)
     → All (λ f. lent_to old f ≡ Some e.entry.id) e.frames → LendsOnly old new e.frames None → (f : Frame) → unlend x.request.id m.lent f ≡ lent_to new f
 given_back m e x old new reached lives entry same lent lends f = by (m.lent f) refl
   where

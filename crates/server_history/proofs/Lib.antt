@@ -35,3 +35,4 @@ pub mod Serving
 pub mod Keeping
 pub mod Silent
 pub mod Making
+pub mod Meeting

@@ -27,11 +27,11 @@ use Rattle.hba_regs.specs.declared.reg.PortReg.TheVariants.{Clb, Cmd, Sctl}
 use Rattle.hba_regs.specs.declared.reg.Reg.TheVariants.{Ghc, Px}
 use Rattle.agreement.specs.Acts.{at as at_slots}
 use Rattle.agreement.specs.Driven.{AnyUse, IsDrivenBy, IsFollowed, IsOf, LeavesPort, SendsNone}
-use Rattle.agreement.specs.Driver.{EndsWith, Known, Knows}
+use Rattle.agreement.specs.Driver.{EndsWith, Forgets, HasNoSlot, Known, Knows}
 use Rattle.agreement.specs.Slots.{Armed, Free, Own, Uses, op_of}
 use Rattle.block_machine.specs.Due.{AreDueInTurn, IsDue, is_plain, IsInOrder as machine_in_order, due_of, of_port, with_issued, with_none}
 use Rattle.block_machine.specs.State.{Machine, Pending}
-use Rattle.block_machine.specs.Steps.{Accept, Issue, Answer, May, after_step, newly_accepted}
+use Rattle.block_machine.specs.Steps.{Accept, Again, Issue, Answer, May, after_step, newly_accepted, stays}
 use Rattle.block_machine.specs.State as machine
 use Rattle.block_machine.specs.Steps as steps
 use Rattle.ata_types.specs.declared.request.ClientId.{ClientId}
@@ -51,13 +51,15 @@ use Rattle.ncq.specs.Masks.{ReadsDone, IsFinding}
 use Rattle.ncq.specs.Tasks.{IsIssuing, IsTaskOf, IssuesTask, MayServe, with_serving}
 use Rattle.ncq.specs.declared.Task.{Task}
 use Rattle.port_look.specs.Laws.{Laws}
-use Rattle.request_queue.specs.Entries.{Held, IsAccepted, IsEarlier, IsFresh, IsInOrder, IsWaiting, asks_of, at, issue, unanswered_of, without}
+use Rattle.request_queue.specs.Entries.{Held, IsAccepted, IsEarlier, IsFresh, IsInOrder, IsWaiting, MayGoAgain, asks_of, at, issue, requeued as requeued_entry, unanswered_of, without}
+use Rattle.request_queue.specs.declared.Entry.{Entry}
 use Rattle.request_queue.specs.Machine.{IsBook, IsEntry}
 
 pub record LawsBelow : Type 0 where
   -- the book and the machine's
   pub accepts : (entries : List Held) (m : Machine) (e : Held) (r : machine.Accepted) → IsBook entries m.book → IsEntry e (newly_accepted r) → IsBook (entries ++ e ∷ []) (after_step m (Accept r)).book
   pub issues : (entries : List Held) (m : Machine) (mode : Mode) (p : Pending) → IsBook entries m.book → IsBook (map (at p.request.id issue) entries) (after_step m (Issue mode p)).book
+  pub again : (entries : List Held) (m : Machine) (p : Pending) → IsBook entries m.book → IsBook (map (at p.request.id requeued_entry) entries) (after_step m (Again p)).book
   pub answers : (entries : List Held) (m : Machine) (p : Pending) (outcome : Outcome) → IsBook entries m.book → IsBook (without p.request.id entries) (after_step m (Answer p outcome)).book
   pub counts : (entries : List Held) (book : List Pending) (client : ClientId) → IsBook entries book → steps.unanswered_of book client ≡ unanswered_of entries client.0
   -- its order
@@ -65,7 +67,9 @@ pub record LawsBelow : Type 0 where
   pub longer : (entries : List Held) (e : Held) → IsInOrder entries → All (λ x. IsEarlier x e) entries → IsFresh e.entry → 1 ≤ e.entry.client.0 → e.entry.client.0 ≤ 8
       → unanswered_of entries e.entry.client.0 < 16 → IsInOrder (entries ++ e ∷ [])
   pub issued : (entries : List Held) (id : RequestId) → IsInOrder entries → IsWaiting id entries → IsInOrder (map (at id issue) entries)
+  pub requeued : (entries : List Held) (id : RequestId) → IsInOrder entries → MayGoAgain id entries → IsInOrder (map (at id requeued_entry) entries)
   pub fewer : (entries : List Held) (id : RequestId) → IsInOrder entries → IsInOrder (without id entries)
+  pub others : (entries : List Held) (id : RequestId) (change : Entry → Entry) (e : Held) → Contains entries e → e.entry.id ≢ id → Contains (map (at id change) entries) e
   pub left : (entries : List Held) (id : RequestId) (e : Held) → Contains (without id entries) e ↔ (Contains entries e × (e.entry.id ≢ id))
   pub asked : (entries : List Held) → IsInOrder entries → machine_in_order (asks_of entries)
   -- what is lent
@@ -74,6 +78,12 @@ pub record LawsBelow : Type 0 where
   pub still_answered : (rows : List GrantRow) (old new : Table) (entries : List Held) (e : Held) → Contains entries e → LendsOnly old new e.frames None → All (IsAccepted rows old) entries
       → All (IsAccepted rows new) (without e.entry.id entries)
   pub still_issued : (rows : List GrantRow) (table : Table) (entries : List Held) (id : RequestId) → All (IsAccepted rows table) entries → All (IsAccepted rows table) (map (at id issue) entries)
+  pub still_requeued : (rows : List GrantRow) (table : Table) (entries : List Held) (id : RequestId) → All (IsAccepted rows table) entries → All (IsAccepted rows table) (map (at id requeued_entry) entries)
+  -- what becomes of requests that no slot serves
+  pub answered_agrees : (k : Known) (m : Machine) (e : Pending) (outcome : Outcome) (later : ℕ → List RequestId) → IsReached m → Knows m k → Contains m.book e → stays e outcome ≡ false
+      → HasNoSlot k.uses e.request.id → Forgets e.request.id k.parked later → Knows (after_step m (Answer e outcome)) (record k { parked = later })
+  pub again_agrees : (k : Known) (m : Machine) (e : Pending) (later : ℕ → List RequestId) → IsReached m → Knows m k → Contains m.book e → HasNoSlot k.uses e.request.id
+      → Forgets e.request.id k.parked later → Knows (after_step m (Again e)) (record k { parked = later })
   -- what is due
   pub waits : (mode : Mode) (entries : List Held) (r : Unanswered) → IsDue mode (asks_of entries) r → IsWaiting r.id entries
   pub asks_issued : (entries : List Held) (id : RequestId) → asks_of (map (at id issue) entries) ≡ with_issued id (asks_of entries)

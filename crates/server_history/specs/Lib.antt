@@ -3,3 +3,4 @@ pub mod Histories
 pub mod Served
 pub mod Turns
 pub mod Below
+pub mod Fates

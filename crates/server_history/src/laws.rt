@@ -1,5 +1,5 @@
 // Laws of the definitions, for callers: the clause is the theorem. Nothing comes of calling these functions.
-ghost use Rattle.std.specs.Prelude.{ℕ, true, false, ◌≡◌, ◌≢◌, ◌⊎◌, ◌<◌, ◌≤◌, ◌+◌, ◌*◌, ◌/◌, ◌%◌, List, [], ◌∷◌, Some, None, Ok, Err, length, All, AllPairs, Contains};
+ghost use Rattle.std.specs.Prelude.{ℕ, true, false, ◌≡◌, ◌≢◌, ◌⊎◌, ◌<◌, ◌≤◌, ◌+◌, ◌*◌, ◌/◌, ◌%◌, List, [], ◌∷◌, Option, Some, None, Ok, Err, length, All, AllPairs, Contains};
 ghost use Rattle.ata_types.specs.declared.Port.{Port};
 ghost use Rattle.ata_types.specs.declared.PortState.TheVariants.{Dead, Ready as ReadyState};
 ghost use Rattle.ata_types.specs.declared.grant.GrantRow.{GrantRow};
@@ -34,6 +34,13 @@ ghost use Rattle.host_boot.specs.declared.Host.{Host};
 ghost use Rattle.hba_regs.specs.Bits.{bit};
 ghost use Rattle.ncq.specs.Masks.{ReadsDone, SeesClear};
 ghost use Rattle.request_queue.specs.Entries.{Held, asks, asks_of};
+ghost use Rattle.request_queue.specs.Fates.{Holdings, MeetFates, fate_of};
+ghost use Rattle.request_queue.specs.declared.fate.Failed.{Failed};
+ghost use Rattle.request_queue.specs.declared.fate.Prospect.{Prospect};
+ghost use Rattle.request_queue.specs.declared.fate.Prospect.TheVariants.{Dead as NoEnd};
+ghost use Rattle.server_history.specs.Fates.{MayMeet, MeetsInMachine};
+ghost use Rattle.agreement.specs.Driver.{Known};
+ghost use Rattle.block_machine.specs.State.{Machine};
 ghost use Rattle.server_history.specs.Below.{LawsBelow};
 ghost use Rattle.server_history.specs.Histories.{Adds, HasBegun, load_said, store_said};
 ghost use Rattle.server_history.specs.Served.{Accepts, AnswersDone, AnswersOne, HasNone, IsMaskOf, IssuesAll, IssuesOne, accepting};
@@ -46,7 +53,7 @@ ghost use Rattle.port_look.specs.declared.Look.{Look};
 ghost use Rattle.port_look.specs.declared.Look.TheVariants.{Undisturbed as Calm};
 
 use adapter::laws::saying_is_one;
-use agreement::laws::due_finds_free_slot;
+use agreement::laws::{answering_agrees, due_finds_free_slot, going_again_agrees};
 use agreement::readying::{readied_stays, stored_stays_over_acts};
 use agreement::stretches::other_ports_are_left;
 use block_machine::laws::{
@@ -79,6 +86,8 @@ fn the_laws_below_hold()
     due_in_turn();
     own_requests_count();
     other_ports_stay();
+    answering_agrees();
+    going_again_agrees();
     due_finds_free_slot();
     saying_is_one();
     stored_stays_over_acts();
@@ -249,6 +258,16 @@ pub fn a_port_is_served()
         → LooksAt port Calm s.device seen → IsFollowed (IsLooking port) AnyUse s.device seen → IsMaskOf (slots_at s.slots port.0) mask
         → (HasNone mask → ⊥) → ReadsDone port mask done seen found → SeesClear port mask done seen → (HasNone done → ⊥)
         → AnswersDone port done replies (record s { device = found }) new → ServesPort port replies s new }
+{
+    the_laws_below_hold();
+}
+
+/// The unanswered requests of a port that was stopped meet their fates in the machine, too, where the port isn't dead: none of them is parked then.
+pub fn fates_are_met()
+    ensures { (port : Port) (failed : Option Failed) (prospect : Prospect) (requests : List Held) (replies : List Reply) (old new : Holdings)
+        (rows : List GrantRow) (k : Known) (m : Machine) → prospect ≢ NoEnd → MayMeet port requests old rows k m
+        → MeetFates (fate_of failed prospect) requests replies old new
+        → MeetsInMachine port (fate_of failed prospect) requests replies new k m }
 {
     the_laws_below_hold();
 }
