@@ -5,3 +5,4 @@ pub mod Telling
 pub mod Recording
 pub mod Seeing
 pub mod Stretching
+pub mod Failing

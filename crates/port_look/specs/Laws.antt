@@ -3,7 +3,7 @@ use Rattle.std.specs.Prelude.{ℕ, true, false, ◌≡◌, ◌≢◌, ◌⊎◌,
 use Rattle.ata_types.specs.declared.Port.{Port}
 use Rattle.hba_regs.specs.Bits.{bit}
 use Rattle.hba_regs.specs.declared.reg.PortReg.{PortReg}
-use Rattle.hba_regs.specs.declared.reg.PortReg.TheVariants.{Is, Cmd, Sctl, Serr, Sact, Ci}
+use Rattle.hba_regs.specs.declared.reg.PortReg.TheVariants.{Is, Cmd, Sctl, Serr, Ssts, Sact, Ci}
 use Rattle.hba_regs.specs.declared.reg.Reg.{Reg}
 use Rattle.hba_regs.specs.declared.reg.Reg.TheVariants as registers
 use Rattle.hba_regs.specs.declared.reg.Reg.TheVariants.{Ghc, Px}
@@ -18,8 +18,9 @@ use Rattle.adapter.specs.declared.tape.Entry.{Entry}
 use Rattle.agreement.specs.Driven.{AnyAccess, AnyUse, Grows, IsAgreed, IsDrivenBy, IsFollowedTo, IsOf, IsTold, IsToldTo, IsUse, LeavesPort}
 use Rattle.agreement.specs.Driver.{LeavesUses}
 use Rattle.agreement.specs.Errors.{ChangesByDisks, NoneComes, StaysClear}
-use Rattle.agreement.specs.Facts.{IsRecorded, RunsWell, ShowsNoTrouble, TellsNoTrouble, Undisturbed}
+use Rattle.agreement.specs.Facts.{IsFaulted, IsRecorded, RunsWell, ShowsNoTrouble, TellsNoTrouble, Undisturbed}
 use Rattle.agreement.specs.Links.{LeavesControls, SameAdapter, SparesRegister}
+use Rattle.agreement.specs.Noted.{LeavesNotes}
 use Rattle.agreement.specs.Slots.{Uses}
 use Rattle.agreement.specs.Started.{ClearsNoStart, IsStarted}
 use Rattle.port_look.specs.Looks.{IsLooking}
@@ -78,6 +79,12 @@ pub record Laws : Type 0 where
   pub access_undue : (port : Port) (access : Access) (old new : Device) → old.hr ≡ false → (old.port port.0).link_due ≡ false → SparesRegister (Px port Sctl) access → Does access old new → (new.port port.0).link_due ≡ false
   pub access_recorded : (port : Port) (access : Access) (old new : Device) → SparesRegister (Px port Cmd) access → SparesRegister (Px port Sctl) access → Does access old new
       → IsRecorded old.tape (old.port port.0) port.0 → IsRecorded new.tape (new.port port.0) port.0
+  -- a fault
+  pub fault_told : (port : Port) (v : ℕ) (old new : Device) → old.hr ≡ false → (old.port port.0).st ≡ true → IsRecorded old.tape (old.port port.0) port.0 → Reads (Px port Is) v old new → bit v 30 ≡ true → IsFaulted (new.port port.0).halt
+  pub fault_reads : (port : ℕ) (r : Reg) (v : ℕ) (old new : Device) → old.hr ≡ false → (old.port port).st ≡ true → IsRecorded old.tape (old.port port) port → IsFaulted (old.port port).halt → Reads r v old new → IsFaulted (new.port port).halt
+  pub fault_writes : (port : ℕ) (r : Reg) (v : ℕ) (old new : Device) → old.hr ≡ false → (old.port port).st ≡ true → IsRecorded old.tape (old.port port) port → IsFaulted (old.port port).halt → Writes r v old new → IsFaulted (new.port port).halt
+  pub link_seen : (port : Port) (v : ℕ) (old new : Device) → Reads (Px port Ssts) v old new → (new.port port.0).notes.last_ssts ≡ v
+  pub access_notes : (port : Port) (access : Access) (old new : Device) → Does access old new → LeavesNotes access port (old.port port.0).notes (new.port port.0).notes
   -- what the tape tells
   pub grows_none : (d : Device) → Grows d d
   pub grows_more : (old mid new : Device) → Grows old mid → Grows mid new → Grows old new

@@ -2,12 +2,15 @@
 ghost use Rattle.std.specs.Prelude.{ℕ, true, false, ◌≡◌, ◌≢◌, ◌≤◌, ◌%◌, ◌⊎◌};
 ghost use Rattle.ata_types.specs.declared.Port.{Port};
 ghost use Rattle.hba_regs.specs.Bits.{bit};
-ghost use Rattle.adapter.specs.Access.{Access};
+ghost use Rattle.hba_regs.specs.declared.reg.PortReg.{PortReg};
+ghost use Rattle.hba_regs.specs.declared.reg.PortReg.TheVariants.{Ssts};
+ghost use Rattle.hba_regs.specs.declared.reg.Reg.TheVariants.{Px};
+ghost use Rattle.adapter.specs.Access.{Access, Reads};
 ghost use Rattle.adapter.specs.Device.{Device};
 ghost use Rattle.adapter.specs.Rules.{IsOn};
 ghost use Rattle.agreement.specs.Driven.{IsUse, IsAgreed, IsDrivenBy, IsFollowed, IsOf};
 ghost use Rattle.agreement.specs.Errors.{KeepsErrors, NoneComes};
-ghost use Rattle.agreement.specs.Facts.{IsRecorded, RunsWell, ShowsNoTrouble, TellsNoTrouble, Undisturbed};
+ghost use Rattle.agreement.specs.Facts.{IsFaulted, IsRecorded, RunsWell, ShowsNoTrouble, TellsNoTrouble, Undisturbed};
 ghost use Rattle.agreement.specs.Links.{SameAdapter};
 ghost use Rattle.agreement.specs.Slots.{Uses};
 ghost use Rattle.port_look.specs.Looks.{look_of, IsLooking, LooksAt};
@@ -94,6 +97,17 @@ pub fn trouble_stays_told()
         → KeepsChanges (old.port port.0) (new.port port.0) }
     ensures causes { (port : Port) (result : Look) (old new : Device) → IsOn old → (l : LooksAt port result old new) → (place : ℕ)
         → (l.clears.mid.port port.0).is place ≡ true → bit l.causes place ≡ false → (new.port port.0).is place ≡ true }
+{
+    laws_hold();
+}
+
+/// A look that tells of a command that failed finds a fault that has halted the port, and a device with a link. Other readings of the port leave both.
+pub fn failures_are_found()
+    ensures look { (port : Port) (old new : Device) → IsOn old → LooksAt port look.Failed old new → (old.port port.0).st ≡ true
+        → IsRecorded old.tape (old.port port.0) port.0 → IsFaulted (new.port port.0).halt × ((new.port port.0).notes.last_ssts % 16 ≡ 3) }
+    ensures reads { (port : Port) (r : PortReg) (v : ℕ) (old new : Device) → IsOn old → Reads (Px port r) v old new → r ≢ Ssts
+        → (old.port port.0).st ≡ true → IsRecorded old.tape (old.port port.0) port.0 → IsFaulted (old.port port.0).halt
+        → IsFaulted (new.port port.0).halt × ((new.port port.0).notes.last_ssts ≡ (old.port port.0).notes.last_ssts) }
 {
     laws_hold();
 }
