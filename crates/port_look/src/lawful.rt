@@ -5,8 +5,9 @@ use adapter::laws::{port_registers_are_accessed, steps_compose, steps_keep};
 use agreement::disks::look_tells;
 use agreement::facts::{
     adapter_stays, calm_composes, cleared_stays, coming_composes, controls_stay, errors_are_kept,
-    errors_rise_by_disks, fault_is_found, faults_are_recorded, healthy_stays, loads_and_stores_leave_ports,
-    notes_are_set, notes_stay, running_well_is_found, trouble_is_shown,
+    errors_rise_by_disks, fault_is_found, faults_are_recorded, healthy_stays,
+    loads_and_stores_leave_ports, notes_are_set, notes_stay, running_well_is_found,
+    trouble_is_shown,
 };
 use agreement::kinds::{
     Kinds, accesses_are_followed, followed_stretches_give, stretches_are_followed,

@@ -36,3 +36,4 @@ pub mod Keeping
 pub mod Silent
 pub mod Making
 pub mod Meeting
+pub mod Failing

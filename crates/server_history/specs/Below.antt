@@ -1,5 +1,5 @@
 -- What laws of the crates below say of requests, of transfers, and of accesses that serve ports: the laws of this crate rest on them.
-use Rattle.std.specs.Prelude.{ℕ, true, false, ◌≡◌, ◌≢◌, ◌⊎◌, ◌≤◌, ◌<◌, ◌↔◌, List, [], ◌∷◌, ◌++◌, map, Option, None, All, Contains, length}
+use Rattle.std.specs.Prelude.{ℕ, true, false, ◌≡◌, ◌≢◌, ◌⊎◌, ◌≤◌, ◌<◌, ◌%◌, ◌↔◌, List, [], ◌∷◌, ◌++◌, map, Option, None, All, Contains, length}
 use Rattle.ata_types.specs.declared.Port.{Port}
 use Rattle.ata_types.specs.declared.PortState.TheVariants.{Ready}
 use Rattle.ata_types.specs.declared.grant.GrantRow.{GrantRow}
@@ -16,14 +16,14 @@ use Rattle.adapter.specs.Rules.{IsOn}
 use Rattle.agreement.specs.Acts.{Act, AreDone, InSlots, accesses_of}
 use Rattle.agreement.specs.Agrees.{Agrees}
 use Rattle.agreement.specs.Readying.{IsStored, LeavesStored}
-use Rattle.adapter.specs.Access.{Access, Does, DoesAll}
+use Rattle.adapter.specs.Access.{Access, Does, DoesAll, Reads}
 use Rattle.adapter.specs.Access.Access.{Storing}
 use Rattle.adapter.specs.Says.{Says}
 use Rattle.agreement.specs.Driver.{MissesTable}
 use Rattle.agreement.specs.Links.{SparesRegister}
 use Rattle.agreement.specs.Started.{ClearsNoStart}
 use Rattle.hba_regs.specs.declared.reg.PortReg.{PortReg}
-use Rattle.hba_regs.specs.declared.reg.PortReg.TheVariants.{Clb, Cmd, Sctl}
+use Rattle.hba_regs.specs.declared.reg.PortReg.TheVariants.{Clb, Cmd, Sctl, Ssts}
 use Rattle.hba_regs.specs.declared.reg.Reg.TheVariants.{Ghc, Px}
 use Rattle.agreement.specs.Acts.{at as at_slots}
 use Rattle.agreement.specs.Driven.{AnyUse, IsDrivenBy, IsFollowed, IsOf, LeavesPort, SendsNone}
@@ -38,7 +38,7 @@ use Rattle.ata_types.specs.declared.request.ClientId.{ClientId}
 use Rattle.block_machine.specs.declared.due.Mode.{Mode}
 use Rattle.block_machine.specs.declared.due.Unanswered.{Unanswered}
 use Rattle.dma_frames.specs.Table.{Table, LendsOnly, lent_to}
-use Rattle.agreement.specs.Facts.{RunsWell, Undisturbed}
+use Rattle.agreement.specs.Facts.{IsFaulted, IsRecorded, RunsWell, Undisturbed}
 use Rattle.block_machine.specs.Events.{Ask, Moment, Said}
 use Rattle.block_machine.specs.Histories.{Instant, IsReached}
 use Rattle.block_machine.specs.Ports.{Evidence, Ports, SamePort}
@@ -51,6 +51,8 @@ use Rattle.ncq.specs.Masks.{ReadsDone, IsFinding}
 use Rattle.ncq.specs.Tasks.{IsIssuing, IsTaskOf, IssuesTask, MayServe, with_serving}
 use Rattle.ncq.specs.declared.Task.{Task}
 use Rattle.port_look.specs.Laws.{Laws}
+use Rattle.port_look.specs.Looks.{LooksAt}
+use Rattle.port_look.specs.declared.Look.TheVariants.{Failed}
 use Rattle.request_queue.specs.Entries.{Held, IsAccepted, IsEarlier, IsFresh, IsInOrder, IsWaiting, MayGoAgain, asks_of, at, issue, requeued as requeued_entry, unanswered_of, without}
 use Rattle.request_queue.specs.declared.Entry.{Entry}
 use Rattle.request_queue.specs.Machine.{IsBook, IsEntry}
@@ -111,6 +113,11 @@ pub record LawsBelow : Type 0 where
       → IsStored old port.0 slot c places → IsStored new port.0 slot c places
   -- accesses that serve ports
   pub looks : Laws
+  -- a command that failed
+  pub fails_look : (port : Port) (old new : Device) → IsOn old → LooksAt port Failed old new → (old.port port.0).st ≡ true → IsRecorded old.tape (old.port port.0) port.0
+      → IsFaulted (new.port port.0).halt × ((new.port port.0).notes.last_ssts % 16 ≡ 3)
+  pub fails_reads : (port : Port) (r : PortReg) (v : ℕ) (old new : Device) → IsOn old → Reads (Px port r) v old new → r ≢ Ssts → (old.port port.0).st ≡ true → IsRecorded old.tape (old.port port.0) port.0
+      → IsFaulted (old.port port.0).halt → IsFaulted (new.port port.0).halt × ((new.port port.0).notes.last_ssts ≡ (old.port port.0).notes.last_ssts)
   -- a task is issued
   pub issuing_ends : (port : Port) (slot : ℕ) (r : Task) (frames : List Frame) (mode : Mode) (e : Pending) (old new : Device) (s : InSlots) (m : Machine)
       → IssuesTask port slot r frames old new → IsTaskOf port slot r frames mode e → IsReached m → Knows m (at_slots s old) → MayServe port slot mode e s m

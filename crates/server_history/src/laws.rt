@@ -1,5 +1,5 @@
 // Laws of the definitions, for callers: the clause is the theorem. Nothing comes of calling these functions.
-ghost use Rattle.std.specs.Prelude.{ℕ, true, false, ◌≡◌, ◌≢◌, ◌⊎◌, ◌<◌, ◌≤◌, ◌+◌, ◌*◌, ◌/◌, ◌%◌, List, [], ◌∷◌, Option, Some, None, Ok, Err, length, All, AllPairs, Contains};
+ghost use Rattle.std.specs.Prelude.{ℕ, Bool, true, false, ◌≡◌, ◌≢◌, ◌⊎◌, ◌<◌, ◌≤◌, ◌+◌, ◌*◌, ◌/◌, ◌%◌, List, [], ◌∷◌, Option, Some, None, Ok, Err, length, All, AllPairs, Contains};
 ghost use Rattle.ata_types.specs.declared.Port.{Port};
 ghost use Rattle.ata_types.specs.declared.PortState.TheVariants.{Dead, Ready as ReadyState};
 ghost use Rattle.ata_types.specs.declared.grant.GrantRow.{GrantRow};
@@ -50,7 +50,8 @@ ghost use Rattle.slots.specs.Uses.{IsLowestFree, IsTaken};
 ghost use Rattle.slots.specs.declared.Use.{Use as SlotUse};
 ghost use Rattle.port_look.specs.Looks.{IsLooking, LooksAt};
 ghost use Rattle.port_look.specs.declared.Look.{Look};
-ghost use Rattle.port_look.specs.declared.Look.TheVariants.{Undisturbed as Calm};
+ghost use Rattle.port_look.specs.declared.Look.TheVariants.{Failed as Fails, Undisturbed as Calm};
+ghost use Rattle.error_recovery.specs.Recovery.{FitsFor, MayRecover};
 
 use adapter::laws::saying_is_one;
 use agreement::laws::{answering_agrees, due_finds_free_slot, going_again_agrees};
@@ -65,6 +66,7 @@ use host_boot::laws::what_was_taken_over_may_be_served;
 use ncq::laws::{calls_are_of_one_port, finding_is_followed, issuing_performs};
 use port_boot::laws::a_port_runs_on;
 use port_look::lawful::laws_hold;
+use port_look::laws::failures_are_found;
 use request_queue::laws::{
     accepted_requests_stay, an_id_is_one_request, clients_have_as_many,
     operations_change_one_request, operations_change_what_is_due, steps_change_the_book,
@@ -93,6 +95,7 @@ fn the_laws_below_hold()
     stored_stays_over_acts();
     readied_stays();
     laws_hold();
+    failures_are_found();
     issuing_performs();
     calls_are_of_one_port();
     finding_is_followed();
@@ -258,6 +261,18 @@ pub fn a_port_is_served()
         → LooksAt port Calm s.device seen → IsFollowed (IsLooking port) AnyUse s.device seen → IsMaskOf (slots_at s.slots port.0) mask
         → (HasNone mask → ⊥) → ReadsDone port mask done seen found → SeesClear port mask done seen → (HasNone done → ⊥)
         → AnswersDone port done replies (record s { device = found }) new → ServesPort port replies s new }
+{
+    the_laws_below_hold();
+}
+
+/// A ready port that a look tells a failure of may be recovered once its masks were read: a fault has halted it, and it shows a device. Of plain
+/// commands it has one alone, in slot 0.
+pub fn a_failed_port_may_be_recovered()
+    ensures may { (s : Server) (seen found : Device) (port : Port) (mask done : ℕ) → IsKept s → state_of (found_of s.ports port.0) ≡ ReadyState
+        → LooksAt port Fails s.device seen → IsFollowed (IsLooking port) AnyUse s.device seen → ReadsDone port mask done seen found
+        → MayRecover port.0 found }
+    ensures agreed { (s : Server) (port : Port) (queued : Bool) → IsKept s → state_of (found_of s.ports port.0) ≡ ReadyState
+        → ((slot : ℕ) (used : SlotUse) → used_for s.slots port.0 slot ≡ Some used → used.queued ≡ queued) → AgreesWith (FitsFor queued port.0) s.device }
 {
     the_laws_below_hold();
 }

@@ -1,0 +1,92 @@
+-- A ready port that a look tells a failure of may be recovered.
+use Rattle.std.proofs.Common.{ℕ, ◌≡◌, ◌≢◌, ◌<◌, ◌%◌, Bool, false, Some, refl, sym, ap, ◌∙◌, subst, inl, inr, ⊎_elim}
+use Rattle.ata_types.specs.declared.Port.{Port}
+use Rattle.ata_types.specs.declared.PortState.TheVariants.{Ready as ReadyState}
+use Rattle.hba_regs.specs.declared.reg.Reg.TheVariants.{Px}
+use Rattle.hba_regs.specs.declared.reg.PortReg.TheVariants.{Ci, Sact, Ssts}
+use Rattle.adapter.specs.Access.Access.{Reading}
+use Rattle.adapter.specs.Device.{Device}
+use Rattle.adapter.specs.Rules.{IsOn}
+use Rattle.agreement.specs.Driven.{AgreesWith, AnyUse, IsFollowed}
+use Rattle.agreement.specs.Facts.{IsFaulted, IsRecorded}
+use Rattle.agreement.specs.Slots.{Free}
+use Rattle.error_recovery.specs.Recovery.{FitsFor, MayRecover}
+use Rattle.driver_history.specs.Holds.{Runs}
+use Rattle.host_boot.specs.Taken.{StillStandsBehind, found_of, wanted_of}
+use Rattle.host_boot.specs.declared.Found.{Found}
+use Rattle.host_boot.specs.declared.Found.TheVariants.{Ready}
+use Rattle.ncq.specs.Masks.{ReadsDone}
+use Rattle.port_look.specs.Looks.{IsLooking, LooksAt}
+use Rattle.port_look.specs.declared.Look.TheVariants.{Failed}
+use Rattle.slots.specs.declared.Use.{Use as SlotUse}
+use Rattle.server_history.specs.Below.{LawsBelow}
+use Rattle.server_history.specs.Server.{Server, IsKept, IsPortOf, state_of, used_for}
+use Rattle.server_history.proofs.Looking.{finding_kept, looking_kept}
+use Rattle.server_history.proofs.Plain.{both_read}
+use Rattle.server_history.proofs.Slots.{free_unused, ready_found, used_or_not}
+
+module _ (laws : LawsBelow) (s : Server) (seen found : Device) (port : Port) (mask done : ℕ) (k : IsKept s) (ready : state_of (found_of s.ports port.0) ≡ ReadyState)
+    (l : LooksAt port Failed s.device seen) (looks : IsFollowed (IsLooking port) AnyUse s.device seen) (finds : ReadsDone port mask done seen found) where
+  low : port.0 < 4
+  low = (ready_found s port.0 k ready).0
+
+  seen_kept : IsKept (record s { device = seen })
+  seen_kept = looking_kept s seen port k ready laws looks
+
+  found_kept : IsKept (record s { device = found })
+  found_kept = finding_kept (record s { device = seen }) found port seen_kept ready laws mask done finds
+
+  -- it runs, before and after
+  was : Runs port.0 s.device
+  was = (k.behind port.0 low).runs ready
+
+  then_runs : Runs port.0 seen
+  then_runs = (seen_kept.behind port.0 low).runs ready
+
+  runs : Runs port.0 found
+  runs = (found_kept.behind port.0 low).runs ready
+
+  -- no COMRESET is being sent
+  det : (found.port port.0).sctl_det ≡ 0
+  det =
+      let r = ready_found s port.0 k ready in
+      (subst (λ (f : Found). StillStandsBehind (wanted_of s.wanted port.0) f port.0 found) r.1.1 (found_kept.behind port.0 low).behind).1.det
+
+  first : IsFaulted (seen.port port.0).halt × ((seen.port port.0).notes.last_ssts % 16 ≡ 3)
+  first = laws.fails_look port s.device seen k.on l was.st (λ _. was.recorded)
+
+  halted : IsFaulted (found.port port.0).halt × ((found.port port.0).notes.last_ssts % 16 ≡ 3)
+  halted =
+      let r = both_read port mask done seen found finds in
+      let mid = r.0 in
+      let access = Reading (Px port Ci) finds.issued in
+      let a = laws.fails_reads port Ci finds.issued seen mid seen_kept.on r.1 (λ e. absurd cc) then_runs.st (λ _. then_runs.recorded) first.0 in
+      let on : IsOn mid = laws.looks.access_on access seen mid seen_kept.on (λ v e. absurd cc) r.1 in
+      let st = ((laws.looks.access_controls port access seen mid seen_kept.on.no_reset r.1).command tt).0 ∙ then_runs.st in
+      let recorded = laws.looks.access_recorded port access seen mid tt tt r.1 (λ _. then_runs.recorded) in
+      let b = laws.fails_reads port Sact finds.active mid found on r.2 (λ e. absurd cc) st recorded a.0 in
+      (b.0, ap (λ (n : ℕ). n % 16) (b.1 ∙ a.1) ∙ first.1)
+
+  pub may_recover : MayRecover port.0 found
+  may_recover = record {
+    st = runs.st;
+    cr = runs.cr;
+    fre = runs.fre;
+    bases = runs.bases;
+    det = det;
+    linked = halted.1;
+    recorded = runs.recorded;
+    halted = halted.0;
+  }
+
+-- of plain commands a port has one alone
+pub fits_for : (s : Server) (port : Port) (queued : Bool) (k : IsKept s) → state_of (found_of s.ports port.0) ≡ ReadyState
+    → ((slot : ℕ) (used : SlotUse) → used_for s.slots port.0 slot ≡ Some used → used.queued ≡ queued) → AgreesWith (FitsFor queued port.0) s.device
+fits_for s port queued k ready kinds = (
+  k.stands.uses,
+  (λ plain slot other. ⊎_elim
+      (λ x. absurd (other (k.alone port.0 slot x.0 x.1 (kinds slot x.0 x.1 ∙ plain)).0))
+      (λ none. free_unused s k.machine port.0 k.stands ready slot none)
+      (used_or_not (used_for s.slots port.0 slot))),
+  record { machine = k.machine; parked = k.stands.parked; reached = k.reached; knows = k.stands.knows },
+)
