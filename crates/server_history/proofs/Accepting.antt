@@ -29,8 +29,6 @@ use Rattle.block_machine.proofs.EventLemmas.{after-append}
 use Rattle.block_machine.proofs.HistoryLemmas.{may-append, reached_more}
 use Rattle.block_machine.proofs.Members.{append_in, contains_here, contains_there, some_in}
 use Rattle.agreement.specs.Driven.{IsDrivenBy, known}
-use Rattle.agreement.proofs.Adding.{backed_then}
-use Rattle.agreement.proofs.Calling.{own_backed}
 use Rattle.agreement.proofs.Deciding.{accept_knows}
 use Rattle.agreement.proofs.Lasting.{same_refl}
 use Rattle.dma_frames.specs.Table.{Table, lent_to, LendsOnly}
@@ -192,7 +190,7 @@ module _ (laws : LawsBelow) (s : Server) (k : IsKept s) (r : Request) (acc : IsA
         (λ other. All-weaker (IssuesIn port) (LeavesEngine other) (issuing_leaves port other) driven.accesses driven.only)
         (λ other is_ready. due_now other)
         (λ other healthy. record { finds = tt; faults = tt; tries = tt; boots = tt; trouble = laws.untroubled (told_by s.device old.moment.ports) (with_device s.device old) (ports_of new) new.device other healthy; well = λ i. absurd (uninterrupted s.device old.moment.ports other i); heeds = uninterrupted s.device old.moment.ports other })
-        (backed_then s.device s.device new.device m early x.steps (own_backed s.device m (Accept asked) (λ no. no)) x.backed)
+        (laws.backed_parts s.device s.device new.device m early x.steps (laws.backed_own s.device m (Accept asked) (λ no. no)) x.backed)
         stands
       where
         old : Instant Device

@@ -1,26 +1,24 @@
 -- A ready port that a look tells a failure of may be recovered.
-use Rattle.std.proofs.Common.{ℕ, ◌≡◌, ◌≢◌, ◌<◌, ◌%◌, Bool, false, Some, refl, sym, ap, ◌∙◌, subst, inl, inr, ⊎_elim}
+use Rattle.std.proofs.Common.{ℕ, ◌≡◌, ◌<◌, ◌%◌, Bool, Some, ap, ◌∙◌, subst, ⊎_elim}
 use Rattle.ata_types.specs.declared.Port.{Port}
 use Rattle.ata_types.specs.declared.PortState.TheVariants.{Ready as ReadyState}
 use Rattle.hba_regs.specs.declared.reg.Reg.TheVariants.{Px}
-use Rattle.hba_regs.specs.declared.reg.PortReg.TheVariants.{Ci, Sact, Ssts}
+use Rattle.hba_regs.specs.declared.reg.PortReg.TheVariants.{Ci, Sact}
 use Rattle.adapter.specs.Access.Access.{Reading}
 use Rattle.adapter.specs.Device.{Device}
 use Rattle.adapter.specs.Rules.{IsOn}
 use Rattle.agreement.specs.Driven.{AgreesWith, AnyUse, IsFollowed}
-use Rattle.agreement.specs.Facts.{IsFaulted, IsRecorded}
-use Rattle.agreement.specs.Slots.{Free}
+use Rattle.agreement.specs.Facts.{IsFaulted}
 use Rattle.error_recovery.specs.Recovery.{FitsFor, MayRecover}
 use Rattle.driver_history.specs.Holds.{Runs}
 use Rattle.host_boot.specs.Taken.{StillStandsBehind, found_of, wanted_of}
 use Rattle.host_boot.specs.declared.Found.{Found}
-use Rattle.host_boot.specs.declared.Found.TheVariants.{Ready}
 use Rattle.ncq.specs.Masks.{ReadsDone}
 use Rattle.port_look.specs.Looks.{IsLooking, LooksAt}
 use Rattle.port_look.specs.declared.Look.TheVariants.{Failed}
 use Rattle.slots.specs.declared.Use.{Use as SlotUse}
 use Rattle.server_history.specs.Below.{LawsBelow}
-use Rattle.server_history.specs.Server.{Server, IsKept, IsPortOf, state_of, used_for}
+use Rattle.server_history.specs.Server.{Server, IsKept, state_of, used_for}
 use Rattle.server_history.proofs.Looking.{finding_kept, looking_kept}
 use Rattle.server_history.proofs.Plain.{both_read}
 use Rattle.server_history.proofs.Slots.{free_unused, ready_found, used_or_not}

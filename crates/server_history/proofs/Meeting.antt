@@ -1,31 +1,26 @@
 -- Requests meet their fates in the machine, one after another.
-use Rattle.std.proofs.Common.{ℕ, suc, ◌≡◌, ◌≢◌, ◌<◌, ◌==◌, Bool, true, false, not, cond, eq-eqb, if◌then◌else◌, List, [], ◌∷◌, ◌++◌, map, filter, length, Option, Some, None, inl, inr, append-nil, refl, sym, ap, ◌∙◌, subst, arith, ⊎_elim}
+use Rattle.std.proofs.Common.{ℕ, suc, ◌≡◌, ◌≢◌, ◌<◌, ◌==◌, Bool, true, false, not, cond, eq-eqb, if◌then◌else◌, List, [], ◌∷◌, ◌++◌, map, filter, Option, Some, None, inl, inr, append-nil, refl, sym, ap, ◌∙◌, subst, arith, ⊎_elim}
 use Rattle.std.specs.List.{All, AllPairs, Contains}
 use Rattle.std.specs.List.Sorted.{IsPermutation}
-use Rattle.std.proofs.lemmas.Bool.{cases_eq, cond-true, eqb-false, false≢true, ne_eqb}
+use Rattle.std.proofs.lemmas.Bool.{cond-true, eqb-false, false≢true, ne_eqb}
 use Rattle.std.proofs.lemmas.List.Elements.{All-append, All-cons, All-contains, All-contains_itself, All-filter, All-nil, All-weaker, Contains-append_cases, Contains-append_left, Contains-append_right, filter_passes, Contains-get_or}
 use Rattle.std.proofs.lemmas.List.Kept.{AllPairs-cons}
 use Rattle.std.proofs.lemmas.List.Sorted.{Contains-permutation, IsPermutation-append, IsPermutation-append_comm, IsPermutation-refl, IsPermutation-trans}
 use Rattle.ata_types.specs.declared.Port.{Port}
 use Rattle.ata_types.specs.declared.grant.GrantRow.{GrantRow}
-use Rattle.ata_types.specs.declared.request.Frame.{Frame}
 use Rattle.ata_types.specs.declared.request.Outcome.{Outcome}
 use Rattle.ata_types.specs.declared.request.Outcome.TheVariants as outcome
 use Rattle.ata_types.specs.declared.request.Reply.{Reply}
 use Rattle.ata_types.specs.declared.request.RequestId.{RequestId}
-use Rattle.adapter.specs.Device.{Device}
 use Rattle.adapter.specs.Memory.{changed}
-use Rattle.agreement.specs.Driver.{Forgets, HasNoSlot, IsBacked, Known, Knows}
-use Rattle.agreement.proofs.Adding.{backed_then, nothing_backed}
-use Rattle.agreement.proofs.Calling.{own_backed}
-use Rattle.block_machine.specs.Events.{AllMay, IsDevices, IsToldBefore, Tells, answers_of, reply_of}
-use Rattle.block_machine.specs.Histories.{IsReached}
+use Rattle.agreement.specs.Driver.{Forgets, HasNoSlot, Known, Knows}
+use Rattle.block_machine.specs.Events.{IsDevices, IsToldBefore, Tells, answers_of, reply_of}
 use Rattle.block_machine.specs.Left.{after}
 use Rattle.block_machine.specs.State.{Machine, Pending}
 use Rattle.block_machine.specs.Steps.{Step, Again, Answer, May, after_step, stays, unlend}
 use Rattle.block_machine.proofs.EventLemmas.{after-append}
 use Rattle.block_machine.proofs.HistoryLemmas.{may-append, reached_more}
-use Rattle.dma_frames.specs.Table.{Table, LendsOnly, lent_to}
+use Rattle.dma_frames.specs.Table.{LendsOnly, lent_to}
 use Rattle.request_queue.specs.Entries.{HasIssuesLeft, Held, IsAccepted, IsEarlier, IsInOrder, at, requeued, without}
 use Rattle.request_queue.specs.Fates.{EndsLoan, Holdings, MeetFates, MeetsFate, fate_of, fate_on, keeps_loan, reply_to}
 use Rattle.request_queue.specs.Machine.{IsBook, IsEntry}
@@ -240,7 +235,7 @@ module _ (laws : LawsBelow) (port : Port) (failed : Option Failed) (prospect : P
         parked = r.parked;
         may = may-append m r.steps (step ∷ []) (tt, comes) r.may;
         own = All-append (IsOfTurn port) r.steps (step ∷ []) r.own (All-cons (IsOfTurn port) step [] of_port (All-nil (IsOfTurn port)));
-        backed = λ d. backed_then d d d m (step ∷ []) r.steps (own_backed d m step own) (r.backed d);
+        backed = λ d. laws.backed_parts d d d m (step ∷ []) r.steps (laws.backed_own d m step own) (r.backed d);
         knows = subst (λ (n : Machine). Knows n (record k { parked = r.parked })) (sym whole_is) r.knows;
         others = λ q ne. r.others q ne ∙ changed_other k.parked port.0 (but request.entry.id (k.parked port.0)) q ne;
         none = r.none;
@@ -427,7 +422,7 @@ meet laws port failed prospect alive rows [] replies old new k m may (none, is) 
   parked = k.parked;
   may = tt;
   own = All-nil (IsOfTurn port);
-  backed = λ d. nothing_backed d m;
+  backed = λ d. laws.backed_none d m;
   knows = may.knows;
   others = λ q ne. refl;
   none = nobody (k.parked port.0) (λ id here. nowhere (may.parked id here).0 (may.parked id here).1);

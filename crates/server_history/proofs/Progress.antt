@@ -18,7 +18,6 @@ use Rattle.adapter.specs.Device.{Device}
 use Rattle.adapter.specs.Rules.{IsOn}
 use Rattle.adapter.specs.declared.access.DeviceStep.{DeviceStep}
 use Rattle.agreement.specs.Driver.{IsBacked}
-use Rattle.agreement.proofs.Adding.{nothing_backed}
 use Rattle.block_machine.specs.Events.{AllGrounded, AllLawful, AnswersEnded, Belong, HadDisk, IsToldBefore, Moment, Served, Service, UnplugsAll, answers_of, reply_of}
 use Rattle.block_machine.specs.Histories.{Instant, IsReached}
 use Rattle.block_machine.specs.Left.{after}
@@ -122,7 +121,7 @@ module _ (laws : LawsBelow) (s : Server) (start : IsSettled s) (old : Moment) (r
     steps = [];
     turns = no_turns old reached;
     stands = at;
-    backed = nothing_backed s.device old.machine;
+    backed = laws.backed_none s.device old.machine;
     belong = tt;
     evidence = no_evidence;
     names = record {

@@ -13,7 +13,6 @@ use Rattle.adapter.proofs.Calls.{does_append}
 use Rattle.agreement.specs.Driven.{IsDrivenBy, SendsNone}
 use Rattle.agreement.specs.Slots.{op_of}
 use Rattle.agreement.specs.Driver.{IsBacked}
-use Rattle.agreement.proofs.Adding.{backed_then, nothing_backed}
 use Rattle.agreement.proofs.Driven.{by_none, driven_as}
 use Rattle.block_machine.specs.Due.{AreDueInTurn, IsDue, NoneDue, due_of, mark_issued, of_port, with_issued}
 use Rattle.block_machine.specs.Events.{Ask, Moment, AllDevices, AllLawful, AllMay, Belong, IsIssuedIn, IsServers, IssuesLast, accepts_of, handles, issues_it}
@@ -177,7 +176,7 @@ module _ (laws : LawsBelow) (port : Port) where
   each_issued [] old new k none m reached is = record {
     steps = [];
     may = tt;
-    backed = subst (λ (n : Server). IsBacked old.device n.device m []) (sym none) (nothing_backed old.device m);
+    backed = subst (λ (n : Server). IsBacked old.device n.device m []) (sym none) (laws.backed_none old.device m);
     stands = subst (λ (n : Server). IsMachineOf n m) (sym none) is;
     only = tt;
     named = λ id i. absurd (false≢true i);
@@ -191,7 +190,7 @@ module _ (laws : LawsBelow) (port : Port) where
       record {
         steps = y.steps ++ early;
         may = may-append m y.steps early x.may y.may;
-        backed = backed_then old.device mid.device new.device m early y.steps x.backed y.backed;
+        backed = laws.backed_parts old.device mid.device new.device m early y.steps x.backed y.backed;
         stands = subst (IsMachineOf new) (sym (after-append m y.steps early)) y.stands;
         only = only_append (mode_in old port) port y.steps early (subst (λ (modes : List Mode). IssuesOnly (mode_at modes port.0) port y.steps) (ap (λ (n : Server). n.modes) one.server) y.only) (refl, x.port_is, devices_only (mode_in old port) port x.steps x.only);
         named = λ id i. ⊎_elim

@@ -28,7 +28,6 @@ use Rattle.agreement.specs.Driven.{IsDrivenBy, IsOf}
 use Rattle.agreement.specs.Facts.{Undisturbed}
 use Rattle.agreement.specs.Links.{SparesRegister}
 use Rattle.agreement.specs.Slots.{IsMove, ServesRequest}
-use Rattle.agreement.proofs.Adding.{backed_then}
 use Rattle.agreement.proofs.Controlled.{tape_over}
 use Rattle.block_machine.specs.Events.{AllGrounded, AllLawful, IsIssuedIn, IsToldBefore, Moment, Served, ShowsDisk, Service, WasIssued, answers_of, changes_disk, issues_it, reply_of}
 use Rattle.block_machine.specs.Histories.{Instant, IsReached}
@@ -611,7 +610,7 @@ module _ (laws : LawsBelow) (s : Server) (start : IsSettled s) (old : Moment) (r
       steps = all;
       turns = its_turns;
       stands = subst (IsMachineOf mid) (sym whole_is) x.stands;
-      backed = backed_then s.device c.device mid.device old.machine p.steps x.steps p.backed x.backed;
+      backed = laws.backed_parts s.device c.device mid.device old.machine p.steps x.steps p.backed x.backed;
       belong = belong_join (ports_of mid) x.steps p.steps x.belong
           (belong_on (λ q. q.0 < n) (ports_of c) (ports_of mid) (λ q lt. let same = same_other q (λ is. omega (arith, lt, is)) in (same.1, same.5)) p.steps p.turns.below p.belong);
       evidence = evidence;

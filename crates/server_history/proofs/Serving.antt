@@ -20,7 +20,6 @@ use Rattle.agreement.specs.Driven.{AnyUse, IsDrivenBy, IsFollowed, SendsNone}
 use Rattle.agreement.specs.Driver.{IsBacked}
 use Rattle.agreement.specs.Facts.{RunsWell, Undisturbed}
 use Rattle.agreement.specs.Slots.{IsOver, Serves, ServesRequest, Stage}
-use Rattle.agreement.proofs.Adding.{backed_then}
 use Rattle.agreement.proofs.Driven.{along, by_none, followed_as, followed_then, followed_adds}
 use Rattle.agreement.proofs.Finished.{access_over}
 use Rattle.block_machine.specs.Events.{AllDevices, AllMay, issues_it}
@@ -330,7 +329,7 @@ module _ (s : Server) (seen : Device) (port : Port) (t : IsSettled s) (ready : s
           steps = z.steps ++ base;
           may = may-append m z.steps base base_may z.may;
           stands = subst (IsMachineOf new) (sym (after-append m z.steps base)) z.stands;
-          backed = backed_then s.device a.mid.device new.device m base z.steps base_backed z.backed;
+          backed = laws.backed_parts s.device a.mid.device new.device m base z.steps base_backed z.backed;
           answers = record {
             requests = a.requests;
             told = a.told;
@@ -369,7 +368,7 @@ module _ (s : Server) (seen : Device) (port : Port) (t : IsSettled s) (ready : s
             base_may = may-append m (answers_in y.ended) x.0 x.1 y.may
 
             base_backed : IsBacked s.device a.mid.device m base
-            base_backed = backed_then s.device found a.mid.device m x.0 (answers_in y.ended) x.3 y.backed
+            base_backed = laws.backed_parts s.device found a.mid.device m x.0 (answers_in y.ended) x.3 y.backed
 
             none_in_base : (id : RequestId) → list_any (issues_it id) base ≡ false
             none_in_base id = any_append (issues_it id) (answers_in y.ended) x.0 ∙ ap (λ (b : Bool). b || list_any (issues_it id) x.0) (answers_issue_none id y.ended) ∙ devices_issue_none id x.0 x.4

@@ -8,8 +8,6 @@ use Rattle.ata_types.specs.declared.request.Outcome.TheVariants.{Ok}
 use Rattle.ata_types.specs.declared.request.Reply.{Reply}
 use Rattle.adapter.specs.Device.{Device}
 use Rattle.agreement.specs.Driver.{IsBacked}
-use Rattle.agreement.proofs.Adding.{backed_then, nothing_backed}
-use Rattle.agreement.proofs.Calling.{own_backed}
 use Rattle.block_machine.specs.Due.{IsDue, NoneDue, of_port}
 use Rattle.block_machine.specs.declared.due.Mode.{Mode}
 use Rattle.block_machine.specs.Events.{AllMay}
@@ -89,7 +87,7 @@ module _ (laws : LawsBelow) (port : Port) (done : ℕ) where
     ended = [];
     each = tt;
     may = tt;
-    backed = subst (λ (n : Server). IsBacked old.device n.device m []) (sym none) (nothing_backed old.device m);
+    backed = subst (λ (n : Server). IsBacked old.device n.device m []) (sym none) (laws.backed_none old.device m);
     stands = subst (λ (n : Server). IsMachineOf n m) (sym none) is;
   }
   each_answered (e ∷ requests) old new k ready over (mid, one, its, more) m reached is =
@@ -101,8 +99,8 @@ module _ (laws : LawsBelow) (port : Port) (done : ℕ) where
         ended = y.done ∷ z.ended;
         each = (y.has, z.each);
         may = may-append m (answers_in z.ended) first (tt, y.here) z.may;
-        backed = backed_then old.device mid.device new.device m first (answers_in z.ended)
-            (subst (λ (d : Device). IsBacked old.device d m first) (sym (ap (λ (n : Server). n.device) one.server)) (own_backed old.device m (Answer y.done Ok) (λ none. none))) z.backed;
+        backed = laws.backed_parts old.device mid.device new.device m first (answers_in z.ended)
+            (subst (λ (d : Device). IsBacked old.device d m first) (sym (ap (λ (n : Server). n.device) one.server)) (laws.backed_own old.device m (Answer y.done Ok) (λ none. none))) z.backed;
         stands = subst (IsMachineOf new) (sym (after-append m (answers_in z.ended) first)) z.stands;
       }
 

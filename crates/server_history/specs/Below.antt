@@ -27,11 +27,11 @@ use Rattle.hba_regs.specs.declared.reg.PortReg.TheVariants.{Clb, Cmd, Sctl, Ssts
 use Rattle.hba_regs.specs.declared.reg.Reg.TheVariants.{Ghc, Px}
 use Rattle.agreement.specs.Acts.{at as at_slots}
 use Rattle.agreement.specs.Driven.{AnyUse, IsDrivenBy, IsFollowed, IsOf, LeavesPort, SendsNone}
-use Rattle.agreement.specs.Driver.{EndsWith, Forgets, HasNoSlot, Known, Knows}
+use Rattle.agreement.specs.Driver.{EndsWith, Forgets, HasNoSlot, IsBacked, Known, Knows}
 use Rattle.agreement.specs.Slots.{Armed, Free, Own, Uses, op_of}
 use Rattle.block_machine.specs.Due.{AreDueInTurn, IsDue, is_plain, IsInOrder as machine_in_order, due_of, of_port, with_issued, with_none}
 use Rattle.block_machine.specs.State.{Machine, Pending}
-use Rattle.block_machine.specs.Steps.{Accept, Again, Issue, Answer, May, after_step, newly_accepted, stays}
+use Rattle.block_machine.specs.Steps.{Step, Accept, Again, Issue, Answer, May, after_step, newly_accepted, stays}
 use Rattle.block_machine.specs.State as machine
 use Rattle.block_machine.specs.Steps as steps
 use Rattle.ata_types.specs.declared.request.ClientId.{ClientId}
@@ -39,7 +39,8 @@ use Rattle.block_machine.specs.declared.due.Mode.{Mode}
 use Rattle.block_machine.specs.declared.due.Unanswered.{Unanswered}
 use Rattle.dma_frames.specs.Table.{Table, LendsOnly, lent_to}
 use Rattle.agreement.specs.Facts.{IsFaulted, IsRecorded, RunsWell, Undisturbed}
-use Rattle.block_machine.specs.Events.{Ask, Moment, Said}
+use Rattle.block_machine.specs.Events.{Ask, IsDevices, Moment, Said}
+use Rattle.block_machine.specs.Left.{after}
 use Rattle.block_machine.specs.Histories.{Instant, IsReached}
 use Rattle.block_machine.specs.Ports.{Evidence, Ports, SamePort}
 use Rattle.driver_history.specs.Evidence.{HasErrors, HasFatalErrors, IsEvidencedOf, IsGone, StaysHealthy}
@@ -86,6 +87,10 @@ pub record LawsBelow : Type 0 where
       → HasNoSlot k.uses e.request.id → Forgets e.request.id k.parked later → Knows (after_step m (Answer e outcome)) (record k { parked = later })
   pub again_agrees : (k : Known) (m : Machine) (e : Pending) (later : ℕ → List RequestId) → IsReached m → Knows m k → Contains m.book e → HasNoSlot k.uses e.request.id
       → Forgets e.request.id k.parked later → Knows (after_step m (Again e)) (record k { parked = later })
+  -- what the device backs
+  pub backed_none : (d : Device) (m : Machine) → IsBacked d d m []
+  pub backed_own : (d : Device) (m : Machine) (step : Step) → (IsDevices step → ⊥) → IsBacked d d m (step ∷ [])
+  pub backed_parts : (old mid new : Device) (m : Machine) (early late : List Step) → IsBacked old mid m early → IsBacked mid new (after m early) late → IsBacked old new m (late ++ early)
   -- what is due
   pub waits : (mode : Mode) (entries : List Held) (r : Unanswered) → IsDue mode (asks_of entries) r → IsWaiting r.id entries
   pub asks_issued : (entries : List Held) (id : RequestId) → asks_of (map (at id issue) entries) ≡ with_issued id (asks_of entries)

@@ -54,7 +54,10 @@ ghost use Rattle.port_look.specs.declared.Look.TheVariants.{Failed as Fails, Und
 ghost use Rattle.error_recovery.specs.Recovery.{FitsFor, MayRecover};
 
 use adapter::laws::saying_is_one;
-use agreement::laws::{answering_agrees, due_finds_free_slot, going_again_agrees};
+use agreement::laws::{
+    answering_agrees, backing_composes, due_finds_free_slot, going_again_agrees,
+    own_steps_are_backed,
+};
 use agreement::readying::{readied_stays, stored_stays_over_acts};
 use agreement::stretches::other_ports_are_left;
 use block_machine::laws::{
@@ -89,7 +92,9 @@ fn the_laws_below_hold()
     own_requests_count();
     other_ports_stay();
     answering_agrees();
+    backing_composes();
     going_again_agrees();
+    own_steps_are_backed();
     due_finds_free_slot();
     saying_is_one();
     stored_stays_over_acts();
