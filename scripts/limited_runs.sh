@@ -49,7 +49,7 @@ compare '100,000 lines' "$({ printf 'state Ready\n%.0s' {1..100000}; echo 'statu
 
 # The stack is small.
 cp fresh.img disk.img
-compare 'a stack of 64 KiB' "$(cat first.output; echo 'status 0')" "$(ulimit -s 64; ends blockd.toml disk.img first.script)"
+compare 'a stack of 80 KiB' "$(cat first.output; echo 'status 0')" "$(ulimit -s 80; ends blockd.toml disk.img first.script)"
 
 # The output's device is full: the image is what the lines before left, and no later line is played.
 cp fresh.img disk.img
