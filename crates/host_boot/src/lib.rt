@@ -50,6 +50,17 @@ pub struct Host {
     pub ports: [Found; PORTS],
 }
 
+/// A port that was booted anew, and what the adapter is capable of.
+#[derive(Clone, Copy, Debug)]
+pub struct Booted {
+    /// How many command slots a port has, 1 to 32 (CAP.NCS).
+    pub slots: u8,
+    /// Whether the adapter has native command queuing (CAP.SNCQ).
+    pub queued: bool,
+    /// What the port was found to be. It is served still.
+    pub found: Found,
+}
+
 /// Switches an idle adapter on, with interrupts off (AHCI 1.3.1, 10.1.2).
 fn power_on<A: Adapter>(adapter: &mut A)
     requires idle { IsIdle (A.device adapter.old) }

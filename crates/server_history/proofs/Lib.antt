@@ -37,3 +37,4 @@ pub mod Silent
 pub mod Making
 pub mod Meeting
 pub mod Failing
+pub mod Recovery

@@ -337,8 +337,7 @@ module _ (laws : LawsBelow) (port : Port) (replies : List Reply) (old new : Serv
       (silent : (q : ℕ) → state_of (found_of old.ports q) ≢ Dead → SendsNone q ReadLog old.device new.device) where
     pub serves : ServesPort port replies old new
     serves = record {
-      turn = turn;
-      answers = told;
+      does = inl (turn, told);
       part = record {
         accesses = list.driven.accesses;
         does = list.driven.all;

@@ -40,7 +40,7 @@ use Rattle.port_look.specs.Looks.{IsLooking, LooksAt}
 use Rattle.port_look.specs.Laws.{Laws}
 use Rattle.port_look.specs.Services.{IsService}
 use Rattle.port_look.specs.declared.Look.{Look}
-use Rattle.port_look.specs.declared.Look.TheVariants.{Undisturbed as Calm}
+use Rattle.port_look.specs.declared.Look.TheVariants.{Failed, Undisturbed as Calm}
 use Rattle.port_look.proofs.Seeing.{seen_well}
 use Rattle.port_look.proofs.Serving.{looking_service, looks_inactive}
 use Rattle.request_queue.specs.Entries.{Held, asks_of, due_ids}
@@ -229,10 +229,10 @@ module _ (s : Server) (seen : Device) (port : Port) (t : IsSettled s) (ready : s
   seen_silent q lives = looking_silent s seen port k ready looks q ReadLog refl (λ dead. lives (ap state_of dead))
 
   -- it was looked at, and that told of something
-  pub told_trouble : LawsBelow → (look : Look) → LooksAt port look s.device seen → look ≢ Calm → ServesPort port [] s (record s { device = seen })
-  told_trouble laws look l told =
+  pub told_trouble : LawsBelow → (look : Look) → LooksAt port look s.device seen → look ≢ Calm → look ≢ Failed → ServesPort port [] s (record s { device = seen })
+  told_trouble laws look l told whole =
       nobody_answered laws s seen port t ready
-      (record { look = look; seen = seen; looks = l; told = λ _. (refl, refl); calm = λ calm. absurd (told calm) })
+      (record { look = look; seen = seen; looks = l; whole = whole; told = λ _. (refl, refl); calm = λ calm. absurd (told calm) })
       (looks_serve port s.device seen looks)
       seen_silent
       (λ well calm slot used small its ci sact. told (seen_well laws.looks port look s.device seen l k.on well calm).0)
@@ -246,6 +246,7 @@ module _ (s : Server) (seen : Device) (port : Port) (t : IsSettled s) (ready : s
           look = Calm;
           seen = seen;
           looks = l;
+          whole = λ e. (let z : Calm ≡ Failed = e in cc);
           told = λ trouble. absurd (trouble refl);
           calm = λ _. record { mask = 0; its = its; idle = λ _. (refl, refl); checks = λ some. absurd (some (λ slot small. bit_zero slot)) };
         })
@@ -275,6 +276,7 @@ module _ (s : Server) (seen : Device) (port : Port) (t : IsSettled s) (ready : s
             look = Calm;
             seen = seen;
             looks = l;
+            whole = λ e. (let z : Calm ≡ Failed = e in cc);
             told = λ trouble. absurd (trouble refl);
             calm = λ _. record {
               mask = mask;
@@ -416,6 +418,7 @@ module _ (s : Server) (seen : Device) (port : Port) (t : IsSettled s) (ready : s
               look = Calm;
               seen = seen;
               looks = l;
+              whole = λ e. (let z : Calm ≡ Failed = e in cc);
               told = λ trouble. absurd (trouble refl);
               calm = λ _. record {
                 mask = mask;

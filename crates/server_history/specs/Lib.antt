@@ -1,6 +1,7 @@
 pub mod Server
 pub mod Histories
 pub mod Served
+pub mod Recovered
 pub mod Turns
 pub mod Below
 pub mod Fates

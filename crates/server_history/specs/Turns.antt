@@ -29,6 +29,7 @@ use Rattle.host_boot.specs.declared.Found.{Found}
 use Rattle.host_boot.specs.declared.Found.TheVariants.{Ready}
 use Rattle.port_look.specs.Looks.{IsLooking}
 use Rattle.request_queue.specs.Entries.{asks_of}
+use Rattle.server_history.specs.Recovered.{RecoversPort}
 use Rattle.server_history.specs.Served.{AnswersBy, AnswersTurn, Checks, HasTurn, IsAnsweredIn, IsMaskOf}
 use Rattle.server_history.specs.Server.{Server, IsMachineOf, IsSettled, mode_at, mode_in, ports_of, remembered_at, slots_at, state_of, used_for}
 use Rattle.slots.specs.Uses.{Uses as PortSlots}
@@ -152,10 +153,15 @@ pub record HasPart (port : Port) (replies : List Reply) (old new : Server) : Typ
   pub silent : (q : ℕ) → q ≢ port.0 → state_of (found_of old.ports q) ≢ Dead → SendsNone q ReadLog old.device new.device
   pub makes : (m : Machine) → IsReached m → IsMachineOf old m → MakesTurn port replies accesses old new m
 
--- What serving a port does: the port has its turn, in which those of its requests are answered that are found done, and which is a part of a service.
+-- The port was recovered, where a look told that a command had failed; else those of its requests were answered that were found done.
+abbrev pub DoesTurn : Port → List Reply → Server → Server → Type 0
+DoesTurn port replies old new =
+    ((turn : HasTurn port (slots_at old.slots port.0) replies old.device new.device) × AnswersTurn port replies old new turn)
+    ⊎ RecoversPort port replies old new
+
+-- What serving a port does: the port has its turn, which is a part of a service.
 pub record ServesPort (port : Port) (replies : List Reply) (old new : Server) : Type 0 where
-  pub turn : HasTurn port (slots_at old.slots port.0) replies old.device new.device
-  pub answers : AnswersTurn port replies old new turn
+  pub does : DoesTurn port replies old new
   pub part : HasPart port replies old new
 
 -- so it was with each of these ports that was found ready, one after another, of which the first has this number

@@ -252,7 +252,7 @@ pub fn looks_keep()
 /// checked; those that are found done are answered, and what is due then is issued.
 pub fn a_port_is_served()
     ensures told { (s : Server) (seen : Device) (port : Port) (look : Look) → IsSettled s → state_of (found_of s.ports port.0) ≡ ReadyState
-        → LooksAt port look s.device seen → IsFollowed (IsLooking port) AnyUse s.device seen → look ≢ Calm
+        → LooksAt port look s.device seen → IsFollowed (IsLooking port) AnyUse s.device seen → look ≢ Calm → look ≢ Fails
         → ServesPort port [] s (record s { device = seen }) }
     ensures idle { (s : Server) (seen : Device) (port : Port) → IsSettled s → state_of (found_of s.ports port.0) ≡ ReadyState
         → LooksAt port Calm s.device seen → IsFollowed (IsLooking port) AnyUse s.device seen → IsMaskOf (slots_at s.slots port.0) 0

@@ -1,0 +1,79 @@
+-- A port's turn in which a command had failed: what it adds to a machine, and its evidence.
+use Rattle.std.proofs.Common.{◌≡◌, ◌++◌, List, [], ◌∷◌, Option, Some, None}
+use Rattle.std.specs.List.{All, AllZip, Contains}
+use Rattle.ata_types.specs.declared.Port.{Port}
+use Rattle.ata_types.specs.declared.request.Outcome.{Outcome}
+use Rattle.ata_types.specs.declared.request.Reply.{Reply}
+use Rattle.agreement.specs.Driver.{IsBacked}
+use Rattle.block_machine.specs.Events.{AllDevices, AllMay, Tells}
+use Rattle.block_machine.specs.Left.{after}
+use Rattle.block_machine.specs.Ports.{Evidence, Fault}
+use Rattle.block_machine.specs.State.{Machine, Pending}
+use Rattle.block_machine.specs.Steps.{Step, Again, Answer}
+use Rattle.error_recovery.specs.declared.Next.{Next}
+use Rattle.error_recovery.specs.declared.Next.TheVariants as next
+use Rattle.request_queue.specs.Entries.{Held}
+use Rattle.request_queue.specs.Fates.{fate_of}
+use Rattle.request_queue.specs.Machine.{IsEntry}
+use Rattle.request_queue.specs.declared.fate.Failed.{Failed}
+use Rattle.request_queue.specs.declared.fate.Fate.TheVariants.{Ends, GoesAgain}
+use Rattle.request_queue.specs.declared.fate.Prospect.{Prospect}
+use Rattle.request_queue.specs.declared.fate.Prospect.TheVariants.{SameDisk, OtherDisk, Dead}
+use Rattle.server_history.specs.Recovered.{IsSettledAfter, requests_of}
+use Rattle.server_history.specs.Served.{HasEnded, answers_in}
+use Rattle.server_history.specs.Server.{Server, IsMachineOf}
+use Rattle.server_history.specs.Turns.{IsOfTurn}
+
+-- ---- its evidence
+
+abbrev pub faults_of : Option Failed → List Fault
+faults_of None = []
+faults_of (Some failed) = record { id = failed.id; status = failed.status; error = failed.error } ∷ []
+
+abbrev pub lost_of : Port → Prospect → List Port
+lost_of port SameDisk = []
+lost_of port OtherDisk = port ∷ []
+lost_of port Dead = []
+
+abbrev pub stopped_of : Port → Next → List Port
+stopped_of port (next.Running token) = port ∷ []
+stopped_of port (next.Restart token) = port ∷ []
+stopped_of port next.Dead = []
+
+abbrev pub stuck_of : Port → Prospect → List Port
+stuck_of port SameDisk = []
+stuck_of port OtherDisk = []
+stuck_of port Dead = port ∷ []
+
+abbrev pub evidence_of : Port → Option Failed → Prospect → Next → Evidence
+evidence_of port failed prospect next = record {
+  faults = faults_of failed;
+  lost = lost_of port prospect;
+  gone = [];
+  failed = port ∷ [];
+  fatal = [];
+  stopped = stopped_of port next;
+  stuck = stuck_of port prospect;
+}
+
+-- ---- its steps, but for those that issue
+
+-- From a machine that stands for the old server: the device's steps until the masks were read, the answers of what was done, the device's steps while the
+-- port was recovered and booted, and those that decide on its other requests. They lead to a machine that stands for the new one.
+pub record AddsFates (port : Port) (later : List Reply) (old new : Server) (a : IsSettledAfter port later old new) (m : Machine) : Type 0 where
+  pub first : List Step
+  pub ended : List Pending
+  pub middle : List Step
+  pub fates : List Step
+  pub first_only : AllDevices first
+  pub each : AllZip (HasEnded port) a.recovered.requests ended
+  pub middle_only : AllDevices middle
+  pub may : AllMay m (fates ++ (middle ++ (answers_in ended ++ first)))
+  pub backed : IsBacked old.device new.device m (fates ++ (middle ++ (answers_in ended ++ first)))
+  pub stands : IsMachineOf new (after m (fates ++ (middle ++ (answers_in ended ++ first))))
+  pub own : All (IsOfTurn port) fates
+  pub answered : (e : Pending) (outcome : Outcome) → Contains fates (Answer e outcome)
+      → (request : Held) × Contains (requests_of port a.mid.book) request × IsEntry request e × (fate_of a.failed a.prospect request.entry ≡ Ends outcome)
+  pub again : (e : Pending) → Contains fates (Again e)
+      → (request : Held) × Contains (requests_of port a.mid.book) request × IsEntry request e × (fate_of a.failed a.prospect request.entry ≡ GoesAgain)
+  pub tells : Tells fates later

@@ -1,0 +1,146 @@
+-- How a port on which a command failed is recovered, and what becomes of its requests (this project's own).
+use Rattle.std.specs.Prelude.{ℕ, Bool, true, ◌≡◌, ◌≢◌, ◌<◌, ◌≤◌, ◌++◌, List, Option, Some, None, AllPairs, IsPermutation, filter, length, map, slice_set}
+use Rattle.ata_types.specs.declared.Port.{Port}
+use Rattle.ata_types.specs.declared.PortState.TheVariants.{Dead as DeadState}
+use Rattle.ata_types.specs.declared.request.Reply.{Reply}
+use Rattle.hba_regs.specs.Bits.{bit}
+use Rattle.adapter.specs.Device.{Device}
+use Rattle.block_machine.specs.declared.due.Mode.{Mode}
+use Rattle.error_log.specs.declared.Failure.{Failure}
+use Rattle.error_recovery.specs.Recovery.{Recovers}
+use Rattle.error_recovery.specs.declared.Next.{Next}
+use Rattle.error_recovery.specs.declared.Next.TheVariants as next
+use Rattle.error_recovery.specs.declared.Recovered.{Recovered}
+use Rattle.host_boot.specs.Again.{BootsAgain}
+use Rattle.host_boot.specs.Taken.{found_of, wanted_of}
+use Rattle.host_boot.specs.declared.Booted.{Booted}
+use Rattle.host_boot.specs.declared.Found.{Found}
+use Rattle.host_boot.specs.declared.Found.TheVariants.{Ready, Unready}
+use Rattle.identify.specs.declared.DiskInfo.{DiskInfo}
+use Rattle.identify.specs.declared.wanted.Wanted.{Wanted}
+use Rattle.ncq.specs.Masks.{ReadsDone}
+use Rattle.port_look.specs.Looks.{LooksAt}
+use Rattle.port_look.specs.declared.Look.TheVariants.{Failed as Fails}
+use Rattle.request_queue.specs.Entries.{Held, IsEarlier, is_of}
+use Rattle.request_queue.specs.Fates.{Holdings, MeetFates, fate_of}
+use Rattle.request_queue.specs.declared.fate.Failed.{Failed}
+use Rattle.request_queue.specs.declared.fate.Prospect.{Prospect}
+use Rattle.request_queue.specs.declared.fate.Prospect.TheVariants.{SameDisk, OtherDisk, Dead}
+use Rattle.slots.specs.Uses.{Uses as PortSlots, use_at}
+use Rattle.slots.specs.declared.Use.{Use as SlotUse}
+use Rattle.server_history.specs.Served.{AnswersEach, IsMaskOf, IssuesAll, done_reply}
+use Rattle.server_history.specs.Server.{Server, kept_at, mode_found, slots_at, used_for}
+
+-- ---- a port is recovered
+
+-- each used slot has a queued command, or each has a plain one
+abbrev pub AreQueued : Bool → PortSlots → Type 0
+AreQueued queued slots = (slot : ℕ) (used : SlotUse) → use_at slots slot ≡ Some used → used.queued ≡ queued
+
+-- A look told that a command had failed. The masks were read; what was done was answered, in order of acceptance, and no slot of it is in use any more;
+-- and the port was recovered, with the commands of the other used slots outstanding. So it came to this server, and then to this device.
+pub record IsRecovered (port : Port) (old mid : Server) (new : Device) : Type 0 where
+  pub seen : Device
+  pub looks : LooksAt port Fails old.device seen
+  pub mask : ℕ
+  pub its : IsMaskOf (slots_at old.slots port.0) mask
+  pub done : ℕ
+  pub found : Device
+  pub reads : ReadsDone port mask done seen found
+  pub requests : List Held
+  pub ordered : AllPairs IsEarlier requests
+  pub each : AnswersEach port done requests (record old { device = found }) mid
+  pub free : (slot : ℕ) → slot < 32 → bit done slot ≡ true → used_for mid.slots port.0 slot ≡ None
+  pub outstanding : ℕ
+  pub left : IsMaskOf (slots_at mid.slots port.0) outstanding
+  pub queued : Bool
+  pub alike : AreQueued queued (slots_at mid.slots port.0)
+  pub result : Recovered
+  pub recovers : Recovers port outstanding queued result mid.device new
+
+-- ---- what it is then
+
+-- It is found to be this: what it was, where it runs; what its boot has found, where it has to be booted; or dead.
+abbrev pub IsFoundAfter : Wanted → Port → DiskInfo → Next → Device → Device → Found → Type 0
+IsFoundAfter wanted port was (next.Running token) old new found = (found ≡ Ready was) × (new ≡ old)
+IsFoundAfter wanted port was (next.Restart token) old new found = (booted : Booted) × (booted.found ≡ found) × BootsAgain wanted port booted old new
+IsFoundAfter wanted port was next.Dead old new found = (found ≡ Unready DeadState) × (new ≡ old)
+
+-- the disk has the serial number and the size of the one that was there
+abbrev pub IsSameDisk : DiskInfo → DiskInfo → Type 0
+IsSameDisk was info = (info.serial ≡ was.serial) × (info.sectors ≡ was.sectors)
+
+-- what its requests may expect
+abbrev pub IsProspect : DiskInfo → Found → Prospect → Type 0
+IsProspect was found SameDisk = (info : DiskInfo) × (found ≡ Ready info) × IsSameDisk was info
+IsProspect was found OtherDisk = (found ≢ Unready DeadState) × ((info : DiskInfo) → found ≡ Ready info → IsSameDisk was info → ⊥)
+IsProspect was found Dead = found ≡ Unready DeadState
+
+-- ---- what becomes of its requests
+
+-- the request whose command failed is that of the slot that recovery names, with status and error
+abbrev pub IsFailed : PortSlots → Option Failure → Option Failed → Type 0
+IsFailed slots None failed = failed ≡ None
+IsFailed slots (Some its) failed =
+    (used : SlotUse) × (use_at slots its.slot.0 ≡ Some used) × (failed ≡ Some (record { id = used.id; status = its.status; error = its.error }))
+
+-- the port's requests, in order of acceptance
+abbrev pub requests_of : Port → List Held → List Held
+requests_of port book = filter (λ (e : Held). is_of port e.entry) book
+
+-- what the server holds of all ports' requests, and keeps of the port's loans
+abbrev pub holdings_of : Port → Server → Holdings
+holdings_of port s = record { book = s.book; table = s.table; kept = kept_at s.kept port.0 }
+
+-- no slot of the port is used, and as many are usable as its mode has
+pub record AreUnused (mode : Mode) (slots : PortSlots) : Type 0 where
+  pub usable : slots.usable ≡ mode.usable
+  pub places : length slots.places ≡ 32
+  pub free : (slot : ℕ) → use_at slots slot ≡ None
+
+-- The server, with the port found so and its last disk remembered, these slots, and these holdings.
+abbrev pub with_port : Port → Device → Found → DiskInfo → Mode → PortSlots → Holdings → Server → Server
+with_port port device found was mode slots now s = record s {
+  device = device;
+  table = now.table;
+  ports = slice_set s.ports port.0 found;
+  remembered = slice_set s.remembered port.0 (Some was);
+  modes = slice_set s.modes port.0 mode;
+  slots = slice_set s.slots port.0 slots;
+  kept = slice_set s.kept port.0 now.kept;
+  book = now.book;
+}
+
+-- The port was recovered, and booted where it had to be; and its requests met their fates: the one that failed is told so, and the others what their port
+-- is then. So it came to this server, by these replies after those that tell what was done.
+pub record IsSettledAfter (port : Port) (later : List Reply) (old new : Server) : Type 0 where
+  pub was : DiskInfo
+  pub ready : found_of old.ports port.0 ≡ Ready was
+  pub mid : Server
+  pub device : Device
+  pub recovered : IsRecovered port old mid device
+  pub found : Found
+  pub is : IsFoundAfter (wanted_of old.wanted port.0) port was recovered.result.next device new.device found
+  pub mode : Mode
+  pub mode_is : mode ≡ mode_found new.device.cap found
+  pub slots : PortSlots
+  pub unused : AreUnused mode slots
+  pub failed : Option Failed
+  pub names : IsFailed (slots_at mid.slots port.0) recovered.result.failed failed
+  pub prospect : Prospect
+  pub expects : IsProspect was found prospect
+  pub now : Holdings
+  pub meets : MeetFates (fate_of failed prospect) (requests_of port mid.book) later (holdings_of port mid) now
+  pub server : new ≡ with_port port new.device found was mode slots now mid
+
+-- ---- the whole
+
+-- A port's turn in which a command had failed: it was recovered, its requests met their fates, and then what is due on it was issued. The replies stand in
+-- order of acceptance.
+pub record RecoversPort (port : Port) (replies : List Reply) (old new : Server) : Type 0 where
+  pub later : List Reply
+  pub mid : Server
+  pub settled : IsSettledAfter port later old mid
+  pub issued : IssuesAll port mid new
+  pub told : IsPermutation replies (map done_reply settled.recovered.requests ++ later)
+  pub ordered : AllPairs (λ (a b : Reply). a.id.0 ≤ b.id.0) replies
