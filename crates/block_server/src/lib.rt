@@ -7,6 +7,7 @@ mod kept;
 pub mod laws;
 mod modes;
 mod port;
+mod recovery;
 mod run;
 mod server;
 mod types;

@@ -14,15 +14,15 @@ pub(crate) const PLAIN: Mode = Mode {
     usable: 1,
 };
 
-/// How a port that was found so takes commands: queued where adapter and disk both can, in as many slots as both have; else one at a time.
-fn mode_of(host: &Host, found: &Found) -> Mode
-    ensures found { (cap : ℕ) → host.now.slots ≡ cap / 256 % 32 + 1 → host.now.queued ≡ bit cap 30 → result ≡ mode_found cap found.now }
+/// How a port that was found so takes commands, by an adapter with so many slots a port, which queues or doesn't: queued where adapter and disk both can, in as many slots as both have; else one at a time.
+pub(crate) fn mode_of(slots: u8, queued: bool, found: &Found) -> Mode
+    ensures found { (cap : ℕ) → slots ≡ cap / 256 % 32 + 1 → queued ≡ bit cap 30 → result ≡ mode_found cap found.now }
     ensures few { result.usable ≤ 32 }
 {
     match found {
-        Found::Ready(info) if host.queued && info.ncq => Mode {
+        Found::Ready(info) if queued && info.ncq => Mode {
             queued: true,
-            usable: host.slots.min(info.depth).min(SLOTS as u8),
+            usable: slots.min(info.depth).min(SLOTS as u8),
         },
         _ => PLAIN,
     }
@@ -36,10 +36,10 @@ pub(crate) fn modes_of(host: &Host) -> [Mode; PORTS]
     ensures few { (port : ℕ) → (mode_at result port).usable ≤ 32 }
 {
     [
-        mode_of(host, &host.ports[0]),
-        mode_of(host, &host.ports[1]),
-        mode_of(host, &host.ports[2]),
-        mode_of(host, &host.ports[3]),
+        mode_of(host.slots, host.queued, &host.ports[0]),
+        mode_of(host.slots, host.queued, &host.ports[1]),
+        mode_of(host.slots, host.queued, &host.ports[2]),
+        mode_of(host.slots, host.queued, &host.ports[3]),
     ]
 }
 

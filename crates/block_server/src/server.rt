@@ -5,7 +5,9 @@ use crate::ServerError;
 use crate::answering::answer_done;
 use crate::kept::{KeptLoans, end_all, give_all_back, none_kept};
 use crate::modes::{PLAIN, modes_of, unused_slots};
+use crate::fates::settle;
 use crate::port::issue_due;
+use crate::recovery::{are_queued, failed_in, find_after, prospect_of};
 use adapter::{Adapter, DeviceStep, Stepped};
 use ata_types::{
     ClientId, FRAME_BYTES, Frame, MemFault, Op, Port, PortState, Range, Refusal, Replies, Request,
@@ -13,6 +15,7 @@ use ata_types::{
 };
 use block_machine::Mode;
 use configuration::Config;
+use error_recovery::recover;
 use dma_frames::FrameTable;
 use grants::{Grants, decide};
 use host_boot::{Found, PORTS, take_over};
@@ -311,6 +314,34 @@ impl<A: Adapter> Server<A> {
         issue_due(&mut self.adapter, &mut self.book, slots, port, mode);
     }
 
+    /// Recovers a ready port of which a look told that a command had failed. The masks are read, and what is done is answered; then it is found out
+    /// which command failed, and the port is had to run again, by a boot where that is needed. The request whose command failed is told so, and
+    /// the others go again, in order of acceptance, where their disk is there still.
+    fn recover_port(&mut self, port: Port, was: DiskInfo, replies: &mut Replies)
+    {
+        let place = usize::from(port.0);
+        let first = replies.len();
+        let mode = self.mode(port);
+        let used = self.slots[place].taken();
+        let finished = done(&mut self.adapter, port, used);
+        answer_done(&mut self.book, &mut self.table, &mut self.slots[place], finished, replies);
+        let outstanding = self.slots[place].taken();
+        let queued = are_queued(&self.slots[place]);
+        let recovered = recover(&mut self.adapter, port, outstanding, queued);
+        let failed = failed_in(&self.slots[place], &recovered.failed);
+        let (found, mode) = find_after(&mut self.adapter, recovered.next, &was, mode, &self.wanted[place]);
+        self.ports[place] = found;
+        self.remembered[place] = Some(was);
+        self.modes[place] = mode;
+        self.slots[place] = Slots::new(mode.usable);
+        let prospect = prospect_of(&was, &found);
+        settle(&mut self.book, &mut self.table, &mut self.kept[place], port, &failed, prospect, replies);
+        replies.as_mut_slice()[first..].sort_unstable_by_key(|reply| reply.id.0);
+        if let Found::Ready(_) = found {
+            issue_due(&mut self.adapter, &mut self.book, &mut self.slots[place], port, mode);
+        }
+    }
+
     /// Looks at a ready port. Where commands of what it has issued are done, those requests are answered, and then what is due is issued. Where
     /// the look tells of anything, nobody is answered.
     fn serve_port(&mut self, port: Port, replies: &mut Replies)
@@ -324,9 +355,14 @@ impl<A: Adapter> Server<A> {
     {
         looks_keep();
         a_port_is_served();
-        let Look::Undisturbed = look_at(&mut self.adapter, port) else {
-            return;
+        let Found::Ready(was) = self.found(port) else {
+            unreachable!()
         };
+        match look_at(&mut self.adapter, port) {
+            Look::Undisturbed => {}
+            Look::Failed => return self.recover_port(port, was, replies),
+            _ => return,
+        }
         let used = self.slots[usize::from(port.0)].taken();
         if used == 0 {
             return;

@@ -1,0 +1,102 @@
+// A port on which a command failed is recovered, and booted anew where it has to be.
+ghost use Rattle.std.specs.Prelude.{ℕ, ◌≡◌, ◌×◌, IsTrue, ◌↔◌, Some};
+ghost use Rattle.ata_types.specs.declared.Port.{Port};
+ghost use Rattle.adapter.specs.Device.{Device};
+ghost use Rattle.adapter.specs.Rules.{IsOn};
+ghost use Rattle.error_log.specs.declared.Failure.{Failure};
+ghost use Rattle.host_boot.specs.declared.Found.TheVariants.{Ready};
+ghost use Rattle.port_boot.specs.States.{IsBootable};
+ghost use Rattle.port_control.specs.Ports.{IsStopped};
+ghost use Rattle.port_control.specs.declared.Stopped as stopped_token;
+ghost use Rattle.server_history.specs.Recovered.{AreQueued, IsFailed, IsFoundAfter, IsProspect, IsSameDisk};
+ghost use Rattle.server_history.specs.Server.{mode_found};
+ghost use Rattle.slots.specs.Uses.{use_at};
+ghost use Rattle.slots.specs.declared.Use.{Use as SlotUse};
+
+use super::modes::{PLAIN, mode_of};
+use adapter::Adapter;
+use ata_types::{Port, PortState};
+use block_machine::Mode;
+use error_recovery::{Failure, Next};
+use host_boot::{Found, boot_again};
+use identify::{DiskInfo, Wanted};
+use request_queue::{Failed, Prospect};
+use slots::Slots;
+
+/// Whether the commands of the used slots are queued, which all of them are, or none.
+pub(crate) fn are_queued(slots: &Slots) -> bool
+    requires { (slot : ℕ) (used : SlotUse) → use_at slots.now slot ≡ Some used → AreQueued used.queued slots.now }
+    ensures { AreQueued result slots.now }
+{
+    let Some(slot) = slots.earliest(u32::MAX) else {
+        return false;
+    };
+    match slots.used_for(slot) {
+        Some(used) => used.queued,
+        None => false,
+    }
+}
+
+/// The request of the slot whose command is named, with the bytes that were told of it.
+pub(crate) fn failed_in(slots: &Slots, named: &Option<Failure>) -> Option<Failed>
+    requires { (its : Failure) → named.now ≡ Some its → (used : SlotUse) × (use_at slots.now its.slot.0 ≡ Some used) }
+    ensures { IsFailed slots.now named.now result }
+{
+    let Some(its) = named else {
+        return None;
+    };
+    let Some(used) = slots.used_for(its.slot) else {
+        unreachable!()
+    };
+    Some(Failed {
+        id: used.id,
+        status: its.status,
+        error: its.error,
+    })
+}
+
+/// What a port is once it was recovered, and how it takes commands then: it runs on with its disk, or it is booted anew, or it is dead.
+pub(crate) fn find_after<A: Adapter>(
+    adapter: &mut A,
+    next: Next,
+    was: &DiskInfo,
+    mode: Mode,
+    wanted: &Wanted,
+) -> (Found, Mode)
+    requires on { IsOn (A.device adapter.old) }
+    requires mode { mode ≡ mode_found (A.device adapter.old).cap (Ready was.now) }
+    requires bootable { (stopped : stopped_token.Stopped) → next ≡ Next.Restart stopped → IsBootable stopped.port (A.device adapter.old)
+        × IsStopped ((A.device adapter.old).port stopped.port.0) }
+    ensures on { IsOn (A.device adapter.new) }
+    ensures found { (port : Port) → ((stopped : stopped_token.Stopped) → next ≡ Next.Restart stopped → stopped.port ≡ port)
+        → IsFoundAfter wanted.now port was.now next (A.device adapter.old) (A.device adapter.new) result.0 }
+    ensures mode { result.1 ≡ mode_found (A.device adapter.new).cap result.0 }
+{
+    match next {
+        Next::Running(_) => (Found::Ready(*was), mode),
+        Next::Restart(stopped) => {
+            let booted = boot_again(adapter, stopped, wanted);
+            let mode = mode_of(booted.slots, booted.queued, &booted.found);
+            (booted.found, mode)
+        }
+        Next::Dead => (Found::Unready(PortState::Dead), PLAIN),
+    }
+}
+
+/// Whether a disk is the one that was there: it has the same serial number, and as many sectors.
+fn is_same_disk(was: &DiskInfo, info: &DiskInfo) -> bool
+    ensures { IsTrue result ↔ IsSameDisk was.now info.now }
+{
+    info.serial == was.serial && info.sectors == was.sectors
+}
+
+/// What the requests of a port that was ready with a disk may expect, now that it was found to be this.
+pub(crate) fn prospect_of(was: &DiskInfo, found: &Found) -> Prospect
+    ensures { IsProspect was.now found.now result }
+{
+    match found {
+        Found::Ready(info) if is_same_disk(was, info) => Prospect::SameDisk,
+        Found::Unready(PortState::Dead) => Prospect::Dead,
+        _ => Prospect::OtherDisk,
+    }
+}
