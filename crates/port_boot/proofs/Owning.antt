@@ -1,16 +1,16 @@
 -- Where a port shows a device, a disk is in: whatever is done, and after each boot that leaves the port ready.
-use Rattle.std.proofs.Common.{ℕ, Bool, true, false, ◌≡◌, ◌≢◌, ◌%◌, ◌||◌, List, [], ◌∷◌, length, inl, inr, refl, sym, subst, arith}
+use Rattle.std.proofs.Common.{ℕ, Bool, true, false, ◌≡◌, ◌%◌, List, [], ◌∷◌, length, inl, inr, refl, sym, subst}
 use Rattle.std.specs.Prelude.{if◌then◌else◌, nat_eq}
 use Rattle.std.proofs.lemmas.Bool.{cases_eq}
 use Rattle.ata_types.specs.declared.Port.{Port}
 use Rattle.hba_regs.specs.Bits.{bit}
 use Rattle.hba_regs.specs.declared.reg.PortReg.{PortReg}
-use Rattle.hba_regs.specs.declared.reg.PortReg.TheVariants.{Clb, Clbu, Fb, Fbu, Is, Ie, Cmd, Tfd, Sig, Ssts, Sctl, Serr, Sact, Ci}
+use Rattle.hba_regs.specs.declared.reg.PortReg.TheVariants.{Is, Ie, Cmd, Tfd, Sig, Ssts, Sctl, Serr}
 use Rattle.hba_regs.specs.declared.reg.Reg.{Reg}
 use Rattle.hba_regs.specs.declared.reg.Reg.TheVariants.{Cap, Ghc, Pi, Vs, Cap2, Bohc, Px}
 use Rattle.hba_regs.specs.declared.reg.Reg.TheVariants as adapter
 use Rattle.adapter.specs.Steps.{restarted}
-use Rattle.adapter.specs.Access.{Access, Does, DoesAll, noted, port_written, unacknowledged, with_det, with_fre, with_st, written}
+use Rattle.adapter.specs.Access.{Access, Does, DoesAll, noted, port_written, unacknowledged, with_fre, with_st, written}
 use Rattle.adapter.specs.Access.Access.{Reading, Writing, Loading, Storing}
 use Rattle.adapter.specs.Device.{Device, PortState}
 use Rattle.adapter.specs.Memory.{changed}
@@ -18,8 +18,8 @@ use Rattle.adapter.specs.Steps.{Step, Can, Leads, Steps, after}
 use Rattle.adapter.specs.Steps.Step.{Fetch, FetchFault, Move, Clear, Done, Fault, Fatal, Fall, FrFall, LinkUp, Unplug, Plug, ResetEnds, Scribble}
 use Rattle.adapter.proofs.Changed.{changed_other, changed_same}
 use Rattle.agreement.specs.Driven.{IsDrivenBy}
-use Rattle.port_control.specs.Ports.{FindsSignature, ReadsUntil, ReadsWithout}
-use Rattle.port_boot.specs.States.{GetsReady, GetsUp, ShowsOwnDisk, told_causes}
+use Rattle.port_control.specs.Ports.{FindsSignature, ReadsUntil}
+use Rattle.port_boot.specs.States.{GetsReady, ShowsOwnDisk, told_causes}
 
 not_three : ◌≡◌ {A = ℕ} 0 3 → ⊥
 not_three none = absurd cc
