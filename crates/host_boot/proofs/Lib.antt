@@ -4,6 +4,7 @@ pub mod Hosting
 pub mod Stopping
 pub mod Ways
 pub mod Taking
+pub mod Booting
 pub mod Running
 pub mod Showing
 pub mod Beginning

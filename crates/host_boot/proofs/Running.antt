@@ -15,7 +15,7 @@ use Rattle.agreement.specs.Driven.{IsDrivenBy, IsOf, NoneWrites}
 use Rattle.agreement.specs.Facts.{IsRecorded, RunsWell, Undisturbed}
 use Rattle.agreement.specs.Driven.{Grows}
 use Rattle.identify.specs.declared.DiskInfo.{DiskInfo}
-use Rattle.port_boot.specs.States.{IsOfBoot, RunsOn}
+use Rattle.port_boot.specs.States.{IsOfBoot, RunsOn, ShowsOwnDisk}
 use Rattle.host_boot.specs.Taken.{GoesOver, GoesThrough, GoThrough, IsSurvey, found_of}
 use Rattle.host_boot.specs.declared.Found.{Found}
 use Rattle.host_boot.specs.declared.Found.TheVariants.{Unserved, Ready, Unready}
@@ -146,3 +146,11 @@ module _ (laws : Laws) where
       (λ old new on its. its.4.recorded)
       (λ old new on driven h. (others_run port old new on driven).recorded h)
       (λ old new on does h. (laws.runs_over port (Writing Ghc 0x80000002) old new on (λ (e : Ghc ≡ Px port Sctl). absurd cc) (λ (e : Ghc ≡ Px port Cmd). absurd cc) does).recorded h)
+
+  -- where it shows a device, a disk is in
+  pub taken_own : (port : Port) (info : DiskInfo) (ports : List Found) (old new : Device) → IsIdle old → found_of ports port.0 ≡ Ready info → GoesOver ports old new → ShowsOwnDisk (new.port port.0)
+  taken_own port info =
+      taken_last (λ d. ShowsOwnDisk (d.port port.0)) port (Ready info) (λ e. absurd (let z : Ready info ≡ Unserved = e in cc))
+      (λ old new on its. laws.own_begins port its.0 new its.3)
+      (λ old new on driven h. laws.own_all port.0 driven.accesses old new driven.all h)
+      (λ old new on does h. laws.own_access port.0 (Writing Ghc 0x80000002) old new does h)

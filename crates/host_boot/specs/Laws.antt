@@ -9,7 +9,7 @@ use Rattle.hba_regs.specs.declared.reg.PortReg.TheVariants.{Ci, Cmd, Sact, Sctl,
 use Rattle.ata_types.specs.declared.PortState.TheVariants.{Dead}
 use Rattle.adapter.specs.Device.{Device, PortState}
 use Rattle.identify.specs.declared.DiskInfo.{DiskInfo}
-use Rattle.port_boot.specs.States.{EndsAs, HasFitDisk, IsBootTo, IsOfBoot, IsReady, RunsOn, StopsOnWay}
+use Rattle.port_boot.specs.States.{EndsAs, GetsReady, HasFitDisk, IsBootTo, IsOfBoot, IsReady, RunsOn, ShowsOwnDisk, StopsOnWay}
 use Rattle.adapter.specs.declared.tape.Entry.{Entry}
 use Rattle.port_control.specs.Engines.{FailsToStop, Falls, Sticks, StopsBoth}
 use Rattle.agreement.specs.Slots.{Free, Own, Use, Uses, op_of, put}
@@ -17,7 +17,7 @@ use Rattle.hba_regs.specs.declared.reg.Reg.TheVariants.{Ghc, Px}
 use Rattle.agreement.specs.Links.{HasDeviceOrNone, SameAdapter, SparesRegister}
 use Rattle.adapter.specs.declared.command.Operation.TheVariants.{Identify}
 use Rattle.adapter.specs.Idle.{IsIdle, TellsDisks}
-use Rattle.host_boot.specs.Taken.{IsOfHost, IsOfTaking}
+use Rattle.host_boot.specs.Taken.{IsOfHost, IsOfTaking, IsSurvey}
 use Rattle.adapter.specs.Rules.{IsOn, MayWrite, Stays}
 use Rattle.port_control.specs.Ports.{IsPlacing, WritesCommand}
 use Rattle.adapter.specs.Kept.{Keeps}
@@ -43,23 +43,27 @@ uses_of AnyUses = AnyUse
 uses_of (PortUnused port) = λ uses. AllFree uses port.0
 uses_of (Only uses) = IsUse uses
 
--- a port is stopped, or booted, with none of its slots used; registers of the adapter's own are read and written; or all of these
+-- a port is stopped, or booted, with none of its slots used; registers of the adapter's own are read and written, or CAP and PI alone are read; or all
+-- of these
 pub data Stretch : Type 0 where
   Commanding : Port → Stretch
   Booting : Port → Stretch
   Hosting : Stretch
+  Surveying : Stretch
   Taking : List Wanted → Fitting → Stretch
 
 abbrev pub may_of : Stretch → Access → Type 0
 may_of (Commanding port) = IsControl WritesCommand port
 may_of (Booting port) = IsOfBoot port
 may_of Hosting = IsOfHost
+may_of Surveying = IsSurvey
 may_of (Taking wanted fitting) = IsOfTaking wanted
 
 abbrev pub fits_of : Stretch → Uses → Type 0
 fits_of (Commanding port) = AnyUse
 fits_of (Booting port) = λ uses. AllFree uses port.0
 fits_of Hosting = AnyUse
+fits_of Surveying = AnyUse
 fits_of (Taking wanted fitting) = uses_of fitting
 
 -- ---- laws
@@ -79,6 +83,9 @@ pub record Laws : Type 0 where
   pub access_grows : (access : Access) (old new : Device) → Does access old new → Grows old new
   pub switches_on : (v : ℕ) (old new : Device) → old.hr ≡ false → bit v 31 ≡ true → bit v 0 ≡ false → Writes Ghc v old new → IsOn new
   pub keeps_device : (port : Port) (access : Access) (old new : Device) → old.hr ≡ false → SparesRegister (Px port Sctl) access → Does access old new → HasDeviceOrNone (old.port port.0) → HasDeviceOrNone (new.port port.0)
+  pub own_access : (port : ℕ) (access : Access) (old new : Device) → Does access old new → ShowsOwnDisk (old.port port) → ShowsOwnDisk (new.port port)
+  pub own_all : (port : ℕ) (accesses : List Access) (old new : Device) → DoesAll accesses old new → ShowsOwnDisk (old.port port) → ShowsOwnDisk (new.port port)
+  pub own_begins : (port : Port) (old new : Device) → GetsReady port old new → ShowsOwnDisk (new.port port.0)
   pub shows_device : (port : Port) (v : ℕ) (old new : Device) → Reads (Px port Ssts) v old new → v % 16 ≡ 3 → HasDeviceOrNone (new.port port.0)
   -- stretches
   pub does_append : (early late : List Access) (old mid new : Device) → DoesAll early old mid → DoesAll late mid new → DoesAll (early ++ late) old new

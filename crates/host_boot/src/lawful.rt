@@ -10,7 +10,8 @@ use agreement::kinds::{
 use agreement::laws::putting_is_of_one_slot;
 use agreement::stretches::{agreeing_goes_on, other_ports_are_left, tapes_grow};
 use port_boot::laws::{
-    a_boot_is_of_its_port, a_port_runs_on, boots_are_driven, what_was_found_goes_on,
+    a_boot_is_of_its_port, a_disk_is_in_where_one_shows, a_port_runs_on, boots_are_driven,
+    what_was_found_goes_on,
 };
 use port_control::laws::{calls_are_of_one_port, what_is_told_of_engines_stays};
 
@@ -44,6 +45,7 @@ pub fn laws_hold()
     other_ports_are_left();
     tapes_grow();
     a_boot_is_of_its_port();
+    a_disk_is_in_where_one_shows();
     a_port_runs_on();
     boots_are_driven();
     what_was_found_goes_on();

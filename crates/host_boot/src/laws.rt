@@ -18,6 +18,7 @@ ghost use Rattle.host_boot.specs.Taken.{FoundBadDisk, LeavesFound, LeavesPorts, 
 ghost use Rattle.host_boot.specs.declared.Found.{Found};
 ghost use Rattle.host_boot.specs.declared.Found.TheVariants.{Unserved, Ready, Unready};
 ghost use Rattle.host_boot.specs.declared.Host.{Host};
+ghost use Rattle.port_boot.specs.States.{ShowsOwnDisk};
 
 use super::lawful::laws_hold;
 
@@ -43,7 +44,8 @@ pub fn the_device_leaves_ports()
 
 /// A server may begin with what was taken over. The adapter has each port that is served. A port that was found ready has its command
 /// list in its place, with ST set; where nothing went wrong on it in the whole taking over, it runs well; and whatever went wrong, its
-/// faults since ST was set are on record. One that was found unfit or foreign shows a device, or has no disk in.
+/// faults since ST was set are on record; and a disk is in, if it shows one. A port that was found unfit or foreign shows a device, or has no
+/// disk in.
 pub fn what_was_taken_over_may_be_served()
     ensures there { (wanted : List Wanted) (host : Host) (port : ℕ) (old new : Device) → TakesOver wanted host old new → port < 4
         → found_of host.ports port ≢ Unserved → HasPort new port }
@@ -58,6 +60,8 @@ pub fn what_was_taken_over_may_be_served()
     ensures shown { (wanted : List Wanted) (host : Host) (port : ℕ) (state : PortState) (old new : Device) → IsIdle old
         → TakesOver wanted host old new → FoundBadDisk state → found_of host.ports port ≡ Unready state
         → HasDeviceOrNone (new.port port) }
+    ensures own { (wanted : List Wanted) (host : Host) (port : ℕ) (info : DiskInfo) (old new : Device) → IsIdle old
+        → TakesOver wanted host old new → found_of host.ports port ≡ Ready info → ShowsOwnDisk (new.port port) }
 {
     laws_hold();
 }

@@ -12,6 +12,9 @@ ghost use Rattle.adapter.specs.Rules.{IsOn};
 ghost use Rattle.agreement.specs.Driven.{AgreesWith, AnyUse, IsDrivenBy, IsFollowed};
 ghost use Rattle.agreement.specs.Driver.{AllFree};
 ghost use Rattle.agreement.specs.Links.{SameAdapter};
+ghost use Rattle.port_boot.specs.States.{IsBootable};
+ghost use Rattle.port_control.specs.Ports.{IsStopped};
+ghost use Rattle.host_boot.specs.Again.{BootsAgain, BootsStopped};
 ghost use Rattle.host_boot.specs.Taken.{Boots, WroteControl, StandsBehind, GoesThrough, IsOfHost, IsSurvey, LeavesPorts, TakesOver};
 
 use adapter::Adapter;
@@ -20,7 +23,7 @@ use hba_regs::{Capabilities, GlobalControl, Reg, is_set};
 use identify::{DiskInfo, Wanted};
 use lawful::laws_hold;
 use port_boot::boot;
-use port_control::stop;
+use port_control::{Stopped, stop};
 
 mod lawful;
 pub mod laws;
@@ -89,6 +92,19 @@ fn survey<A: Adapter>(adapter: &mut A) -> (Capabilities, u32)
     (capabilities, implemented)
 }
 
+/// Boots a stopped port, no slot of which is used: what it was found to be.
+fn boot_stopped<A: Adapter>(adapter: &mut A, stopped: Stopped, wanted: &Wanted) -> Found
+    requires bootable { IsBootable stopped.port (A.device adapter.old) }
+    requires stopped { IsStopped ((A.device adapter.old).port stopped.port.0) }
+    ensures on { IsOn (A.device adapter.new) }
+    ensures boots { BootsStopped wanted.now stopped.port result (A.device adapter.old) (A.device adapter.new) }
+{
+    match boot(adapter, stopped, &wanted.serial()) {
+        Ok(info) => Found::Ready(info),
+        Err(state) => Found::Unready(state),
+    }
+}
+
 /// Boots an idle port, if it is wanted and the adapter has it.
 fn boot_port<A: Adapter>(adapter: &mut A, port: Port, implemented: u32, wanted: &Wanted) -> Found
     requires on { IsOn (A.device adapter.old) }
@@ -110,10 +126,7 @@ fn boot_port<A: Adapter>(adapter: &mut A, port: Port, implemented: u32, wanted: 
     let Ok(stopped) = stop(adapter, port) else {
         return Found::Unready(PortState::Dead);
     };
-    match boot(adapter, stopped, &wanted.serial()) {
-        Ok(info) => Found::Ready(info),
-        Err(state) => Found::Unready(state),
-    }
+    boot_stopped(adapter, stopped, wanted)
 }
 
 /// Lets the adapter interrupt (AHCI 1.3.1, 3.1.2).
@@ -149,5 +162,23 @@ pub fn take_over<A: Adapter>(adapter: &mut A, wanted: &[Wanted; PORTS]) -> Host
         slots: capabilities.last_slot() as u8 + 1,
         queued: capabilities.has_ncq(),
         ports,
+    }
+}
+
+/// Boots a port that was stopped, and no slot of which is used: as a port is booted when its adapter is taken over (AHCI 1.3.1, 10.1.2). CAP is read
+/// first, since its disk may be another, which takes commands in another way.
+pub fn boot_again<A: Adapter>(adapter: &mut A, stopped: Stopped, wanted: &Wanted) -> Booted
+    requires bootable { IsBootable stopped.port (A.device adapter.old) }
+    requires stopped { IsStopped ((A.device adapter.old).port stopped.port.0) }
+    ensures on { IsOn (A.device adapter.new) }
+    ensures boots { BootsAgain wanted.now stopped.port result (A.device adapter.old) (A.device adapter.new) }
+{
+    laws_hold();
+    let capabilities = Capabilities(adapter.read(Reg::Cap));
+    let found = boot_stopped(adapter, stopped, wanted);
+    Booted {
+        slots: capabilities.last_slot() as u8 + 1,
+        queued: capabilities.has_ncq(),
+        found,
     }
 }

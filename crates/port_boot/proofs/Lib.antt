@@ -4,3 +4,4 @@ pub mod Identifying
 pub mod Enduring
 pub mod Outcomes
 pub mod Staying
+pub mod Owning

@@ -1,6 +1,6 @@
 -- What a port's state rests on after a boot: what was read last, and the page that its disk sent last (this project's own; IDENTIFY
 -- DEVICE: ACS-3, 7.12).
-use Rattle.std.specs.Prelude.{ℕ, false, ◌≡◌, ◌≢◌, ◌≤◌, ◌<◌, ◌⊎◌, ◌++◌, List, ◌∷◌, Option, None, Some, All, length}
+use Rattle.std.specs.Prelude.{ℕ, true, false, ◌≡◌, ◌≢◌, ◌≤◌, ◌<◌, ◌⊎◌, ◌++◌, List, ◌∷◌, Option, None, Some, All, length}
 use Rattle.ata_types.specs.declared.Port.{Port}
 use Rattle.ata_types.specs.declared.PortState.{PortState}
 use Rattle.ata_types.specs.declared.PortState.TheVariants.{Absent, Ready, Foreign, Unfit, Dead}
@@ -9,7 +9,7 @@ use Rattle.hba_regs.specs.declared.reg.PortReg.{PortReg}
 use Rattle.hba_regs.specs.declared.reg.PortReg.TheVariants.{Ie}
 use Rattle.hba_regs.specs.declared.reg.Reg.TheVariants.{Px}
 use Rattle.adapter.specs.Access.{Access, Writes}
-use Rattle.adapter.specs.Device.{Device}
+use Rattle.adapter.specs.Device.{Device, PortState as DevicePort}
 use Rattle.adapter.specs.declared.command.Operation.TheVariants.{Identify}
 use Rattle.adapter.specs.declared.tape.Entry.{Entry}
 use Rattle.adapter.specs.declared.tape.Entry.TheVariants as entry
@@ -264,3 +264,9 @@ pub record StopsThen (port : Port) (old new : Device) : Type 0 where
 abbrev pub IsHaltedAs : Port → PortState → PortState → Device → Device → Type 0
 IsHaltedAs port wanted state old new = ((state ≡ wanted) × Halts port old new)
     ⊎ ((state ≡ Dead) × ((new.port port.0).st ≡ false) × FailsToHalt port old new)
+
+-- ---- what a port shows
+
+-- where a port shows a device in PxSSTS, whose DET is 3, a disk is in (AHCI 1.3.1, 3.3.10)
+abbrev pub ShowsOwnDisk : DevicePort → Type 0
+ShowsOwnDisk p = p.ssts_det ≡ 3 → p.present ≡ true

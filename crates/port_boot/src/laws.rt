@@ -8,12 +8,13 @@ ghost use Rattle.hba_regs.specs.declared.reg.Reg.TheVariants.{Ghc, Px};
 ghost use Rattle.adapter.specs.Access.{Access, Does, DoesAll};
 ghost use Rattle.adapter.specs.Device.{Device};
 ghost use Rattle.adapter.specs.Rules.{IsOn};
+ghost use Rattle.adapter.specs.Steps.{Steps};
 ghost use Rattle.adapter.specs.declared.command.Operation.TheVariants.{Identify};
 ghost use Rattle.agreement.specs.Driven.{IsControl, IsDrivenBy, IsOf, LeavesPort, SendsNone};
 ghost use Rattle.agreement.specs.Facts.{RunsWell, Undisturbed};
 ghost use Rattle.agreement.specs.Links.{SparesRegister};
 ghost use Rattle.identify.specs.declared.DiskInfo.{DiskInfo};
-ghost use Rattle.port_boot.specs.States.{EndsAs, HasFitDisk, HasPage, IsBootTo, IsOfBoot, IsReady, RunsOn, StopsOnWay};
+ghost use Rattle.port_boot.specs.States.{EndsAs, GetsReady, HasFitDisk, HasPage, IsBootTo, IsOfBoot, IsReady, RunsOn, ShowsOwnDisk, StopsOnWay};
 ghost use Rattle.port_control.specs.Engines.{StopsBoth};
 ghost use Rattle.port_control.specs.Ports.{WritesCommand};
 
@@ -69,3 +70,14 @@ pub fn a_port_runs_on()
 {
     laws_hold();
 }
+
+/// Where a port shows a device, a disk is in: this goes on, whatever the device does, and over each access, also one that resets the
+/// adapter. And a boot that leaves its port ready begins it, since COMRESET has a port show no device until its link comes up.
+pub fn a_disk_is_in_where_one_shows()
+    ensures steps { (port : ℕ) (old new : Device) → Steps old new → ShowsOwnDisk (old.port port) → ShowsOwnDisk (new.port port) }
+    ensures access { (port : ℕ) (access : Access) (old new : Device) → Does access old new → ShowsOwnDisk (old.port port)
+        → ShowsOwnDisk (new.port port) }
+    ensures accesses { (port : ℕ) (accesses : List Access) (old new : Device) → DoesAll accesses old new
+        → ShowsOwnDisk (old.port port) → ShowsOwnDisk (new.port port) }
+    ensures begins { (port : Port) (old new : Device) → GetsReady port old new → ShowsOwnDisk (new.port port.0) }
+{}

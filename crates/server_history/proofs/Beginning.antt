@@ -38,7 +38,7 @@ use Rattle.identify.specs.declared.Unfit.{Unfit as Fault}
 use Rattle.identify.specs.declared.Unfit.TheVariants as fault
 use Rattle.identify.specs.Wanted.{serial_of}
 use Rattle.identify.specs.declared.wanted.Wanted.{Wanted}
-use Rattle.port_boot.specs.States.{EndsAs, IsUnfit}
+use Rattle.port_boot.specs.States.{EndsAs, IsUnfit, ShowsOwnDisk}
 use Rattle.driver_history.specs.Holds.{Runs}
 use Rattle.agreement.specs.Facts.{IsRecorded, RunsWell, Undisturbed}
 use Rattle.server_history.proofs.Slots.{its_mode, ready_found, stood_mode}
@@ -210,6 +210,7 @@ none_in_order = record {
 pub record TakenLaws : Type 0 where
   pub well : (wanted : List Wanted) (host : Host) (port : ℕ) (info : DiskInfo) (old new : Device) → IsIdle old → TakesOver wanted host old new → found_of host.ports port ≡ Ready info → Undisturbed port old new → RunsWell (new.port port)
   pub recorded : (wanted : List Wanted) (host : Host) (port : ℕ) (info : DiskInfo) (old new : Device) → IsIdle old → TakesOver wanted host old new → found_of host.ports port ≡ Ready info → IsRecorded new.tape (new.port port) port
+  pub own : (wanted : List Wanted) (host : Host) (port : ℕ) (info : DiskInfo) (old new : Device) → IsIdle old → TakesOver wanted host old new → found_of host.ports port ≡ Ready info → ShowsOwnDisk (new.port port)
   pub shown : (wanted : List Wanted) (host : Host) (port : ℕ) (state : PortState) (old new : Device) → IsIdle old → TakesOver wanted host old new → FoundBadDisk state → found_of host.ports port ≡ Unready state → HasDeviceOrNone (new.port port)
 
 module _ (laws : TakenLaws) (s : Server) (host : Host) (d : Device) (is : IsIdle d) (told : TellsDisks d) (taken : TakesOver s.wanted host d s.device) (n : IsNewServer host s) where
@@ -248,6 +249,14 @@ module _ (laws : TakenLaws) (s : Server) (host : Host) (d : Device) (is : IsIdle
   shown_as port (Ready info) e bad = absurd bad
   shown_as port (Unready state) e bad = laws.shown s.wanted host port state d s.device is taken bad (sym (found_is port) ∙ e)
 
+  own_as : (port : ℕ) (f : Found) → found_of s.ports port ≡ f → state_of f ≡ ReadyState → ShowsOwnDisk (s.device.port port)
+  own_as port Unserved e ready = let z : Absent ≡ ReadyState = ready in absurd cc
+  own_as port (Ready info) e ready = laws.own s.wanted host port info d s.device is taken (sym (found_is port) ∙ e)
+  own_as port (Unready state) e ready = absurd (not_ready state ready (subst (λ (f : Found). StandsBehind (wanted_of s.wanted port) f port s.device) e (behind port (four port (ap is_served e)))))
+    where
+      not_ready : (state : PortState) → state ≡ ReadyState → StandsBehind (wanted_of s.wanted port) (Unready state) port s.device → ⊥
+      not_ready state same stands = (subst (λ (t : PortState). StandsBehind (wanted_of s.wanted port) (Unready t) port s.device) same stands).1
+
   running : (port : ℕ) → port < 4 → state_of (found_of s.ports port) ≡ ReadyState → Runs port s.device × ((slot : ℕ) → (s.device.port port).sact slot ≡ false)
   running port below =
       ready_runs (wanted_of s.wanted port) (found_of s.ports port) port s.device (behind port below) (λ info found. laws.recorded s.wanted host port info d s.device is taken (sym (found_is port) ∙ found))
@@ -257,6 +266,7 @@ module _ (laws : TakenLaws) (s : Server) (host : Host) (d : Device) (is : IsIdle
     behind = boots_begin (wanted_of s.wanted port) (found_of s.ports port) port s.device (behind port below);
     runs = λ ready. (running port below ready).0;
     shown = shown_as port (found_of s.ports port) refl;
+    own = own_as port (found_of s.ports port) refl;
   }
 
   uses_are : AreUsesOf s taken.uses
@@ -305,6 +315,7 @@ module _ (laws : TakenLaws) (s : Server) (host : Host) (d : Device) (is : IsIdle
     rows = n.rows;
     owners = n.owners;
     four = n.four_slots;
+    four_modes = n.four_modes;
     four_remembered = n.four_remembered;
     four_kept = n.four_kept;
     slots = λ port low. record { places = n.places port low; usable = n.usable port low; unused = λ slot high. n.unused port slot };

@@ -104,7 +104,7 @@ module _ (laws : LawsBelow) where
 
     ports_on : (port : ℕ) → port < 4 → IsPortOf s.wanted s.ports port new
     ports_on port below =
-        port_on laws.looks s.wanted s.ports port s.device new same k.on served (λ unready. bytes_leave access s.device new its k.on does port) (silent port) (k.behind port below)
+        port_on laws s.wanted s.ports port s.device new same k.on served (λ unready. bytes_leave access s.device new its k.on does port) (silent port) (k.behind port below)
 
     -- what is stored for slots stays
     commands_on : (port slot : ℕ) (used : SlotUse) → used_for s.slots port slot ≡ Some used → HasCommand used.queued new port slot

@@ -121,6 +121,7 @@ kept_then s device table used_now book last k on same behind owners four used ki
   there = λ port served. let t = k.there port served in (t.0, ap (λ (pi : ℕ). bit pi port) same.pi ∙ t.1);
   behind = behind;
   four = four;
+  four_modes = k.four_modes;
   four_remembered = k.four_remembered;
   four_kept = k.four_kept;
   modes = λ port low. k.modes port low ∙ ap (λ (cap : ℕ). mode_found cap (found_of s.ports port)) (sym same.cap);

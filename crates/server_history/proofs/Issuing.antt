@@ -92,7 +92,7 @@ behind_issued : LawsBelow → (s : Server) (new : Device) (port : Port) (slot : 
     → IssuesTask port slot r frames s.device new → IsTaskOf port slot r frames mode p
     → MayServe port slot mode p (record { uses = k.stands.uses; parked = k.stands.parked }) k.machine → (q : ℕ) → q < 4 → IsPortOf s.wanted s.ports q new
 behind_issued laws s new port slot mode r frames p k ready issues its may =
-    behind_served laws.looks s new port k ready (issued_serves port slot s.device new issues.driven)
+    behind_served laws s new port k ready (issued_serves port slot s.device new issues.driven)
     (λ q low other. apart laws.looks port (IsIssuing port slot) (laws.issuing_of port slot) q other s.device new k.on issues.driven)
     (λ q other. silent_issued laws s new port slot mode r frames p k issues its may q Identify refl other)
 

@@ -39,11 +39,11 @@ use Rattle.port_look.proofs.Serving.{looking_service, services_on, services_same
 
 -- Accesses that serve a ready port leave what stands behind each, where the others are left to the device, and no page comes but on
 -- dead ones.
-pub behind_served : Laws → (s : Server) (new : Device) (port : Port) → IsKept s → state_of (found_of s.ports port.0) ≡ ReadyState → IsDrivenBy IsService s.device new
+pub behind_served : LawsBelow → (s : Server) (new : Device) (port : Port) → IsKept s → state_of (found_of s.ports port.0) ≡ ReadyState → IsDrivenBy IsService s.device new
     → ((q : ℕ) → q < 4 → q ≢ port.0 → LeavesPort (s.device.port q) (new.port q)) → ((q : ℕ) → found_of s.ports q ≢ Unready Dead → SendsNone q Identify s.device new)
     → (q : ℕ) → q < 4 → IsPortOf s.wanted s.ports q new
 behind_served laws s new port k ready driven left silent q low =
-    port_on laws s.wanted s.ports q s.device new (services_same laws s.device new driven) k.on driven
+    port_on laws s.wanted s.ports q s.device new (services_same laws.looks s.device new driven) k.on driven
     (λ unready. left q low (λ same. unready (ap (λ (n : ℕ). state_of (found_of s.ports n)) same ∙ ready))) (silent q) (k.behind q low)
 
 -- ---- the server
@@ -65,7 +65,7 @@ module _ (s : Server) (new : Device) (port : Port) (k : IsKept s) (ready : state
       let driven : IsDrivenBy IsService s.device new = driven_as May IsService s.device new service followed.driven in
       let x = (followed_adds followed uses k.stands.parked tt).adds k.machine k.reached k.stands.knows in
       kept_on s new k (services_on laws s.device new k.on driven) (services_same laws s.device new driven)
-      (behind_served laws s new port k ready driven left
+      (behind_served below s new port k ready driven left
       (λ q other. silent_over May none followed q Identify refl other))
       (λ q n used is.
       let t = used_there s q n used k is in

@@ -16,9 +16,9 @@ use Rattle.host_boot.specs.Taken.{StillStandsBehind, found_of, wanted_of}
 use Rattle.host_boot.specs.declared.Found.{Found}
 use Rattle.host_boot.specs.declared.Found.TheVariants.{Unserved, Ready, Unready}
 use Rattle.identify.specs.declared.wanted.Wanted.{Wanted}
-use Rattle.port_look.specs.Laws.{Laws}
 use Rattle.port_look.specs.Services.{IsService}
 use Rattle.port_look.proofs.Serving.{services_controls}
+use Rattle.server_history.specs.Below.{LawsBelow}
 use Rattle.server_history.specs.Server.{IsPortOf, state_of}
 use Rattle.server_history.proofs.Behind.{left_on, ready_on}
 use Rattle.server_history.proofs.Running.{runs_on, shown_on}
@@ -52,21 +52,22 @@ bytes_leave access old new is on does port =
 -- ---- what stands behind a port
 
 -- over accesses that serve ports, where the port is left to the device, unless it is ready
-pub port_on : Laws → (wanted : List Wanted) (found : List Found) (port : ℕ) (old new : Device) → SameAdapter old new → IsOn old → IsDrivenBy IsService old new
+pub port_on : LawsBelow → (wanted : List Wanted) (found : List Found) (port : ℕ) (old new : Device) → SameAdapter old new → IsOn old → IsDrivenBy IsService old new
     → (state_of (found_of found port) ≢ ReadyState → LeavesPort (old.port port) (new.port port))
     → (found_of found port ≢ Unready Dead → SendsNone port Identify old new) → IsPortOf wanted found port old → IsPortOf wanted found port new
 port_on laws wanted found port old new same on by left silent is =
     record {
       behind = behind (found_of found port) left silent is.behind;
-      runs = λ ready. runs_on laws (port_at port) old new on by (is.runs ready);
-      shown = λ bad. shown_on laws (port_at port) old new on by (is.shown bad);
+      runs = λ ready. runs_on laws.looks (port_at port) old new on by (is.runs ready);
+      shown = λ bad. shown_on laws.looks (port_at port) old new on by (is.shown bad);
+      own = λ ready. laws.own_on port by.accesses old new by.all (is.own ready);
     }
   where
     behind : (f : Found) → (state_of f ≢ ReadyState → LeavesPort (old.port port) (new.port port)) → (f ≢ Unready Dead → SendsNone port Identify old new)
         → StillStandsBehind (wanted_of wanted port) f port old → StillStandsBehind (wanted_of wanted port) f port new
     behind Unserved left silent stays = left_on (wanted_of wanted port) Unserved port old new same (left (λ e. let z : Absent ≡ ReadyState = e in cc)) silent stays
     behind (Ready info) left silent stays =
-        let c = services_controls laws port old new on by in
+        let c = services_controls laws.looks port old new on by in
         ready_on (wanted_of wanted port) info port old new same c.0 c.1 c.2 (silent (λ e. let z : Ready info ≡ Unready Dead = e in cc)) stays
     behind (Unready ReadyState) left silent stays = absurd stays.1
     behind (Unready Absent) left silent stays = left_on (wanted_of wanted port) (Unready Absent) port old new same (left (λ e. let z : Absent ≡ ReadyState = e in cc)) silent stays

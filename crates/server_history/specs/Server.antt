@@ -32,6 +32,7 @@ use Rattle.host_boot.specs.declared.Found.TheVariants.{Unserved, Ready, Unready}
 use Rattle.host_boot.specs.declared.Host.{Host}
 use Rattle.identify.specs.declared.DiskInfo.{DiskInfo}
 use Rattle.identify.specs.declared.wanted.Wanted.{Wanted}
+use Rattle.port_boot.specs.States.{ShowsOwnDisk}
 use Rattle.request_queue.specs.Entries.{Held, asks_of, unanswered_of, IsAccepted, IsInOrder}
 use Rattle.request_queue.specs.Machine.{IsBook}
 use Rattle.slots.specs.Uses.{Uses as PortSlots, use_at, with_use}
@@ -215,11 +216,13 @@ abbrev pub OwnsClientFrames : Table → ℕ → Type 0
 OwnsClientFrames table size = (frame : Frame) (client : ClientId) → owner_of table frame ≡ Some client
     → (DRIVER_FRAMES ≤ frame.0) × (FRAME_BYTES * frame.0 + FRAME_BYTES ≤ size)
 
--- What stands behind each port, as it was found; a ready one runs; and one with a disk that isn't served shows a device, or has none in.
+-- What stands behind each port, as it was found; a ready one runs, and has a disk in if it shows one; and one with a disk that isn't served shows a device,
+-- or has none in.
 pub record IsPortOf (wanted : List Wanted) (found : List Found) (port : ℕ) (d : Device) : Type 0 where
   pub behind : StillStandsBehind (wanted_of wanted port) (found_of found port) port d
   pub runs : state_of (found_of found port) ≡ ReadyState → Runs port d
   pub shown : FoundBadDisk (state_of (found_of found port)) → HasDeviceOrNone (d.port port)
+  pub own : state_of (found_of found port) ≡ ReadyState → ShowsOwnDisk (d.port port)
 
 -- how many slots of a port may be used: those of its mode, if it is ready
 abbrev pub usable_of : Found → Mode → ℕ
@@ -254,6 +257,7 @@ pub record IsKept (s : Server) : Type 0 where
   pub there : (port : ℕ) → is_served (found_of s.ports port) ≡ true → HasPort s.device port
   pub behind : (port : ℕ) → port < 4 → IsPortOf s.wanted s.ports port s.device
   pub four : length s.slots ≡ 4
+  pub four_modes : length s.modes ≡ 4
   pub four_remembered : length s.remembered ≡ 4
   pub four_kept : length s.kept ≡ 4
   pub modes : (port : ℕ) → port < 4 → mode_at s.modes port ≡ mode_found s.device.cap (found_of s.ports port)
@@ -294,6 +298,7 @@ pub record IsNewServer (host : Host) (s : Server) : Type 0 where
   pub room : DRIVER_BYTES ≤ s.device.size
   pub lent : (frame : Frame) → lent_to s.table frame ≡ None
   pub four_slots : length s.slots ≡ 4
+  pub four_modes : length s.modes ≡ 4
   pub places : (port : ℕ) → port < 4 → length (slots_at s.slots port).places ≡ 32
   pub modes : (port : ℕ) → port < 4 → mode_at s.modes port ≡ mode_found s.device.cap (found_of s.ports port)
   pub usable : (port : ℕ) → port < 4 → (slots_at s.slots port).usable ≡ (mode_at s.modes port).usable

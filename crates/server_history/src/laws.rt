@@ -67,7 +67,7 @@ use block_machine::laws::{
 use driver_history::laws::{a_turns_evidence_is_the_calls, healthy_ports_are_untroubled};
 use host_boot::laws::what_was_taken_over_may_be_served;
 use ncq::laws::{calls_are_of_one_port, finding_is_followed, issuing_performs};
-use port_boot::laws::a_port_runs_on;
+use port_boot::laws::{a_disk_is_in_where_one_shows, a_port_runs_on};
 use port_look::lawful::laws_hold;
 use port_look::laws::failures_are_found;
 use request_queue::laws::{
@@ -105,6 +105,7 @@ fn the_laws_below_hold()
     calls_are_of_one_port();
     finding_is_followed();
     other_ports_are_left();
+    a_disk_is_in_where_one_shows();
     a_port_runs_on();
     a_turns_evidence_is_the_calls();
     healthy_ports_are_untroubled();

@@ -1,5 +1,6 @@
 use Rattle.agreement.specs.Agrees.{port_at}
 use Rattle.host_boot.proofs.Beginning.{taken_there, taken_faults, taken_ready, taken_runs}
+use Rattle.host_boot.proofs.Running.{taken_own}
 use Rattle.host_boot.proofs.Showing.{taken_shown}
 use Rattle.host_boot.proofs.laws.what_was_taken_over_may_be_served.Goals as goal
 
@@ -17,3 +18,6 @@ returns-clause-recorded c = λ wanted host port info old new idle taken. taken_f
 
 pub returns-clause-shown : goal.returns-clause-shown
 returns-clause-shown c = λ wanted host port state old new idle taken bad is. taken_shown c.laws_hold.ensures (port_at port) state host.ports old new idle bad is taken.way
+
+pub returns-clause-own : goal.returns-clause-own
+returns-clause-own c = λ wanted host port info old new idle taken is. taken_own c.laws_hold.ensures (port_at port) info host.ports old new idle is taken.way

@@ -52,6 +52,7 @@ returns c = record {
   of_host = c.other_ports_are_left.ensures.spares_host;
   runs_on = c.a_port_runs_on.ensures.runs;
   runs_well = c.a_port_runs_on.ensures.well;
+  own_on = c.a_disk_is_in_where_one_shows.ensures.accesses;
   evidence = c.a_turns_evidence_is_the_calls.ensures.evidence;
   failed = c.a_turns_evidence_is_the_calls.ensures.failed;
   brings = c.a_turns_evidence_is_the_calls.ensures.brings;
