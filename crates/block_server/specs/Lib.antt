@@ -7,3 +7,4 @@ pub mod Running
 pub mod Ports
 pub mod Healthy
 pub mod Fates
+pub mod Recovery

@@ -1,5 +1,8 @@
 // A port on which a command failed is recovered, and booted anew where it has to be.
-ghost use Rattle.std.specs.Prelude.{ℕ, ◌≡◌, ◌×◌, IsTrue, ◌↔◌, Some};
+ghost use Rattle.std.specs.Prelude.{ℕ, ◌≡◌, ◌≤◌, ◌+◌, ◌++◌, IsTrue, ◌↔◌, Some, List, AllPairs, IsPermutation, drop, length, take};
+ghost use Rattle.ata_types.specs.declared.request.Reply.{Reply};
+ghost use Rattle.block_server.specs.Recovery.{LendsFailed, RecoversRest};
+ghost use Rattle.server_history.specs.Server.{Server};
 ghost use Rattle.ata_types.specs.declared.Port.{Port};
 ghost use Rattle.adapter.specs.Device.{Device};
 ghost use Rattle.adapter.specs.Rules.{IsOn};
@@ -13,15 +16,57 @@ ghost use Rattle.server_history.specs.Server.{mode_found};
 ghost use Rattle.slots.specs.Uses.{use_at};
 ghost use Rattle.slots.specs.declared.Use.{Use as SlotUse};
 
+use super::answering::answer_done;
 use super::modes::{PLAIN, mode_of};
 use adapter::Adapter;
-use ata_types::{Port, PortState};
+use ata_types::{Port, PortState, Replies};
 use block_machine::Mode;
-use error_recovery::{Failure, Next};
+use dma_frames::FrameTable;
+use error_recovery::{Failure, Next, recover};
 use host_boot::{Found, boot_again};
 use identify::{DiskInfo, Wanted};
-use request_queue::{Failed, Prospect};
+use ncq::done;
+use request_queue::{Book, Failed, Prospect};
+use server_history::laws::{a_failed_port_may_be_recovered, looks_keep};
 use slots::Slots;
+
+/// Answers what is done on a ready port of which a look told that a command had failed, in order of acceptance, and recovers the port: the request whose
+/// command failed, where it is known, and what the port has to go through. The replies come after those that there are.
+pub(crate) fn recover_rest<A: Adapter>(
+    adapter: &mut A,
+    book: &mut Book,
+    table: &mut FrameTable,
+    slots: &mut Slots,
+    port: Port,
+    replies: &mut Replies,
+) -> (Option<Failed>, Next)
+    requires lends { (s : Server) × LendsFailed s (A.device adapter.old) table.old book.old slots.old port }
+    requires room { length replies.old.items + length book.old ≤ 128 }
+    ensures on { IsOn (A.device adapter.new) }
+    ensures recovers { (s : Server) → LendsFailed s (A.device adapter.old) table.old book.old slots.old port
+        → RecoversRest port replies.old.items replies.new.items result.0 result.1 s table.new book.new slots.new (A.device adapter.new) }
+    ensures room { length replies.new.items + length book.new ≤ 128 }
+{
+    looks_keep();
+    a_failed_port_may_be_recovered();
+    let used = slots.taken();
+    let finished = done(adapter, port, used);
+    answer_done(book, table, slots, finished, replies);
+    let outstanding = slots.taken();
+    let queued = are_queued(slots);
+    let recovered = recover(adapter, port, outstanding, queued);
+    let failed = failed_in(slots, &recovered.failed);
+    (failed, recovered.next)
+}
+
+/// Puts the replies from that place on in the order of their ids.
+pub(crate) fn order_from(replies: &mut Replies, first: usize)
+    requires { first ≤ length replies.old.items }
+    ensures { (its : List Reply) × (replies.new.items ≡ take first replies.old.items ++ its) × IsPermutation its (drop first replies.old.items)
+        × AllPairs (λ (a b : Reply). a.id.0 ≤ b.id.0) its }
+{
+    replies.as_mut_slice()[first..].sort_unstable_by_key(|reply| reply.id.0);
+}
 
 /// Whether the commands of the used slots are queued, which all of them are, or none.
 pub(crate) fn are_queued(slots: &Slots) -> bool

@@ -7,7 +7,7 @@ use crate::kept::{KeptLoans, end_all, give_all_back, none_kept};
 use crate::modes::{PLAIN, modes_of, unused_slots};
 use crate::fates::settle;
 use crate::port::issue_due;
-use crate::recovery::{are_queued, failed_in, find_after, prospect_of};
+use crate::recovery::{find_after, order_from, prospect_of, recover_rest};
 use adapter::{Adapter, DeviceStep, Stepped};
 use ata_types::{
     ClientId, FRAME_BYTES, Frame, MemFault, Op, Port, PortState, Range, Refusal, Replies, Request,
@@ -15,7 +15,6 @@ use ata_types::{
 };
 use block_machine::Mode;
 use configuration::Config;
-use error_recovery::recover;
 use dma_frames::FrameTable;
 use grants::{Grants, decide};
 use host_boot::{Found, PORTS, take_over};
@@ -26,9 +25,9 @@ use port_look::{Look, look_at};
 use request_queue::laws::the_book_stays_in_order;
 use request_queue::{Book, Entry};
 use server_history::laws::{
-    a_finished_port_settles, a_new_server_has_begun, a_port_is_served, acceptances_add,
-    client_bytes_add, device_steps_add, kept_loans_are_lent, looks_keep, open_bytes_are_free,
-    refusals_add, requests_keep, services_add,
+    a_finished_port_settles, a_new_server_has_begun, a_port_is_served, a_recovered_port_goes_on,
+    acceptances_add, client_bytes_add, device_steps_add, kept_loans_are_lent, looks_keep,
+    open_bytes_are_free, refusals_add, requests_keep, services_add,
 };
 use slots::Slots;
 use std::alloc::Global;
@@ -89,6 +88,8 @@ impl<A: Adapter> Server<A> {
     ghost use Rattle.ata_types.specs.declared.request.Reply.{Reply};
     ghost use Rattle.server_history.specs.Served.{AnswersDone};
     ghost use Rattle.server_history.specs.Turns.{ServesPort};
+    ghost use Rattle.block_server.specs.Recovery.{SeesFailure};
+    ghost use Rattle.server_history.specs.Server.{Server as HistoryServer};
     ghost use Rattle.server_history.specs.Server.{IsSettled, disk_of, mode_at, remembered_at, situation_of, state_of, sectors_of, trims_of};
     ghost use Rattle.hba_regs.specs.Bits.{bit};
     ghost use Rattle.agreement.specs.Slots.{IsOver};
@@ -314,31 +315,45 @@ impl<A: Adapter> Server<A> {
         issue_due(&mut self.adapter, &mut self.book, slots, port, mode);
     }
 
-    /// Recovers a ready port of which a look told that a command had failed. The masks are read, and what is done is answered; then it is found out
-    /// which command failed, and the port is had to run again, by a boot where that is needed. The request whose command failed is told so, and
-    /// the others go again, in order of acceptance, where their disk is there still.
+    /// Recovers a ready port of which a look told that a command had failed. What is done is answered; then it is found out which command failed, and the
+    /// port is had to run again, by a boot where that is needed. The request whose command failed is told so, and the others go again, in order of
+    /// acceptance, where their disk is there still.
     fn recover_port(&mut self, port: Port, was: DiskInfo, replies: &mut Replies)
+        requires ready { found_of self.old.ports port.0 ≡ Found.Ready was }
+        requires sees { (s : HistoryServer) × SeesFailure s port (A.device self.old.adapter) × (server_of A.device self.old ≡ record s { device = A.device self.old.adapter }) × IsSettled s }
+        requires room { length replies.old.items + length self.old.book ≤ 128 }
+        ensures serves { (s : HistoryServer) → SeesFailure s port (A.device self.old.adapter) → server_of A.device self.old ≡ record s { device = A.device self.old.adapter } → IsSettled s
+            → (its : List Reply) × (replies.new.items ≡ replies.old.items ++ its) × ServesPort port its s (server_of A.device self.new) }
+        ensures settled { IsSettled (server_of A.device self.new) }
+        ensures ports { (q : ℕ) → q ≢ port.0 → found_of self.new.ports q ≡ found_of self.old.ports q }
+        ensures room { length replies.new.items + length self.new.book ≤ 128 }
     {
+        a_recovered_port_goes_on();
+        a_port_is_served();
         let place = usize::from(port.0);
         let first = replies.len();
+        let wanted = self.wanted[place];
         let mode = self.mode(port);
-        let used = self.slots[place].taken();
-        let finished = done(&mut self.adapter, port, used);
-        answer_done(&mut self.book, &mut self.table, &mut self.slots[place], finished, replies);
-        let outstanding = self.slots[place].taken();
-        let queued = are_queued(&self.slots[place]);
-        let recovered = recover(&mut self.adapter, port, outstanding, queued);
-        let failed = failed_in(&self.slots[place], &recovered.failed);
-        let (found, mode) = find_after(&mut self.adapter, recovered.next, &was, mode, &self.wanted[place]);
+        let (failed, next) = recover_rest(
+            &mut self.adapter,
+            &mut self.book,
+            &mut self.table,
+            &mut self.slots[place],
+            port,
+            replies,
+        );
+        let (found, mode) = find_after(&mut self.adapter, next, &was, mode, &wanted);
         self.ports[place] = found;
         self.remembered[place] = Some(was);
         self.modes[place] = mode;
         self.slots[place] = Slots::new(mode.usable);
         let prospect = prospect_of(&was, &found);
-        settle(&mut self.book, &mut self.table, &mut self.kept[place], port, &failed, prospect, replies);
-        replies.as_mut_slice()[first..].sort_unstable_by_key(|reply| reply.id.0);
+        let kept = &mut self.kept[place];
+        settle(&mut self.book, &mut self.table, kept, port, &failed, prospect, replies);
+        order_from(replies, first);
         if let Found::Ready(_) = found {
-            issue_due(&mut self.adapter, &mut self.book, &mut self.slots[place], port, mode);
+            let slots = &mut self.slots[place];
+            issue_due(&mut self.adapter, &mut self.book, slots, port, mode);
         }
     }
 
