@@ -87,6 +87,8 @@ pub record LawsBelow : Type 0 where
       → HasNoSlot k.uses e.request.id → Forgets e.request.id k.parked later → Knows (after_step m (Answer e outcome)) (record k { parked = later })
   pub again_agrees : (k : Known) (m : Machine) (e : Pending) (later : ℕ → List RequestId) → IsReached m → Knows m k → Contains m.book e → HasNoSlot k.uses e.request.id
       → Forgets e.request.id k.parked later → Knows (after_step m (Again e)) (record k { parked = later })
+  -- and of one that is kept, in its slot or without one
+  pub kept_agrees : (k : Known) (m : Machine) (e : Pending) (outcome : Outcome) → IsReached m → Knows m k → Contains m.book e → stays e outcome ≡ true → Knows (after_step m (Answer e outcome)) k
   -- what the device backs
   pub backed_none : (d : Device) (m : Machine) → IsBacked d d m []
   pub backed_own : (d : Device) (m : Machine) (step : Step) → (IsDevices step → ⊥) → IsBacked d d m (step ∷ [])

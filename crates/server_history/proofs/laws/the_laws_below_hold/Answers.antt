@@ -21,6 +21,7 @@ returns c = record {
   still_requeued = c.accepted_requests_stay.ensures.requeued;
   answered_agrees = c.answering_agrees.ensures;
   again_agrees = c.going_again_agrees.ensures;
+  kept_agrees = c.keeping_agrees.ensures;
   backed_none = c.backing_composes.ensures.none;
   backed_own = c.own_steps_are_backed.ensures;
   backed_parts = c.backing_composes.ensures.parts;
