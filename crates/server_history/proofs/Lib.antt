@@ -38,3 +38,5 @@ pub mod Making
 pub mod Meeting
 pub mod Failing
 pub mod Recovery
+pub mod Passing
+pub mod Following

@@ -53,9 +53,11 @@ ghost use Rattle.port_look.specs.declared.Look.TheVariants.{Failed as Fails, Und
 ghost use Rattle.error_recovery.specs.Recovery.{FitsFor, MayRecover};
 
 use adapter::laws::saying_is_one;
+use agreement::acts::acts_give;
+use agreement::giving_up::slots_are_given_up;
 use agreement::laws::{
     answering_agrees, backing_composes, due_finds_free_slot, going_again_agrees, keeping_agrees,
-    own_steps_are_backed,
+    own_steps_are_backed, putting_is_of_one_slot, waiting_has_no_slot,
 };
 use agreement::readying::{readied_stays, stored_stays_over_acts};
 use agreement::stretches::other_ports_are_left;
@@ -94,6 +96,10 @@ fn the_laws_below_hold()
     backing_composes();
     going_again_agrees();
     keeping_agrees();
+    acts_give();
+    slots_are_given_up();
+    putting_is_of_one_slot();
+    waiting_has_no_slot();
     own_steps_are_backed();
     due_finds_free_slot();
     saying_is_one();
