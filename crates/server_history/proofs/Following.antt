@@ -48,11 +48,10 @@ use Rattle.request_queue.specs.declared.fate.Prospect.{Prospect}
 use Rattle.request_queue.specs.declared.fate.Prospect.TheVariants.{SameDisk, OtherDisk, Dead as NoEnd}
 use Rattle.slots.specs.Uses.{Uses as PortSlots, use_at}
 use Rattle.server_history.specs.Below.{LawsBelow}
-use Rattle.server_history.specs.Fates.{MayMeet, MeetsInMachine, keeps_fate, loan_of, loans_of}
+use Rattle.server_history.specs.Fates.{DecidesOn, MayMeet, MeetsInMachine, keeps_fate, loan_of, loans_of}
 use Rattle.server_history.specs.Recovered.{AreUnused, IsFailed, IsFoundAfter, IsProspect, IsSettledAfter, holdings_of, requests_of, with_port}
 use Rattle.server_history.specs.Served.{answers_in}
 use Rattle.server_history.specs.Server.{AreKept, AreOfTwo, AreUsesOf, IsKept, IsMachineOf, IsUsedAs, Server, kept_at, no_slots, slots_at, state_of, use_of, used_for}
-use Rattle.server_history.specs.Turns.{IsOfTurn}
 use Rattle.server_history.proofs.Going.{book_on, still_kept}
 use Rattle.server_history.proofs.Joined.{first_or_later, nowhere}
 use Rattle.server_history.proofs.Keeping.{none_alive}
@@ -80,7 +79,7 @@ in_filter {X} p (y ∷ xs) x here passes = ⊎_elim
     by false there = there
 
 -- a port that was found with a disk is in the list
-in_ports : (ports : List Found) (port : ℕ) (info : DiskInfo) → found_of ports port ≡ Ready info → port < length ports
+pub in_ports : (ports : List Found) (port : ℕ) (info : DiskInfo) → found_of ports port ≡ Ready info → port < length ports
 in_ports ports port info is = ⊎_elim
     (λ (small : port < length ports). small)
     (λ (high : length ports ≤ port). let z : Unserved ≡ Ready info = sym (get_or_past ports port Unserved high) ∙ is in absurd cc)
@@ -88,16 +87,16 @@ in_ports ports port info is = ⊎_elim
 
 -- ---- what fates leave
 
--- steps of a turn leave the grants, the owners, and the next id
-step_leaves : (port : Port) (m : Machine) (step : Step) → IsOfTurn port step → ((after_step m step).rows ≡ m.rows) × ((frame : Frame) → (after_step m step).owner frame ≡ m.owner frame) × ((after_step m step).next ≡ m.next)
+-- steps that decide leave the grants, the owners, and the next id
+step_leaves : (port : Port) (m : Machine) (step : Step) → DecidesOn port step → ((after_step m step).rows ≡ m.rows) × ((frame : Frame) → (after_step m step).owner frame ≡ m.owner frame) × ((after_step m step).next ≡ m.next)
 step_leaves port m (Accept r) is = absurd is
 step_leaves port m step is = (refl, λ frame. refl, refl)
 
-pub turn_leaves : (port : Port) (m : Machine) (steps : List Step) → All (IsOfTurn port) steps → ((after m steps).rows ≡ m.rows) × ((frame : Frame) → (after m steps).owner frame ≡ m.owner frame) × ((after m steps).next ≡ m.next)
-turn_leaves port m [] own = (refl, λ frame. refl, refl)
-turn_leaves port m (step ∷ steps) own =
-    let x = step_leaves port (after m steps) step (All-head (IsOfTurn port) step steps own) in
-    let y = turn_leaves port m steps (All-tail (IsOfTurn port) step steps own) in
+pub deciding_leaves : (port : Port) (m : Machine) (steps : List Step) → All (DecidesOn port) steps → ((after m steps).rows ≡ m.rows) × ((frame : Frame) → (after m steps).owner frame ≡ m.owner frame) × ((after m steps).next ≡ m.next)
+deciding_leaves port m [] own = (refl, λ frame. refl, refl)
+deciding_leaves port m (step ∷ steps) own =
+    let x = step_leaves port (after m steps) step (All-head (DecidesOn port) step steps own) in
+    let y = deciding_leaves port m steps (All-tail (DecidesOn port) step steps own) in
     (x.0 ∙ y.0, λ frame. x.1 frame ∙ y.1 frame, x.2 ∙ y.2)
 
 -- and fates the owners
@@ -326,7 +325,7 @@ module _ (laws : LawsBelow) (port : Port) (mid : Server) (k : IsKept mid) (ready
       }
 
       leaves : (z.rows ≡ w.rows) × ((frame : Frame) → z.owner frame ≡ w.owner frame) × (z.next ≡ w.next)
-      leaves = turn_leaves port w met.steps met.own
+      leaves = deciding_leaves port w met.steps met.own
 
       pub stands : IsMachineOf new z
       stands = record {
@@ -373,7 +372,7 @@ module _ (laws : LawsBelow) (port : Port) (later : List Reply) (old new : Server
   served = followed_then IsService AnyUse old.device a.recovered.seen a.recovered.found (looks_serve port old.device a.recovered.seen looks) (finds_serve laws port a.recovered.mask a.recovered.done a.recovered.seen a.recovered.found a.recovered.reads)
 
   -- nobody is named on a port whose engine is stuck
-  unnamed : a.recovered.result.next ≡ Stuck → (a.found ≡ Unready Dead) × (a.failed ≡ None)
+  pub unnamed : a.recovered.result.next ≡ Stuck → (a.found ≡ Unready Dead) × (a.failed ≡ None)
   unnamed stuck = (
     (subst (λ (way : Next). IsFoundAfter (wanted_of old.wanted port.0) port a.was way a.device new.device a.found) stuck a.is).0,
     subst (λ (its : Option _). IsFailed (slots_at a.mid.slots port.0) its a.failed) (a.recovered.recovers.tells.dead stuck) a.names,

@@ -40,3 +40,4 @@ pub mod Failing
 pub mod Recovery
 pub mod Passing
 pub mod Following
+pub mod Ordering

@@ -33,9 +33,8 @@ use Rattle.request_queue.specs.declared.fate.Fate.TheVariants.{Ends, GoesAgain, 
 use Rattle.request_queue.specs.declared.fate.Prospect.{Prospect}
 use Rattle.request_queue.specs.declared.fate.Prospect.TheVariants.{Dead, OtherDisk, SameDisk}
 use Rattle.server_history.specs.Below.{LawsBelow}
-use Rattle.server_history.specs.Fates.{KeepsNone, MayMeet, MeetsInMachine, keeps_fate, loan_of, loans_of}
+use Rattle.server_history.specs.Fates.{DecidesOn, KeepsNone, MayMeet, MeetsInMachine, keeps_fate, loan_of, loans_of}
 use Rattle.server_history.specs.Server.{AreOfTwo}
-use Rattle.server_history.specs.Turns.{IsOfTurn}
 use Rattle.server_history.proofs.Answering.{given_back}
 use Rattle.server_history.proofs.Joined.{all_pairs_append, answers_append, answers_there, first_or_later, nowhere}
 use Rattle.adapter.proofs.Changed.{changed_each, changed_other, changed_same}
@@ -222,7 +221,7 @@ module _ (laws : LawsBelow) (port : Port) (failed : Option Failed) (prospect : P
     -- ---- with those that come after it
 
     -- this step decides it, by which these are kept
-    module _ (step : Step) (its later replies : List Reply) (new : Holdings) (split : replies ≡ its ++ later) (comes : May m step) (of_port : IsOfTurn port step) (own : IsDevices step → ⊥)
+    module _ (step : Step) (its later replies : List Reply) (new : Holdings) (split : replies ≡ its ++ later) (comes : May m step) (of_port : DecidesOn port step) (own : IsDevices step → ⊥)
         (parked : ℕ → List RequestId) (elsewhere : (q : ℕ) → q ≢ port.0 → parked q ≡ k.parked q)
         (gone : List Pending) (keeps : (after_step m step).kept ≡ gone ++ m.kept) (lends : mid.kept ≡ now.kept ++ loans_of gone) (alone : AllPairs AreOfTwo (loans_of gone))
         (its_own : (e : Pending) → Contains gone e → IsEntry request e × (keeps_fate (fate request.entry) request.entry ≡ true))
@@ -271,7 +270,7 @@ module _ (laws : LawsBelow) (port : Port) (failed : Option Failed) (prospect : P
         steps = r.steps ++ step ∷ [];
         parked = r.parked;
         may = may-append m r.steps (step ∷ []) (tt, comes) r.may;
-        own = All-append (IsOfTurn port) r.steps (step ∷ []) r.own (All-cons (IsOfTurn port) step [] of_port (All-nil (IsOfTurn port)));
+        own = All-append (DecidesOn port) r.steps (step ∷ []) r.own (All-cons (DecidesOn port) step [] of_port (All-nil (DecidesOn port)));
         backed = λ d. laws.backed_parts d d d m (step ∷ []) r.steps (laws.backed_own d m step own) (r.backed d);
         knows = subst (λ (n : Machine). Knows n (record k { parked = r.parked })) (sym whole_is) r.knows;
         others = λ q ne. r.others q ne ∙ elsewhere q ne;
@@ -518,7 +517,7 @@ meet laws port failed prospect rows [] replies old new k m may (none, is) = reco
   steps = [];
   parked = k.parked;
   may = tt;
-  own = All-nil (IsOfTurn port);
+  own = All-nil (DecidesOn port);
   backed = λ d. laws.backed_none d m;
   knows = may.knows;
   others = λ q ne. refl;

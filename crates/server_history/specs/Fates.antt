@@ -22,7 +22,12 @@ use Rattle.request_queue.specs.declared.Entry.{Entry}
 use Rattle.request_queue.specs.declared.fate.Fate.{Fate}
 use Rattle.request_queue.specs.declared.fate.Fate.TheVariants.{Ends, GoesAgain}
 use Rattle.server_history.specs.Server.{AreOfTwo}
-use Rattle.server_history.specs.Turns.{IsOfTurn}
+
+-- the step is the server's: a request of the port waits again, or is answered
+abbrev pub DecidesOn : Port → Step → Type 0
+DecidesOn port (Again e) = e.request.port ≡ port
+DecidesOn port (Answer e outcome) = e.request.port ≡ port
+DecidesOn port step = ⊥
 
 -- it ends with its frames lent still
 abbrev pub keeps_fate : Fate → Entry → Bool
@@ -56,13 +61,13 @@ pub record MayMeet (port : Port) (fate : Entry → Fate) (requests : List Held) 
   pub unserved : (e : Held) → Contains requests e → keeps_fate (fate e.entry) e.entry ≡ false → HasNoSlot k.uses e.entry.id
   pub parked : KeepsNone fate → (id : RequestId) → Contains (k.parked port.0) id → (e : Held) × Contains requests e × (e.entry.id ≡ id) × (e.entry.issued ≡ true)
 
--- They meet their fates by such steps of the port, after which the machine has the book and the loans that are left. Those whose loans are kept are kept in
+-- They meet their fates by steps that decide on requests of the port, after which the machine has the book and the loans that are left. Those whose loans are kept are kept in
 -- the machine beside those that were, and each has one more loan; where none is, none of the port is parked.
 pub record MeetsInMachine (port : Port) (fate : Entry → Fate) (requests : List Held) (replies : List Reply) (old new : Holdings) (k : Known) (m : Machine) : Type 0 where
   pub steps : List Step
   pub parked : ℕ → List RequestId
   pub may : AllMay m steps
-  pub own : All (IsOfTurn port) steps
+  pub own : All (DecidesOn port) steps
   pub backed : (d : Device) → IsBacked d d m steps
   pub knows : Knows (after m steps) (record k { parked = parked })
   pub others : (q : ℕ) → q ≢ port.0 → parked q ≡ k.parked q
