@@ -41,3 +41,5 @@ pub mod Recovery
 pub mod Passing
 pub mod Following
 pub mod Ordering
+pub mod Fated
+pub mod Deciding

@@ -72,7 +72,7 @@ pub finds_serve : LawsBelow → (port : Port) (mask done : ℕ) (old new : Devic
 finds_serve laws port mask done old new finds = followed_as (IsFinding port) IsService AnyUse AnyUse old new (finding_serves port) (λ uses any. any) (laws.finding_followed port mask done old new finds)
 
 -- answers issue nothing
-answers_issue_none : (id : RequestId) (ended : List Pending) → list_any (issues_it id) (answers_in ended) ≡ false
+pub answers_issue_none : (id : RequestId) (ended : List Pending) → list_any (issues_it id) (answers_in ended) ≡ false
 answers_issue_none id [] = refl
 answers_issue_none id (e ∷ ended) = any_append (issues_it id) (answers_in ended) (Answer e Ok ∷ []) ∙ ap (λ (b : Bool). b || false) (answers_issue_none id ended)
 
