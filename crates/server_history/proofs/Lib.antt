@@ -38,3 +38,8 @@ pub mod Making
 pub mod Meeting
 pub mod Failing
 pub mod Recovery
+pub mod Passing
+pub mod Following
+pub mod Ordering
+pub mod Fated
+pub mod Deciding

@@ -58,19 +58,19 @@ pub record AddsTurn (port : Port) (replies : List Reply) (old new : Server) (m :
 -- ---- its steps
 
 -- the device's steps
-devices_all : (P : List Step → Type 0) → ((step : Step) (base : List Step) → IsDevices step → P base → P (step ∷ base)) → P [] → (steps : List Step) → AllDevices steps → P steps
+pub devices_all : (P : List Step → Type 0) → ((step : Step) (base : List Step) → IsDevices step → P base → P (step ∷ base)) → P [] → (steps : List Step) → AllDevices steps → P steps
 devices_all P device none [] only = none
 devices_all P device none (step ∷ steps) only = device step steps only.1 (devices_all P device none steps only.0)
 
 -- then the answers
-answers_all : (P : List Step → Type 0) (ended : List Pending) (early : List Step) → ((e : Pending) (base : List Step) → Contains ended e → P base → P (Answer e Ok ∷ base)) → P early → P (answers_in ended ++ early)
+pub answers_all : (P : List Step → Type 0) (ended : List Pending) (early : List Step) → ((e : Pending) (base : List Step) → Contains ended e → P base → P (Answer e Ok ∷ base)) → P early → P (answers_in ended ++ early)
 answers_all P [] early answer start = start
 answers_all P (e ∷ ended) early answer start =
     subst P (sym (append_assoc (answers_in ended) (Answer e Ok ∷ []) early))
     (answers_all P ended (Answer e Ok ∷ early) (λ x base here. answer x base (Contains-append_right (e ∷ []) ended x here)) (answer e early (Contains-get_or (e ∷ ended) 0 e (omega arith)) start))
 
 -- then those that issue
-issues_all : (P : List Step → Type 0) (mode : Mode) (port : Port) → ((step : Step) (base : List Step) → IsDevices step → P base → P (step ∷ base))
+pub issues_all : (P : List Step → Type 0) (mode : Mode) (port : Port) → ((step : Step) (base : List Step) → IsDevices step → P base → P (step ∷ base))
     → ((e : Pending) (base : List Step) → e.request.port ≡ port → P base → P (Issue mode e ∷ base)) → (late early : List Step) → IssuesOnly mode port late → P early → P (late ++ early)
 issues_all P mode port device issue [] early only start = start
 issues_all P mode port device issue (Issue its e ∷ late) early only start =
@@ -84,7 +84,7 @@ of_turn : (P : List Step → Type 0) (mode : Mode) (port : Port) (replies : List
 of_turn P mode port replies steps b none device answer issue =
     subst P (sym b.steps_are) (issues_all P mode port device issue b.later (answers_in b.ended ++ b.before) b.last (answers_all P b.ended b.before answer (devices_all P device none b.before b.first)))
 
-device_own : (port : Port) (step : Step) → IsDevices step → IsOfTurn port step
+pub device_own : (port : Port) (step : Step) → IsDevices step → IsOfTurn port step
 device_own port (Issue mode e) is = absurd is
 device_own port (Again e) is = absurd is
 device_own port (Answer e o) is = absurd is
@@ -95,7 +95,7 @@ device_lawful old evidence ports (Again e) base is l = absurd is
 device_lawful old evidence ports (Answer e o) base is l = absurd is
 device_lawful old evidence ports step base is l = l
 
-device_grounded : (evidence : Evidence) (step : Step) (base : List Step) → IsDevices step → AllGrounded evidence base → AllGrounded evidence (step ∷ base)
+pub device_grounded : (evidence : Evidence) (step : Step) (base : List Step) → IsDevices step → AllGrounded evidence base → AllGrounded evidence (step ∷ base)
 device_grounded evidence (Again e) base is g = absurd is
 device_grounded evidence (Answer e o) base is g = absurd is
 device_grounded evidence step base is g = g
@@ -114,12 +114,12 @@ none_last (step ∷ steps) none = (none_last steps rest, λ id h i. false≢true
 
 -- ---- what it tells
 
-devices_answers : (steps : List Step) → AllDevices steps → answers_of steps ≡ []
+pub devices_answers : (steps : List Step) → AllDevices steps → answers_of steps ≡ []
 devices_answers [] only = refl
 devices_answers (Answer e o ∷ steps) only = absurd only.1
 devices_answers (step ∷ steps) only = devices_answers steps only.0
 
-answered_permuted : (ended : List Pending) (early : List Step) → IsPermutation (map with_ok ended ++ answers_of early) (answers_of (answers_in ended ++ early))
+pub answered_permuted : (ended : List Pending) (early : List Step) → IsPermutation (map with_ok ended ++ answers_of early) (answers_of (answers_in ended ++ early))
 answered_permuted [] early = IsPermutation-refl (answers_of early)
 answered_permuted (e ∷ ended) early =
     subst (λ (steps : List Step). IsPermutation (with_ok e ∷ (map with_ok ended ++ answers_of early)) (answers_of steps)) (sym (append_assoc (answers_in ended) (Answer e Ok ∷ []) early))
@@ -135,7 +135,7 @@ rest_ordered R x xs order i j d lt below = order (suc i) (suc j) d (omega (arith
 first_ordered : {X : Type 0} (R : X → X → Type 0) (x : X) (xs : List X) → AllPairs R (x ∷ xs) → All (R x) xs
 first_ordered R x xs order i d small = order 0 (suc i) d (omega arith) (omega (arith, small))
 
-told_ordered : (port : Port) (requests : List Held) (ended : List Pending) → AllZip (HasEnded port) requests ended → AllPairs IsEarlier requests → AllPairs IsToldBefore (map with_ok ended)
+pub told_ordered : (port : Port) (requests : List Held) (ended : List Pending) → AllZip (HasEnded port) requests ended → AllPairs IsEarlier requests → AllPairs IsToldBefore (map with_ok ended)
 told_ordered port requests [] each order = λ i j d lt below. absurd (omega (arith, lt, below))
 told_ordered port [] (p ∷ ended) each order = absurd each
 told_ordered port (e ∷ requests) (p ∷ ended) each order =

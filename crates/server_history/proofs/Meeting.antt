@@ -1,5 +1,5 @@
 -- Requests meet their fates in the machine, one after another.
-use Rattle.std.proofs.Common.{ℕ, suc, ◌≡◌, ◌≢◌, ◌<◌, ◌==◌, Bool, true, false, not, cond, eq-eqb, if◌then◌else◌, List, [], ◌∷◌, ◌++◌, map, filter, Option, Some, None, inl, inr, append-nil, refl, sym, ap, ◌∙◌, subst, arith, ⊎_elim}
+use Rattle.std.proofs.Common.{ℕ, suc, ◌≡◌, ◌≢◌, ◌<◌, ◌==◌, Bool, true, false, not, cond, eq-eqb, if◌then◌else◌, List, [], ◌∷◌, ◌++◌, map, filter, Option, Some, None, inl, inr, append-nil, append_assoc, refl, sym, ap, ◌∙◌, subst, arith, ⊎_elim}
 use Rattle.std.specs.List.{All, AllPairs, Contains}
 use Rattle.std.specs.List.Sorted.{IsPermutation}
 use Rattle.std.proofs.lemmas.Bool.{cond-true, eqb-false, false≢true, ne_eqb}
@@ -15,12 +15,14 @@ use Rattle.ata_types.specs.declared.request.RequestId.{RequestId}
 use Rattle.adapter.specs.Memory.{changed}
 use Rattle.agreement.specs.Driver.{Forgets, HasNoSlot, Known, Knows}
 use Rattle.block_machine.specs.Events.{IsDevices, IsToldBefore, Tells, answers_of, reply_of}
+use Rattle.block_machine.specs.Histories.{IsReached}
 use Rattle.block_machine.specs.Left.{after}
 use Rattle.block_machine.specs.State.{Machine, Pending}
 use Rattle.block_machine.specs.Steps.{Step, Again, Answer, May, after_step, stays, unlend}
 use Rattle.block_machine.proofs.EventLemmas.{after-append}
 use Rattle.block_machine.proofs.HistoryLemmas.{may-append, reached_more}
-use Rattle.dma_frames.specs.Table.{LendsOnly, lent_to}
+use Rattle.dma_frames.specs.Loan.{Lending}
+use Rattle.dma_frames.specs.Table.{Table, lent_to}
 use Rattle.request_queue.specs.Entries.{HasIssuesLeft, Held, IsAccepted, IsEarlier, IsInOrder, at, requeued, without}
 use Rattle.request_queue.specs.Fates.{EndsLoan, Holdings, MeetFates, MeetsFate, fate_of, fate_on, keeps_loan, reply_to}
 use Rattle.request_queue.specs.Machine.{IsBook, IsEntry}
@@ -31,77 +33,95 @@ use Rattle.request_queue.specs.declared.fate.Fate.TheVariants.{Ends, GoesAgain, 
 use Rattle.request_queue.specs.declared.fate.Prospect.{Prospect}
 use Rattle.request_queue.specs.declared.fate.Prospect.TheVariants.{Dead, OtherDisk, SameDisk}
 use Rattle.server_history.specs.Below.{LawsBelow}
-use Rattle.server_history.specs.Fates.{MayMeet, MeetsInMachine}
-use Rattle.server_history.specs.Turns.{IsOfTurn}
+use Rattle.server_history.specs.Fates.{DecidesOn, KeepsNone, MayMeet, MeetsInMachine, keeps_fate, loan_of, loans_of}
+use Rattle.server_history.specs.Server.{AreOfTwo}
 use Rattle.server_history.proofs.Answering.{given_back}
-use Rattle.server_history.proofs.Joined.{answers_append, answers_there, first_or_later, nowhere}
+use Rattle.server_history.proofs.Joined.{all_pairs_append, answers_append, answers_there, first_or_later, nowhere}
 use Rattle.adapter.proofs.Changed.{changed_each, changed_other, changed_same}
 use Rattle.server_history.proofs.Zips.{at_left}
 
 -- ---- fates
 
--- on a port that isn't dead nobody is told so, one that waits isn't issued, and one that goes again is, and was fewer than four times
-pub record Tame (fate : Entry → Fate) (e : Entry) : Type 0 where
-  pub alive : fate e ≡ Ends outcome.PortDead → ⊥
+-- whether it is kept is told by both alike
+stays_is : (o : Outcome) (e : Entry) (p : Pending) → p.issued ≡ e.issued → stays p o ≡ keeps_loan o e
+stays_is outcome.Ok e p same = refl
+stays_is (outcome.DeviceError status error) e p same = refl
+stays_is outcome.Aborted e p same = refl
+stays_is outcome.Unplugged e p same = refl
+stays_is outcome.PortDead e p same = same
+
+-- one that waits isn't issued, and one that goes again is, and was fewer than four times; and loans are kept on dead ports alone
+pub record Tame (prospect : Prospect) (fate : Entry → Fate) (e : Entry) : Type 0 where
+  pub alive : prospect ≢ Dead → keeps_fate (fate e) e ≡ false
   pub waits : fate e ≡ Waits → e.issued ≡ false
   pub again : fate e ≡ GoesAgain → (e.issued ≡ true) × ((e.issues == 4) ≡ false)
 
-tame_on : (prospect : Prospect) → prospect ≢ Dead → (e : Entry) → Tame (fate_on prospect) e
-tame_on SameDisk alive e = by e.issued (e.issues == 4) refl refl
+-- so it is of one that ends, and isn't kept
+ends_tame : (prospect : Prospect) (fate : Entry → Fate) (e : Entry) (o : Outcome) → (prospect ≢ Dead → keeps_loan o e ≡ false) → fate e ≡ Ends o → Tame prospect fate e
+ends_tame prospect fate e o never is = record {
+  alive = λ lives. ap (λ (f : Fate). keeps_fate f e) is ∙ never lives;
+  waits = λ z. let w : Ends o ≡ Waits = sym is ∙ z in absurd cc;
+  again = λ z. let w : Ends o ≡ GoesAgain = sym is ∙ z in absurd cc;
+}
+
+tame_on : (prospect : Prospect) (e : Entry) → Tame prospect (fate_on prospect) e
+tame_on SameDisk e = by e.issued (e.issues == 4) refl refl
   where
-    by : (a b : Bool) → e.issued ≡ a → (e.issues == 4) ≡ b → Tame (fate_on SameDisk) e
-    by true true x y =
-        let is : fate_on SameDisk e ≡ Ends outcome.Aborted = (λ i. if x i then (if y i then Ends outcome.Aborted else GoesAgain) else Waits) in
-        record {
-          alive = λ z. let w : Ends outcome.Aborted ≡ Ends outcome.PortDead = sym is ∙ z in absurd cc;
-          waits = λ z. let w : Ends outcome.Aborted ≡ Waits = sym is ∙ z in absurd cc;
-          again = λ z. let w : Ends outcome.Aborted ≡ GoesAgain = sym is ∙ z in absurd cc;
-        }
+    by : (a b : Bool) → e.issued ≡ a → (e.issues == 4) ≡ b → Tame SameDisk (fate_on SameDisk) e
+    by true true x y = ends_tame SameDisk (fate_on SameDisk) e outcome.Aborted (λ lives. refl) (λ i. if x i then (if y i then Ends outcome.Aborted else GoesAgain) else Waits)
     by true false x y =
         let is : fate_on SameDisk e ≡ GoesAgain = (λ i. if x i then (if y i then Ends outcome.Aborted else GoesAgain) else Waits) in
         record {
-          alive = λ z. let w : GoesAgain ≡ Ends outcome.PortDead = sym is ∙ z in absurd cc;
+          alive = λ lives. ap (λ (f : Fate). keeps_fate f e) is;
           waits = λ z. let w : GoesAgain ≡ Waits = sym is ∙ z in absurd cc;
           again = λ z. (x, y);
         }
     by false b x y =
         let is : fate_on SameDisk e ≡ Waits = (λ i. if x i then (if e.issues == 4 then Ends outcome.Aborted else GoesAgain) else Waits) in
         record {
-          alive = λ z. let w : Waits ≡ Ends outcome.PortDead = sym is ∙ z in absurd cc;
+          alive = λ lives. ap (λ (f : Fate). keeps_fate f e) is;
           waits = λ z. x;
           again = λ z. let w : Waits ≡ GoesAgain = sym is ∙ z in absurd cc;
         }
-tame_on OtherDisk alive e = record {
-  alive = λ z. let w : Ends outcome.Unplugged ≡ Ends outcome.PortDead = z in absurd cc;
-  waits = λ z. let w : Ends outcome.Unplugged ≡ Waits = z in absurd cc;
-  again = λ z. let w : Ends outcome.Unplugged ≡ GoesAgain = z in absurd cc;
-}
-tame_on Dead alive e = absurd (alive refl)
+tame_on OtherDisk e = ends_tame OtherDisk (fate_on OtherDisk) e outcome.Unplugged (λ lives. refl) refl
+tame_on Dead e = ends_tame Dead (fate_on Dead) e outcome.PortDead (λ lives. absurd (lives refl)) refl
 
-tame : (failed : Option Failed) (prospect : Prospect) → prospect ≢ Dead → (e : Entry) → Tame (fate_of failed prospect) e
-tame None prospect alive e = let t = tame_on prospect alive e in record { alive = t.alive; waits = t.waits; again = t.again }
-tame (Some failed) prospect alive e = by (failed.id.0 == e.id.0) refl
+pub tame : (failed : Option Failed) (prospect : Prospect) (e : Entry) → Tame prospect (fate_of failed prospect) e
+tame None prospect e = let t = tame_on prospect e in record { alive = t.alive; waits = t.waits; again = t.again }
+tame (Some failed) prospect e = by (failed.id.0 == e.id.0) refl
   where
-    by : (b : Bool) → (failed.id.0 == e.id.0) ≡ b → Tame (fate_of (Some failed) prospect) e
+    by : (b : Bool) → (failed.id.0 == e.id.0) ≡ b → Tame prospect (fate_of (Some failed) prospect) e
     by true x =
-        let is : fate_of (Some failed) prospect e ≡ Ends (outcome.DeviceError failed.status failed.error) = (λ i. if x i then Ends (outcome.DeviceError failed.status failed.error) else fate_on prospect e) in
-        record {
-          alive = λ z. let w : Ends (outcome.DeviceError failed.status failed.error) ≡ Ends outcome.PortDead = sym is ∙ z in absurd cc;
-          waits = λ z. let w : Ends (outcome.DeviceError failed.status failed.error) ≡ Waits = sym is ∙ z in absurd cc;
-          again = λ z. let w : Ends (outcome.DeviceError failed.status failed.error) ≡ GoesAgain = sym is ∙ z in absurd cc;
-        }
+        ends_tame prospect (fate_of (Some failed) prospect) e (outcome.DeviceError failed.status failed.error) (λ lives. refl)
+        (λ i. if x i then Ends (outcome.DeviceError failed.status failed.error) else fate_on prospect e)
     by false x =
         let is : fate_of (Some failed) prospect e ≡ fate_on prospect e = (λ i. if x i then Ends (outcome.DeviceError failed.status failed.error) else fate_on prospect e) in
-        let t = tame_on prospect alive e in
-        record { alive = λ z. t.alive (sym is ∙ z); waits = λ z. t.waits (sym is ∙ z); again = λ z. t.again (sym is ∙ z) }
+        let t = tame_on prospect e in
+        record { alive = λ lives. ap (λ (f : Fate). keeps_fate f e) is ∙ t.alive lives; waits = λ z. t.waits (sym is ∙ z); again = λ z. t.again (sym is ∙ z) }
 
--- nobody is kept then
-never_kept : (o : Outcome) (e : Entry) (p : Pending) → (o ≡ outcome.PortDead → ⊥) → (keeps_loan o e ≡ false) × (stays p o ≡ false)
-never_kept outcome.Ok e p alive = (refl, refl)
-never_kept (outcome.DeviceError status error) e p alive = (refl, refl)
-never_kept outcome.Aborted e p alive = (refl, refl)
-never_kept outcome.Unplugged e p alive = (refl, refl)
-never_kept outcome.PortDead e p alive = absurd (alive refl)
+-- ---- loans that are kept
+
+pub loans_append : (late early : List Pending) → loans_of (late ++ early) ≡ loans_of early ++ loans_of late
+loans_append [] early = sym (append-nil (loans_of early))
+loans_append (e ∷ late) early = ap (λ (loans : List Lending). loans ++ loan_of e ∷ []) (loans_append late early) ∙ append_assoc (loans_of early) (loans_of late) (loan_of e ∷ [])
+
+-- each is of one of them
+pub loans_in : (held : List Pending) (loan : Lending) → Contains (loans_of held) loan → (e : Pending) × Contains held e × (loan ≡ loan_of e)
+loans_in [] loan here = absurd (nowhere loan here)
+loans_in (x ∷ held) loan here = ⊎_elim
+    (λ early. let r = loans_in held loan early in (r.0, Contains-append_right (x ∷ []) held r.0 r.1, r.2))
+    (λ last. ⊎_elim
+    (λ (is : loan ≡ loan_of x). (x, Contains-get_or (x ∷ held) 0 x (omega arith), is))
+    (λ none. absurd (nowhere loan none))
+    (first_or_later (loan_of x) [] loan last))
+    (Contains-append_cases (loans_of held) (loan_of x ∷ []) loan here)
+
+pub in_loans : (held : List Pending) (e : Pending) → Contains held e → Contains (loans_of held) (loan_of e)
+in_loans [] e here = absurd (nowhere e here)
+in_loans (x ∷ held) e here = ⊎_elim
+    (λ (is : e ≡ x). Contains-append_right (loans_of held) (loan_of x ∷ []) (loan_of e) (0, omega arith, ap loan_of (sym is)))
+    (λ there. Contains-append_left (loans_of held) (loan_of x ∷ []) (loan_of e) (in_loans held e there))
+    (first_or_later x held e here)
 
 -- ---- what is parked
 
@@ -150,11 +170,11 @@ forgets_it parked port id =
 
 -- ---- one request
 
-module _ (laws : LawsBelow) (port : Port) (failed : Option Failed) (prospect : Prospect) (alive : prospect ≢ Dead) (rows : List GrantRow) where
+module _ (laws : LawsBelow) (port : Port) (failed : Option Failed) (prospect : Prospect) (rows : List GrantRow) where
   abbrev fate : Entry → Fate
   fate = fate_of failed prospect
 
-  module _ (request : Held) (rest : List Held) (now mid : Holdings) (k : Known) (m : Machine) (may : MayMeet port (request ∷ rest) now rows k m) where
+  module _ (request : Held) (rest : List Held) (now mid : Holdings) (k : Known) (m : Machine) (may : MayMeet port fate (request ∷ rest) now rows k m) where
     pub here : Contains now.book request
     here = (may.here request (Contains-get_or (request ∷ rest) 0 request (omega arith))).0
 
@@ -182,8 +202,8 @@ module _ (laws : LawsBelow) (port : Port) (failed : Option Failed) (prospect : P
     id_is : p.request.id ≡ request.entry.id
     id_is = entry.2.id
 
-    unserved : HasNoSlot k.uses p.request.id
-    unserved = subst (HasNoSlot k.uses) (sym id_is) (may.unserved request (Contains-get_or (request ∷ rest) 0 request (omega arith)))
+    unserved : keeps_fate (fate request.entry) request.entry ≡ false → HasNoSlot k.uses p.request.id
+    unserved never = subst (HasNoSlot k.uses) (sym id_is) (may.unserved request (Contains-get_or (request ∷ rest) 0 request (omega arith)) never)
 
     abbrev pub left_known : Known
     left_known = record k { parked = decided k.parked port.0 request.entry.id }
@@ -192,19 +212,22 @@ module _ (laws : LawsBelow) (port : Port) (failed : Option Failed) (prospect : P
     forgets = subst (λ (id : RequestId). Forgets id k.parked (decided k.parked port.0 request.entry.id)) (sym id_is) (forgets_it k.parked port.0 request.entry.id)
 
     -- what is parked then is of the rest
-    left_parked : (id : RequestId) → Contains ((decided k.parked port.0 request.entry.id) port.0) id → (e : Held) × Contains rest e × (e.entry.id ≡ id) × (e.entry.issued ≡ true)
-    left_parked id there =
+    left_parked : KeepsNone fate → (id : RequestId) → Contains ((decided k.parked port.0 request.entry.id) port.0) id → (e : Held) × Contains rest e × (e.entry.id ≡ id) × (e.entry.issued ≡ true)
+    left_parked quiet id there =
         let b = but_in request.entry.id (k.parked port.0) id (subst (λ (list : List RequestId). Contains list id) (changed_same k.parked port.0 (but request.entry.id (k.parked port.0))) there) in
-        let w = may.parked id b.0 in
+        let w = may.parked quiet id b.0 in
         ⊎_elim (λ (same : w.0 ≡ request). absurd (b.1 (sym w.2 ∙ ap (λ (e : Held). e.entry.id) same))) (λ (later : Contains rest w.0). (w.0, later, w.2, w.3)) (first_or_later request rest w.0 w.1)
 
     -- ---- with those that come after it
 
-    -- this step decides it
-    module _ (step : Step) (its later replies : List Reply) (new : Holdings) (split : replies ≡ its ++ later) (comes : May m step) (of_port : IsOfTurn port step) (own : IsDevices step → ⊥) (keeps : (after_step m step).kept ≡ m.kept)
+    -- this step decides it, by which these are kept
+    module _ (step : Step) (its later replies : List Reply) (new : Holdings) (split : replies ≡ its ++ later) (comes : May m step) (of_port : DecidesOn port step) (own : IsDevices step → ⊥)
+        (parked : ℕ → List RequestId) (elsewhere : (q : ℕ) → q ≢ port.0 → parked q ≡ k.parked q)
+        (gone : List Pending) (keeps : (after_step m step).kept ≡ gone ++ m.kept) (lends : mid.kept ≡ now.kept ++ loans_of gone) (alone : AllPairs AreOfTwo (loans_of gone))
+        (its_own : (e : Pending) → Contains gone e → IsEntry request e × (keeps_fate (fate request.entry) request.entry ≡ true))
         (told : (e : Pending) (o : Outcome) → Answer e o ≡ step → IsEntry request e × (fate request.entry ≡ Ends o))
         (waits : (e : Pending) → Again e ≡ step → IsEntry request e × (fate request.entry ≡ GoesAgain))
-        (r : MeetsInMachine port fate rest later new left_known (after_step m step)) where
+        (r : MeetsInMachine port fate rest later mid new (record k { parked = parked }) (after_step m step)) where
       all : List Step
       all = r.steps ++ step ∷ []
 
@@ -229,29 +252,167 @@ module _ (laws : LawsBelow) (port : Port) (failed : Option Failed) (prospect : P
           (first_or_later step [] (Again e) last))
           (Contains-append_cases r.steps (step ∷ []) (Again e) there)
 
-      pub decides : Tells (r.steps ++ step ∷ []) replies → MeetsInMachine port fate (request ∷ rest) replies new k m
+      kept_by : (e : Pending) → Contains (r.held ++ gone) e → (y : Held) × Contains (request ∷ rest) y × IsEntry y e × (keeps_fate (fate y.entry) y.entry ≡ true)
+      kept_by e there = ⊎_elim
+          (λ late. let w = r.whose e late in (w.0, in_rest w.0 w.1, w.2, w.3))
+          (λ first. let w = its_own e first in (request, Contains-get_or (request ∷ rest) 0 request (omega arith), w.0, w.1))
+          (Contains-append_cases r.held gone e there)
+
+      two : AllPairs AreOfTwo (loans_of (r.held ++ gone))
+      two = subst (AllPairs AreOfTwo) (sym (loans_append r.held gone)) (all_pairs_append AreOfTwo (loans_of gone) (loans_of r.held) alone r.two (λ a b first late same.
+          let x = loans_in gone a first in
+          let y = loans_in r.held b late in
+          let w = r.whose y.0 y.1 in
+          differs w.0 w.1 (sym w.2.id ∙ sym (ap (λ (l : Lending). l.request) y.2) ∙ sym same ∙ ap (λ (l : Lending). l.request) x.2 ∙ (its_own x.0 x.1).0.id)))
+
+      pub decides : Tells (r.steps ++ step ∷ []) replies → MeetsInMachine port fate (request ∷ rest) replies now new k m
       decides tells = record {
         steps = r.steps ++ step ∷ [];
         parked = r.parked;
         may = may-append m r.steps (step ∷ []) (tt, comes) r.may;
-        own = All-append (IsOfTurn port) r.steps (step ∷ []) r.own (All-cons (IsOfTurn port) step [] of_port (All-nil (IsOfTurn port)));
+        own = All-append (DecidesOn port) r.steps (step ∷ []) r.own (All-cons (DecidesOn port) step [] of_port (All-nil (DecidesOn port)));
         backed = λ d. laws.backed_parts d d d m (step ∷ []) r.steps (laws.backed_own d m step own) (r.backed d);
         knows = subst (λ (n : Machine). Knows n (record k { parked = r.parked })) (sym whole_is) r.knows;
-        others = λ q ne. r.others q ne ∙ changed_other k.parked port.0 (but request.entry.id (k.parked port.0)) q ne;
+        others = λ q ne. r.others q ne ∙ elsewhere q ne;
         none = r.none;
         book = subst (λ (n : Machine). IsBook new.book n.book) (sym whole_is) r.book;
         lent = λ frame. ap (λ (n : Machine). n.lent frame) whole_is ∙ r.lent frame;
-        kept = ap (λ (n : Machine). n.kept) whole_is ∙ r.kept ∙ keeps;
+        held = r.held ++ gone;
+        kept = ap (λ (n : Machine). n.kept) whole_is ∙ r.kept ∙ ap (λ (kept : List Pending). r.held ++ kept) keeps ∙ sym (append_assoc r.held gone m.kept);
+        loans = r.loans ∙ ap (λ (loans : List Lending). loans ++ loans_of r.held) lends ∙ append_assoc now.kept (loans_of gone) (loans_of r.held) ∙ ap (λ (loans : List Lending). now.kept ++ loans) (sym (loans_append r.held gone));
+        two = two;
+        whose = kept_by;
         answered = answered_by;
         again = again_by;
         tells = tells;
       }
 
+  -- ---- one that ends
+
+  module _ (request : Held) (rest : List Held) (now mid new : Holdings) (its later replies : List Reply) (k : Known) (m : Machine) (may : MayMeet port fate (request ∷ rest) now rows k m) (split : replies ≡ its ++ later)
+      (more : (k : Known) (m : Machine) → MayMeet port fate rest mid rows k m → MeetsInMachine port fate rest later mid new k m) (o : Outcome) (is : fate request.entry ≡ Ends o) (meets : MeetsFate request (Ends o) its now mid) where
+    abbrev x : Pending
+    x = p request rest now mid k m may
+
+    its_entry : IsEntry request x
+    its_entry = (entry request rest now mid k m may).2
+
+    comes : May m (Answer x o)
+    comes = (entry request rest now mid k m may).1
+
+    of_port : x.request.port ≡ port
+    of_port = its_entry.port ∙ its_port request rest now mid k m may
+
+    fate_is : keeps_fate (fate request.entry) request.entry ≡ keeps_loan o request.entry
+    fate_is = ap (λ (f : Fate). keeps_fate f request.entry) is
+
+    stay : stays x o ≡ keeps_loan o request.entry
+    stay = stays_is o request.entry x its_entry.issued
+
+    reply_is : reply_to request o ≡ reply_of (x, o)
+    reply_is = λ i. record { id = sym its_entry.id i; client = sym its_entry.client i; outcome = o }
+
+    reached : IsReached (after_step m (Answer x o))
+    reached = reached_more m (Answer x o ∷ []) may.reached (tt, comes)
+
+    book : IsBook mid.book (after_step m (Answer x o)).book
+    book = subst (λ (book : List Held). IsBook book (after_step m (Answer x o)).book) (sym meets.1)
+        (subst (λ (id : RequestId). IsBook (without id now.book) (after_step m (Answer x o)).book) (id_is request rest now mid k m may) (laws.answers now.book m x o may.book))
+
+    ordered : IsInOrder mid.book
+    ordered = subst IsInOrder (sym meets.1) (laws.fewer now.book request.entry.id may.ordered)
+
+    still : (e : Held) → Contains rest e → Contains mid.book e × (e.entry.port ≡ port)
+    still e there =
+        let w = may.here e (in_rest request rest now mid k m may e there) in
+        (subst (λ (book : List Held). Contains book e) (sym meets.1) ((laws.left now.book request.entry.id e).1 (w.0, differs request rest now mid k m may e there)), w.1)
+
+    -- what comes of it, once the rest met their fates
+    module _ (parked : ℕ → List RequestId) (elsewhere : (q : ℕ) → q ≢ port.0 → parked q ≡ k.parked q) (gone : List Pending) (keeps : (after_step m (Answer x o)).kept ≡ gone ++ m.kept)
+        (lends : mid.kept ≡ now.kept ++ loans_of gone) (alone : AllPairs AreOfTwo (loans_of gone)) (its_own : (e : Pending) → Contains gone e → IsEntry request e × (keeps_fate (fate request.entry) request.entry ≡ true))
+        (goes : MayMeet port fate rest mid rows (record k { parked = parked }) (after_step m (Answer x o))) where
+      r : MeetsInMachine port fate rest later mid new (record k { parked = parked }) (after_step m (Answer x o))
+      r = more (record k { parked = parked }) (after_step m (Answer x o)) goes
+
+      -- it is told first
+      first : All (IsToldBefore (x, o)) r.tells.answers
+      first = All-weaker (Contains r.tells.answers) (IsToldBefore (x, o)) (λ a there.
+          let w = r.answered a.0 a.1 (answers_there r.steps a (Contains-permutation r.tells.answers (answers_of r.steps) a r.tells.same there)) in
+          let lt = later_id request rest now mid k m may w.0 w.1 in
+          let mine = ap (λ (i : RequestId). i.0) its_entry.id in
+          let other = ap (λ (i : RequestId). i.0) w.2.id in
+          inr (of_port ∙ sym (w.2.port ∙ (may.here w.0 (in_rest request rest now mid k m may w.0 w.1)).1), omega (arith, lt, mine, other))) r.tells.answers (All-contains_itself r.tells.answers)
+
+      answers : MeetsInMachine port fate (request ∷ rest) replies now new k m
+      answers =
+          decides request rest now mid k m may (Answer x o) its later replies new split comes of_port (λ none. none) parked elsewhere gone keeps lends alone its_own
+          (λ e other same.
+          let e_is : e ≡ x = (let z : Answer e other ≡ Answer x o = same in cc) in
+          let o_is : other ≡ o = (let z : Answer e other ≡ Answer x o = same in cc) in
+          (subst (IsEntry request) (sym e_is) its_entry, is ∙ ap Ends (sym o_is)))
+          (λ e same. let z : Again e ≡ Answer x o = same in absurd cc)
+          r
+          (record {
+            answers = (x, o) ∷ r.tells.answers;
+            same = subst (IsPermutation ((x, o) ∷ r.tells.answers)) (sym (answers_append r.steps (Answer x o ∷ [])))
+                (IsPermutation-trans _ _ _ (IsPermutation-append_comm ((x, o) ∷ []) r.tells.answers) (IsPermutation-append _ _ _ _ r.tells.same (IsPermutation-refl ((x, o) ∷ []))));
+            ordered = AllPairs-cons IsToldBefore (x, o) r.tells.answers first r.tells.ordered;
+            told = split ∙ ap (λ (y : List Reply). y ++ later) meets.0 ∙ (λ i. reply_is i ∷ r.tells.told i);
+          })
+
+    by : (b : Bool) → keeps_loan o request.entry ≡ b → MeetsInMachine port fate (request ∷ rest) replies now new k m
+    by false never =
+        answers (decided k.parked port.0 request.entry.id) (λ q ne. changed_other k.parked port.0 (but request.entry.id (k.parked port.0)) q ne) []
+        (ap (λ (b : Bool). if b then x ∷ m.kept else m.kept) (stay ∙ never)) (loan.0 ∙ sym (append-nil now.kept)) (λ i j d lt below. absurd (omega (arith, lt, below))) (λ e there. absurd (nowhere e there))
+        (record {
+          reached = reached;
+          knows = laws.answered_agrees k m x o (decided k.parked port.0 request.entry.id) may.reached may.knows comes (stay ∙ never) (unserved request rest now mid k m may (fate_is ∙ never)) (forgets request rest now mid k m may);
+          book = book;
+          lent = λ frame. ap (λ (b : Bool). (if b then m.lent else unlend x.request.id m.lent) frame) (stay ∙ never)
+              ∙ given_back m request x now.table mid.table may.reached (inl comes) its_entry may.lent (All-contains (IsAccepted rows now.table) now.book request may.accepted (here request rest now mid k m may)).lent loan.1 frame;
+          ordered = ordered;
+          accepted = subst (All (IsAccepted rows mid.table)) (sym meets.1) (laws.still_answered rows now.table mid.table now.book request (here request rest now mid k m may) loan.1 may.accepted);
+          here = still;
+          earlier = earlier request rest now mid k m may;
+          unserved = λ e there none. may.unserved e (in_rest request rest now mid k m may e there) none;
+          parked = left_parked request rest now mid k m may;
+        })
+      where
+        loan : EndsLoan false request now mid
+        loan = subst (λ (b : Bool). EndsLoan b request now mid) never meets.2
+    by true keeps =
+        answers k.parked (λ q ne. refl) (x ∷ [])
+        (ap (λ (b : Bool). if b then x ∷ m.kept else m.kept) (stay ∙ keeps)) (loan.0 ∙ ap (λ (l : Lending). now.kept ++ l ∷ []) loan_is) (λ i j d lt below. absurd (omega (arith, lt, below)))
+        (λ e there. ⊎_elim (λ (same : e ≡ x). (subst (IsEntry request) (sym same) its_entry, fate_is ∙ keeps)) (λ none. absurd (nowhere e none)) (first_or_later x [] e there))
+        (record {
+          reached = reached;
+          knows = laws.kept_agrees k m x o may.reached may.knows comes (stay ∙ keeps);
+          book = book;
+          lent = λ frame. ap (λ (b : Bool). (if b then m.lent else unlend x.request.id m.lent) frame) (stay ∙ keeps) ∙ may.lent frame ∙ ap (λ (t : Table). lent_to t frame) (sym loan.1);
+          ordered = ordered;
+          accepted = subst (All (IsAccepted rows mid.table)) (sym meets.1) (subst (λ (t : Table). All (IsAccepted rows t) (without request.entry.id now.book)) (sym loan.1)
+              (All-weaker (Contains (without request.entry.id now.book)) (IsAccepted rows now.table) (λ e there. All-contains (IsAccepted rows now.table) now.book e may.accepted ((laws.left now.book request.entry.id e).0 there).0)
+              (without request.entry.id now.book) (All-contains_itself (without request.entry.id now.book))));
+          here = still;
+          earlier = earlier request rest now mid k m may;
+          unserved = λ e there none. may.unserved e (in_rest request rest now mid k m may e there) none;
+          parked = λ quiet id there. absurd (false≢true (sym (quiet request.entry) ∙ fate_is ∙ keeps));
+        })
+      where
+        loan : EndsLoan true request now mid
+        loan = subst (λ (b : Bool). EndsLoan b request now mid) keeps meets.2
+
+        loan_is : record { frames = request.frames; request = request.entry.id } ≡ loan_of x
+        loan_is = λ i. record { frames = sym its_entry.frames i; request = sym its_entry.id i }
+
+    pub meet_end : MeetsInMachine port fate (request ∷ rest) replies now new k m
+    meet_end = by (keeps_loan o request.entry) refl
+
   -- ---- each fate
 
-  meet_one : (request : Held) (rest : List Held) (now mid new : Holdings) (its later replies : List Reply) (k : Known) (m : Machine) → MayMeet port (request ∷ rest) now rows k m → replies ≡ its ++ later
-      → ((k : Known) (m : Machine) → MayMeet port rest mid rows k m → MeetsInMachine port fate rest later new k m) → (f : Fate) → fate request.entry ≡ f → MeetsFate request f its now mid
-      → MeetsInMachine port fate (request ∷ rest) replies new k m
+  meet_one : (request : Held) (rest : List Held) (now mid new : Holdings) (its later replies : List Reply) (k : Known) (m : Machine) → MayMeet port fate (request ∷ rest) now rows k m → replies ≡ its ++ later
+      → ((k : Known) (m : Machine) → MayMeet port fate rest mid rows k m → MeetsInMachine port fate rest later mid new k m) → (f : Fate) → fate request.entry ≡ f → MeetsFate request f its now mid
+      → MeetsInMachine port fate (request ∷ rest) replies now new k m
   meet_one request rest now mid new its later replies k m may split more Waits is meets = record {
     steps = r.steps;
     parked = r.parked;
@@ -263,16 +424,20 @@ module _ (laws : LawsBelow) (port : Port) (failed : Option Failed) (prospect : P
     none = r.none;
     book = r.book;
     lent = r.lent;
+    held = r.held;
     kept = r.kept;
+    loans = r.loans ∙ ap (λ (h : Holdings). h.kept ++ loans_of r.held) meets.1;
+    two = r.two;
+    whose = λ e here. let w = r.whose e here in (w.0, in_rest request rest now mid k m may w.0 w.1, w.2, w.3);
     answered = λ e o here. let w = r.answered e o here in (w.0, in_rest request rest now mid k m may w.0 w.1, w.2, w.3);
     again = λ e here. let w = r.again e here in (w.0, in_rest request rest now mid k m may w.0 w.1, w.2, w.3);
     tells = subst (Tells r.steps) (sym (split ∙ ap (λ (x : List Reply). x ++ later) meets.0)) r.tells;
   }
     where
       waiting : request.entry.issued ≡ false
-      waiting = (tame failed prospect alive request.entry).waits is
+      waiting = (tame failed prospect request.entry).waits is
 
-      goes : MayMeet port rest now rows k m
+      goes : MayMeet port fate rest now rows k m
       goes = record {
         reached = may.reached;
         knows = may.knows;
@@ -282,19 +447,21 @@ module _ (laws : LawsBelow) (port : Port) (failed : Option Failed) (prospect : P
         accepted = may.accepted;
         here = λ e there. may.here e (in_rest request rest now mid k m may e there);
         earlier = earlier request rest now mid k m may;
-        unserved = λ e there. may.unserved e (in_rest request rest now mid k m may e there);
-        parked = λ id there.
-            let w = may.parked id there in
+        unserved = λ e there never. may.unserved e (in_rest request rest now mid k m may e there) never;
+        parked = λ quiet id there.
+            let w = may.parked quiet id there in
             ⊎_elim
             (λ (same : w.0 ≡ request). absurd (false≢true (sym waiting ∙ ap (λ (e : Held). e.entry.issued) (sym same) ∙ w.3)))
             (λ (then_on : Contains rest w.0). (w.0, then_on, w.2, w.3))
             (first_or_later request rest w.0 w.1);
       }
 
-      r : MeetsInMachine port fate rest later new k m
-      r = more k m (subst (λ (h : Holdings). MayMeet port rest h rows k m) (sym meets.1) goes)
+      r : MeetsInMachine port fate rest later mid new k m
+      r = more k m (subst (λ (h : Holdings). MayMeet port fate rest h rows k m) (sym meets.1) goes)
   meet_one request rest now mid new its later replies k m may split more GoesAgain is meets =
-      decides request rest now mid k m may (Again x) its later replies new split comes of_port (λ none. none) refl
+      decides request rest now mid k m may (Again x) its later replies new split comes of_port (λ none. none) (decided k.parked port.0 request.entry.id)
+      (λ q ne. changed_other k.parked port.0 (but request.entry.id (k.parked port.0)) q ne) [] refl
+      (ap (λ (h : Holdings). h.kept) meets.1 ∙ sym (append-nil now.kept)) (λ i j d lt below. absurd (omega (arith, lt, below))) (λ e there. absurd (nowhere e there))
       (λ e o same. let z : Answer e o ≡ Again x = same in absurd cc)
       (λ e same. let e_is : e ≡ x = (let z : Again e ≡ Again x = same in cc) in (subst (IsEntry request) (sym e_is) (entry request rest now mid k m may).2, is))
       r
@@ -309,7 +476,7 @@ module _ (laws : LawsBelow) (port : Port) (failed : Option Failed) (prospect : P
       x = p request rest now mid k m may
 
       its_issue : (request.entry.issued ≡ true) × ((request.entry.issues == 4) ≡ false)
-      its_issue = (tame failed prospect alive request.entry).again is
+      its_issue = (tame failed prospect request.entry).again is
 
       few : request.entry.issues < 4
       few =
@@ -324,10 +491,10 @@ module _ (laws : LawsBelow) (port : Port) (failed : Option Failed) (prospect : P
       of_port : x.request.port ≡ port
       of_port = (entry request rest now mid k m may).2.port ∙ its_port request rest now mid k m may
 
-      goes : MayMeet port rest (record now { book = map (at request.entry.id requeued) now.book }) rows (left_known request rest now mid k m may) (after_step m (Again x))
+      goes : MayMeet port fate rest (record now { book = map (at request.entry.id requeued) now.book }) rows (left_known request rest now mid k m may) (after_step m (Again x))
       goes = record {
         reached = reached_more m (Again x ∷ []) may.reached (tt, comes);
-        knows = laws.again_agrees k m x (decided k.parked port.0 request.entry.id) may.reached may.knows comes.0 (unserved request rest now mid k m may) (forgets request rest now mid k m may);
+        knows = laws.again_agrees k m x (decided k.parked port.0 request.entry.id) may.reached may.knows comes.0 (unserved request rest now mid k m may (ap (λ (f : Fate). keeps_fate f request.entry) is)) (forgets request rest now mid k m may);
         book = subst (λ (id : RequestId). IsBook (map (at id requeued) now.book) (after_step m (Again x)).book) (id_is request rest now mid k m may) (laws.again now.book m x may.book);
         lent = may.lent;
         ordered = laws.requeued now.book request.entry.id may.ordered (request, here request rest now mid k m may, refl, its_issue.0, few);
@@ -336,104 +503,37 @@ module _ (laws : LawsBelow) (port : Port) (failed : Option Failed) (prospect : P
             let w = may.here e (in_rest request rest now mid k m may e there) in
             (laws.others now.book request.entry.id requeued e w.0 (differs request rest now mid k m may e there), w.1);
         earlier = earlier request rest now mid k m may;
-        unserved = λ e there. may.unserved e (in_rest request rest now mid k m may e there);
+        unserved = λ e there never. may.unserved e (in_rest request rest now mid k m may e there) never;
         parked = left_parked request rest now mid k m may;
       }
 
-      r : MeetsInMachine port fate rest later new (left_known request rest now mid k m may) (after_step m (Again x))
-      r = more (left_known request rest now mid k m may) (after_step m (Again x)) (subst (λ (h : Holdings). MayMeet port rest h rows (left_known request rest now mid k m may) (after_step m (Again x))) (sym meets.1) goes)
-  meet_one request rest now mid new its later replies k m may split more (Ends o) is meets =
-      decides request rest now mid k m may (Answer x o) its later replies new split comes of_port (λ none. none) keeps
-      (λ e other same.
-      let e_is : e ≡ x = (let z : Answer e other ≡ Answer x o = same in cc) in
-      let o_is : other ≡ o = (let z : Answer e other ≡ Answer x o = same in cc) in
-      (subst (IsEntry request) (sym e_is) (entry request rest now mid k m may).2, is ∙ ap Ends (sym o_is)))
-      (λ e same. let z : Again e ≡ Answer x o = same in absurd cc)
-      r
-      (record {
-        answers = (x, o) ∷ r.tells.answers;
-        same = subst (IsPermutation ((x, o) ∷ r.tells.answers)) (sym (answers_append r.steps (Answer x o ∷ [])))
-            (IsPermutation-trans _ _ _ (IsPermutation-append_comm ((x, o) ∷ []) r.tells.answers) (IsPermutation-append _ _ _ _ r.tells.same (IsPermutation-refl ((x, o) ∷ []))));
-        ordered = AllPairs-cons IsToldBefore (x, o) r.tells.answers first r.tells.ordered;
-        told = split ∙ ap (λ (y : List Reply). y ++ later) meets.0 ∙ (λ i. reply_is i ∷ r.tells.told i);
-      })
-    where
-      x : Pending
-      x = p request rest now mid k m may
+      r : MeetsInMachine port fate rest later mid new (left_known request rest now mid k m may) (after_step m (Again x))
+      r = more (left_known request rest now mid k m may) (after_step m (Again x)) (subst (λ (h : Holdings). MayMeet port fate rest h rows (left_known request rest now mid k m may) (after_step m (Again x))) (sym meets.1) goes)
+  meet_one request rest now mid new its later replies k m may split more (Ends o) is meets = meet_end request rest now mid new its later replies k m may split more o is meets
 
-      its_entry : IsEntry request x
-      its_entry = (entry request rest now mid k m may).2
-
-      comes : May m (Answer x o)
-      comes = (entry request rest now mid k m may).1
-
-      of_port : x.request.port ≡ port
-      of_port = its_entry.port ∙ its_port request rest now mid k m may
-
-      never : (keeps_loan o request.entry ≡ false) × (stays x o ≡ false)
-      never = never_kept o request.entry x (λ dead. (tame failed prospect alive request.entry).alive (is ∙ ap Ends dead))
-
-      keeps : (after_step m (Answer x o)).kept ≡ m.kept
-      keeps = ap (λ (b : Bool). if b then x ∷ m.kept else m.kept) never.1
-
-      loan : EndsLoan false request now mid
-      loan = subst (λ (b : Bool). EndsLoan b request now mid) never.0 meets.2
-
-      lends : LendsOnly now.table mid.table request.frames None
-      lends = loan.1
-
-      reply_is : reply_to request o ≡ reply_of (x, o)
-      reply_is = λ i. record { id = sym its_entry.id i; client = sym its_entry.client i; outcome = o }
-
-      goes : MayMeet port rest mid rows (left_known request rest now mid k m may) (after_step m (Answer x o))
-      goes = record {
-        reached = reached_more m (Answer x o ∷ []) may.reached (tt, comes);
-        knows = laws.answered_agrees k m x o (decided k.parked port.0 request.entry.id) may.reached may.knows comes never.1 (unserved request rest now mid k m may) (forgets request rest now mid k m may);
-        book = subst (λ (book : List Held). IsBook book (after_step m (Answer x o)).book) (sym meets.1)
-            (subst (λ (id : RequestId). IsBook (without id now.book) (after_step m (Answer x o)).book) (id_is request rest now mid k m may) (laws.answers now.book m x o may.book));
-        lent = λ frame. ap (λ (b : Bool). (if b then m.lent else unlend x.request.id m.lent) frame) never.1
-            ∙ given_back m request x now.table mid.table may.reached (inl comes) its_entry may.lent (All-contains (IsAccepted rows now.table) now.book request may.accepted (here request rest now mid k m may)).lent lends frame;
-        ordered = subst IsInOrder (sym meets.1) (laws.fewer now.book request.entry.id may.ordered);
-        accepted = subst (All (IsAccepted rows mid.table)) (sym meets.1) (laws.still_answered rows now.table mid.table now.book request (here request rest now mid k m may) lends may.accepted);
-        here = λ e there.
-            let w = may.here e (in_rest request rest now mid k m may e there) in
-            (subst (λ (book : List Held). Contains book e) (sym meets.1) ((laws.left now.book request.entry.id e).1 (w.0, differs request rest now mid k m may e there)), w.1);
-        earlier = earlier request rest now mid k m may;
-        unserved = λ e there. may.unserved e (in_rest request rest now mid k m may e there);
-        parked = left_parked request rest now mid k m may;
-      }
-
-      r : MeetsInMachine port fate rest later new (left_known request rest now mid k m may) (after_step m (Answer x o))
-      r = more (left_known request rest now mid k m may) (after_step m (Answer x o)) goes
-
-      -- it is told first
-      first : All (IsToldBefore (x, o)) r.tells.answers
-      first = All-weaker (Contains r.tells.answers) (IsToldBefore (x, o)) (λ a there.
-          let w = r.answered a.0 a.1 (answers_there r.steps a (Contains-permutation r.tells.answers (answers_of r.steps) a r.tells.same there)) in
-          let lt = later_id request rest now mid k m may w.0 w.1 in
-          let mine = ap (λ (i : RequestId). i.0) its_entry.id in
-          let other = ap (λ (i : RequestId). i.0) w.2.id in
-          inr (of_port ∙ sym (w.2.port ∙ (may.here w.0 (in_rest request rest now mid k m may w.0 w.1)).1), omega (arith, lt, mine, other))) r.tells.answers (All-contains_itself r.tells.answers)
-
-pub meet : LawsBelow → (port : Port) (failed : Option Failed) (prospect : Prospect) → prospect ≢ Dead → (rows : List GrantRow) (requests : List Held) (replies : List Reply) (old new : Holdings) (k : Known) (m : Machine)
-    → MayMeet port requests old rows k m → MeetFates (fate_of failed prospect) requests replies old new → MeetsInMachine port (fate_of failed prospect) requests replies new k m
-meet laws port failed prospect alive rows [] replies old new k m may (none, is) = record {
+pub meet : LawsBelow → (port : Port) (failed : Option Failed) (prospect : Prospect) (rows : List GrantRow) (requests : List Held) (replies : List Reply) (old new : Holdings) (k : Known) (m : Machine)
+    → MayMeet port (fate_of failed prospect) requests old rows k m → MeetFates (fate_of failed prospect) requests replies old new → MeetsInMachine port (fate_of failed prospect) requests replies old new k m
+meet laws port failed prospect rows [] replies old new k m may (none, is) = record {
   steps = [];
   parked = k.parked;
   may = tt;
-  own = All-nil (IsOfTurn port);
+  own = All-nil (DecidesOn port);
   backed = λ d. laws.backed_none d m;
   knows = may.knows;
   others = λ q ne. refl;
-  none = nobody (k.parked port.0) (λ id here. nowhere (may.parked id here).0 (may.parked id here).1);
+  none = λ quiet. nobody (k.parked port.0) (λ id here. let w = may.parked quiet id here in nowhere w.0 w.1);
   book = subst (λ (h : Holdings). IsBook h.book m.book) (sym is) may.book;
   lent = λ frame. may.lent frame ∙ ap (λ (h : Holdings). lent_to h.table frame) (sym is);
+  held = [];
   kept = refl;
+  loans = ap (λ (h : Holdings). h.kept) is ∙ sym (append-nil old.kept);
+  two = λ i j d lt below. absurd (omega (arith, lt, below));
+  whose = λ e here. absurd (nowhere e here);
   answered = λ e o here. absurd (nowhere (Answer e o) here);
   again = λ e here. absurd (nowhere (Again e) here);
   tells = record { answers = []; same = IsPermutation-refl []; ordered = λ i j d lt below. absurd (omega (arith, lt, below)); told = none };
 }
-meet laws port failed prospect alive rows (request ∷ rest) replies old new k m may (mid, its, later, split, meets, more) =
-    meet_one laws port failed prospect alive rows request rest old mid new its later replies k m may split
-    (λ n machine next. meet laws port failed prospect alive rows rest later mid new n machine next more)
+meet laws port failed prospect rows (request ∷ rest) replies old new k m may (mid, its, later, split, meets, more) =
+    meet_one laws port failed prospect rows request rest old mid new its later replies k m may split
+    (λ n machine next. meet laws port failed prospect rows rest later mid new n machine next more)
     (fate_of failed prospect request.entry) refl meets

@@ -19,10 +19,10 @@ use Rattle.request_queue.specs.declared.fate.Failed.{Failed}
 use Rattle.request_queue.specs.declared.fate.Fate.TheVariants.{Ends, GoesAgain}
 use Rattle.request_queue.specs.declared.fate.Prospect.{Prospect}
 use Rattle.request_queue.specs.declared.fate.Prospect.TheVariants.{SameDisk, OtherDisk, Dead}
+use Rattle.server_history.specs.Fates.{DecidesOn}
 use Rattle.server_history.specs.Recovered.{IsSettledAfter, requests_of}
 use Rattle.server_history.specs.Served.{HasEnded, answers_in}
 use Rattle.server_history.specs.Server.{Server, IsMachineOf}
-use Rattle.server_history.specs.Turns.{IsOfTurn}
 
 -- ---- its evidence
 
@@ -71,7 +71,7 @@ pub record AddsFates (port : Port) (later : List Reply) (old new : Server) (a : 
   pub may : AllMay m (fates ++ (middle ++ (answers_in ended ++ first)))
   pub backed : IsBacked old.device new.device m (fates ++ (middle ++ (answers_in ended ++ first)))
   pub stands : IsMachineOf new (after m (fates ++ (middle ++ (answers_in ended ++ first))))
-  pub own : All (IsOfTurn port) fates
+  pub own : All (DecidesOn port) fates
   pub answered : (e : Pending) (outcome : Outcome) → Contains fates (Answer e outcome)
       → (request : Held) × Contains (requests_of port a.mid.book) request × IsEntry request e × (fate_of a.failed a.prospect request.entry ≡ Ends outcome)
   pub again : (e : Pending) → Contains fates (Again e)

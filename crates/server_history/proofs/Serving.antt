@@ -65,19 +65,19 @@ use Rattle.server_history.proofs.Settling.{AreAnswered, answers_kept, answers_se
 use Rattle.server_history.proofs.Slots.{AreOver, ready_found, served_by, serves_used}
 
 -- accesses of a look, and of finding a transfer done, serve ports
-looks_serve : (port : Port) (old new : Device) → IsFollowed (IsLooking port) AnyUse old new → IsFollowed IsService AnyUse old new
+pub looks_serve : (port : Port) (old new : Device) → IsFollowed (IsLooking port) AnyUse old new → IsFollowed IsService AnyUse old new
 looks_serve port old new followed = followed_as (IsLooking port) IsService AnyUse AnyUse old new (looking_service port) (λ uses any. any) followed
 
-finds_serve : LawsBelow → (port : Port) (mask done : ℕ) (old new : Device) → ReadsDone port mask done old new → IsFollowed IsService AnyUse old new
+pub finds_serve : LawsBelow → (port : Port) (mask done : ℕ) (old new : Device) → ReadsDone port mask done old new → IsFollowed IsService AnyUse old new
 finds_serve laws port mask done old new finds = followed_as (IsFinding port) IsService AnyUse AnyUse old new (finding_serves port) (λ uses any. any) (laws.finding_followed port mask done old new finds)
 
 -- answers issue nothing
-answers_issue_none : (id : RequestId) (ended : List Pending) → list_any (issues_it id) (answers_in ended) ≡ false
+pub answers_issue_none : (id : RequestId) (ended : List Pending) → list_any (issues_it id) (answers_in ended) ≡ false
 answers_issue_none id [] = refl
 answers_issue_none id (e ∷ ended) = any_append (issues_it id) (answers_in ended) (Answer e Ok ∷ []) ∙ ap (λ (b : Bool). b || false) (answers_issue_none id ended)
 
 -- the steps of a stretch in which nobody is answered
-followed_steps : (s : Server) (new : Device) → IsFollowed IsService AnyUse s.device new → (m : Machine) → IsReached m → IsMachineOf s m
+pub followed_steps : (s : Server) (new : Device) → IsFollowed IsService AnyUse s.device new → (m : Machine) → IsReached m → IsMachineOf s m
     → (steps : List Step) × AllMay m steps × IsMachineOf (record s { device = new }) (after m steps) × IsBacked s.device new m steps × AllDevices steps
 followed_steps s new followed m reached is =
     let x = (followed_adds followed is.uses is.parked tt).adds m reached is.knows in

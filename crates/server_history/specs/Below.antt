@@ -13,8 +13,8 @@ use Rattle.adapter.specs.declared.command.Operation.TheVariants.{ReadLog}
 use Rattle.adapter.specs.declared.tape.Fault.{Fault}
 use Rattle.adapter.specs.Commands.{Meaning}
 use Rattle.adapter.specs.Rules.{IsOn}
-use Rattle.agreement.specs.Acts.{Act, AreDone, InSlots, accesses_of}
-use Rattle.agreement.specs.Agrees.{Agrees}
+use Rattle.agreement.specs.Acts.{Act, AreDone, InSlots, accesses_of, steps_of}
+use Rattle.agreement.specs.Agrees.{Agrees, AreApart}
 use Rattle.agreement.specs.Readying.{IsStored, LeavesStored}
 use Rattle.adapter.specs.Access.{Access, Does, DoesAll, Reads}
 use Rattle.adapter.specs.Access.Access.{Storing}
@@ -27,8 +27,9 @@ use Rattle.hba_regs.specs.declared.reg.PortReg.TheVariants.{Clb, Cmd, Sctl, Ssts
 use Rattle.hba_regs.specs.declared.reg.Reg.TheVariants.{Ghc, Px}
 use Rattle.agreement.specs.Acts.{at as at_slots}
 use Rattle.agreement.specs.Driven.{AnyUse, IsDrivenBy, IsFollowed, IsOf, LeavesPort, SendsNone}
-use Rattle.agreement.specs.Driver.{EndsWith, Forgets, HasNoSlot, IsBacked, Known, Knows}
-use Rattle.agreement.specs.Slots.{Armed, Free, Own, Uses, op_of}
+use Rattle.agreement.specs.Driver.{EndsWith, Forgets, Goes, HasNoSlot, IsBacked, Known, Knows}
+use Rattle.agreement.specs.GivingUp.{parking_all, served_ids}
+use Rattle.agreement.specs.Slots.{Armed, Free, Own, Serves, Use, Uses, op_of, put}
 use Rattle.block_machine.specs.Due.{AreDueInTurn, IsDue, is_plain, IsInOrder as machine_in_order, due_of, of_port, with_issued, with_none}
 use Rattle.block_machine.specs.State.{Machine, Pending}
 use Rattle.block_machine.specs.Steps.{Step, Accept, Again, Issue, Answer, May, after_step, newly_accepted, stays}
@@ -87,6 +88,15 @@ pub record LawsBelow : Type 0 where
       → HasNoSlot k.uses e.request.id → Forgets e.request.id k.parked later → Knows (after_step m (Answer e outcome)) (record k { parked = later })
   pub again_agrees : (k : Known) (m : Machine) (e : Pending) (later : ℕ → List RequestId) → IsReached m → Knows m k → Contains m.book e → HasNoSlot k.uses e.request.id
       → Forgets e.request.id k.parked later → Knows (after_step m (Again e)) (record k { parked = later })
+  -- and of one that is kept, in its slot or without one
+  pub kept_agrees : (k : Known) (m : Machine) (e : Pending) (outcome : Outcome) → IsReached m → Knows m k → Contains m.book e → stays e outcome ≡ true → Knows (after_step m (Answer e outcome)) k
+  -- what acts give
+  pub acts_go : (acts : List Act) (k later : Known) (m : Machine) → Knows m k → AreDone acts k m later → Goes k m (steps_of acts) later
+  -- slots that are given up, or put to another use, and requests that have none
+  pub served : (uses : Uses) (port n : ℕ) (id : RequestId) → Contains (served_ids uses port n) id → (slot : ℕ) × (slot < n) × (uses port slot ≡ Serves id)
+  pub frees : (k : Known) (port slot : ℕ) (id : RequestId) → AreApart k.uses → k.uses port slot ≡ Serves id → HasNoSlot (parking_all k port).uses id
+  pub put_unserved : (uses : Uses) (port slot : ℕ) (u : Use) (id : RequestId) → HasNoSlot uses id → ((other : RequestId) → u ≡ Serves other → other ≢ id) → HasNoSlot (put uses port slot u) id
+  pub waiting : (uses : Uses) (m : Machine) (d : Device) → IsReached m → Agrees uses m d → (e : Pending) → Contains m.book e → e.issued ≡ false → HasNoSlot uses e.request.id
   -- what the device backs
   pub backed_none : (d : Device) (m : Machine) → IsBacked d d m []
   pub backed_own : (d : Device) (m : Machine) (step : Step) → (IsDevices step → ⊥) → IsBacked d d m (step ∷ [])

@@ -1,5 +1,5 @@
 -- The unanswered requests of a port that was stopped meet their fates in the machine, too (this project's own).
-use Rattle.std.specs.Prelude.{ℕ, ◌≡◌, ◌≢◌, true, List, [], All, AllPairs, Contains}
+use Rattle.std.specs.Prelude.{ℕ, Bool, ◌≡◌, ◌≢◌, ◌++◌, true, false, List, [], ◌∷◌, All, AllPairs, Contains}
 use Rattle.ata_types.specs.declared.Port.{Port}
 use Rattle.ata_types.specs.declared.grant.GrantRow.{GrantRow}
 use Rattle.ata_types.specs.declared.request.Frame.{Frame}
@@ -13,18 +13,43 @@ use Rattle.block_machine.specs.Histories.{IsReached}
 use Rattle.block_machine.specs.Left.{after}
 use Rattle.block_machine.specs.State.{Machine, Pending}
 use Rattle.block_machine.specs.Steps.{Step, Again, Answer}
+use Rattle.dma_frames.specs.Loan.{Lending}
 use Rattle.dma_frames.specs.Table.{lent_to}
 use Rattle.request_queue.specs.Entries.{Held, IsAccepted, IsEarlier, IsInOrder}
-use Rattle.request_queue.specs.Fates.{Holdings}
+use Rattle.request_queue.specs.Fates.{Holdings, keeps_loan}
 use Rattle.request_queue.specs.Machine.{IsBook, IsEntry}
 use Rattle.request_queue.specs.declared.Entry.{Entry}
 use Rattle.request_queue.specs.declared.fate.Fate.{Fate}
 use Rattle.request_queue.specs.declared.fate.Fate.TheVariants.{Ends, GoesAgain}
-use Rattle.server_history.specs.Turns.{IsOfTurn}
+use Rattle.server_history.specs.Server.{AreOfTwo}
 
--- The machine has the book and the loans. These are requests of the port in the book, no slot serves one of them, and what is parked of the port are
--- issued ones among them.
-pub record MayMeet (port : Port) (requests : List Held) (now : Holdings) (rows : List GrantRow) (k : Known) (m : Machine) : Type 0 where
+-- the step is the server's: a request of the port waits again, or is answered
+abbrev pub DecidesOn : Port → Step → Type 0
+DecidesOn port (Again e) = e.request.port ≡ port
+DecidesOn port (Answer e outcome) = e.request.port ≡ port
+DecidesOn port step = ⊥
+
+-- it ends with its frames lent still
+abbrev pub keeps_fate : Fate → Entry → Bool
+keeps_fate (Ends outcome) e = keeps_loan outcome e
+keeps_fate _ e = false
+
+-- none does
+abbrev pub KeepsNone : (Entry → Fate) → Type 0
+KeepsNone fate = (e : Entry) → keeps_fate (fate e) e ≡ false
+
+-- the loan of a request that the machine keeps
+abbrev pub loan_of : Pending → Lending
+loan_of e = record { frames = e.request.asked.frames.items; request = e.request.id }
+
+-- the loans of these, the last first
+abbrev pub loans_of : List Pending → List Lending
+loans_of [] = []
+loans_of (e ∷ rest) = loans_of rest ++ loan_of e ∷ []
+
+-- The machine has the book and the loans. These are requests of the port in the book; no slot serves one of them whose loan isn't kept; and where none is,
+-- what is parked of the port are issued ones among them.
+pub record MayMeet (port : Port) (fate : Entry → Fate) (requests : List Held) (now : Holdings) (rows : List GrantRow) (k : Known) (m : Machine) : Type 0 where
   pub reached : IsReached m
   pub knows : Knows m k
   pub book : IsBook now.book m.book
@@ -33,22 +58,27 @@ pub record MayMeet (port : Port) (requests : List Held) (now : Holdings) (rows :
   pub accepted : All (IsAccepted rows now.table) now.book
   pub here : (e : Held) → Contains requests e → Contains now.book e × (e.entry.port ≡ port)
   pub earlier : AllPairs IsEarlier requests
-  pub unserved : (e : Held) → Contains requests e → HasNoSlot k.uses e.entry.id
-  pub parked : (id : RequestId) → Contains (k.parked port.0) id → (e : Held) × Contains requests e × (e.entry.id ≡ id) × (e.entry.issued ≡ true)
+  pub unserved : (e : Held) → Contains requests e → keeps_fate (fate e.entry) e.entry ≡ false → HasNoSlot k.uses e.entry.id
+  pub parked : KeepsNone fate → (id : RequestId) → Contains (k.parked port.0) id → (e : Held) × Contains requests e × (e.entry.id ≡ id) × (e.entry.issued ≡ true)
 
--- They meet their fates by such steps of the port, after which none of it is parked, and the machine has the book and the loans that are left.
-pub record MeetsInMachine (port : Port) (fate : Entry → Fate) (requests : List Held) (replies : List Reply) (new : Holdings) (k : Known) (m : Machine) : Type 0 where
+-- They meet their fates by steps that decide on requests of the port, after which the machine has the book and the loans that are left. Those whose loans are kept are kept in
+-- the machine beside those that were, and each has one more loan; where none is, none of the port is parked.
+pub record MeetsInMachine (port : Port) (fate : Entry → Fate) (requests : List Held) (replies : List Reply) (old new : Holdings) (k : Known) (m : Machine) : Type 0 where
   pub steps : List Step
   pub parked : ℕ → List RequestId
   pub may : AllMay m steps
-  pub own : All (IsOfTurn port) steps
+  pub own : All (DecidesOn port) steps
   pub backed : (d : Device) → IsBacked d d m steps
   pub knows : Knows (after m steps) (record k { parked = parked })
   pub others : (q : ℕ) → q ≢ port.0 → parked q ≡ k.parked q
-  pub none : parked port.0 ≡ []
+  pub none : KeepsNone fate → parked port.0 ≡ []
   pub book : IsBook new.book (after m steps).book
   pub lent : (frame : Frame) → (after m steps).lent frame ≡ lent_to new.table frame
-  pub kept : (after m steps).kept ≡ m.kept
+  pub held : List Pending
+  pub kept : (after m steps).kept ≡ held ++ m.kept
+  pub loans : new.kept ≡ old.kept ++ loans_of held
+  pub two : AllPairs AreOfTwo (loans_of held)
+  pub whose : (e : Pending) → Contains held e → (request : Held) × Contains requests request × IsEntry request e × (keeps_fate (fate request.entry) request.entry ≡ true)
   pub answered : (e : Pending) (outcome : Outcome) → Contains steps (Answer e outcome) → (request : Held) × Contains requests request × IsEntry request e × (fate request.entry ≡ Ends outcome)
   pub again : (e : Pending) → Contains steps (Again e) → (request : Held) × Contains requests request × IsEntry request e × (fate request.entry ≡ GoesAgain)
   pub tells : Tells steps replies

@@ -37,7 +37,6 @@ ghost use Rattle.request_queue.specs.Entries.{Held, asks, asks_of};
 ghost use Rattle.request_queue.specs.Fates.{Holdings, MeetFates, fate_of};
 ghost use Rattle.request_queue.specs.declared.fate.Failed.{Failed};
 ghost use Rattle.request_queue.specs.declared.fate.Prospect.{Prospect};
-ghost use Rattle.request_queue.specs.declared.fate.Prospect.TheVariants.{Dead as NoEnd};
 ghost use Rattle.server_history.specs.Fates.{MayMeet, MeetsInMachine};
 ghost use Rattle.agreement.specs.Driver.{Known};
 ghost use Rattle.block_machine.specs.State.{Machine};
@@ -54,9 +53,11 @@ ghost use Rattle.port_look.specs.declared.Look.TheVariants.{Failed as Fails, Und
 ghost use Rattle.error_recovery.specs.Recovery.{FitsFor, MayRecover};
 
 use adapter::laws::saying_is_one;
+use agreement::acts::acts_give;
+use agreement::giving_up::slots_are_given_up;
 use agreement::laws::{
-    answering_agrees, backing_composes, due_finds_free_slot, going_again_agrees,
-    own_steps_are_backed,
+    answering_agrees, backing_composes, due_finds_free_slot, going_again_agrees, keeping_agrees,
+    own_steps_are_backed, putting_is_of_one_slot, waiting_has_no_slot,
 };
 use agreement::readying::{readied_stays, stored_stays_over_acts};
 use agreement::stretches::other_ports_are_left;
@@ -94,6 +95,11 @@ fn the_laws_below_hold()
     answering_agrees();
     backing_composes();
     going_again_agrees();
+    keeping_agrees();
+    acts_give();
+    slots_are_given_up();
+    putting_is_of_one_slot();
+    waiting_has_no_slot();
     own_steps_are_backed();
     due_finds_free_slot();
     saying_is_one();
@@ -283,12 +289,12 @@ pub fn a_failed_port_may_be_recovered()
     the_laws_below_hold();
 }
 
-/// The unanswered requests of a port that was stopped meet their fates in the machine, too, where the port isn't dead: none of them is parked then.
+/// The unanswered requests of a port that was stopped, or is dead, meet their fates in the machine, too.
 pub fn fates_are_met()
     ensures { (port : Port) (failed : Option Failed) (prospect : Prospect) (requests : List Held) (replies : List Reply) (old new : Holdings)
-        (rows : List GrantRow) (k : Known) (m : Machine) → prospect ≢ NoEnd → MayMeet port requests old rows k m
+        (rows : List GrantRow) (k : Known) (m : Machine) → MayMeet port (fate_of failed prospect) requests old rows k m
         → MeetFates (fate_of failed prospect) requests replies old new
-        → MeetsInMachine port (fate_of failed prospect) requests replies new k m }
+        → MeetsInMachine port (fate_of failed prospect) requests replies old new k m }
 {
     the_laws_below_hold();
 }

@@ -1,0 +1,437 @@
+-- From a machine that stands for the server, a port's recovery, and what its requests meet then, lead to one that stands for the server after them.
+use Rattle.std.proofs.Common.{ℕ, ◌≡◌, ◌≢◌, ◌⊎◌, ◌<◌, ◌≤◌, ◌++◌, Bool, true, false, cond, eq-eqb, eqb-true, List, [], ◌∷◌, get_or, length, Option, None, inl, refl, sym, ap, ◌∙◌, subst, ⊎_elim, arith}
+use Rattle.std.specs.List.{All, AllPairs, Contains}
+use Rattle.std.specs.Prelude.{filter}
+use Rattle.std.proofs.lemmas.Bool.{cases_eq, cases_lt, cond-true, false≢true}
+use Rattle.std.proofs.lemmas.List.{get_or-set_other, get_or-set_same, get_or_past}
+use Rattle.std.proofs.lemmas.List.Elements.{All-contains, All-contains_itself, All-filter, All-head, All-tail, Contains-append_cases, Contains-append_left, Contains-append_right, filter_passes}
+use Rattle.std.proofs.lemmas.List.Kept.{AllPairs-filter}
+use Rattle.ata_types.specs.declared.Port.{Port}
+use Rattle.ata_types.specs.declared.PortState.TheVariants.{Dead, Ready as ReadyState}
+use Rattle.ata_types.specs.declared.request.ClientId.{ClientId}
+use Rattle.ata_types.specs.declared.request.Frame.{Frame}
+use Rattle.ata_types.specs.declared.request.Reply.{Reply}
+use Rattle.ata_types.specs.declared.request.RequestId.{RequestId}
+use Rattle.adapter.specs.Device.{Device}
+use Rattle.agreement.specs.Acts.{InSlots, at as at_slots}
+use Rattle.agreement.specs.Driven.{AnyUse, IsFollowed}
+use Rattle.agreement.specs.Driver.{HasNoSlot, IsBacked}
+use Rattle.agreement.specs.Slots.{Serves, Use}
+use Rattle.agreement.specs.Spares.{SparesBook}
+use Rattle.agreement.proofs.Driven.{followed_then}
+use Rattle.agreement.proofs.Sparing.{found_later, steps_spare}
+use Rattle.block_machine.specs.Events.{AllDevices, AllMay}
+use Rattle.block_machine.specs.Histories.{IsReached}
+use Rattle.block_machine.specs.Left.{after}
+use Rattle.block_machine.specs.State.{Machine, Pending}
+use Rattle.block_machine.specs.Steps.{Step, Accept, after_step}
+use Rattle.block_machine.specs.declared.due.Mode.{Mode}
+use Rattle.block_machine.proofs.EventLemmas.{after-append}
+use Rattle.block_machine.proofs.HistoryLemmas.{may-append, reached_more}
+use Rattle.dma_frames.specs.Loan.{Lending}
+use Rattle.error_recovery.specs.declared.Next.{Next}
+use Rattle.error_recovery.specs.declared.Next.TheVariants.{Running, Restart, Dead as Stuck}
+use Rattle.host_boot.specs.Taken.{found_of, wanted_of}
+use Rattle.host_boot.specs.declared.Found.{Found}
+use Rattle.host_boot.specs.declared.Found.TheVariants.{Unserved, Ready, Unready}
+use Rattle.identify.specs.declared.DiskInfo.{DiskInfo}
+use Rattle.port_look.specs.Looks.{IsLooking}
+use Rattle.port_look.specs.Services.{IsService}
+use Rattle.request_queue.specs.Entries.{Held, IsEarlier, is_of}
+use Rattle.request_queue.specs.Fates.{EndsLoan, Holdings, MeetFates, MeetsFate, fate_of, fate_on, keeps_loan}
+use Rattle.request_queue.specs.Machine.{IsEntry}
+use Rattle.request_queue.specs.declared.Entry.{Entry}
+use Rattle.request_queue.specs.declared.fate.Failed.{Failed}
+use Rattle.request_queue.specs.declared.fate.Fate.{Fate}
+use Rattle.request_queue.specs.declared.fate.Fate.TheVariants.{Ends, GoesAgain, Waits}
+use Rattle.request_queue.specs.declared.fate.Prospect.{Prospect}
+use Rattle.request_queue.specs.declared.fate.Prospect.TheVariants.{SameDisk, OtherDisk, Dead as NoEnd}
+use Rattle.slots.specs.Uses.{Uses as PortSlots, use_at}
+use Rattle.server_history.specs.Below.{LawsBelow}
+use Rattle.server_history.specs.Fates.{DecidesOn, MayMeet, MeetsInMachine, keeps_fate, loan_of, loans_of}
+use Rattle.server_history.specs.Recovered.{AreUnused, IsFailed, IsFoundAfter, IsProspect, IsSettledAfter, holdings_of, requests_of, with_port}
+use Rattle.server_history.specs.Served.{answers_in}
+use Rattle.server_history.specs.Server.{AreKept, AreOfTwo, AreUsesOf, IsKept, IsMachineOf, IsUsedAs, Server, kept_at, no_slots, slots_at, state_of, use_of, used_for}
+use Rattle.server_history.proofs.Going.{book_on, still_kept}
+use Rattle.server_history.proofs.Joined.{first_or_later, nowhere}
+use Rattle.server_history.proofs.Keeping.{none_alive}
+use Rattle.server_history.proofs.Looking.{finding_kept, found_over, looking_kept}
+use Rattle.server_history.proofs.Meeting.{in_loans, loans_in, meet, tame}
+use Rattle.server_history.proofs.Passing.{IsPassed, passed}
+use Rattle.server_history.proofs.Recovery.{AddsFates}
+use Rattle.server_history.proofs.Serving.{finds_serve, followed_steps, looks_serve}
+use Rattle.server_history.proofs.Settling.{AreAnswered, answers_kept, answers_settings, each_answered}
+use Rattle.server_history.proofs.Slots.{AreOver, not_dead, ready_found, served_request}
+use Rattle.server_history.proofs.Zips.{at_left}
+
+-- ---- lists
+
+-- what passes is kept
+pub in_filter : {X : Type 0} (p : X → Bool) (xs : List X) (x : X) → Contains xs x → p x ≡ true → Contains (filter p xs) x
+in_filter p [] x here passes = absurd (nowhere x here)
+in_filter {X} p (y ∷ xs) x here passes = ⊎_elim
+    (λ (same : x ≡ y). subst (λ (list : List X). Contains list x) (sym (cond-true (p y) (y ∷ filter p xs) (filter p xs) (ap p (sym same) ∙ passes))) (Contains-append_left (y ∷ []) (filter p xs) x (0, omega arith, sym same)))
+    (λ (later : Contains xs x). by (p y) (in_filter p xs x later passes))
+    (first_or_later y xs x here)
+  where
+    by : (b : Bool) → Contains (filter p xs) x → Contains (cond b (y ∷ filter p xs) (filter p xs)) x
+    by true there = Contains-append_right (y ∷ []) (filter p xs) x there
+    by false there = there
+
+-- a port that was found with a disk is in the list
+pub in_ports : (ports : List Found) (port : ℕ) (info : DiskInfo) → found_of ports port ≡ Ready info → port < length ports
+in_ports ports port info is = ⊎_elim
+    (λ (small : port < length ports). small)
+    (λ (high : length ports ≤ port). let z : Unserved ≡ Ready info = sym (get_or_past ports port Unserved high) ∙ is in absurd cc)
+    (cases_lt port (length ports))
+
+-- ---- what fates leave
+
+-- steps that decide leave the grants, the owners, and the next id
+step_leaves : (port : Port) (m : Machine) (step : Step) → DecidesOn port step → ((after_step m step).rows ≡ m.rows) × ((frame : Frame) → (after_step m step).owner frame ≡ m.owner frame) × ((after_step m step).next ≡ m.next)
+step_leaves port m (Accept r) is = absurd is
+step_leaves port m step is = (refl, λ frame. refl, refl)
+
+pub deciding_leaves : (port : Port) (m : Machine) (steps : List Step) → All (DecidesOn port) steps → ((after m steps).rows ≡ m.rows) × ((frame : Frame) → (after m steps).owner frame ≡ m.owner frame) × ((after m steps).next ≡ m.next)
+deciding_leaves port m [] own = (refl, λ frame. refl, refl)
+deciding_leaves port m (step ∷ steps) own =
+    let x = step_leaves port (after m steps) step (All-head (DecidesOn port) step steps own) in
+    let y = deciding_leaves port m steps (All-tail (DecidesOn port) step steps own) in
+    (x.0 ∙ y.0, λ frame. x.1 frame ∙ y.1 frame, x.2 ∙ y.2)
+
+-- and fates the owners
+fate_owners : (request : Held) (f : Fate) (replies : List Reply) (old new : Holdings) → MeetsFate request f replies old new → new.table.owners ≡ old.table.owners
+fate_owners request Waits replies old new meets = ap (λ (h : Holdings). h.table.owners) meets.1
+fate_owners request GoesAgain replies old new meets = ap (λ (h : Holdings). h.table.owners) meets.1
+fate_owners request (Ends o) replies old new meets = by (keeps_loan o request.entry) meets.2
+  where
+    by : (b : Bool) → EndsLoan b request old new → new.table.owners ≡ old.table.owners
+    by true loan = ap (λ t. t.owners) loan.1
+    by false loan = loan.1.owners
+
+pub fates_owners : (fate : Entry → Fate) (requests : List Held) (replies : List Reply) (old new : Holdings) → MeetFates fate requests replies old new → new.table.owners ≡ old.table.owners
+fates_owners fate [] replies old new meets = ap (λ (h : Holdings). h.table.owners) meets.1
+fates_owners fate (request ∷ requests) replies old new (mid, its, later, split, meets, more) = fates_owners fate requests later mid new more ∙ fate_owners request (fate request.entry) its old mid meets
+
+-- ---- the port's requests meet their fates
+
+-- a dead port has no other prospect
+pub dead_end : (was : DiskInfo) (found : Found) (prospect : Prospect) → IsProspect was found prospect → found ≡ Unready Dead → prospect ≡ NoEnd
+dead_end was found SameDisk (info, is, same) dead = let z : Ready info ≡ Unready Dead = sym is ∙ dead in absurd cc
+dead_end was found OtherDisk x dead = absurd (x.0 dead)
+dead_end was found NoEnd x dead = refl
+
+module _ (laws : LawsBelow) (port : Port) (mid : Server) (k : IsKept mid) (ready : state_of (found_of mid.ports port.0) ≡ ReadyState) (n : Machine) (reached : IsReached n) (is : IsMachineOf mid n)
+    (way : Next) (found : Found) (device : Device) (passed : IsPassed port.0 way found mid.device device (record { uses = is.uses; parked = is.parked }) n)
+    (failed : Option Failed) (prospect : Prospect) (was : DiskInfo) (expects : IsProspect was found prospect) (unnamed : way ≡ Stuck → (found ≡ Unready Dead) × (failed ≡ None)) where
+  abbrev t : InSlots
+  t = passed.slots
+
+  abbrev w : Machine
+  w = after n passed.passes.steps
+
+  abbrev fate : Entry → Fate
+  fate = fate_of failed prospect
+
+  abbrev its : List Held
+  its = requests_of port mid.book
+
+  low : port.0 < 4
+  low = (ready_found mid port.0 k ready).0
+
+  alive : found_of mid.ports port.0 ≢ Unready Dead
+  alive = not_dead mid port.0 ready
+
+  w_reached : IsReached w
+  w_reached = reached_more n passed.passes.steps reached passed.passes.may
+
+  spares : SparesBook n w
+  spares = steps_spare n passed.passes.steps passed.passes.only
+
+  in_its : (e : Held) → Contains mid.book e → e.entry.port.0 ≡ port.0 → Contains its e
+  in_its e here same = in_filter (λ (x : Held). is_of port x.entry) mid.book e here (eq-eqb e.entry.port.0 port.0 same)
+
+  of_its : (e : Held) → Contains its e → Contains mid.book e × (e.entry.port ≡ port)
+  of_its e here = (
+    All-contains (Contains mid.book) its e (All-filter (λ (x : Held). is_of port x.entry) (Contains mid.book) mid.book (All-contains_itself mid.book)) here,
+    ap (λ (q : ℕ). record { 0 = q }) (eqb-true e.entry.port.0 port.0 (All-contains (λ (x : Held). is_of port x.entry ≡ true) its e (filter_passes (λ (x : Held). is_of port x.entry) mid.book) here)),
+  )
+
+  -- one whose loan isn't kept has no slot
+  unserved : (e : Held) → Contains its e → keeps_fate (fate e.entry) e.entry ≡ false → HasNoSlot t.uses e.entry.id
+  unserved e here never = by e.entry.issued refl
+    where
+      entry : (p : Pending) × Contains n.book p × IsEntry e p
+      entry = at_left IsEntry mid.book n.book is.book e (of_its e here).0
+
+      served : way ≢ Stuck → e.entry.issued ≡ true → HasNoSlot t.uses e.entry.id
+      served lives issued = ⊎_elim
+          (λ (parked : Contains (is.parked port.0) entry.0.request.id). absurd (nowhere entry.0.request.id (subst (λ (ids : List RequestId). Contains ids entry.0.request.id) (is.unparked port.0 alive) parked)))
+          (λ (slot : (slot : ℕ) × (is.uses port.0 slot ≡ Serves entry.0.request.id)). passed.left.unserved lives is.knows.agrees.apart slot.0 e.entry.id (slot.1 ∙ ap Serves entry.2.id))
+          (is.knows.have port.0 entry.0 (inl (entry.1, entry.2.issued ∙ issued)) (ap (λ (q : Port). q.0) (entry.2.port ∙ (of_its e here).1)))
+
+      of : (x : Next) → way ≡ x → e.entry.issued ≡ true → HasNoSlot t.uses e.entry.id
+      of (Running token) z issued = served (λ stuck. let y : Running token ≡ Stuck = sym z ∙ stuck in absurd cc) issued
+      of (Restart token) z issued = served (λ stuck. let y : Restart token ≡ Stuck = sym z ∙ stuck in absurd cc) issued
+      of Stuck z issued =
+          let u = unnamed z in
+          let keeps : keeps_fate (fate e.entry) e.entry ≡ true =
+          ap (λ (f : Option Failed). keeps_fate (fate_of f prospect e.entry) e.entry) u.1 ∙ ap (λ (p : Prospect). keeps_fate (fate_on p e.entry) e.entry) (dead_end was found prospect expects u.0) ∙ issued in
+          absurd (false≢true (sym never ∙ keeps))
+
+      by : (b : Bool) → e.entry.issued ≡ b → HasNoSlot t.uses e.entry.id
+      by false waits =
+          let l = found_later n.book w.book entry.0 spares.book entry.1 in
+          subst (HasNoSlot t.uses) (ap (λ r. r.id) l.2.request ∙ entry.2.id) (laws.waiting t.uses w device w_reached passed.passes.knows.agrees l.0 l.1 (l.2.issued ∙ entry.2.issued ∙ waits))
+      by true issued = of way refl issued
+
+  -- what is parked was in a slot
+  parked_by : (id : RequestId) → Contains (t.parked port.0) id → (e : Held) × Contains its e × (e.entry.id ≡ id) × (e.entry.issued ≡ true)
+  parked_by id here = ⊎_elim
+      (λ there.
+      let slot = laws.served is.uses port.0 32 id there in
+      let r = served_request mid n port.0 slot.0 is ready id slot.2 in
+      (r.request, in_its r.request r.there r.port_is, r.id_is, sym r.entry.issued ∙ r.issued))
+      (λ there. absurd (nowhere id (subst (λ (ids : List RequestId). Contains ids id) (is.unparked port.0 alive) there)))
+      (Contains-append_cases _ (is.parked port.0) id (passed.left.its id here))
+
+  may_meet : MayMeet port fate its (holdings_of port mid) mid.grants (at_slots t device) w
+  may_meet = record {
+    reached = w_reached;
+    knows = passed.passes.knows;
+    book = book_on mid.book n.book w.book spares.book is.book;
+    lent = λ frame. ap (λ f. f frame) spares.lent ∙ is.lent frame;
+    ordered = k.ordered;
+    accepted = k.accepted;
+    here = of_its;
+    earlier = AllPairs-filter IsEarlier (λ (x : Held). is_of port x.entry) mid.book k.ordered.ordered;
+    unserved = unserved;
+    parked = λ quiet. parked_by;
+  }
+
+  module _ (later : List Reply) (now : Holdings) (meets : MeetFates fate its later (holdings_of port mid) now) where
+    pub met : MeetsInMachine port fate its later (holdings_of port mid) now (at_slots t device) w
+    met = meet laws port failed prospect mid.grants its later (holdings_of port mid) now (at_slots t device) w may_meet meets
+
+    abbrev z : Machine
+    z = after w met.steps
+
+    -- a request whose loan is kept is of a dead port
+    dies : (e : Pending) → Contains met.held e → (e.request.port ≡ port) × (found ≡ Unready Dead)
+    dies e here = (x.2.port ∙ (of_its x.0 x.1).1, by prospect refl)
+      where
+        x : (request : Held) × Contains its request × IsEntry request e × (keeps_fate (fate request.entry) request.entry ≡ true)
+        x = met.whose e here
+
+        lives : prospect ≢ NoEnd → ⊥
+        lives other = false≢true (sym ((tame failed prospect x.0.entry).alive other) ∙ x.3)
+
+        by : (p : Prospect) → prospect ≡ p → found ≡ Unready Dead
+        by SameDisk same = absurd (lives (λ dead. let y : SameDisk ≡ NoEnd = sym same ∙ dead in absurd cc))
+        by OtherDisk same = absurd (lives (λ dead. let y : OtherDisk ≡ NoEnd = sym same ∙ dead in absurd cc))
+        by NoEnd same = subst (IsProspect was found) same expects
+
+    -- on another port nothing is decided
+    quiet : found ≢ Unready Dead → (e : Entry) → keeps_fate (fate e) e ≡ false
+    quiet other e = (tame failed prospect e).alive (λ dead. other (subst (IsProspect was found) dead expects))
+
+    module _ (mode : Mode) (slots : PortSlots) (unused : AreUnused mode slots) where
+      abbrev new : Server
+      new = with_port port device found was mode slots now mid
+
+      found_same : found_of new.ports port.0 ≡ found
+      found_same = get_or-set_same mid.ports port.0 found Unserved (let f = (ready_found mid port.0 k ready).1 in in_ports mid.ports port.0 f.0 f.1)
+
+      found_other : (q : ℕ) → q ≢ port.0 → found_of new.ports q ≡ found_of mid.ports q
+      found_other q ne = get_or-set_other mid.ports port.0 q found Unserved ne
+
+      kept_same : kept_at new.kept port.0 ≡ now.kept
+      kept_same = get_or-set_same mid.kept port.0 now.kept [] (let f = k.four_kept in let l = low in omega (arith, f, l))
+
+      kept_other : (q : ℕ) → q ≢ port.0 → kept_at new.kept q ≡ kept_at mid.kept q
+      kept_other q ne = get_or-set_other mid.kept port.0 q now.kept [] ne
+
+      slots_same : slots_at new.slots port.0 ≡ slots
+      slots_same = get_or-set_same mid.slots port.0 slots no_slots (let f = k.four in let l = low in omega (arith, f, l))
+
+      slots_other : (q : ℕ) → q ≢ port.0 → slots_at new.slots q ≡ slots_at mid.slots q
+      slots_other q ne = get_or-set_other mid.slots port.0 q slots no_slots ne
+
+      used : AreUsesOf new t.uses
+      used q slot = ⊎_elim
+          (λ (same : q ≡ port.0).
+          subst (λ (p : ℕ). IsUsedAs (found_of new.ports p) (used_for new.slots p slot) (t.uses p slot)) (sym same)
+          (λ lives. passed.left.free (λ dead. lives (found_same ∙ dead)) slot ∙ ap use_of (sym (ap (λ (x : PortSlots). use_at x slot) slots_same ∙ unused.free slot))))
+          (λ (ne : q ≢ port.0) lives.
+          ap (λ (u : ℕ → Use). u slot) (passed.left.uses q ne) ∙ is.used q slot (λ dead. lives (found_other q ne ∙ dead)) ∙ ap (λ (x : PortSlots). use_of (use_at x slot)) (sym (slots_other q ne)))
+          (cases_eq q port.0)
+
+      unparked : (q : ℕ) → found_of new.ports q ≢ Unready Dead → met.parked q ≡ []
+      unparked q lives = ⊎_elim
+          (λ (same : q ≡ port.0).
+          ap met.parked same ∙ met.none (quiet (λ dead. lives (ap (found_of new.ports) same ∙ found_same ∙ dead))))
+          (λ (ne : q ≢ port.0). met.others q ne ∙ passed.left.parked q ne ∙ is.unparked q (λ dead. lives (found_other q ne ∙ dead)))
+          (cases_eq q port.0)
+
+      -- ---- what is kept
+
+      was_kept : AreKept mid.ports mid.kept w.kept
+      was_kept = still_kept mid.ports mid.kept n.kept w.kept spares.kept is.kept
+
+      loans_are : kept_at new.kept port.0 ≡ loans_of met.held
+      loans_are = kept_same ∙ met.loans ∙ ap (λ (loans : List Lending). loans ++ loans_of met.held) (none_alive mid k port.0 alive (kept_at mid.kept port.0) refl)
+
+      -- one that was kept is of another port
+      elsewhere : (e : Pending) → Contains w.kept e → e.request.port.0 ≢ port.0
+      elsewhere e here same = alive (ap (found_of mid.ports) (sym same) ∙ was_kept.dead e here)
+
+      either : (e : Pending) → Contains z.kept e → Contains met.held e ⊎ Contains w.kept e
+      either e here = Contains-append_cases met.held w.kept e (subst (λ (list : List Pending). Contains list e) met.kept here)
+
+      held_here : (e : Pending) → Contains met.held e → Contains z.kept e
+      held_here e here = subst (λ (list : List Pending). Contains list e) (sym met.kept) (Contains-append_left met.held w.kept e here)
+
+      was_here : (e : Pending) → Contains w.kept e → Contains z.kept e
+      was_here e here = subst (λ (list : List Pending). Contains list e) (sym met.kept) (Contains-append_right met.held w.kept e here)
+
+      are_kept : AreKept new.ports new.kept z.kept
+      are_kept = record {
+        dead = λ e here. ⊎_elim
+            (λ held. let d = dies e held in ap (λ (q : Port). found_of new.ports q.0) d.0 ∙ found_same ∙ d.1)
+            (λ old. found_other e.request.port.0 (elsewhere e old) ∙ was_kept.dead e old)
+            (either e here);
+        loan = λ e here. ⊎_elim
+            (λ held. (
+              loan_of e,
+              subst (λ (loans : List Lending). Contains loans (loan_of e)) (sym (ap (λ (q : Port). kept_at new.kept q.0) (dies e held).0 ∙ loans_are)) (in_loans met.held e held),
+              (refl, refl),
+            ))
+            (λ old.
+            let l = was_kept.loan e old in
+            (l.0, subst (λ (loans : List Lending). Contains loans l.0) (sym (kept_other e.request.port.0 (elsewhere e old))) l.1, l.2))
+            (either e here);
+        whose = λ q loan here. ⊎_elim
+            (λ (same : q ≡ port.0).
+            let x = loans_in met.held loan (subst (λ (loans : List Lending). Contains loans loan) (ap (kept_at new.kept) same ∙ loans_are) here) in
+            (x.0, held_here x.0 x.1, ap (λ (p : Port). p.0) (dies x.0 x.1).0 ∙ sym same, (ap (λ (l : Lending). l.request) x.2, ap (λ (l : Lending). l.frames) x.2)))
+            (λ (ne : q ≢ port.0).
+            let x = was_kept.whose q loan (subst (λ (loans : List Lending). Contains loans loan) (kept_other q ne) here) in
+            (x.0, was_here x.0 x.1, x.2, x.3))
+            (cases_eq q port.0);
+        apart = λ q. ⊎_elim
+            (λ (same : q ≡ port.0). subst (AllPairs AreOfTwo) (sym (ap (kept_at new.kept) same ∙ loans_are)) met.two)
+            (λ (ne : q ≢ port.0). subst (AllPairs AreOfTwo) (sym (kept_other q ne)) (was_kept.apart q))
+            (cases_eq q port.0);
+      }
+
+      leaves : (z.rows ≡ w.rows) × ((frame : Frame) → z.owner frame ≡ w.owner frame) × (z.next ≡ w.next)
+      leaves = deciding_leaves port w met.steps met.own
+
+      pub stands : IsMachineOf new z
+      stands = record {
+        uses = t.uses;
+        used = used;
+        parked = met.parked;
+        unparked = unparked;
+        knows = met.knows;
+        book = met.book;
+        kept = are_kept;
+        rows = leaves.0 ∙ spares.rows ∙ is.rows;
+        owner = λ frame. leaves.1 frame ∙ ap (λ f. f frame) spares.owner ∙ is.owner frame
+            ∙ ap (λ (owners : List (Option ClientId)). get_or owners frame.0 None) (sym (fates_owners fate its later (holdings_of port mid) now meets));
+        lent = met.lent;
+        next = leaves.2 ∙ spares.next ∙ is.next;
+      }
+
+-- ---- the whole
+
+module _ (laws : LawsBelow) (port : Port) (later : List Reply) (old new : Server) (k : IsKept old) (ready : state_of (found_of old.ports port.0) ≡ ReadyState) (a : IsSettledAfter port later old new)
+    (looks : IsFollowed (IsLooking port) AnyUse old.device a.recovered.seen) where
+  abbrev from : Server
+  from = record old { device = a.recovered.found }
+
+  seen_kept : IsKept (record old { device = a.recovered.seen })
+  seen_kept = looking_kept old a.recovered.seen port k ready laws looks
+
+  pub found_kept : IsKept from
+  found_kept = finding_kept (record old { device = a.recovered.seen }) a.recovered.found port seen_kept ready laws a.recovered.mask a.recovered.done a.recovered.reads
+
+  pub over : AreOver port a.recovered.done a.recovered.found
+  over = found_over (record old { device = a.recovered.seen }) a.recovered.found port seen_kept ready laws a.recovered.mask a.recovered.done a.recovered.reads a.recovered.its
+
+  pub mid_kept : IsKept a.mid
+  mid_kept = answers_kept laws port a.recovered.done a.recovered.requests from a.mid found_kept ready over a.recovered.each
+
+  pub settings : a.mid ≡ record from { table = a.mid.table; slots = a.mid.slots; book = a.mid.book }
+  settings = answers_settings laws port a.recovered.done a.recovered.requests from a.mid a.recovered.each
+
+  pub mid_ready : state_of (found_of a.mid.ports port.0) ≡ ReadyState
+  mid_ready = ap (λ (s : Server). state_of (found_of s.ports port.0)) settings ∙ ready
+
+  served : IsFollowed IsService AnyUse old.device a.recovered.found
+  served = followed_then IsService AnyUse old.device a.recovered.seen a.recovered.found (looks_serve port old.device a.recovered.seen looks) (finds_serve laws port a.recovered.mask a.recovered.done a.recovered.seen a.recovered.found a.recovered.reads)
+
+  -- nobody is named on a port whose engine is stuck
+  pub unnamed : a.recovered.result.next ≡ Stuck → (a.found ≡ Unready Dead) × (a.failed ≡ None)
+  unnamed stuck = (
+    (subst (λ (way : Next). IsFoundAfter (wanted_of old.wanted port.0) port a.was way a.device new.device a.found) stuck a.is).0,
+    subst (λ (its : Option _). IsFailed (slots_at a.mid.slots port.0) its a.failed) (a.recovered.recovers.tells.dead stuck) a.names,
+  )
+
+  pub adds_fates : (m : Machine) → IsReached m → IsMachineOf old m → AddsFates port later old new a m
+  adds_fates m reached is = record {
+    first = x.0;
+    ended = y.ended;
+    middle = p.passes.steps;
+    fates = f.steps;
+    first_only = x.4;
+    each = y.each;
+    middle_only = p.passes.only;
+    may = may-append m f.steps (p.passes.steps ++ base) (may-append m p.passes.steps base base_may p.passes.may) (subst (λ (s : Machine). AllMay s f.steps) (sym then_is) f.may);
+    backed = laws.backed_parts old.device new.device new.device m (p.passes.steps ++ base) f.steps
+        (laws.backed_parts old.device a.mid.device new.device m base p.passes.steps base_backed p.passes.backed) (subst (λ (s : Machine). IsBacked new.device new.device s f.steps) (sym then_is) (f.backed new.device));
+    stands = subst (IsMachineOf new) (sym (after-append m f.steps (p.passes.steps ++ base) ∙ ap (λ (s : Machine). after s f.steps) then_is))
+        (subst (λ (s : Server). IsMachineOf s (after (after n p.passes.steps) f.steps)) (sym a.server)
+        (stands laws port a.mid mid_kept mid_ready n n_reached is_mid a.recovered.result.next a.found new.device p a.failed a.prospect a.was a.expects unnamed later a.now a.meets a.mode a.slots a.unused));
+    own = f.own;
+    answered = f.answered;
+    again = f.again;
+    tells = f.tells;
+  }
+    where
+      x : (steps : List Step) × AllMay m steps × IsMachineOf from (after m steps) × IsBacked old.device a.recovered.found m steps × AllDevices steps
+      x = followed_steps old a.recovered.found served m reached is
+
+      reached_x : IsReached (after m x.0)
+      reached_x = reached_more m x.0 reached x.1
+
+      y : AreAnswered port a.recovered.requests from a.mid (after m x.0)
+      y = each_answered laws port a.recovered.done a.recovered.requests from a.mid found_kept ready over a.recovered.each (after m x.0) reached_x x.2
+
+      base : List Step
+      base = answers_in y.ended ++ x.0
+
+      n : Machine
+      n = after m base
+
+      base_may : AllMay m base
+      base_may = may-append m (answers_in y.ended) x.0 x.1 y.may
+
+      base_backed : IsBacked old.device a.mid.device m base
+      base_backed = laws.backed_parts old.device a.recovered.found a.mid.device m x.0 (answers_in y.ended) x.3 y.backed
+
+      n_reached : IsReached n
+      n_reached = reached_more m base reached base_may
+
+      is_mid : IsMachineOf a.mid n
+      is_mid = subst (IsMachineOf a.mid) (sym (after-append m (answers_in y.ended) x.0)) y.stands
+
+      p : IsPassed port.0 a.recovered.result.next a.found a.mid.device new.device (record { uses = is_mid.uses; parked = is_mid.parked }) n
+      p = passed laws (wanted_of old.wanted port.0) port a.was a.recovered.result.next a.recovered.recovers.accesses a.mid.device a.device new.device a.found a.recovered.recovers.does.slots a.is
+          (record { uses = is_mid.uses; parked = is_mid.parked }) n n_reached is_mid.knows
+
+      f : MeetsInMachine port (fate_of a.failed a.prospect) (requests_of port a.mid.book) later (holdings_of port a.mid) a.now (at_slots p.slots new.device) (after n p.passes.steps)
+      f = met laws port a.mid mid_kept mid_ready n n_reached is_mid a.recovered.result.next a.found new.device p a.failed a.prospect a.was a.expects unnamed later a.now a.meets
+
+      then_is : after m (p.passes.steps ++ base) ≡ after n p.passes.steps
+      then_is = after-append m p.passes.steps base
