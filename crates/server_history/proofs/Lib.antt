@@ -38,3 +38,4 @@ pub mod Making
 pub mod Meeting
 pub mod Failing
 pub mod Recovery
+pub mod Recovering
