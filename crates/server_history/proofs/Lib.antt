@@ -39,3 +39,4 @@ pub mod Meeting
 pub mod Failing
 pub mod Recovery
 pub mod Recovering
+pub mod Apart
