@@ -66,7 +66,7 @@ issuing_on port slot low small (Loading at bytes) here = absurd here
 pub issuing_is : (port : Port) → port.0 < 4 → (access : Access) → IssuesIn port access → IssuesOn port access
 issuing_is port low access here = issuing_on port here.0 low here.1 access here.2
 
-issuing_turns : LawsBelow → (port : Port) → port.0 < 4 → (access : Access) → IssuesIn port access → IsTurn port access
+pub issuing_turns : LawsBelow → (port : Port) → port.0 < 4 → (access : Access) → IssuesIn port access → IsTurn port access
 issuing_turns laws port low access here = (issues_serve port access here, (own access (issuing_is port low access here), laws.issuing_of port here.0 access here.2))
   where
     own : (access : Access) → IssuesOn port access → IsDriversOwn access

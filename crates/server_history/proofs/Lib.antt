@@ -40,3 +40,4 @@ pub mod Failing
 pub mod Recovery
 pub mod Recovering
 pub mod Apart
+pub mod Stretching
