@@ -41,3 +41,4 @@ pub mod Recovery
 pub mod Recovering
 pub mod Apart
 pub mod Stretching
+pub mod Faulted
