@@ -42,3 +42,4 @@ pub mod Recovering
 pub mod Apart
 pub mod Stretching
 pub mod Faulted
+pub mod Becoming
