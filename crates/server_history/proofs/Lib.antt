@@ -43,3 +43,4 @@ pub mod Apart
 pub mod Stretching
 pub mod Faulted
 pub mod Becoming
+pub mod Evident

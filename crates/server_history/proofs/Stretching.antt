@@ -49,7 +49,7 @@ use Rattle.server_history.proofs.Recovering.{AfterList, IsEarlyPart, IsGivenUp, 
 use Rattle.server_history.proofs.Rounds.{each_driven, each_silent}
 use Rattle.server_history.proofs.Settling.{answers_kept, answers_settings}
 use Rattle.server_history.proofs.Silent.{silent_more}
-use Rattle.server_history.proofs.Slots.{not_own, of_ready, ready_found}
+use Rattle.server_history.proofs.Slots.{AreOver, not_own, of_ready, ready_found}
 
 -- recovery's accesses were made
 pub recovery_does : (port : ℕ) (then : Next) (accesses : List Access) (old new : Device) → LeavesSlots port then accesses old new → DoesAll accesses old new
@@ -94,19 +94,23 @@ module _ (laws : LawsBelow) (port : Port) (replies : List Reply) (old new : Serv
   abbrev from : Server
   from = record old { device = x.found }
 
-  seen_kept : IsKept (record old { device = x.seen })
+  pub seen_kept : IsKept (record old { device = x.seen })
   seen_kept = looking_kept old x.seen port k ready laws looks
 
-  found_kept : IsKept from
+  pub found_kept : IsKept from
   found_kept = finding_kept (record old { device = x.seen }) x.found port seen_kept ready laws x.mask x.done x.reads
 
   answered_as : a.mid ≡ record from { table = a.mid.table; slots = a.mid.slots; book = a.mid.book }
   answered_as = answers_settings laws port x.done x.requests from a.mid x.each
 
-  mid_kept : IsKept a.mid
-  mid_kept = answers_kept laws port x.done x.requests from a.mid found_kept ready (found_over (record old { device = x.seen }) x.found port seen_kept ready laws x.mask x.done x.reads x.its) x.each
+  -- the commands of slots that were found done are over
+  pub done_over : AreOver port x.done x.found
+  done_over = found_over (record old { device = x.seen }) x.found port seen_kept ready laws x.mask x.done x.reads x.its
 
-  mid_device : a.mid.device ≡ x.found
+  pub mid_kept : IsKept a.mid
+  mid_kept = answers_kept laws port x.done x.requests from a.mid found_kept ready done_over x.each
+
+  pub mid_device : a.mid.device ≡ x.found
   mid_device = ap (λ (n : Server). n.device) answered_as
 
   mid_found : (q : ℕ) → found_of a.mid.ports q ≡ found_of old.ports q
