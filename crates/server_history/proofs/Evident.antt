@@ -1,31 +1,32 @@
 -- The evidence of a turn in which a command had failed: what stands behind each port and each fault that it names.
-use Rattle.std.proofs.Common.{ℕ, ◌≡◌, ◌≢◌, ◌⊎◌, ◌<◌, ◌++◌, Bool, true, false, List, [], ◌∷◌, length, Option, Some, None, refl, sym, ap, ◌∙◌, subst, inl, inr, arith, ⊎_elim}
+use Rattle.std.proofs.Common.{ℕ, ◌≡◌, ◌≢◌, ◌<◌, ◌++◌, Bool, true, false, List, [], ◌∷◌, Option, Some, None, refl, sym, ap, ◌∙◌, subst, inl, inr, arith, ⊎_elim}
 use Rattle.std.specs.List.{All, Contains}
 use Rattle.std.proofs.lemmas.List.Elements.{All-append, All-weaker}
 use Rattle.ata_types.specs.declared.Port.{Port}
 use Rattle.ata_types.specs.declared.PortState.TheVariants.{Dead as DeadState, Ready as ReadyState}
 use Rattle.ata_types.specs.declared.request.Reply.{Reply}
+use Rattle.ata_types.specs.declared.request.RequestId.{RequestId}
 use Rattle.hba_regs.specs.declared.reg.PortReg.TheVariants.{Cmd, Is, Ssts}
 use Rattle.hba_regs.specs.declared.reg.Reg.TheVariants as reg
 use Rattle.hba_regs.specs.declared.reg.Reg.TheVariants.{Ghc, Px}
 use Rattle.adapter.specs.Access.{Access, DoesAll}
 use Rattle.adapter.specs.Access.Access.{Reading, Writing}
 use Rattle.adapter.specs.Device.{Device}
-use Rattle.adapter.specs.declared.access.DeviceStep.{DeviceStep}
 use Rattle.adapter.specs.declared.command.Operation.TheVariants.{ReadLog}
+use Rattle.adapter.specs.declared.tape.Fault as tape_fault
 use Rattle.adapter.proofs.Calls.{does_append}
 use Rattle.agreement.specs.Driven.{AnyAccess, AnyUse, Grows, IsFollowed, IsOf, SendsNone}
 use Rattle.agreement.specs.Links.{SparesRegister}
 use Rattle.agreement.proofs.Driven.{along}
 use Rattle.block_machine.specs.Events.{Served, Service}
-use Rattle.block_machine.specs.Histories.{Instant, IsReached}
-use Rattle.block_machine.specs.Ports.{Evidence, Fault, IsServiced}
+use Rattle.block_machine.specs.Ports.{Fault, IsServiced}
 use Rattle.block_machine.specs.State.{Machine}
 use Rattle.block_machine.specs.Steps.{Step}
 use Rattle.block_machine.proofs.Members.{contains_cases, contains_here, contains_none}
 use Rattle.driver_history.specs.Evidence.{HasErrors, IsEvidencedOf, StaysHealthy}
 use Rattle.driver_history.specs.Trace.{IsDriversOwn}
-use Rattle.error_recovery.specs.Recovery.{EndsIn, Rests, RestsOnFault, RestsOnLog, TellsEngine}
+use Rattle.error_recovery.specs.Evidence.{HasFailed}
+use Rattle.error_recovery.specs.Recovery.{EndsIn, Rests, TellsEngine}
 use Rattle.error_recovery.specs.declared.Next.{Next}
 use Rattle.error_recovery.specs.declared.Next.TheVariants as next
 use Rattle.error_log.specs.declared.Failure.{Failure}
@@ -34,19 +35,18 @@ use Rattle.host_boot.specs.declared.Found.TheVariants.{Ready, Unready}
 use Rattle.port_control.specs.Engines.{Sticks, Stops}
 use Rattle.port_look.specs.Looks.{IsLooking}
 use Rattle.request_queue.specs.Entries.{Held}
-use Rattle.request_queue.specs.Fates.{fate_of}
 use Rattle.request_queue.specs.declared.fate.Failed.{Failed}
-use Rattle.request_queue.specs.declared.fate.Prospect.{Prospect}
-use Rattle.request_queue.specs.declared.fate.Prospect.TheVariants.{Dead, OtherDisk}
+use Rattle.request_queue.specs.declared.fate.Prospect.TheVariants.{OtherDisk}
 use Rattle.slots.specs.Uses.{use_at}
 use Rattle.slots.specs.declared.Use.{Use as SlotUse}
 use Rattle.server_history.specs.Below.{LawsBelow}
 use Rattle.server_history.specs.Recovered.{IsFailed, IsFoundAfter, IsProspect, IsRecovered, IsSettledAfter, RecoversPort}
-use Rattle.server_history.specs.Served.{AnswersEach, AnswersOne}
-use Rattle.server_history.specs.Server.{Server, IsKept, IsMachineOf, no_slots, ports_of, slots_at, state_of, used_for}
+use Rattle.server_history.specs.Served.{AnswersEach}
+use Rattle.server_history.specs.Server.{Server, IsKept, ports_of, slots_at, state_of, used_for}
 use Rattle.server_history.specs.Turns.{IsCalmTurn, IsOfCommand, LeavesOthers, NamesOnly, TellsFault, instant_of}
 use Rattle.server_history.proofs.Answering.{answer_kept}
-use Rattle.server_history.proofs.Becoming.{becomes, dead_found, dead_prospect, disk_same, found_new, found_prospect, interrupted, its, lost_is, names, next_dead, ready_info, state_new, stuck_is}
+use Rattle.server_history.proofs.Apart.{leaves_others}
+use Rattle.server_history.proofs.Becoming.{becomes, dead_found, dead_prospect, disk_same, interrupted, its, lost_is, names, ready_info, state_new, stuck_is}
 use Rattle.server_history.proofs.Faulted.{fault_shown, no_change, no_fatal, not_missing}
 use Rattle.server_history.proofs.Placing.{freed_was}
 use Rattle.server_history.proofs.Recovering.{IsEarlyPart, IsPart}
@@ -181,4 +181,94 @@ module _ (laws : LawsBelow) (port : Port) (replies : List Reply) (old new : Serv
     stuck_only = λ here.
         let dead = dead_prospect laws port replies old new k ready r looks kept (stuck_is port a.prospect here) in
         inl (engine_sticks laws port t.early.accesses part t.late.accesses x.result.next x.recovers.does.engine (t.sticks dead), counted dead);
+  }
+
+  -- ---- faults
+
+  -- Where a queued command is named, the port runs, with the disk that it had.
+  module _ (its_failure : Failure) (named : x.result.failed ≡ Some its_failure) where
+    runs_then : x.queued ≡ true → (a.found ≡ Ready a.was) × (r.mid.device ≡ a.device)
+    runs_then queued = by x.result.next refl
+      where
+        then_is : (then : Next) → x.result.next ≡ then → IsFoundAfter (wanted_of old.wanted port.0) port a.was then a.device r.mid.device a.found
+        then_is then is = subst (λ (n : Next). IsFoundAfter (wanted_of old.wanted port.0) port a.was n a.device r.mid.device a.found) is a.is
+
+        by : (then : Next) → x.result.next ≡ then → (a.found ≡ Ready a.was) × (r.mid.device ≡ a.device)
+        by (next.Running token) is = then_is (next.Running token) is
+        by (next.Restart token) is = let z : Some its_failure ≡ None = sym named ∙ x.recovers.tells.unnamed token queued is in absurd cc
+        by next.Dead is = let z : Some its_failure ≡ None = sym named ∙ x.recovers.tells.dead is in absurd cc
+
+    lives_then : x.queued ≡ true → (ports_of new).state port ≢ DeadState
+    lives_then queued dead = let z : ReadyState ≡ DeadState = sym (ap state_of (runs_then queued).0) ∙ sym (state_new laws port replies old new k ready r looks kept) ∙ dead in cc
+
+    -- so its disk sends no page of the log after that of recovery
+    quiet_then : x.queued ≡ true → SendsNone port.0 ReadLog a.device new.device
+    quiet_then queued =
+        let then = runs_then queued in
+        subst (λ (d : Device). SendsNone port.0 ReadLog d new.device) then.1
+        (t.issuing_silent (λ dead. let z : ReadyState ≡ DeadState = sym (ap state_of (found_is laws port replies old new k ready r looks kept ∙ then.0)) ∙ dead in absurd cc))
+
+    stays_failed : (fault : tape_fault.Fault) → HasFailed port part a.mid.device a.device fault → HasFailed port (accesses_in t) old.device new.device fault
+    stays_failed fault = laws.failed_stays port t.early.accesses part t.late.accesses old.device a.mid.device a.device new.device fault k.on
+        (All-weaker (IsEarlyPart port) (SparesRegister Ghc) (λ access is. laws.of_host port access is.0.1) t.early.accesses t.early.only)
+        (All-weaker (IsEarlyPart port) (SparesRegister (Px port Cmd)) (λ access is. is.1) t.early.accesses t.early.only) t.early.all t.late.all
+
+    told_so : (queued : Bool) → x.queued ≡ queued → Rests queued port x.outstanding part a.mid.device a.device (Some its_failure) → (id : RequestId)
+        → IsOfCommand queued port (accesses_in t) old.device new.device its_failure.slot.0 (record { id = id; status = its_failure.status; error = its_failure.error })
+    told_so false is rests id = (rests.fault, stays_failed rests.fault rests.has_failed, rests.at ∙ sym rests.slot_is, rests.status_is, rests.error_is)
+    told_so true is rests id = (
+      (rests.fault, stays_failed rests.fault rests.has_failed),
+      (rests.page, laws.log_stays port old.device a.mid.device a.device new.device rests.page (grown t.early.accesses old.device a.mid.device t.early.all) (quiet_then is) rests.brings, rests.tells),
+    )
+
+    tells_named : (used : SlotUse) → use_at (slots_at a.mid.slots port.0) its_failure.slot.0 ≡ Some used → TellsFault port (accesses_in t) old new (record { id = used.id; status = its_failure.status; error = its_failure.error })
+    tells_named used there =
+        let alike : used.queued ≡ x.queued = x.alike its_failure.slot.0 used there in
+        record {
+          slot = its_failure.slot.0;
+          used = used;
+          served = slots_were laws port low x.done x.requests (record old { device = x.found }) a.mid (found_kept laws port replies old new k ready r looks kept) ready (done_over laws port replies old new k ready r looks kept) x.each its_failure.slot.0 used there;
+          id_is = refl;
+          its = subst (λ (queued : Bool). IsOfCommand queued port (accesses_in t) old.device new.device its_failure.slot.0 (record { id = used.id; status = its_failure.status; error = its_failure.error })) (sym alike)
+              (told_so x.queued refl (subst (Rests x.queued port x.outstanding part a.mid.device a.device) named x.recovers.tells.rests) used.id);
+          lives = λ queued. lives_then (sym alike ∙ queued);
+        }
+
+  faults : (told : Fault) → Contains (faults_of a.failed) told → TellsFault port (accesses_in t) old new told
+  faults told here = by a.failed refl here
+    where
+      by_failure : (failed : Failed) → a.failed ≡ Some failed → (o : Option Failure) → x.result.failed ≡ o → IsFailed (slots_at a.mid.slots port.0) o a.failed
+          → TellsFault port (accesses_in t) old new (record { id = failed.id; status = failed.status; error = failed.error })
+      by_failure failed is None none names = let z : Some failed ≡ None = sym is ∙ names in absurd cc
+      by_failure failed is (Some its_failure) named names =
+          let same : failed ≡ record { id = names.0.id; status = its_failure.status; error = its_failure.error } = (let z : Some failed ≡ Some (record { id = names.0.id; status = its_failure.status; error = its_failure.error }) = sym is ∙ names.2 in cc) in
+          subst (λ (f : Failed). TellsFault port (accesses_in t) old new (record { id = f.id; status = f.status; error = f.error })) (sym same) (tells_named its_failure named names.0 names.1)
+
+      by : (f : Option Failed) → a.failed ≡ f → Contains (faults_of a.failed) told → TellsFault port (accesses_in t) old new told
+      by None is there = absurd (contains_none told (subst (λ (o : Option Failed). Contains (faults_of o) told) is there))
+      by (Some failed) is there =
+          let fault : Fault = record { id = failed.id; status = failed.status; error = failed.error } in
+          let same : told ≡ fault = ⊎_elim (λ e. e) (λ none. absurd (contains_none told none)) (contains_cases fault [] told (subst (λ (o : Option Failed). Contains (faults_of o) told) is there)) in
+          subst (TellsFault port (accesses_in t) old new) (sym same) (by_failure failed is x.result.failed refl a.names)
+
+  -- ---- all of it
+
+  kinds : All (IsPart port) (accesses_in t)
+  kinds =
+      All-append (IsPart port) t.early.accesses (part ++ t.late.accesses) (All-weaker (IsEarlyPart port) (IsPart port) (λ access is. is.0) t.early.accesses t.early.only)
+      (All-append (IsPart port) part t.late.accesses t.kinds t.late.only)
+
+  pub evident : IsEvident port replies old new r
+  evident = record {
+    accesses = accesses_in t;
+    does = does_append t.early.accesses (part ++ t.late.accesses) old.device a.mid.device new.device t.early.all (does_append part t.late.accesses a.mid.device a.device new.device t.does t.late.all);
+    of = All-weaker (IsPart port) (IsOf port) (λ access is. is.1) (accesses_in t) kinds;
+    own = All-weaker (IsPart port) IsDriversOwn (λ access is. is.0) (accesses_in t) kinds;
+    others = leaves_others laws port replies old new k r kept;
+    silent = t.silent;
+    names = names laws port replies old new k ready r looks kept;
+    becomes = becomes laws port replies old new k ready r looks kept;
+    evidenced = evidenced;
+    faults = faults;
+    calm = λ steps healthy. absurd (laws.never_failed port (instant_of old k.machine) new.device healthy (has_errors k.machine));
   }
