@@ -48,7 +48,7 @@ abbrev pub IsTurn : Port → Access → Type 0
 IsTurn port access = IsService access × (IsDriversOwn access × IsOf port access)
 
 -- header and table of a slot lie in the driver's frames
-table_own : (port slot at : ℕ) (bytes : List ℕ) → port < 4 → slot < 32 → IsTableStore port slot (Storing at bytes) → at + length bytes ≤ 163840
+pub table_own : (port slot at : ℕ) (bytes : List ℕ) → port < 4 → slot < 32 → IsTableStore port slot (Storing at bytes) → at + length bytes ≤ 163840
 table_own port slot at bytes low small (inl h) = omega (arith, low, small, h.0, h.1)
 table_own port slot at bytes low small (inr h) = omega (arith, low, small, h.0, h.1)
 
@@ -66,7 +66,7 @@ issuing_on port slot low small (Loading at bytes) here = absurd here
 pub issuing_is : (port : Port) → port.0 < 4 → (access : Access) → IssuesIn port access → IssuesOn port access
 issuing_is port low access here = issuing_on port here.0 low here.1 access here.2
 
-issuing_turns : LawsBelow → (port : Port) → port.0 < 4 → (access : Access) → IssuesIn port access → IsTurn port access
+pub issuing_turns : LawsBelow → (port : Port) → port.0 < 4 → (access : Access) → IssuesIn port access → IsTurn port access
 issuing_turns laws port low access here = (issues_serve port access here, (own access (issuing_is port low access here), laws.issuing_of port here.0 access here.2))
   where
     own : (access : Access) → IssuesOn port access → IsDriversOwn access
@@ -114,18 +114,18 @@ none_or_some (suc n) mask = ⊎_elim
 
 module _ (port : Port) where
   -- a look, access by access
-  abbrev look_list : (causes own status : ℕ) → List Access
+  abbrev pub look_list : (causes own status : ℕ) → List Access
   look_list causes own status =
       Reading (Px port Is) causes ∷ Writing (Px port Is) causes ∷ Writing reg.Is own ∷ Reading (Px port Ssts) status ∷ []
 
-  look_turns : (causes own status : ℕ) → IsBitOf port.0 own → All (IsTurn port) (look_list causes own status)
+  pub look_turns : (causes own status : ℕ) → IsBitOf port.0 own → All (IsTurn port) (look_list causes own status)
   look_turns causes own status alone =
       All-cons (IsTurn port) (Reading (Px port Is) causes) (Writing (Px port Is) causes ∷ Writing reg.Is own ∷ Reading (Px port Ssts) status ∷ []) (tt, (tt, refl))
       (All-cons (IsTurn port) (Writing (Px port Is) causes) (Writing reg.Is own ∷ Reading (Px port Ssts) status ∷ []) (inr (port, inl refl), (tt, refl))
       (All-cons (IsTurn port) (Writing reg.Is own) (Reading (Px port Ssts) status ∷ []) (inl refl, (tt, alone))
       (All-cons (IsTurn port) (Reading (Px port Ssts) status) [] (tt, (tt, refl)) (All-nil (IsTurn port)))))
 
-  look_does : (look : Look) (old new : Device) → (l : LooksAt port look old new) → DoesAll (look_list l.causes l.own l.status) old new
+  pub look_does : (look : Look) (old new : Device) → (l : LooksAt port look old new) → DoesAll (look_list l.causes l.own l.status) old new
   look_does look old new l = (l.seen, l.reads, (l.cleared, l.clears, (l.acknowledged, l.acknowledges, (new, l.shows, refl))))
 
   -- The accesses of a turn. Where the port goes well, the look tells nothing; and where slots were checked, they read the masks.

@@ -43,3 +43,9 @@ pub mod Following
 pub mod Ordering
 pub mod Fated
 pub mod Deciding
+pub mod Recovering
+pub mod Apart
+pub mod Stretching
+pub mod Faulted
+pub mod Becoming
+pub mod Evident

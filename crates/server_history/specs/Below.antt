@@ -1,8 +1,9 @@
 -- What laws of the crates below say of requests, of transfers, and of accesses that serve ports: the laws of this crate rest on them.
-use Rattle.std.specs.Prelude.{ℕ, true, false, ◌≡◌, ◌≢◌, ◌⊎◌, ◌≤◌, ◌<◌, ◌%◌, ◌↔◌, List, [], ◌∷◌, ◌++◌, map, Option, None, All, Contains, length}
+use Rattle.std.specs.Prelude.{ℕ, true, false, ◌≡◌, ◌≢◌, ◌⊎◌, ◌+◌, ◌≤◌, ◌<◌, ◌%◌, ◌↔◌, List, [], ◌∷◌, ◌++◌, map, Option, None, All, Contains, length}
 use Rattle.ata_types.specs.declared.Port.{Port}
 use Rattle.ata_types.specs.declared.PortState.TheVariants.{Ready}
 use Rattle.ata_types.specs.declared.grant.GrantRow.{GrantRow}
+use Rattle.ata_types.specs.declared.memory.TheConstants.{DRIVER_BYTES}
 use Rattle.ata_types.specs.declared.request.Frame.{Frame}
 use Rattle.ata_types.specs.declared.request.Outcome.{Outcome}
 use Rattle.ata_types.specs.declared.request.RequestId.{RequestId}
@@ -17,20 +18,22 @@ use Rattle.agreement.specs.Acts.{Act, AreDone, InSlots, accesses_of, steps_of}
 use Rattle.agreement.specs.Agrees.{Agrees, AreApart}
 use Rattle.agreement.specs.Readying.{IsStored, LeavesStored}
 use Rattle.adapter.specs.Access.{Access, Does, DoesAll, Reads}
-use Rattle.adapter.specs.Access.Access.{Storing}
+use Rattle.adapter.specs.Access.Access.{Loading, Storing}
 use Rattle.adapter.specs.Says.{Says}
 use Rattle.agreement.specs.Driver.{MissesTable}
 use Rattle.agreement.specs.Links.{SparesRegister}
 use Rattle.agreement.specs.Started.{ClearsNoStart}
+use Rattle.hba_regs.specs.Bits.{bit}
 use Rattle.hba_regs.specs.declared.reg.PortReg.{PortReg}
 use Rattle.hba_regs.specs.declared.reg.PortReg.TheVariants.{Clb, Cmd, Sctl, Ssts}
 use Rattle.hba_regs.specs.declared.reg.Reg.TheVariants.{Ghc, Px}
 use Rattle.agreement.specs.Acts.{at as at_slots}
-use Rattle.agreement.specs.Driven.{AnyUse, IsDrivenBy, IsFollowed, IsOf, LeavesPort, SendsNone}
+use Rattle.agreement.specs.Driven.{AnyUse, IsDrivenBy, IsFollowed, IsOf, LeavesPort, SendsNone, Grows}
 use Rattle.agreement.specs.Driver.{EndsWith, Forgets, Goes, HasNoSlot, IsBacked, Known, Knows}
 use Rattle.agreement.specs.GivingUp.{parking_all, served_ids}
 use Rattle.agreement.specs.Slots.{Armed, Free, Own, Serves, Use, Uses, op_of, put}
-use Rattle.block_machine.specs.Due.{AreDueInTurn, IsDue, is_plain, IsInOrder as machine_in_order, due_of, of_port, with_issued, with_none}
+use Rattle.block_machine.specs.Due.{AreDueInTurn, IsDue, is_plain, IsInOrder as machine_in_order, due_of, of_port, with_issued, with_none, with_waiting}
+use Rattle.agreement.specs.Errors.{NoneComes}
 use Rattle.block_machine.specs.State.{Machine, Pending}
 use Rattle.block_machine.specs.Steps.{Step, Accept, Again, Issue, Answer, May, after_step, newly_accepted, stays}
 use Rattle.block_machine.specs.State as machine
@@ -48,13 +51,16 @@ use Rattle.driver_history.specs.Evidence.{HasErrors, HasFatalErrors, IsEvidenced
 use Rattle.error_recovery.specs.Evidence.{BringsLog, HasFailed}
 use Rattle.driver_history.specs.Histories.{LosesNoTrouble}
 use Rattle.driver_history.specs.Parts.{HasTurnIn, NamesAlike, all_of}
-use Rattle.port_boot.specs.States.{RunsOn, ShowsOwnDisk}
+use Rattle.port_boot.specs.States.{RunsOn, ShowsOwnDisk, IsOfBoot}
+use Rattle.port_control.specs.Engines.{Falls, Sticks}
+use Rattle.error_recovery.specs.Recovery.{IsRecovering}
 use Rattle.ncq.specs.Masks.{ReadsDone, IsFinding}
 use Rattle.ncq.specs.Tasks.{IsIssuing, IsTaskOf, IssuesTask, MayServe, with_serving}
 use Rattle.ncq.specs.declared.Task.{Task}
 use Rattle.port_look.specs.Laws.{Laws}
-use Rattle.port_look.specs.Looks.{LooksAt}
-use Rattle.port_look.specs.declared.Look.TheVariants.{Failed}
+use Rattle.port_look.specs.Looks.{LooksAt, look_of}
+use Rattle.port_look.specs.declared.Look.{Look}
+use Rattle.port_look.specs.declared.Look.TheVariants.{Failed, Lost}
 use Rattle.request_queue.specs.Entries.{Held, IsAccepted, IsEarlier, IsFresh, IsInOrder, IsWaiting, MayGoAgain, asks_of, at, issue, requeued as requeued_entry, unanswered_of, without}
 use Rattle.request_queue.specs.declared.Entry.{Entry}
 use Rattle.request_queue.specs.Machine.{IsBook, IsEntry}
@@ -166,3 +172,25 @@ pub record LawsBelow : Type 0 where
   pub never_failed : (port : Port) (old : Instant Device) (new : Device) → StaysHealthy port.0 old.device new → HasErrors port old new → ⊥
   pub never_fatal : (port : Port) (old : Instant Device) (new : Device) → StaysHealthy port.0 old.device new → HasFatalErrors port old new → ⊥
   pub untroubled : (evidence : Evidence) (old : Instant Device) (ports : Ports) (new : Device) (port : Port) → StaysHealthy port.0 old.device new → LosesNoTrouble evidence old ports new port
+  -- what a look tells of trouble
+  pub looks_changed : (port : Port) (result : Look) (old new : Device) → IsOn old → LooksAt port result old new → ((old.port port.0).serr_n ≡ true) ⊎ ((old.port port.0).serr_x ≡ true) → result ≡ Lost
+  pub looks_unlinked : (port : Port) (result : Look) (old new : Device) → IsOn old → LooksAt port result old new → (old.port port.0).ssts_det ≢ 3 → (old.port port.0).link_due ≡ false → NoneComes port.0 old new → result ≡ Lost
+  pub looks_failed : (causes status : ℕ) → look_of causes status ≡ Failed
+      → (bit causes 30 ≡ true) × (bit causes 6 ≡ false) × (bit causes 22 ≡ false) × ((place : ℕ) → 27 ≤ place → place ≤ 29 → bit causes place ≡ false) × (status % 16 ≡ 3)
+  -- a port that is recovered, or booted anew
+  pub recovering_of : (port : Port) (access : Access) → IsRecovering port access → IsOf port access
+  pub recovering_loads : (port : Port) (at : ℕ) (bytes : List ℕ) → port.0 < 4 → IsRecovering port (Loading at bytes) → at + length bytes ≤ DRIVER_BYTES
+  pub recovering_stores : (port : Port) (at : ℕ) (bytes : List ℕ) → port.0 < 4 → IsRecovering port (Storing at bytes) → at + length bytes ≤ DRIVER_BYTES
+  pub booting_of : (port : Port) (access : Access) → IsOfBoot port access → IsOf port access
+  -- what accesses tell of a port's engines
+  pub falls_then : (early late : List Access) (start running : ℕ) (port : Port) → Falls start running port early → Falls start running port (early ++ late)
+  pub falls_since : (early late : List Access) (start running : ℕ) (port : Port) → Falls start running port late → Falls start running port (early ++ late)
+  pub sticks_then : (early late : List Access) (port : Port) → Sticks port early → Sticks port (early ++ late)
+  pub sticks_since : (early late : List Access) (port : Port) → Sticks port late → Sticks port (early ++ late)
+  -- by acts the driver goes on
+  -- what stands behind a fault in a part of a turn
+  pub failed_stays : (port : Port) (early part late : List Access) (start old new end : Device) (fault : Fault) → IsOn start → All (SparesRegister Ghc) early → All (SparesRegister (Px port Cmd)) early
+      → DoesAll early start old → DoesAll late new end → HasFailed port part old new fault → HasFailed port (early ++ (part ++ late)) start end fault
+  pub log_stays : (port : Port) (start old new end : Device) (page : List ℕ) → Grows start old → SendsNone port.0 ReadLog new end → BringsLog port old new page → BringsLog port start end page
+  -- a request that waits again
+  pub asks_requeued : (entries : List Held) (id : RequestId) → asks_of (map (at id requeued_entry) entries) ≡ with_waiting id (asks_of entries)

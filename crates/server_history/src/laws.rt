@@ -66,11 +66,13 @@ use block_machine::laws::{
     other_ports_stay, own_requests_count,
 };
 use driver_history::laws::{a_turns_evidence_is_the_calls, healthy_ports_are_untroubled};
+use error_recovery::laws::{recovery_is_of_its_port, what_stands_behind_a_fault_stays};
 use host_boot::laws::what_was_taken_over_may_be_served;
 use ncq::laws::{calls_are_of_one_port, finding_is_followed, issuing_performs};
-use port_boot::laws::{a_disk_is_in_where_one_shows, a_port_runs_on};
+use port_boot::laws::{a_boot_is_of_its_port, a_disk_is_in_where_one_shows, a_port_runs_on};
+use port_control::laws::what_is_told_of_engines_stays;
 use port_look::lawful::laws_hold;
-use port_look::laws::failures_are_found;
+use port_look::laws::{answers_tell, failures_are_found, trouble_is_seen};
 use request_queue::laws::{
     accepted_requests_stay, an_id_is_one_request, clients_have_as_many,
     operations_change_one_request, operations_change_what_is_due, steps_change_the_book,
@@ -115,6 +117,13 @@ fn the_laws_below_hold()
     a_port_runs_on();
     a_turns_evidence_is_the_calls();
     healthy_ports_are_untroubled();
+    trouble_is_seen();
+    answers_tell();
+    recovery_is_of_its_port();
+    a_boot_is_of_its_port();
+    what_is_told_of_engines_stays();
+    what_stands_behind_a_fault_stays();
+    acts_give();
 }
 
 /// A ready port of a new server runs well, if nothing went wrong on it since the adapter was idle.

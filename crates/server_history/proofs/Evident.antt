@@ -1,0 +1,274 @@
+-- The evidence of a turn in which a command had failed: what stands behind each port and each fault that it names.
+use Rattle.std.proofs.Common.{ℕ, ◌≡◌, ◌≢◌, ◌<◌, ◌++◌, Bool, true, false, List, [], ◌∷◌, Option, Some, None, refl, sym, ap, ◌∙◌, subst, inl, inr, arith, ⊎_elim}
+use Rattle.std.specs.List.{All, Contains}
+use Rattle.std.proofs.lemmas.List.Elements.{All-append, All-weaker}
+use Rattle.ata_types.specs.declared.Port.{Port}
+use Rattle.ata_types.specs.declared.PortState.TheVariants.{Dead as DeadState, Ready as ReadyState}
+use Rattle.ata_types.specs.declared.request.Reply.{Reply}
+use Rattle.ata_types.specs.declared.request.RequestId.{RequestId}
+use Rattle.hba_regs.specs.declared.reg.PortReg.TheVariants.{Cmd, Is, Ssts}
+use Rattle.hba_regs.specs.declared.reg.Reg.TheVariants as reg
+use Rattle.hba_regs.specs.declared.reg.Reg.TheVariants.{Ghc, Px}
+use Rattle.adapter.specs.Access.{Access, DoesAll}
+use Rattle.adapter.specs.Access.Access.{Reading, Writing}
+use Rattle.adapter.specs.Device.{Device}
+use Rattle.adapter.specs.declared.command.Operation.TheVariants.{ReadLog}
+use Rattle.adapter.specs.declared.tape.Fault as tape_fault
+use Rattle.adapter.proofs.Calls.{does_append}
+use Rattle.agreement.specs.Driven.{AnyAccess, AnyUse, Grows, IsFollowed, IsOf, SendsNone}
+use Rattle.agreement.specs.Links.{SparesRegister}
+use Rattle.agreement.proofs.Driven.{along}
+use Rattle.block_machine.specs.Events.{Served, Service}
+use Rattle.block_machine.specs.Ports.{Fault, IsServiced}
+use Rattle.block_machine.specs.State.{Machine}
+use Rattle.block_machine.specs.Steps.{Step}
+use Rattle.block_machine.proofs.Members.{contains_cases, contains_here, contains_none}
+use Rattle.driver_history.specs.Evidence.{HasErrors, IsEvidencedOf, StaysHealthy}
+use Rattle.driver_history.specs.Trace.{IsDriversOwn}
+use Rattle.error_recovery.specs.Evidence.{HasFailed}
+use Rattle.error_recovery.specs.Recovery.{EndsIn, Rests, TellsEngine}
+use Rattle.error_recovery.specs.declared.Next.{Next}
+use Rattle.error_recovery.specs.declared.Next.TheVariants as next
+use Rattle.error_log.specs.declared.Failure.{Failure}
+use Rattle.host_boot.specs.Taken.{found_of, wanted_of}
+use Rattle.host_boot.specs.declared.Found.TheVariants.{Ready, Unready}
+use Rattle.port_control.specs.Engines.{Sticks, Stops}
+use Rattle.port_look.specs.Looks.{IsLooking}
+use Rattle.request_queue.specs.Entries.{Held}
+use Rattle.request_queue.specs.declared.fate.Failed.{Failed}
+use Rattle.request_queue.specs.declared.fate.Prospect.TheVariants.{OtherDisk}
+use Rattle.slots.specs.Uses.{use_at}
+use Rattle.slots.specs.declared.Use.{Use as SlotUse}
+use Rattle.server_history.specs.Below.{LawsBelow}
+use Rattle.server_history.specs.Recovered.{IsFailed, IsFoundAfter, IsProspect, IsRecovered, IsSettledAfter, RecoversPort}
+use Rattle.server_history.specs.Served.{AnswersEach}
+use Rattle.server_history.specs.Server.{Server, IsKept, ports_of, slots_at, state_of, used_for}
+use Rattle.server_history.specs.Turns.{IsCalmTurn, IsOfCommand, LeavesOthers, NamesOnly, TellsFault, instant_of}
+use Rattle.server_history.proofs.Answering.{answer_kept}
+use Rattle.server_history.proofs.Apart.{leaves_others}
+use Rattle.server_history.proofs.Becoming.{becomes, dead_found, dead_prospect, disk_same, interrupted, its, lost_is, names, ready_info, state_new, stuck_is}
+use Rattle.server_history.proofs.Faulted.{fault_shown, no_change, no_fatal, not_missing}
+use Rattle.server_history.proofs.Placing.{freed_was}
+use Rattle.server_history.proofs.Recovering.{IsEarlyPart, IsPart}
+use Rattle.server_history.proofs.Recovery.{evidence_of, faults_of, stopped_of}
+use Rattle.server_history.proofs.Settling.{over_on, ready_on}
+use Rattle.server_history.proofs.Slots.{AreOver, ready_found}
+use Rattle.server_history.proofs.Stretching.{TurnParts, accesses_in, done_over, found_is, found_kept, mid_device, turn_parts}
+
+-- ---- what recovery tells of the port's engine
+
+module _ (laws : LawsBelow) (port : Port) (early part late : List Access) where
+  engine_stops : (then : Next) → TellsEngine port then part → Contains (stopped_of port then) port → Stops port (early ++ (part ++ late))
+  engine_stops (next.Running token) engine here = laws.falls_since early (part ++ late) 0 15 port (laws.falls_then part late 0 15 port engine)
+  engine_stops (next.Restart token) engine here = laws.falls_since early (part ++ late) 0 15 port (laws.falls_then part late 0 15 port engine)
+  engine_stops next.Dead engine here = absurd (contains_none port here)
+
+  -- one that is stuck is so in recovery, or later
+  engine_sticks : (then : Next) → TellsEngine port then part → (then ≢ next.Dead → Sticks port late) → Sticks port (early ++ (part ++ late))
+  engine_sticks (next.Running token) engine later = laws.sticks_since early (part ++ late) port (laws.sticks_since part late port (later (λ e. let z : next.Running token ≡ next.Dead = e in cc)))
+  engine_sticks (next.Restart token) engine later = laws.sticks_since early (part ++ late) port (laws.sticks_since part late port (later (λ e. let z : next.Restart token ≡ next.Dead = e in cc)))
+  engine_sticks next.Dead engine later = laws.sticks_since early (part ++ late) port (laws.sticks_then part late port engine)
+
+  ends_stuck : (queued : Bool) (then : Next) (old new : Device) → EndsIn queued port then old new → then ≡ next.Dead → (new.port port.0).notes.engine_count ≡ 64
+  ends_stuck queued (next.Running token) old new ends is = let z : next.Running token ≡ next.Dead = is in absurd cc
+  ends_stuck queued (next.Restart token) old new ends is = let z : next.Restart token ≡ next.Dead = is in absurd cc
+  ends_stuck queued next.Dead old new ends is = ends.1
+
+-- ---- slots
+
+-- what a slot is used for once requests were answered, it was used for before
+slots_were : (laws : LawsBelow) (port : Port) → port.0 < 4 → (done : ℕ) (requests : List Held) (old new : Server) → IsKept old → state_of (found_of old.ports port.0) ≡ ReadyState → AreOver port done old.device → AnswersEach port done requests old new
+    → (slot : ℕ) (used : SlotUse) → used_for new.slots port.0 slot ≡ Some used → used_for old.slots port.0 slot ≡ Some used
+slots_were laws port low done [] old new k ready over none slot used is = ap (λ (n : Server). used_for n.slots port.0 slot) (sym none) ∙ is
+slots_were laws port low done (e ∷ requests) old new k ready over (mid, one, its, more) slot used is =
+    let was = slots_were laws port low done requests mid new (answer_kept laws old mid port e k ready one (over one.slot one.small its)) (ready_on laws port done e old mid one ready) (over_on laws port done e old mid one over) more slot used is in
+    let four = k.four in
+    let places = (k.slots port.0 low).places in
+    let small = one.small in
+    freed_was old.slots port.0 one.slot (omega (arith, four, low)) (omega (arith, places, small)) port.0 slot used (ap (λ (n : Server). used_for n.slots port.0 slot) (sym one.server) ∙ was)
+
+-- ---- the whole
+
+-- What stands behind the turn, but for its steps: its accesses, what it leaves of the other ports, and its evidence. (A port that a fault has halted didn't
+-- stay healthy.)
+pub record IsEvident (port : Port) (replies : List Reply) (old new : Server) (r : RecoversPort port replies old new) : Type 0 where
+  pub accesses : List Access
+  pub does : DoesAll accesses old.device new.device
+  pub of : All (IsOf port) accesses
+  pub own : All IsDriversOwn accesses
+  pub others : LeavesOthers port old new
+  pub silent : (q : ℕ) → q ≢ port.0 → state_of (found_of old.ports q) ≢ DeadState → SendsNone q ReadLog old.device new.device
+  pub names : NamesOnly port (evidence_of port r.settled.failed r.settled.prospect r.settled.recovered.result.next)
+  pub becomes : IsServiced (ports_of old) (evidence_of port r.settled.failed r.settled.prospect r.settled.recovered.result.next) (ports_of new) port
+  pub evidenced : (m : Machine) → IsEvidencedOf Service (Served replies) accesses (instant_of old m) (ports_of new) new.device (evidence_of port r.settled.failed r.settled.prospect r.settled.recovered.result.next) port
+  pub faults : (told : Fault) → Contains (evidence_of port r.settled.failed r.settled.prospect r.settled.recovered.result.next).faults told → TellsFault port accesses old new told
+  pub calm : (steps : List Step) → StaysHealthy port.0 old.device new.device
+      → IsCalmTurn port replies accesses old new (evidence_of port r.settled.failed r.settled.prospect r.settled.recovered.result.next) steps
+
+module _ (laws : LawsBelow) (port : Port) (replies : List Reply) (old new : Server) (k : IsKept old) (ready : state_of (found_of old.ports port.0) ≡ ReadyState) (r : RecoversPort port replies old new)
+    (looks : IsFollowed (IsLooking port) AnyUse old.device r.settled.recovered.seen) (kept : IsKept r.mid) where
+  abbrev a : IsSettledAfter port r.later old r.mid
+  a = r.settled
+
+  abbrev x : IsRecovered port old a.mid a.device
+  x = a.recovered
+
+  abbrev part : List Access
+  part = x.recovers.accesses
+
+  low : port.0 < 4
+  low = (ready_found old port.0 k ready).0
+
+  t : TurnParts port replies old new r
+  t = turn_parts laws port replies old new k ready r looks kept
+
+  -- ---- the tape grows
+
+  grown : (accesses : List Access) (one two : Device) → DoesAll accesses one two → Grows one two
+  grown accesses one two does = along Grows laws.looks.grows_none laws.looks.grows_more AnyAccess (λ access d e may is. laws.looks.access_grows access d e is) accesses one two (λ i d small. tt) does
+
+  grown_late : Grows a.mid.device new.device
+  grown_late = laws.looks.grows_more a.mid.device a.device new.device (grown part a.mid.device a.device t.does) (grown t.late.accesses a.device new.device t.late.all)
+
+  grown_seen : Grows x.seen new.device
+  grown_seen =
+      laws.looks.grows_more x.seen x.found new.device (grown x.reads.driven.accesses x.seen x.found x.reads.driven.all)
+      (subst (λ (d : Device). Grows d new.device) (mid_device laws port replies old new k ready r looks kept) grown_late)
+
+  grown_read : Grows x.looks.seen new.device
+  grown_read =
+      laws.looks.grows_more x.looks.seen x.looks.cleared new.device (laws.looks.access_grows (Writing (Px port Is) x.looks.causes) x.looks.seen x.looks.cleared x.looks.clears)
+      (laws.looks.grows_more x.looks.cleared x.looks.acknowledged new.device (laws.looks.access_grows (Writing reg.Is x.looks.own) x.looks.cleared x.looks.acknowledged x.looks.acknowledges)
+      (laws.looks.grows_more x.looks.acknowledged x.seen new.device (laws.looks.access_grows (Reading (Px port Ssts) x.looks.status) x.looks.acknowledged x.seen x.looks.shows) grown_seen))
+
+  -- ---- ports
+
+  undue : (old.device.port port.0).link_due ≡ false
+  undue = ((k.behind port.0 low).runs ready).recorded.linked
+
+  has_errors : (m : Machine) → HasErrors port (instant_of old m) new.device
+  has_errors m = (ready, ⊎_elim (λ is. inl (inr is)) (λ gained. inr (inl gained)) (fault_shown laws port old.device x.seen x.looks k.on new.device grown_read))
+
+  -- a dead port's engine was awaited in vain, at last
+  counted : a.found ≡ Unready DeadState → (new.device.port port.0).notes.engine_count ≡ 64
+  counted dead = by x.result.next refl
+    where
+      by : (then : Next) → x.result.next ≡ then → (new.device.port port.0).notes.engine_count ≡ 64
+      by (next.Running token) is = t.stuck dead (λ e. let z : next.Running token ≡ next.Dead = sym is ∙ e in cc)
+      by (next.Restart token) is = t.stuck dead (λ e. let z : next.Restart token ≡ next.Dead = sym is ∙ e in cc)
+      by next.Dead is =
+          let still : IsFoundAfter (wanted_of old.wanted port.0) port a.was next.Dead a.device r.mid.device a.found = subst (λ (n : Next). IsFoundAfter (wanted_of old.wanted port.0) port a.was n a.device r.mid.device a.found) is a.is in
+          ap (λ (s : Server). (s.device.port port.0).notes.engine_count) (t.unissued dead) ∙ ap (λ (d : Device). (d.port port.0).notes.engine_count) still.1
+          ∙ ends_stuck laws port [] [] [] x.queued x.result.next a.mid.device a.device x.recovers.leaves.ends is
+
+  evidenced : (m : Machine) → IsEvidencedOf Service (Served replies) (accesses_in t) (instant_of old m) (ports_of new) new.device (its laws port replies old new k ready r looks kept) port
+  evidenced m = record {
+    lost = λ here.
+        let other = lost_is port a.prospect here in
+        let e : IsProspect a.was a.found OtherDisk = subst (IsProspect a.was a.found) other a.expects in
+        inr (inr (inr (
+          (λ dead. e.0 (dead_found laws port replies old new k ready r looks kept dead)),
+          (λ is same. let i = ready_info laws port replies old new k ready r looks kept is in e.1 i.0 i.1 (disk_same laws port replies old new k ready r looks kept i.0 i.1 same)),
+        )));
+    gone_all = λ _ loss. absurd (⊎_elim (no_change laws port old.device x.seen x.looks k.on) (λ missing. not_missing laws port old.device x.seen x.looks k.on new.device grown_seen undue missing.0 missing.1) loss);
+    gone_only = λ here. absurd (contains_none port here);
+    failed_all = λ _ _. contains_here port [] port refl;
+    failed_only = λ _. has_errors m;
+    fatal_all = λ _ fatal. absurd (no_fatal laws port old.device x.seen x.looks k.on fatal);
+    fatal_only = λ here. absurd (contains_none port here);
+    stopped_all = inr (interrupted laws port replies old new k ready r looks kept);
+    stopped_only = λ here. inl (engine_stops laws port t.early.accesses part t.late.accesses x.result.next x.recovers.does.engine here);
+    stuck_only = λ here.
+        let dead = dead_prospect laws port replies old new k ready r looks kept (stuck_is port a.prospect here) in
+        inl (engine_sticks laws port t.early.accesses part t.late.accesses x.result.next x.recovers.does.engine (t.sticks dead), counted dead);
+  }
+
+  -- ---- faults
+
+  -- Where a queued command is named, the port runs, with the disk that it had.
+  module _ (its_failure : Failure) (named : x.result.failed ≡ Some its_failure) where
+    runs_then : x.queued ≡ true → (a.found ≡ Ready a.was) × (r.mid.device ≡ a.device)
+    runs_then queued = by x.result.next refl
+      where
+        then_is : (then : Next) → x.result.next ≡ then → IsFoundAfter (wanted_of old.wanted port.0) port a.was then a.device r.mid.device a.found
+        then_is then is = subst (λ (n : Next). IsFoundAfter (wanted_of old.wanted port.0) port a.was n a.device r.mid.device a.found) is a.is
+
+        by : (then : Next) → x.result.next ≡ then → (a.found ≡ Ready a.was) × (r.mid.device ≡ a.device)
+        by (next.Running token) is = then_is (next.Running token) is
+        by (next.Restart token) is = let z : Some its_failure ≡ None = sym named ∙ x.recovers.tells.unnamed token queued is in absurd cc
+        by next.Dead is = let z : Some its_failure ≡ None = sym named ∙ x.recovers.tells.dead is in absurd cc
+
+    lives_then : x.queued ≡ true → (ports_of new).state port ≢ DeadState
+    lives_then queued dead = let z : ReadyState ≡ DeadState = sym (ap state_of (runs_then queued).0) ∙ sym (state_new laws port replies old new k ready r looks kept) ∙ dead in cc
+
+    -- so its disk sends no page of the log after that of recovery
+    quiet_then : x.queued ≡ true → SendsNone port.0 ReadLog a.device new.device
+    quiet_then queued =
+        let then = runs_then queued in
+        subst (λ (d : Device). SendsNone port.0 ReadLog d new.device) then.1
+        (t.issuing_silent (λ dead. let z : ReadyState ≡ DeadState = sym (ap state_of (found_is laws port replies old new k ready r looks kept ∙ then.0)) ∙ dead in absurd cc))
+
+    stays_failed : (fault : tape_fault.Fault) → HasFailed port part a.mid.device a.device fault → HasFailed port (accesses_in t) old.device new.device fault
+    stays_failed fault = laws.failed_stays port t.early.accesses part t.late.accesses old.device a.mid.device a.device new.device fault k.on
+        (All-weaker (IsEarlyPart port) (SparesRegister Ghc) (λ access is. laws.of_host port access is.0.1) t.early.accesses t.early.only)
+        (All-weaker (IsEarlyPart port) (SparesRegister (Px port Cmd)) (λ access is. is.1) t.early.accesses t.early.only) t.early.all t.late.all
+
+    told_so : (queued : Bool) → x.queued ≡ queued → Rests queued port x.outstanding part a.mid.device a.device (Some its_failure) → (id : RequestId)
+        → IsOfCommand queued port (accesses_in t) old.device new.device its_failure.slot.0 (record { id = id; status = its_failure.status; error = its_failure.error })
+    told_so false is rests id = (rests.fault, stays_failed rests.fault rests.has_failed, rests.at ∙ sym rests.slot_is, rests.status_is, rests.error_is)
+    told_so true is rests id = (
+      (rests.fault, stays_failed rests.fault rests.has_failed),
+      (rests.page, laws.log_stays port old.device a.mid.device a.device new.device rests.page (grown t.early.accesses old.device a.mid.device t.early.all) (quiet_then is) rests.brings, rests.tells),
+    )
+
+    tells_named : (used : SlotUse) → use_at (slots_at a.mid.slots port.0) its_failure.slot.0 ≡ Some used → TellsFault port (accesses_in t) old new (record { id = used.id; status = its_failure.status; error = its_failure.error })
+    tells_named used there =
+        let alike : used.queued ≡ x.queued = x.alike its_failure.slot.0 used there in
+        record {
+          slot = its_failure.slot.0;
+          used = used;
+          served = slots_were laws port low x.done x.requests (record old { device = x.found }) a.mid (found_kept laws port replies old new k ready r looks kept) ready (done_over laws port replies old new k ready r looks kept) x.each its_failure.slot.0 used there;
+          id_is = refl;
+          its = subst (λ (queued : Bool). IsOfCommand queued port (accesses_in t) old.device new.device its_failure.slot.0 (record { id = used.id; status = its_failure.status; error = its_failure.error })) (sym alike)
+              (told_so x.queued refl (subst (Rests x.queued port x.outstanding part a.mid.device a.device) named x.recovers.tells.rests) used.id);
+          lives = λ queued. lives_then (sym alike ∙ queued);
+        }
+
+  faults : (told : Fault) → Contains (faults_of a.failed) told → TellsFault port (accesses_in t) old new told
+  faults told here = by a.failed refl here
+    where
+      by_failure : (failed : Failed) → a.failed ≡ Some failed → (o : Option Failure) → x.result.failed ≡ o → IsFailed (slots_at a.mid.slots port.0) o a.failed
+          → TellsFault port (accesses_in t) old new (record { id = failed.id; status = failed.status; error = failed.error })
+      by_failure failed is None none names = let z : Some failed ≡ None = sym is ∙ names in absurd cc
+      by_failure failed is (Some its_failure) named names =
+          let same : failed ≡ record { id = names.0.id; status = its_failure.status; error = its_failure.error } = (let z : Some failed ≡ Some (record { id = names.0.id; status = its_failure.status; error = its_failure.error }) = sym is ∙ names.2 in cc) in
+          subst (λ (f : Failed). TellsFault port (accesses_in t) old new (record { id = f.id; status = f.status; error = f.error })) (sym same) (tells_named its_failure named names.0 names.1)
+
+      by : (f : Option Failed) → a.failed ≡ f → Contains (faults_of a.failed) told → TellsFault port (accesses_in t) old new told
+      by None is there = absurd (contains_none told (subst (λ (o : Option Failed). Contains (faults_of o) told) is there))
+      by (Some failed) is there =
+          let fault : Fault = record { id = failed.id; status = failed.status; error = failed.error } in
+          let same : told ≡ fault = ⊎_elim (λ e. e) (λ none. absurd (contains_none told none)) (contains_cases fault [] told (subst (λ (o : Option Failed). Contains (faults_of o) told) is there)) in
+          subst (TellsFault port (accesses_in t) old new) (sym same) (by_failure failed is x.result.failed refl a.names)
+
+  -- ---- all of it
+
+  kinds : All (IsPart port) (accesses_in t)
+  kinds =
+      All-append (IsPart port) t.early.accesses (part ++ t.late.accesses) (All-weaker (IsEarlyPart port) (IsPart port) (λ access is. is.0) t.early.accesses t.early.only)
+      (All-append (IsPart port) part t.late.accesses t.kinds t.late.only)
+
+  pub evident : IsEvident port replies old new r
+  evident = record {
+    accesses = accesses_in t;
+    does = does_append t.early.accesses (part ++ t.late.accesses) old.device a.mid.device new.device t.early.all (does_append part t.late.accesses a.mid.device a.device new.device t.does t.late.all);
+    of = All-weaker (IsPart port) (IsOf port) (λ access is. is.1) (accesses_in t) kinds;
+    own = All-weaker (IsPart port) IsDriversOwn (λ access is. is.0) (accesses_in t) kinds;
+    others = leaves_others laws port replies old new k r kept;
+    silent = t.silent;
+    names = names laws port replies old new k ready r looks kept;
+    becomes = becomes laws port replies old new k ready r looks kept;
+    evidenced = evidenced;
+    faults = faults;
+    calm = λ steps healthy. absurd (laws.never_failed port (instant_of old k.machine) new.device healthy (has_errors k.machine));
+  }

@@ -1,0 +1,240 @@
+-- The accesses of a whole turn in which a command had failed: those before the port was recovered, recovery's, and those after it.
+use Rattle.std.proofs.Common.{ℕ, ◌≡◌, ◌≢◌, ◌<◌, ◌++◌, List, [], ◌∷◌, length, map, refl, sym, ap, ◌∙◌, subst, arith, ⊎_elim}
+use Rattle.std.specs.List.{All, Contains}
+use Rattle.std.proofs.lemmas.Bool.Decides.{leb_tells}
+use Rattle.std.proofs.lemmas.List.{get_or-set_other, get_or-set_same, get_or_past}
+use Rattle.std.proofs.lemmas.List.Elements.{All-append, All-cons, All-nil, All-weaker}
+use Rattle.ata_types.specs.declared.Port.{Port}
+use Rattle.ata_types.specs.declared.PortState.TheVariants as shown
+use Rattle.ata_types.specs.declared.PortState.TheVariants.{Dead as DeadState, Ready as ReadyState}
+use Rattle.ata_types.specs.declared.request.Reply.{Reply}
+use Rattle.ata_types.specs.declared.request.RequestId.{RequestId}
+use Rattle.hba_regs.specs.declared.reg.PortReg.TheVariants.{Ci, Sact}
+use Rattle.hba_regs.specs.declared.reg.Reg.TheVariants.{Px}
+use Rattle.adapter.specs.Access.{Access, DoesAll}
+use Rattle.adapter.specs.Access.Access.{Reading}
+use Rattle.adapter.specs.Device.{Device}
+use Rattle.adapter.specs.declared.command.Operation.TheVariants.{ReadLog}
+use Rattle.adapter.specs.Memory.{changed}
+use Rattle.adapter.proofs.Calls.{does_append}
+use Rattle.adapter.proofs.Changed.{changed_other, changed_same}
+use Rattle.agreement.specs.Acts.{AnySlots, ByDeviceAlone, InSlots, Performs, at as at_slots, steps_of}
+use Rattle.agreement.specs.Agrees.{port_at}
+use Rattle.agreement.specs.Driven.{AnyUse, IsDrivenBy, IsFollowed, SendsNone}
+use Rattle.agreement.specs.GivingUp.{given_up}
+use Rattle.agreement.specs.Slots.{Free, Own, Use}
+use Rattle.agreement.proofs.Driven.{by_then, driven_as}
+use Rattle.block_machine.specs.Due.{due_of}
+use Rattle.block_machine.specs.Left.{after}
+use Rattle.block_machine.specs.declared.due.Unanswered.{Unanswered}
+use Rattle.block_machine.proofs.HistoryLemmas.{reached_more}
+use Rattle.block_machine.proofs.Members.{contains_here, map_in}
+use Rattle.error_recovery.specs.Recovery.{IsRecovering, LeavesSlots}
+use Rattle.error_recovery.specs.declared.Next.{Next}
+use Rattle.error_recovery.specs.declared.Next.TheVariants as next
+use Rattle.host_boot.specs.Taken.{found_of, wanted_of}
+use Rattle.host_boot.specs.declared.Found.TheVariants.{Unready, Unserved}
+use Rattle.port_control.specs.Engines.{Sticks}
+use Rattle.port_control.specs.declared.Stopped.{Stopped}
+use Rattle.port_look.specs.Looks.{IsLooking}
+use Rattle.request_queue.specs.Entries.{Held, asks, asks_of, due_ids}
+use Rattle.server_history.specs.Below.{LawsBelow}
+use Rattle.server_history.specs.Recovered.{IsRecovered, IsSettledAfter, RecoversPort}
+use Rattle.server_history.specs.Served.{IssuesEach, IssuesIn}
+use Rattle.server_history.specs.Server.{Server, IsKept, mode_in, state_of, used_for}
+use Rattle.server_history.proofs.Coming.{issuing_turns, look_does, look_list, look_turns, turn_leaves}
+use Rattle.server_history.proofs.Looking.{finding_kept, finding_silent, found_over, looking_kept, looking_silent}
+use Rattle.server_history.proofs.Plain.{both_read}
+use Rattle.server_history.proofs.Recovering.{AfterList, IsEarlyPart, IsGivenUp, IsPart, after_list, recovering_part}
+use Rattle.server_history.proofs.Rounds.{each_driven, each_silent}
+use Rattle.server_history.proofs.Settling.{answers_kept, answers_settings}
+use Rattle.server_history.proofs.Silent.{silent_more}
+use Rattle.server_history.proofs.Slots.{AreOver, not_own, of_ready, ready_found}
+
+-- recovery's accesses were made
+pub recovery_does : (port : ℕ) (then : Next) (accesses : List Access) (old new : Device) → LeavesSlots port then accesses old new → DoesAll accesses old new
+recovery_does port (next.Running token) accesses old new p = p.does
+recovery_does port (next.Restart token) accesses old new p = p.does
+recovery_does port next.Dead accesses old new p = ⊎_elim (λ a. a.does) (λ b. ⊎_elim (λ x. x.does) (λ x. x.does) b) p
+
+-- The accesses of the turn: those until the masks were read, after which requests were answered; recovery's; and those after it, of a boot and of issues.
+-- No page of the log comes on another port that isn't dead.
+pub record TurnParts (port : Port) (replies : List Reply) (old new : Server) (r : RecoversPort port replies old new) : Type 0 where
+  pub early : IsDrivenBy (IsEarlyPart port) old.device r.settled.mid.device
+  pub does : DoesAll r.settled.recovered.recovers.accesses r.settled.mid.device r.settled.device
+  pub kinds : All (IsPart port) r.settled.recovered.recovers.accesses
+  pub late : IsDrivenBy (IsPart port) r.settled.device new.device
+  pub sticks : r.settled.found ≡ Unready DeadState → r.settled.recovered.result.next ≢ next.Dead → Sticks port late.accesses
+  pub stuck : r.settled.found ≡ Unready DeadState → r.settled.recovered.result.next ≢ next.Dead → (new.device.port port.0).notes.engine_count ≡ 64
+  pub unissued : r.settled.found ≡ Unready DeadState → new ≡ r.mid
+  pub silent : (q : ℕ) → q ≢ port.0 → state_of (found_of old.ports q) ≢ DeadState → SendsNone q ReadLog old.device new.device
+  pub issuing_silent : state_of (found_of r.mid.ports port.0) ≢ DeadState → SendsNone port.0 ReadLog r.mid.device new.device
+
+abbrev pub accesses_in : {port : Port} {replies : List Reply} {old new : Server} {r : RecoversPort port replies old new} → TurnParts port replies old new r → List Access
+accesses_in {port} {replies} {old} {new} {r} t = t.early.accesses ++ (r.settled.recovered.recovers.accesses ++ t.late.accesses)
+
+-- a list with nobody in it
+nobody : {X : Type 0} (xs : List X) → ((x : X) → Contains xs x → ⊥) → xs ≡ []
+nobody [] none = refl
+nobody (x ∷ xs) none = absurd (none x (contains_here x xs x refl))
+
+module _ (laws : LawsBelow) (port : Port) (replies : List Reply) (old new : Server) (k : IsKept old) (ready : state_of (found_of old.ports port.0) ≡ ReadyState) (r : RecoversPort port replies old new)
+    (looks : IsFollowed (IsLooking port) AnyUse old.device r.settled.recovered.seen) (kept : IsKept r.mid) where
+  abbrev a : IsSettledAfter port r.later old r.mid
+  a = r.settled
+
+  abbrev x : IsRecovered port old a.mid a.device
+  x = a.recovered
+
+  low : port.0 < 4
+  low = (ready_found old port.0 k ready).0
+
+  -- ---- the server until recovery
+
+  abbrev from : Server
+  from = record old { device = x.found }
+
+  pub seen_kept : IsKept (record old { device = x.seen })
+  seen_kept = looking_kept old x.seen port k ready laws looks
+
+  pub found_kept : IsKept from
+  found_kept = finding_kept (record old { device = x.seen }) x.found port seen_kept ready laws x.mask x.done x.reads
+
+  answered_as : a.mid ≡ record from { table = a.mid.table; slots = a.mid.slots; book = a.mid.book }
+  answered_as = answers_settings laws port x.done x.requests from a.mid x.each
+
+  -- the commands of slots that were found done are over
+  pub done_over : AreOver port x.done x.found
+  done_over = found_over (record old { device = x.seen }) x.found port seen_kept ready laws x.mask x.done x.reads x.its
+
+  pub mid_kept : IsKept a.mid
+  mid_kept = answers_kept laws port x.done x.requests from a.mid found_kept ready done_over x.each
+
+  pub mid_device : a.mid.device ≡ x.found
+  mid_device = ap (λ (n : Server). n.device) answered_as
+
+  mid_found : (q : ℕ) → found_of a.mid.ports q ≡ found_of old.ports q
+  mid_found q = ap (λ (n : Server). found_of n.ports q) answered_as
+
+  -- ---- accesses
+
+  looking : IsDrivenBy (IsEarlyPart port) old.device x.seen
+  looking = record {
+    accesses = look_list port x.looks.causes x.looks.own x.looks.status;
+    all = look_does port _ old.device x.seen x.looks;
+    only = λ i d small. let t = look_turns port x.looks.causes x.looks.own x.looks.status x.looks.alone i d small in (t.1, (turn_leaves port port _ t).0);
+  }
+
+  finding : IsDrivenBy (IsEarlyPart port) x.seen x.found
+  finding =
+      let m = both_read port x.mask x.done x.seen x.found x.reads in
+      record {
+        accesses = Reading (Px port Ci) x.reads.issued ∷ Reading (Px port Sact) x.reads.active ∷ [];
+        all = (m.0, m.1, (x.found, m.2, refl));
+        only = All-cons (IsEarlyPart port) (Reading (Px port Ci) x.reads.issued) (Reading (Px port Sact) x.reads.active ∷ []) ((tt, refl), tt)
+            (All-cons (IsEarlyPart port) (Reading (Px port Sact) x.reads.active) [] ((tt, refl), tt) (All-nil (IsEarlyPart port)));
+      }
+
+  afterwards : AfterList port x.result.next a.found a.device r.mid.device
+  afterwards = after_list laws port low (wanted_of old.wanted port.0) a.was x.result.next a.device r.mid.device a.found a.is
+
+  issuing : IsDrivenBy (IsPart port) r.mid.device new.device
+  issuing = driven_as (IssuesIn port) (IsPart port) r.mid.device new.device (λ access is. (issuing_turns laws port low access is).1) (each_driven laws port (due_ids (mode_in r.mid port) port (asks_of r.mid.book)) r.mid new r.issued)
+
+  -- nothing is issued on a dead port, of which there are no requests
+  none_issued : state_of (found_of r.mid.ports port.0) ≡ DeadState → new ≡ r.mid
+  none_issued dead = subst (λ (ids : List RequestId). IssuesEach port ids r.mid new) (ap (λ (us : List Unanswered). map (λ (u : Unanswered). u.id) us) (nobody (due_of (mode_in r.mid port) port (asks_of r.mid.book)) none)) r.issued
+    where
+      none : (u : Unanswered) → Contains (due_of (mode_in r.mid port) port (asks_of r.mid.book)) u → ⊥
+      none u here =
+          let due = (laws.exact (mode_in r.mid port) port (asks_of r.mid.book) u (laws.own (mode_in r.mid port) port (asks_of r.mid.book) u here)).0 here in
+          let e = map_in (λ (y : Held). asks y.entry) r.mid.book u due.here in
+          let its : e.0.entry.port ≡ port = sym (ap (λ (v : Unanswered). v.port) e.2) ∙ laws.own (mode_in r.mid port) port (asks_of r.mid.book) u here in
+          let z : ReadyState ≡ DeadState = sym (of_ready r.mid kept e.0 e.1) ∙ ap (λ (q : Port). state_of (found_of r.mid.ports q.0)) its ∙ dead in
+          absurd cc
+
+  -- ---- what the port is then
+
+  listed : port.0 < length old.ports
+  listed = ⊎_elim
+      (λ past. let z : shown.Absent ≡ ReadyState = sym (ap state_of (get_or_past old.ports port.0 Unserved past.1)) ∙ ready in absurd cc)
+      (λ within. within.1)
+      (leb_tells (length old.ports) port.0)
+
+  pub found_is : found_of r.mid.ports port.0 ≡ a.found
+  found_is =
+      let many : length a.mid.ports ≡ length old.ports = ap (λ (n : Server). length n.ports) answered_as in
+      let within : port.0 < length a.mid.ports = (let small = listed in omega (arith, small, many)) in
+      ap (λ (n : Server). found_of n.ports port.0) a.server ∙ get_or-set_same a.mid.ports port.0 a.found Unserved within
+
+  -- ---- no page of the log
+
+  module _ (q : ℕ) (other : q ≢ port.0) (lives : state_of (found_of old.ports q) ≢ DeadState) where
+    -- its slot 0 has no command of the driver's own
+    none_own : mid_kept.stands.uses q 0 ≡ Own ReadLog → ⊥
+    none_own = not_own (found_of a.mid.ports q) (used_for a.mid.slots q 0) (mid_kept.stands.uses q 0) ReadLog (λ dead. lives (ap state_of (sym (mid_found q) ∙ dead))) (mid_kept.stands.used q 0)
+
+    -- nor has it once the port's slots were given up
+    given : (token : Stopped) → x.result.next ≡ next.Restart token → (g : IsGivenUp port a.device) × (g.uses q 0 ≡ Own ReadLog → ⊥)
+    given token is =
+        let m = mid_kept.machine in
+        let s : InSlots = record { uses = mid_kept.stands.uses; parked = mid_kept.stands.parked } in
+        let p : Performs x.recovers.accesses AnySlots (given_up port.0) ByDeviceAlone a.mid.device a.device = subst (λ (n : Next). LeavesSlots port.0 n x.recovers.accesses a.mid.device a.device) is x.recovers.does.slots in
+        let c = p.comes s m mid_kept.reached mid_kept.stands.knows tt in
+        let g = laws.acts_go c.acts (at_slots s a.mid.device) (at_slots (given_up port.0 s) a.device) m mid_kept.stands.knows c.done in
+        (record {
+          uses = changed s.uses port.0 (λ slot. Free);
+          parked = (given_up port.0 s).parked;
+          machine = after m (steps_of c.acts);
+          free = λ slot. ap (λ (f : ℕ → Use). f slot) (changed_same s.uses port.0 (λ slot. Free));
+          reached = reached_more m (steps_of c.acts) mid_kept.reached g.may;
+          knows = g.knows;
+        }, λ own. none_own (ap (λ (f : ℕ → Use). f 0) (sym (changed_other s.uses port.0 (λ slot. Free) q other)) ∙ own))
+
+    early_silent : SendsNone q ReadLog old.device a.mid.device
+    early_silent = subst (SendsNone q ReadLog old.device) (sym mid_device)
+        (silent_more q ReadLog old.device x.seen x.found (looking_silent old x.seen port k ready looks q ReadLog refl (λ dead. lives (ap state_of dead)))
+        (finding_silent (record old { device = x.seen }) x.found port seen_kept ready laws x.mask x.done x.reads q ReadLog refl (λ dead. lives (ap state_of dead))))
+
+    recovery_silent : SendsNone q ReadLog a.mid.device a.device
+    recovery_silent = x.recovers.leaves.others (port_at q) ReadLog other refl
+        (mid_kept.stands.uses, none_own, record { machine = mid_kept.machine; parked = mid_kept.stands.parked; reached = mid_kept.reached; knows = mid_kept.stands.knows })
+
+    later_found : found_of r.mid.ports q ≡ found_of old.ports q
+    later_found = ap (λ (n : Server). found_of n.ports q) a.server ∙ get_or-set_other a.mid.ports port.0 q a.found Unserved other ∙ mid_found q
+
+    whole_silent : SendsNone q ReadLog old.device new.device
+    whole_silent =
+        silent_more q ReadLog old.device a.mid.device new.device early_silent
+        (silent_more q ReadLog a.mid.device a.device new.device recovery_silent
+        (silent_more q ReadLog a.device r.mid.device new.device (afterwards.silent (port_at q) ReadLog other refl given)
+        (each_silent laws port (due_ids (mode_in r.mid port) port (asks_of r.mid.book)) r.mid new kept r.issued q ReadLog refl (λ dead. lives (ap state_of (sym later_found ∙ dead))))))
+
+  -- ---- the whole
+
+  late : IsDrivenBy (IsPart port) a.device new.device
+  late = record {
+    accesses = afterwards.driven.accesses ++ issuing.accesses;
+    all = does_append afterwards.driven.accesses issuing.accesses a.device r.mid.device new.device afterwards.driven.all issuing.all;
+    only = All-append (IsPart port) afterwards.driven.accesses issuing.accesses afterwards.driven.only issuing.only;
+  }
+
+  dead_unissued : a.found ≡ Unready DeadState → new ≡ r.mid
+  dead_unissued dead = none_issued (ap state_of (found_is ∙ dead))
+
+  late_sticks : a.found ≡ Unready DeadState → x.result.next ≢ next.Dead → Sticks port late.accesses
+  unfolding late
+  late_sticks dead lives = laws.sticks_then afterwards.driven.accesses issuing.accesses port (afterwards.sticks dead lives)
+
+  pub turn_parts : TurnParts port replies old new r
+  turn_parts = record {
+    early = subst (IsDrivenBy (IsEarlyPart port) old.device) (sym mid_device) (by_then looking finding);
+    does = recovery_does port.0 x.result.next x.recovers.accesses a.mid.device a.device x.recovers.does.slots;
+    kinds = All-weaker (IsRecovering port) (IsPart port) (recovering_part laws port low) x.recovers.accesses x.recovers.does.only;
+    late = late;
+    sticks = late_sticks;
+    stuck = λ dead lives. ap (λ (n : Server). (n.device.port port.0).notes.engine_count) (dead_unissued dead) ∙ afterwards.stuck dead lives;
+    unissued = dead_unissued;
+    silent = whole_silent;
+    issuing_silent = λ lives. each_silent laws port (due_ids (mode_in r.mid port) port (asks_of r.mid.book)) r.mid new kept r.issued port.0 ReadLog refl (λ dead. lives (ap state_of dead));
+  }
