@@ -64,7 +64,7 @@ use Rattle.server_history.proofs.Recovery.{AddsFates, evidence_of, faults_of, lo
 use Rattle.server_history.proofs.Rounds.{AreIssued, any_append, devices_issue_none, dues, dues_carried, each_issued, each_settings, last_on, lawful_on, or_none}
 use Rattle.server_history.proofs.Serving.{answers_issue_none}
 use Rattle.server_history.proofs.Slots.{of_ready, ready_found, served_request, serves_used}
-use Rattle.server_history.proofs.Turns.{belong_join, grounded_join, lawful_join}
+use Rattle.server_history.proofs.Turns.{belong_join, grounded_join, lawful_join, present_before}
 use Rattle.server_history.proofs.Zips.{at_left, at_right}
 
 -- What a machine that stands for the server makes of the turn by its steps, with this evidence.
@@ -467,7 +467,15 @@ module _ (laws : LawsBelow) (port : Port) (replies : List Reply) (old new : Serv
         by OtherDisk x = inr (none_waits x)
         by NoEnd x = inl (same_disk a.was (ap (λ (found : Found). disk_of found (Some a.was)) (subst (IsProspect a.was a.found) x a.expects)) refl refl)
 
-    -- a disk that was in when the masks were read was in when the turn began, or one went or came
+    -- where a disk was in once the port was looked at, it was in when the turn began, or one went or came until the masks were read
+    pub had_first : (after m f.early.looked).present port ≡ true → (m.present port ≡ true) ⊎ (list_any (changes_disk port) f.first ≡ true)
+    had_first here = ⊎_elim
+        (λ was. inl was)
+        (λ changes. inr (ap (list_any (changes_disk port)) f.early.first_is ∙ any_append (changes_disk port) f.early.later f.early.looked
+        ∙ or_right (list_any (changes_disk port) f.early.later) (list_any (changes_disk port) f.early.looked) changes))
+        (present_before m port f.early.looked here)
+
+    -- and then so it is of all its steps
     disk : (m.present port ≡ true) ⊎ (list_any (changes_disk port) f.first ≡ true) → (m.present port ≡ true) ⊎ (list_any (changes_disk port) (z.steps ++ base) ≡ true)
     disk (inl here) = inl here
     disk (inr changes) = inr (

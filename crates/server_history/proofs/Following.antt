@@ -18,7 +18,6 @@ use Rattle.agreement.specs.Driven.{AnyUse, IsFollowed}
 use Rattle.agreement.specs.Driver.{HasNoSlot, IsBacked}
 use Rattle.agreement.specs.Slots.{Serves, Use}
 use Rattle.agreement.specs.Spares.{SparesBook}
-use Rattle.agreement.proofs.Driven.{followed_then}
 use Rattle.agreement.proofs.Sparing.{found_later, steps_spare}
 use Rattle.block_machine.specs.Events.{AllDevices, AllMay}
 use Rattle.block_machine.specs.Histories.{IsReached}
@@ -36,7 +35,6 @@ use Rattle.host_boot.specs.declared.Found.{Found}
 use Rattle.host_boot.specs.declared.Found.TheVariants.{Unserved, Ready, Unready}
 use Rattle.identify.specs.declared.DiskInfo.{DiskInfo}
 use Rattle.port_look.specs.Looks.{IsLooking}
-use Rattle.port_look.specs.Services.{IsService}
 use Rattle.request_queue.specs.Entries.{Held, IsEarlier, is_of}
 use Rattle.request_queue.specs.Fates.{EndsLoan, Holdings, MeetFates, MeetsFate, fate_of, fate_on, keeps_loan}
 use Rattle.request_queue.specs.Machine.{IsEntry}
@@ -57,7 +55,7 @@ use Rattle.server_history.proofs.Joined.{first_or_later, nowhere}
 use Rattle.server_history.proofs.Keeping.{none_alive}
 use Rattle.server_history.proofs.Looking.{finding_kept, found_over, looking_kept}
 use Rattle.server_history.proofs.Meeting.{in_loans, loans_in, meet, tame}
-use Rattle.server_history.proofs.Passing.{IsPassed, passed}
+use Rattle.server_history.proofs.Passing.{IsPassed, devices_both, passed}
 use Rattle.server_history.proofs.Recovery.{AddsFates}
 use Rattle.server_history.proofs.Serving.{finds_serve, followed_steps, looks_serve}
 use Rattle.server_history.proofs.Settling.{AreAnswered, answers_kept, answers_settings, each_answered}
@@ -368,9 +366,6 @@ module _ (laws : LawsBelow) (port : Port) (later : List Reply) (old new : Server
   pub mid_ready : state_of (found_of a.mid.ports port.0) ≡ ReadyState
   mid_ready = ap (λ (s : Server). state_of (found_of s.ports port.0)) settings ∙ ready
 
-  served : IsFollowed IsService AnyUse old.device a.recovered.found
-  served = followed_then IsService AnyUse old.device a.recovered.seen a.recovered.found (looks_serve port old.device a.recovered.seen looks) (finds_serve laws port a.recovered.mask a.recovered.done a.recovered.seen a.recovered.found a.recovered.reads)
-
   -- nobody is named on a port whose engine is stuck
   pub unnamed : a.recovered.result.next ≡ Stuck → (a.found ≡ Unready Dead) × (a.failed ≡ None)
   unnamed stuck = (
@@ -385,6 +380,7 @@ module _ (laws : LawsBelow) (port : Port) (later : List Reply) (old new : Server
     middle = p.passes.steps;
     fates = f.steps;
     first_only = x.4;
+    early = record { looked = looked.0; later = finding.0; first_is = refl; seen = looked.2; seen_backed = looked.3; found = x.2; found_backed = x.3 };
     each = y.each;
     middle_only = p.passes.only;
     may = may-append m f.steps (p.passes.steps ++ base) (may-append m p.passes.steps base base_may p.passes.may) (subst (λ (s : Machine). AllMay s f.steps) (sym then_is) f.may);
@@ -399,8 +395,21 @@ module _ (laws : LawsBelow) (port : Port) (later : List Reply) (old new : Server
     tells = f.tells;
   }
     where
+      looked : (steps : List Step) × AllMay m steps × IsMachineOf (record old { device = a.recovered.seen }) (after m steps) × IsBacked old.device a.recovered.seen m steps × AllDevices steps
+      looked = followed_steps old a.recovered.seen (looks_serve port old.device a.recovered.seen looks) m reached is
+
+      finding : (steps : List Step) × AllMay (after m looked.0) steps × IsMachineOf from (after (after m looked.0) steps) × IsBacked a.recovered.seen a.recovered.found (after m looked.0) steps × AllDevices steps
+      finding = followed_steps (record old { device = a.recovered.seen }) a.recovered.found (finds_serve laws port a.recovered.mask a.recovered.done a.recovered.seen a.recovered.found a.recovered.reads)
+          (after m looked.0) (reached_more m looked.0 reached looked.1) looked.2
+
       x : (steps : List Step) × AllMay m steps × IsMachineOf from (after m steps) × IsBacked old.device a.recovered.found m steps × AllDevices steps
-      x = followed_steps old a.recovered.found served m reached is
+      x = (
+        finding.0 ++ looked.0,
+        may-append m finding.0 looked.0 looked.1 finding.1,
+        subst (IsMachineOf from) (sym (after-append m finding.0 looked.0)) finding.2,
+        laws.backed_parts old.device a.recovered.seen a.recovered.found m looked.0 finding.0 looked.3 finding.3,
+        devices_both finding.0 looked.0 finding.4 looked.4,
+      )
 
       reached_x : IsReached (after m x.0)
       reached_x = reached_more m x.0 reached x.1

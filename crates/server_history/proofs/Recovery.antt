@@ -4,6 +4,7 @@ use Rattle.std.specs.List.{All, AllZip, Contains}
 use Rattle.ata_types.specs.declared.Port.{Port}
 use Rattle.ata_types.specs.declared.request.Outcome.{Outcome}
 use Rattle.ata_types.specs.declared.request.Reply.{Reply}
+use Rattle.adapter.specs.Device.{Device}
 use Rattle.agreement.specs.Driver.{IsBacked}
 use Rattle.block_machine.specs.Events.{AllDevices, AllMay, Tells}
 use Rattle.block_machine.specs.Left.{after}
@@ -20,7 +21,7 @@ use Rattle.request_queue.specs.declared.fate.Fate.TheVariants.{Ends, GoesAgain}
 use Rattle.request_queue.specs.declared.fate.Prospect.{Prospect}
 use Rattle.request_queue.specs.declared.fate.Prospect.TheVariants.{SameDisk, OtherDisk, Dead}
 use Rattle.server_history.specs.Fates.{DecidesOn}
-use Rattle.server_history.specs.Recovered.{IsSettledAfter, requests_of}
+use Rattle.server_history.specs.Recovered.{IsRecovered, IsSettledAfter, requests_of}
 use Rattle.server_history.specs.Served.{HasEnded, answers_in}
 use Rattle.server_history.specs.Server.{Server, IsMachineOf}
 
@@ -58,6 +59,16 @@ evidence_of port failed prospect next = record {
 
 -- ---- its steps, but for those that issue
 
+-- The device's steps until the masks were read: those while the port was looked at, and then the others.
+pub record AddsFirst (port : Port) (old mid : Server) (new : Device) (r : IsRecovered port old mid new) (m : Machine) (first : List Step) : Type 0 where
+  pub looked : List Step
+  pub later : List Step
+  pub first_is : first ≡ later ++ looked
+  pub seen : IsMachineOf (record old { device = r.seen }) (after m looked)
+  pub seen_backed : IsBacked old.device r.seen m looked
+  pub found : IsMachineOf (record old { device = r.found }) (after m first)
+  pub found_backed : IsBacked old.device r.found m first
+
 -- From a machine that stands for the old server: the device's steps until the masks were read, the answers of what was done, the device's steps while the
 -- port was recovered and booted, and those that decide on its other requests. They lead to a machine that stands for the new one.
 pub record AddsFates (port : Port) (later : List Reply) (old new : Server) (a : IsSettledAfter port later old new) (m : Machine) : Type 0 where
@@ -66,6 +77,7 @@ pub record AddsFates (port : Port) (later : List Reply) (old new : Server) (a : 
   pub middle : List Step
   pub fates : List Step
   pub first_only : AllDevices first
+  pub early : AddsFirst port old a.mid a.device a.recovered m first
   pub each : AllZip (HasEnded port) a.recovered.requests ended
   pub middle_only : AllDevices middle
   pub may : AllMay m (fates ++ (middle ++ (answers_in ended ++ first)))
