@@ -1,12 +1,10 @@
 -- A port of which a look told a failure showed a device: so it had a disk when the turn began, or one went or came in it.
-use Rattle.std.proofs.Common.{ℕ, ◌≡◌, ◌⊎◌, ◌++◌, ◌%◌, true, false, List, [], ◌∷◌, append_assoc, inl, inr, refl, sym, ap, ◌∙◌, subst, ⊎_elim}
+use Rattle.std.proofs.Common.{ℕ, ◌≡◌, ◌⊎◌, ◌++◌, true, false, List, [], ◌∷◌, append_assoc, inl, inr, refl, sym, ap, ◌∙◌, subst, ⊎_elim}
 use Rattle.std.specs.List.{All, Contains, list_any}
 use Rattle.std.proofs.lemmas.Bool.{cases_Bool, cases_eq, false≢true}
 use Rattle.std.proofs.lemmas.List.{append_cancel_left}
 use Rattle.std.proofs.lemmas.List.Elements.{All-cons, All-nil, Contains-append_left}
 use Rattle.ata_types.specs.declared.Port.{Port}
-use Rattle.ata_types.specs.declared.PortState.TheVariants.{Ready as ReadyState}
-use Rattle.hba_regs.specs.Bits.{bit}
 use Rattle.hba_regs.specs.declared.reg.PortReg.TheVariants.{Is, Ssts}
 use Rattle.hba_regs.specs.declared.reg.Reg.TheVariants as reg
 use Rattle.hba_regs.specs.declared.reg.Reg.TheVariants.{Ghc, Px}
