@@ -16,9 +16,11 @@ use Rattle.adapter.specs.declared.command.Operation.TheVariants.{ReadLog}
 use Rattle.adapter.specs.declared.tape.Fault as tape_fault
 use Rattle.adapter.proofs.Calls.{does_append}
 use Rattle.agreement.specs.Driven.{AnyAccess, AnyUse, Grows, IsFollowed, IsOf, SendsNone}
+use Rattle.agreement.specs.Driver.{IsBacked}
 use Rattle.agreement.specs.Links.{SparesRegister}
 use Rattle.agreement.proofs.Driven.{along}
-use Rattle.block_machine.specs.Events.{Served, Service}
+use Rattle.block_machine.specs.Events.{HadDisk, Served, Service}
+use Rattle.block_machine.specs.Left.{after}
 use Rattle.block_machine.specs.Ports.{Fault, IsServiced}
 use Rattle.block_machine.specs.State.{Machine}
 use Rattle.block_machine.specs.Steps.{Step}
@@ -42,8 +44,8 @@ use Rattle.slots.specs.declared.Use.{Use as SlotUse}
 use Rattle.server_history.specs.Below.{LawsBelow}
 use Rattle.server_history.specs.Recovered.{IsFailed, IsFoundAfter, IsProspect, IsRecovered, IsSettledAfter, RecoversPort}
 use Rattle.server_history.specs.Served.{AnswersEach}
-use Rattle.server_history.specs.Server.{Server, IsKept, ports_of, slots_at, state_of, used_for}
-use Rattle.server_history.specs.Turns.{IsCalmTurn, IsOfCommand, LeavesOthers, NamesOnly, TellsFault, instant_of}
+use Rattle.server_history.specs.Server.{Server, IsKept, IsMachineOf, ports_of, slots_at, state_of, used_for}
+use Rattle.server_history.specs.Turns.{IsCalmTurn, IsOfCommand, LeavesOthers, NamesOnly, TellsFault, instant_of, moment_of}
 use Rattle.server_history.proofs.Answering.{answer_kept}
 use Rattle.server_history.proofs.Apart.{leaves_others}
 use Rattle.server_history.proofs.Becoming.{becomes, dead_found, dead_prospect, disk_same, interrupted, its, lost_is, names, ready_info, state_new, stuck_is}
@@ -52,6 +54,7 @@ use Rattle.server_history.proofs.Placing.{freed_was}
 use Rattle.server_history.proofs.Recovering.{IsEarlyPart, IsPart}
 use Rattle.server_history.proofs.Recovery.{evidence_of, faults_of, stopped_of}
 use Rattle.server_history.proofs.Settling.{over_on, ready_on}
+use Rattle.server_history.proofs.Shown.{had_disk}
 use Rattle.server_history.proofs.Slots.{AreOver, ready_found}
 use Rattle.server_history.proofs.Stretching.{TurnParts, accesses_in, done_over, found_is, found_kept, mid_device, turn_parts}
 
@@ -90,7 +93,7 @@ slots_were laws port low done (e ∷ requests) old new k ready over (mid, one, i
 -- ---- the whole
 
 -- What stands behind the turn, but for its steps: its accesses, what it leaves of the other ports, and its evidence. (A port that a fault has halted didn't
--- stay healthy.)
+-- stay healthy. And where a disk is in when the look shows a device, the machine had one in the port, or one went or came.)
 pub record IsEvident (port : Port) (replies : List Reply) (old new : Server) (r : RecoversPort port replies old new) : Type 0 where
   pub accesses : List Access
   pub does : DoesAll accesses old.device new.device
@@ -104,6 +107,8 @@ pub record IsEvident (port : Port) (replies : List Reply) (old new : Server) (r 
   pub faults : (told : Fault) → Contains (evidence_of port r.settled.failed r.settled.prospect r.settled.recovered.result.next).faults told → TellsFault port accesses old new told
   pub calm : (steps : List Step) → StaysHealthy port.0 old.device new.device
       → IsCalmTurn port replies accesses old new (evidence_of port r.settled.failed r.settled.prospect r.settled.recovered.result.next) steps
+  pub had : ((r.settled.recovered.seen.port port.0).ssts_det ≡ 3 → (r.settled.recovered.seen.port port.0).present ≡ true) → (m : Machine) → IsMachineOf old m → (steps : List Step) → IsBacked old.device new.device m steps
+      → HadDisk (moment_of old m) steps (moment_of new (after m steps)) port
 
 module _ (laws : LawsBelow) (port : Port) (replies : List Reply) (old new : Server) (k : IsKept old) (ready : state_of (found_of old.ports port.0) ≡ ReadyState) (r : RecoversPort port replies old new)
     (looks : IsFollowed (IsLooking port) AnyUse old.device r.settled.recovered.seen) (kept : IsKept r.mid) where
@@ -271,4 +276,5 @@ module _ (laws : LawsBelow) (port : Port) (replies : List Reply) (old new : Serv
     evidenced = evidenced;
     faults = faults;
     calm = λ steps healthy. absurd (laws.never_failed port (instant_of old k.machine) new.device healthy (has_errors k.machine));
+    had = λ own m is steps backed shows. had_disk laws port old x.seen new.device m k.on x.looks own is grown_seen steps backed;
   }

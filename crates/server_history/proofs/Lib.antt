@@ -48,4 +48,5 @@ pub mod Apart
 pub mod Stretching
 pub mod Faulted
 pub mod Becoming
+pub mod Shown
 pub mod Evident

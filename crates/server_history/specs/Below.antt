@@ -11,6 +11,7 @@ use Rattle.adapter.specs.Device.{Device}
 use Rattle.adapter.specs.declared.access.DeviceStep.{DeviceStep}
 use Rattle.adapter.specs.declared.command.Operation.{Operation}
 use Rattle.adapter.specs.declared.command.Operation.TheVariants.{ReadLog}
+use Rattle.adapter.specs.declared.tape.Entry.{Entry as TapeEntry}
 use Rattle.adapter.specs.declared.tape.Fault.{Fault}
 use Rattle.adapter.specs.Commands.{Meaning}
 use Rattle.adapter.specs.Rules.{IsOn}
@@ -21,7 +22,8 @@ use Rattle.adapter.specs.Access.{Access, Does, DoesAll, Reads}
 use Rattle.adapter.specs.Access.Access.{Loading, Storing}
 use Rattle.adapter.specs.Says.{Says}
 use Rattle.agreement.specs.Driver.{MissesTable}
-use Rattle.agreement.specs.Links.{SparesRegister}
+use Rattle.agreement.specs.Links.{IsPlugging, SparesRegister}
+use Rattle.agreement.specs.Tape.{TellsAmong}
 use Rattle.agreement.specs.Started.{ClearsNoStart}
 use Rattle.hba_regs.specs.Bits.{bit}
 use Rattle.hba_regs.specs.declared.reg.PortReg.{PortReg}
@@ -43,7 +45,8 @@ use Rattle.block_machine.specs.declared.due.Mode.{Mode}
 use Rattle.block_machine.specs.declared.due.Unanswered.{Unanswered}
 use Rattle.dma_frames.specs.Table.{Table, LendsOnly, lent_to}
 use Rattle.agreement.specs.Facts.{IsFaulted, IsRecorded, RunsWell, Undisturbed}
-use Rattle.block_machine.specs.Events.{Ask, IsDevices, Moment, Said}
+use Rattle.std.specs.List.{list_any}
+use Rattle.block_machine.specs.Events.{changes_disk, Ask, IsDevices, Moment, Said}
 use Rattle.block_machine.specs.Left.{after}
 use Rattle.block_machine.specs.Histories.{Instant, IsReached}
 use Rattle.block_machine.specs.Ports.{Evidence, Ports, SamePort}
@@ -194,3 +197,7 @@ pub record LawsBelow : Type 0 where
   pub log_stays : (port : Port) (start old new end : Device) (page : List ℕ) → Grows start old → SendsNone port.0 ReadLog new end → BringsLog port old new page → BringsLog port start end page
   -- a request that waits again
   pub asks_requeued : (entries : List Held) (id : RequestId) → asks_of (map (at id requeued_entry) entries) ≡ with_waiting id (asks_of entries)
+  -- a disk that comes, or goes
+  pub out_on : (port : Port) (access : Access) (old new : Device) → NoneComes port.0 old new → Does access old new → (old.port port.0).present ≡ false → (new.port port.0).present ≡ false
+  pub disks_told : (port : Port) (m : Machine) (gained : List TapeEntry) (steps : List Step) → TellsAmong m gained steps → (e : TapeEntry) → Contains gained e → IsPlugging port.0 e
+      → list_any (changes_disk port) steps ≡ true

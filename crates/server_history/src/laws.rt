@@ -54,10 +54,11 @@ ghost use Rattle.error_recovery.specs.Recovery.{FitsFor, MayRecover};
 
 use adapter::laws::saying_is_one;
 use agreement::acts::acts_give;
+use agreement::disks::none_comes_in;
 use agreement::giving_up::slots_are_given_up;
 use agreement::laws::{
-    answering_agrees, backing_composes, due_finds_free_slot, going_again_agrees, keeping_agrees,
-    own_steps_are_backed, putting_is_of_one_slot, waiting_has_no_slot,
+    answering_agrees, backing_composes, disks_are_told, due_finds_free_slot, going_again_agrees,
+    keeping_agrees, own_steps_are_backed, putting_is_of_one_slot, waiting_has_no_slot,
 };
 use agreement::readying::{readied_stays, stored_stays_over_acts};
 use agreement::stretches::other_ports_are_left;
@@ -124,6 +125,8 @@ fn the_laws_below_hold()
     what_is_told_of_engines_stays();
     what_stands_behind_a_fault_stays();
     acts_give();
+    none_comes_in();
+    disks_are_told();
 }
 
 /// A ready port of a new server runs well, if nothing went wrong on it since the adapter was idle.

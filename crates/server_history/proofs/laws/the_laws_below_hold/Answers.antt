@@ -79,5 +79,7 @@ returns c = record {
   sticks_since = c.what_is_told_of_engines_stays.ensures.sticks_since;
   failed_stays = c.what_stands_behind_a_fault_stays.ensures.failed;
   log_stays = c.what_stands_behind_a_fault_stays.ensures.log;
+  out_on = c.none_comes_in.ensures.out_access;
+  disks_told = c.disks_are_told.ensures.steps;
   asks_requeued = c.operations_change_what_is_due.ensures.requeue;
 }
