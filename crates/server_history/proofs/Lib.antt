@@ -38,3 +38,7 @@ pub mod Making
 pub mod Meeting
 pub mod Failing
 pub mod Recovery
+pub mod Fated
+pub mod Passing
+pub mod Counted
+pub mod Recovered

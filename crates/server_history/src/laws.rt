@@ -1,5 +1,5 @@
 // Laws of the definitions, for callers: the clause is the theorem. Nothing comes of calling these functions.
-ghost use Rattle.std.specs.Prelude.{ℕ, Bool, true, false, ◌≡◌, ◌≢◌, ◌⊎◌, ◌<◌, ◌≤◌, ◌+◌, ◌*◌, ◌/◌, ◌%◌, List, [], ◌∷◌, Option, Some, None, Ok, Err, length, All, AllPairs, Contains};
+ghost use Rattle.std.specs.Prelude.{ℕ, Bool, true, false, ◌≡◌, ◌≢◌, ◌⊎◌, ◌<◌, ◌≤◌, ◌+◌, ◌*◌, ◌/◌, ◌%◌, List, [], ◌∷◌, Option, Some, None, Ok, Err, length, All, AllPairs, Contains, count_by};
 ghost use Rattle.ata_types.specs.declared.Port.{Port};
 ghost use Rattle.ata_types.specs.declared.PortState.TheVariants.{Dead, Ready as ReadyState};
 ghost use Rattle.ata_types.specs.declared.grant.GrantRow.{GrantRow};
@@ -51,12 +51,18 @@ ghost use Rattle.slots.specs.declared.Use.{Use as SlotUse};
 ghost use Rattle.port_look.specs.Looks.{IsLooking, LooksAt};
 ghost use Rattle.port_look.specs.declared.Look.{Look};
 ghost use Rattle.port_look.specs.declared.Look.TheVariants.{Failed as Fails, Undisturbed as Calm};
-ghost use Rattle.error_recovery.specs.Recovery.{FitsFor, MayRecover};
+ghost use Rattle.error_recovery.specs.Recovery.{FitsFor, IsAloneIn, MayRecover};
+ghost use Rattle.error_recovery.specs.declared.Next.TheVariants.{Restart};
+ghost use Rattle.port_boot.specs.States.{IsBootable};
+ghost use Rattle.port_control.specs.Ports.{IsStopped};
+ghost use Rattle.port_control.specs.declared.Stopped.{Stopped};
+ghost use Rattle.server_history.specs.Recovered.{AreQueued, IsRecovered, requests_of};
 
 use adapter::laws::saying_is_one;
+use agreement::acts::acts_give;
 use agreement::laws::{
-    answering_agrees, backing_composes, due_finds_free_slot, going_again_agrees,
-    own_steps_are_backed,
+    answering_agrees, backing_composes, due_finds_free_slot, going_again_agrees, going_composes,
+    own_steps_are_backed, putting_is_of_one_slot, slots_are_counted,
 };
 use agreement::readying::{readied_stays, stored_stays_over_acts};
 use agreement::stretches::other_ports_are_left;
@@ -65,9 +71,10 @@ use block_machine::laws::{
     other_ports_stay, own_requests_count,
 };
 use driver_history::laws::{a_turns_evidence_is_the_calls, healthy_ports_are_untroubled};
-use host_boot::laws::what_was_taken_over_may_be_served;
+use error_recovery::laws::recovery_is_of_its_port;
+use host_boot::laws::{what_was_booted_again_may_be_served, what_was_taken_over_may_be_served};
 use ncq::laws::{calls_are_of_one_port, finding_is_followed, issuing_performs};
-use port_boot::laws::{a_disk_is_in_where_one_shows, a_port_runs_on};
+use port_boot::laws::{a_boot_is_of_its_port, a_disk_is_in_where_one_shows, a_port_runs_on};
 use port_look::lawful::laws_hold;
 use port_look::laws::failures_are_found;
 use request_queue::laws::{
@@ -105,7 +112,14 @@ fn the_laws_below_hold()
     calls_are_of_one_port();
     finding_is_followed();
     other_ports_are_left();
+    slots_are_counted();
+    acts_give();
+    going_composes();
+    putting_is_of_one_slot();
+    recovery_is_of_its_port();
+    a_boot_is_of_its_port();
     a_disk_is_in_where_one_shows();
+    what_was_booted_again_may_be_served();
     a_port_runs_on();
     a_turns_evidence_is_the_calls();
     healthy_ports_are_untroubled();
@@ -278,7 +292,22 @@ pub fn a_failed_port_may_be_recovered()
         → LooksAt port Fails s.device seen → IsFollowed (IsLooking port) AnyUse s.device seen → ReadsDone port mask done seen found
         → MayRecover port.0 found }
     ensures agreed { (s : Server) (port : Port) (queued : Bool) → IsKept s → state_of (found_of s.ports port.0) ≡ ReadyState
-        → ((slot : ℕ) (used : SlotUse) → used_for s.slots port.0 slot ≡ Some used → used.queued ≡ queued) → AgreesWith (FitsFor queued port.0) s.device }
+        → AreQueued queued (slots_at s.slots port.0) → AgreesWith (FitsFor queued port.0) s.device }
+    ensures alike { (s : Server) (port : Port) (slot : ℕ) (used : SlotUse) → IsKept s → used_for s.slots port.0 slot ≡ Some used
+        → AreQueued used.queued (slots_at s.slots port.0) }
+    ensures alone { (s : Server) (port : Port) (queued : Bool) (outstanding : ℕ) → IsKept s → IsMaskOf (slots_at s.slots port.0) outstanding
+        → AreQueued queued (slots_at s.slots port.0) → IsAloneIn queued outstanding }
+{
+    the_laws_below_hold();
+}
+
+/// What comes after a recovery. A port that has to be booted may be; and there is a place for the loan of each request of the port that is issued.
+pub fn a_recovered_port_goes_on()
+    ensures bootable { (s mid : Server) (device : Device) (port : Port) (token : Stopped) → IsKept s → state_of (found_of s.ports port.0) ≡ ReadyState
+        → (r : IsRecovered port s mid device) → IsFollowed (IsLooking port) AnyUse s.device r.seen → r.result.next ≡ Restart token
+        → IsBootable port device × IsStopped (device.port port.0) }
+    ensures places { (s : Server) (port : Port) → IsKept s → state_of (found_of s.ports port.0) ≡ ReadyState
+        → (kept_at s.kept port.0 ≡ []) × (count_by (λ (e : Held). e.entry.issued) (requests_of port s.book) ≤ 32) }
 {
     the_laws_below_hold();
 }
