@@ -8,3 +8,4 @@ pub mod Booting
 pub mod Running
 pub mod Showing
 pub mod Beginning
+pub mod Served

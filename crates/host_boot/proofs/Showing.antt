@@ -140,7 +140,7 @@ module _ (laws : Laws) where
             (by_then laws (until_gentle port Tfd ShowsIdle f.linked f.idle f.waits) (read_gentle port Sig 0x101 f.idle b f.reads))
 
     -- where a disk was found that isn't served, its way ends so
-    way_shown : (state : PortState) (old new : Device) → FoundBadDisk state → IsOn old → GoesThrough port (Unready state) old new → Shown new
+    pub way_shown : (state : PortState) (old new : Device) → FoundBadDisk state → IsOn old → GoesThrough port (Unready state) old new → Shown new
     way_shown Foreign old new bad on (stopped, stop, boot, early, late) =
         late_shown stopped new (on_over laws (IsOf port) old stopped (stop_driven laws port old stopped stop) (laws.of_spares_ghc port) on) (late tt)
     way_shown (Unfit n) old new bad on (stopped, stop, boot, early, late) = ⊎_elim

@@ -14,7 +14,9 @@ ghost use Rattle.agreement.specs.Links.{HasDeviceOrNone, SameAdapter};
 ghost use Rattle.agreement.specs.Places.{list_of};
 ghost use Rattle.identify.specs.declared.DiskInfo.{DiskInfo};
 ghost use Rattle.identify.specs.declared.wanted.Wanted.{Wanted};
-ghost use Rattle.host_boot.specs.Taken.{FoundBadDisk, LeavesFound, LeavesPorts, StandsBehind, StillStandsBehind, TakesOver, found_of};
+ghost use Rattle.host_boot.specs.Again.{BootsAgain};
+ghost use Rattle.host_boot.specs.Taken.{FoundBadDisk, IsServed, LeavesFound, LeavesPorts, StandsBehind, StillStandsBehind, TakesOver, found_of};
+ghost use Rattle.host_boot.specs.declared.Booted.{Booted};
 ghost use Rattle.host_boot.specs.declared.Found.{Found};
 ghost use Rattle.host_boot.specs.declared.Found.TheVariants.{Unserved, Ready, Unready};
 ghost use Rattle.host_boot.specs.declared.Host.{Host};
@@ -70,6 +72,21 @@ pub fn what_was_taken_over_may_be_served()
 pub fn other_ports_run_well()
     ensures { (port other : Port) (old new : Device) → port.0 ≢ other.0 → IsOn old → IsDrivenBy (IsOf other) old new
         → Undisturbed port.0 old new → RunsWell (old.port port.0) → RunsWell (new.port port.0) }
+{
+    laws_hold();
+}
+
+/// A server may go on with a port that was booted again. The accesses are of the port alone; what stands behind it is what was found; and one that was
+/// found unfit or foreign shows a device, or has no disk in. A port that does so still does after accesses of another port.
+pub fn what_was_booted_again_may_be_served()
+    ensures driven { (wanted : Wanted) (port : Port) (booted : Booted) (old new : Device) → BootsAgain wanted port booted old new
+        → IsDrivenBy (IsOf port) old new }
+    ensures stands { (wanted : Wanted) (port : Port) (booted : Booted) (old new : Device) → BootsAgain wanted port booted old new
+        → IsServed wanted port.0 old → StandsBehind wanted booted.found port.0 new }
+    ensures shown { (wanted : Wanted) (port : Port) (booted : Booted) (state : PortState) (old new : Device) → IsOn old
+        → BootsAgain wanted port booted old new → FoundBadDisk state → booted.found ≡ Unready state → HasDeviceOrNone (new.port port.0) }
+    ensures beside { (port other : Port) (old new : Device) → port.0 ≢ other.0 → IsOn old → IsDrivenBy (IsOf other) old new
+        → HasDeviceOrNone (old.port port.0) → HasDeviceOrNone (new.port port.0) }
 {
     laws_hold();
 }

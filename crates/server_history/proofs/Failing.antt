@@ -1,5 +1,6 @@
 -- A ready port that a look tells a failure of may be recovered.
-use Rattle.std.proofs.Common.{ℕ, ◌≡◌, ◌<◌, ◌%◌, Bool, Some, ap, ◌∙◌, subst, ⊎_elim}
+use Rattle.std.proofs.Common.{ℕ, ◌≡◌, ◌≢◌, ◌<◌, ◌%◌, Bool, true, false, None, Some, sym, ap, ◌∙◌, subst, ⊎_elim}
+use Rattle.std.proofs.lemmas.Bool.{cases_Bool, cases_eq}
 use Rattle.ata_types.specs.declared.Port.{Port}
 use Rattle.ata_types.specs.declared.PortState.TheVariants.{Ready as ReadyState}
 use Rattle.hba_regs.specs.declared.reg.Reg.TheVariants.{Px}
@@ -9,7 +10,7 @@ use Rattle.adapter.specs.Device.{Device}
 use Rattle.adapter.specs.Rules.{IsOn}
 use Rattle.agreement.specs.Driven.{AgreesWith, AnyUse, IsFollowed}
 use Rattle.agreement.specs.Facts.{IsFaulted}
-use Rattle.error_recovery.specs.Recovery.{FitsFor, MayRecover}
+use Rattle.error_recovery.specs.Recovery.{FitsFor, IsAloneIn, MayRecover}
 use Rattle.driver_history.specs.Holds.{Runs}
 use Rattle.host_boot.specs.Taken.{StillStandsBehind, found_of, wanted_of}
 use Rattle.host_boot.specs.declared.Found.{Found}
@@ -18,10 +19,12 @@ use Rattle.port_look.specs.Looks.{IsLooking, LooksAt}
 use Rattle.port_look.specs.declared.Look.TheVariants.{Failed}
 use Rattle.slots.specs.declared.Use.{Use as SlotUse}
 use Rattle.server_history.specs.Below.{LawsBelow}
-use Rattle.server_history.specs.Server.{Server, IsKept, state_of, used_for}
+use Rattle.server_history.specs.Server.{Server, IsKept, StandsAlone, slots_at, state_of, used_for}
+use Rattle.server_history.specs.Recovered.{AreQueued}
+use Rattle.server_history.specs.Served.{IsMaskOf}
 use Rattle.server_history.proofs.Looking.{finding_kept, looking_kept}
 use Rattle.server_history.proofs.Plain.{both_read}
-use Rattle.server_history.proofs.Slots.{free_unused, ready_found, used_or_not}
+use Rattle.server_history.proofs.Slots.{busy_used, free_unused, ready_found, used_or_not}
 
 module _ (laws : LawsBelow) (s : Server) (seen found : Device) (port : Port) (mask done : ℕ) (k : IsKept s) (ready : state_of (found_of s.ports port.0) ≡ ReadyState)
     (l : LooksAt port Failed s.device seen) (looks : IsFollowed (IsLooking port) AnyUse s.device seen) (finds : ReadsDone port mask done seen found) where
@@ -88,3 +91,32 @@ fits_for s port queued k ready kinds = (
       (used_or_not (used_for s.slots port.0 slot))),
   record { machine = k.machine; parked = k.stands.parked; reached = k.reached; knows = k.stands.knows },
 )
+
+-- where a slot has a plain command, so it is of each used one
+one_plain : (s : Server) (port slot other : ℕ) (used its : SlotUse) → IsKept s → used_for s.slots port slot ≡ Some used → used_for s.slots port other ≡ Some its → used.queued ≡ false → its ≡ used
+one_plain s port slot other used its k is there plain = ⊎_elim
+    (λ (same : other ≡ 0).
+    let z : Some its ≡ Some used = sym there ∙ ap (used_for s.slots port) (same ∙ sym alone.0) ∙ is in
+    let e : its ≡ used = cc in e)
+    (λ (ne : other ≢ 0). let z : None ≡ Some its = sym (alone.1 other ne) ∙ there in absurd cc)
+    (cases_eq other 0)
+  where
+    alone : StandsAlone s.slots port slot
+    alone = k.alone port slot used is plain
+
+-- the used slots of a port have queued commands, or plain ones
+pub are_alike : (s : Server) (port : Port) (slot : ℕ) (used : SlotUse) → IsKept s → used_for s.slots port.0 slot ≡ Some used → AreQueued used.queued (slots_at s.slots port.0)
+are_alike s port slot used k is other its there = ⊎_elim
+    (λ (queued : used.queued ≡ true). ⊎_elim
+    (λ (so : its.queued ≡ true). so ∙ sym queued)
+    (λ (plain : its.queued ≡ false). ap (λ (u : SlotUse). u.queued) (sym (one_plain s port.0 other slot its used k there is plain)))
+    (cases_Bool its.queued))
+    (λ (plain : used.queued ≡ false). ap (λ (u : SlotUse). u.queued) (one_plain s port.0 slot other used its k is there plain))
+    (cases_Bool used.queued)
+
+-- of plain ones it is slot 0 alone
+pub is_alone : (s : Server) (port : Port) (queued : Bool) (outstanding : ℕ) → IsKept s → IsMaskOf (slots_at s.slots port.0) outstanding → AreQueued queued (slots_at s.slots port.0)
+    → IsAloneIn queued outstanding
+is_alone s port queued outstanding k its alike plain slot small is =
+    let used = busy_used (used_for s.slots port.0 slot) (sym (its slot small) ∙ is) in
+    (k.alone port.0 slot used.0 used.1 (alike slot used.0 used.1 ∙ plain)).0

@@ -50,3 +50,7 @@ pub mod Faulted
 pub mod Becoming
 pub mod Shown
 pub mod Evident
+pub mod Counted
+pub mod Recovered
+pub mod Remaining
+pub mod Beside

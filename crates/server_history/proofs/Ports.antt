@@ -60,7 +60,7 @@ port_on laws wanted found port old new same on by left silent is =
       behind = behind (found_of found port) left silent is.behind;
       runs = λ ready. runs_on laws.looks (port_at port) old new on by (is.runs ready);
       shown = λ bad. shown_on laws.looks (port_at port) old new on by (is.shown bad);
-      own = λ ready. laws.own_on port by.accesses old new by.all (is.own ready);
+      own = λ ready. laws.recovery.own_on port by.accesses old new by.all (is.own ready);
     }
   where
     behind : (f : Found) → (state_of f ≢ ReadyState → LeavesPort (old.port port) (new.port port)) → (f ≢ Unready Dead → SendsNone port Identify old new)

@@ -20,12 +20,12 @@ abbrev pub AreApart : (port slot other k : ℕ) → Type 0
 AreApart port slot other k = other ≡ port → k ≡ slot → ⊥
 
 -- a byte of the slot's header or table
-abbrev IsWithin : (port slot place : ℕ) → Type 0
+abbrev pub IsWithin : (port slot place : ℕ) → Type 0
 IsWithin port slot place =
     ((40960 * port + 32 * slot ≤ place) × (place < 40960 * port + 32 * slot + 32))
     ⊎ ((40960 * port + 4096 + 1024 * slot ≤ place) × (place < 40960 * port + 4096 + 1024 * slot + 1024))
 
-of_table : (port slot place : ℕ) → IsTable port slot place → IsWithin port slot place
+pub of_table : (port slot place : ℕ) → IsTable port slot place → IsWithin port slot place
 of_table port slot place (inl t) = inl (omega (arith, t.0), omega (arith, t.1))
 of_table port slot place (inr (inl t)) = inl (omega (arith, t.0), omega (arith, t.1))
 of_table port slot place (inr (inr t)) = inr (omega (arith, t.0), omega (arith, t.1))
@@ -34,12 +34,12 @@ of_table port slot place (inr (inr t)) = inr (omega (arith, t.0), omega (arith, 
 abbrev IsBeyond : (port place : ℕ) → Type 0
 IsBeyond port place = (40960 * port + 36864 ≤ place) × (place < 40960 * port + 37376)
 
-of_store : (port slot at place : ℕ) (bytes : List ℕ) → IsTableStore port slot (Storing at bytes) → at ≤ place → place < at + length bytes → IsWithin port slot place
+pub of_store : (port slot at place : ℕ) (bytes : List ℕ) → IsTableStore port slot (Storing at bytes) → at ≤ place → place < at + length bytes → IsWithin port slot place
 of_store port slot at place bytes (inl h) from to = inl (omega (arith, h.0, from), omega (arith, h.0, h.1, to))
 of_store port slot at place bytes (inr t) from to = inr (omega (arith, t.0, from), omega (arith, t.1, to))
 
 -- of two slots none is the other's
-never_both : (port slot other k place : ℕ) → port < 4 → slot < 32 → other < 4 → k < 32 → AreApart port slot other k → IsWithin port slot place → IsWithin other k place → ⊥
+pub never_both : (port slot other k place : ℕ) → port < 4 → slot < 32 → other < 4 → k < 32 → AreApart port slot other k → IsWithin port slot place → IsWithin other k place → ⊥
 never_both port slot other k place a b c d apart x y = ⊎_elim
     (λ (same : other ≡ port). ⊎_elim (λ (its : k ≡ slot). apart same its) (λ (ne : k ≢ slot). same_port same ne x y) (cases_eq k slot))
     (λ (ne : other ≢ port). other_port ne x y)

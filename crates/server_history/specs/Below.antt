@@ -67,6 +67,7 @@ use Rattle.port_look.specs.declared.Look.TheVariants.{Failed, Lost}
 use Rattle.request_queue.specs.Entries.{Held, IsAccepted, IsEarlier, IsFresh, IsInOrder, IsWaiting, MayGoAgain, asks_of, at, issue, requeued as requeued_entry, unanswered_of, without}
 use Rattle.request_queue.specs.declared.Entry.{Entry}
 use Rattle.request_queue.specs.Machine.{IsBook, IsEntry}
+use Rattle.server_history.specs.After.{RecoveryLaws}
 
 pub record LawsBelow : Type 0 where
   -- the book and the machine's
@@ -161,8 +162,8 @@ pub record LawsBelow : Type 0 where
   -- a port that runs does so still
   pub runs_on : (port : Port) (accesses : List Access) (old new : Device) → IsOn old → DoesAll accesses old new → All (SparesRegister Ghc) accesses → All (SparesRegister (Px port Sctl)) accesses → All (SparesRegister (Px port Cmd)) accesses → RunsOn port.0 old new
   pub runs_well : (port : ℕ) (old new : Device) → RunsOn port old new → Undisturbed port old new → RunsWell (old.port port) → RunsWell (new.port port)
-  -- a disk is in where a port shows one
-  pub own_on : (port : ℕ) (accesses : List Access) (old new : Device) → DoesAll accesses old new → ShowsOwnDisk (old.port port) → ShowsOwnDisk (new.port port)
+  -- a port is recovered
+  pub recovery : RecoveryLaws
   -- a port's turn in a call
   pub evidence : (port : Port) (old : Instant Device) (begun : Moment) (ended ports : Ports) (new : Device) (turn call : Evidence) (ask : Ask DeviceStep) (said : Said) → IsOn old.device
       → ((old.moment.ports.state port ≡ Ready) ⊎ Contains turn.lost port → (old.device.port port.0).link_due ≡ false)

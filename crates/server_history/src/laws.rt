@@ -1,5 +1,5 @@
 // Laws of the definitions, for callers: the clause is the theorem. Nothing comes of calling these functions.
-ghost use Rattle.std.specs.Prelude.{ℕ, Bool, true, false, ◌≡◌, ◌≢◌, ◌⊎◌, ◌<◌, ◌≤◌, ◌+◌, ◌*◌, ◌/◌, ◌%◌, List, [], ◌∷◌, Option, Some, None, Ok, Err, length, All, AllPairs, Contains};
+ghost use Rattle.std.specs.Prelude.{ℕ, Bool, true, false, ◌≡◌, ◌≢◌, ◌⊎◌, ◌<◌, ◌≤◌, ◌+◌, ◌*◌, ◌/◌, ◌%◌, List, [], ◌∷◌, Option, Some, None, Ok, Err, length, All, AllPairs, Contains, count_by};
 ghost use Rattle.ata_types.specs.declared.Port.{Port};
 ghost use Rattle.ata_types.specs.declared.PortState.TheVariants.{Dead, Ready as ReadyState};
 ghost use Rattle.ata_types.specs.declared.grant.GrantRow.{GrantRow};
@@ -50,7 +50,12 @@ ghost use Rattle.slots.specs.declared.Use.{Use as SlotUse};
 ghost use Rattle.port_look.specs.Looks.{IsLooking, LooksAt};
 ghost use Rattle.port_look.specs.declared.Look.{Look};
 ghost use Rattle.port_look.specs.declared.Look.TheVariants.{Failed as Fails, Undisturbed as Calm};
-ghost use Rattle.error_recovery.specs.Recovery.{FitsFor, MayRecover};
+ghost use Rattle.error_recovery.specs.Recovery.{FitsFor, IsAloneIn, MayRecover};
+ghost use Rattle.error_recovery.specs.declared.Next.TheVariants.{Restart};
+ghost use Rattle.port_boot.specs.States.{IsBootable};
+ghost use Rattle.port_control.specs.Ports.{IsStopped};
+ghost use Rattle.port_control.specs.declared.Stopped.{Stopped};
+ghost use Rattle.server_history.specs.Recovered.{AreQueued, IsRecovered, requests_of};
 
 use adapter::laws::saying_is_one;
 use agreement::acts::acts_give;
@@ -58,7 +63,8 @@ use agreement::disks::none_comes_in;
 use agreement::giving_up::slots_are_given_up;
 use agreement::laws::{
     answering_agrees, backing_composes, disks_are_told, due_finds_free_slot, going_again_agrees,
-    keeping_agrees, own_steps_are_backed, putting_is_of_one_slot, waiting_has_no_slot,
+    going_composes, keeping_agrees, own_steps_are_backed, putting_is_of_one_slot, slots_are_counted,
+    waiting_has_no_slot,
 };
 use agreement::readying::{readied_stays, stored_stays_over_acts};
 use agreement::stretches::other_ports_are_left;
@@ -68,7 +74,7 @@ use block_machine::laws::{
 };
 use driver_history::laws::{a_turns_evidence_is_the_calls, healthy_ports_are_untroubled};
 use error_recovery::laws::{recovery_is_of_its_port, what_stands_behind_a_fault_stays};
-use host_boot::laws::what_was_taken_over_may_be_served;
+use host_boot::laws::{what_was_booted_again_may_be_served, what_was_taken_over_may_be_served};
 use ncq::laws::{calls_are_of_one_port, finding_is_followed, issuing_performs};
 use port_boot::laws::{a_boot_is_of_its_port, a_disk_is_in_where_one_shows, a_port_runs_on};
 use port_control::laws::what_is_told_of_engines_stays;
@@ -114,7 +120,14 @@ fn the_laws_below_hold()
     calls_are_of_one_port();
     finding_is_followed();
     other_ports_are_left();
+    slots_are_counted();
+    acts_give();
+    going_composes();
+    putting_is_of_one_slot();
+    recovery_is_of_its_port();
+    a_boot_is_of_its_port();
     a_disk_is_in_where_one_shows();
+    what_was_booted_again_may_be_served();
     a_port_runs_on();
     a_turns_evidence_is_the_calls();
     healthy_ports_are_untroubled();
@@ -296,7 +309,22 @@ pub fn a_failed_port_may_be_recovered()
         → LooksAt port Fails s.device seen → IsFollowed (IsLooking port) AnyUse s.device seen → ReadsDone port mask done seen found
         → MayRecover port.0 found }
     ensures agreed { (s : Server) (port : Port) (queued : Bool) → IsKept s → state_of (found_of s.ports port.0) ≡ ReadyState
-        → ((slot : ℕ) (used : SlotUse) → used_for s.slots port.0 slot ≡ Some used → used.queued ≡ queued) → AgreesWith (FitsFor queued port.0) s.device }
+        → AreQueued queued (slots_at s.slots port.0) → AgreesWith (FitsFor queued port.0) s.device }
+    ensures alike { (s : Server) (port : Port) (slot : ℕ) (used : SlotUse) → IsKept s → used_for s.slots port.0 slot ≡ Some used
+        → AreQueued used.queued (slots_at s.slots port.0) }
+    ensures alone { (s : Server) (port : Port) (queued : Bool) (outstanding : ℕ) → IsKept s → IsMaskOf (slots_at s.slots port.0) outstanding
+        → AreQueued queued (slots_at s.slots port.0) → IsAloneIn queued outstanding }
+{
+    the_laws_below_hold();
+}
+
+/// What comes after a recovery. A port that has to be booted may be; and there is a place for the loan of each request of the port that is issued.
+pub fn a_recovered_port_goes_on()
+    ensures bootable { (s mid : Server) (device : Device) (port : Port) (token : Stopped) → IsKept s → state_of (found_of s.ports port.0) ≡ ReadyState
+        → (r : IsRecovered port s mid device) → IsFollowed (IsLooking port) AnyUse s.device r.seen → r.result.next ≡ Restart token
+        → IsBootable port device × IsStopped (device.port port.0) }
+    ensures places { (s : Server) (port : Port) → IsKept s → state_of (found_of s.ports port.0) ≡ ReadyState
+        → (kept_at s.kept port.0 ≡ []) × (count_by (λ (e : Held). e.entry.issued) (requests_of port s.book) ≤ 32) }
 {
     the_laws_below_hold();
 }

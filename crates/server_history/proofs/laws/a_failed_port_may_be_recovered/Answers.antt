@@ -1,4 +1,4 @@
-use Rattle.server_history.proofs.Failing.{fits_for, may_recover}
+use Rattle.server_history.proofs.Failing.{are_alike, fits_for, is_alone, may_recover}
 use Rattle.server_history.proofs.laws.a_failed_port_may_be_recovered.Goals as goal
 
 pub returns-clause-may : goal.returns-clause-may
@@ -6,3 +6,9 @@ returns-clause-may c s seen found port mask done k ready l looks finds = may_rec
 
 pub returns-clause-agreed : goal.returns-clause-agreed
 returns-clause-agreed c s port queued k ready kinds = fits_for s port queued k ready kinds
+
+pub returns-clause-alike : goal.returns-clause-alike
+returns-clause-alike c = are_alike
+
+pub returns-clause-alone : goal.returns-clause-alone
+returns-clause-alone c = is_alone

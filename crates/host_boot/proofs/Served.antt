@@ -1,0 +1,71 @@
+-- What a server has of a port that was booted again, and of the others.
+use Rattle.std.proofs.Common.{ℕ, ◌≡◌, ◌≢◌, ◌∙◌, ap, subst}
+use Rattle.ata_types.specs.declared.Port.{Port}
+use Rattle.ata_types.specs.declared.PortState.{PortState}
+use Rattle.hba_regs.specs.Bits.{bit}
+use Rattle.hba_regs.specs.declared.reg.PortReg.TheVariants.{Sctl}
+use Rattle.hba_regs.specs.declared.reg.Reg.TheVariants.{Cap, Pi}
+use Rattle.adapter.specs.Access.{Access}
+use Rattle.adapter.specs.Access.Access.{Reading, Writing, Loading, Storing}
+use Rattle.adapter.specs.Device.{Device}
+use Rattle.adapter.specs.Rules.{IsOn}
+use Rattle.agreement.specs.Driven.{IsControl, IsDrivenBy, IsOf}
+use Rattle.agreement.specs.Links.{HasDeviceOrNone, SameAdapter}
+use Rattle.identify.specs.declared.wanted.Wanted.{Wanted}
+use Rattle.port_control.specs.Ports.{WritesCommand}
+use Rattle.port_boot.specs.States.{IsOfBoot}
+use Rattle.host_boot.specs.Again.{BootsAgain, BootsStopped}
+use Rattle.host_boot.specs.Laws.{Laws}
+use Rattle.host_boot.specs.Taken.{FoundBadDisk, IsServed, IsSurvey, StandsBehind}
+use Rattle.host_boot.specs.declared.Booted.{Booted}
+use Rattle.host_boot.specs.declared.Found.{Found}
+use Rattle.host_boot.specs.declared.Found.TheVariants.{Unserved, Ready, Unready}
+use Rattle.host_boot.proofs.Booting.{booted_driven}
+use Rattle.host_boot.proofs.Showing.{gently, way_shown}
+use Rattle.host_boot.proofs.Stretching.{by_none, by_then, driven_as, on_over, same_over}
+
+-- what is read of CAP and PI touches no port
+survey_of : (port : Port) (access : Access) → IsSurvey access → IsOf port access
+survey_of port (Reading Cap v) is = tt
+survey_of port (Reading Pi v) is = tt
+survey_of port (Reading r v) is = absurd is
+survey_of port (Writing r v) is = absurd is
+survey_of port (Loading at bytes) is = absurd is
+survey_of port (Storing at bytes) is = absurd is
+
+module _ (laws : Laws) where
+  module _ (wanted : Wanted) (port : Port) (booted : Booted) (old new : Device) (b : BootsAgain wanted port booted old new) where
+    surveyed : IsDrivenBy (IsOf port) old b.asked
+    surveyed = driven_as IsSurvey (IsOf port) old b.asked (survey_of port) b.asks.driven
+
+    its : IsDrivenBy (IsOf port) b.asked new
+    its = driven_as (IsOfBoot port) (IsOf port) b.asked new (laws.of_boot port) (booted_driven laws wanted port booted.found b.asked new b.boots)
+
+    pub again_driven : IsDrivenBy (IsOf port) old new
+    again_driven = by_then laws surveyed its
+
+    pub again_stands : IsServed wanted port.0 old → StandsBehind wanted booted.found port.0 new
+    again_stands served = by booted.found b.boots
+      where
+        same : SameAdapter old new
+        same = same_over laws (IsOf port) old new again_driven
+
+        still : IsServed wanted port.0 new
+        still = (served.0, ap (λ (pi : ℕ). bit pi port.0) same.pi ∙ served.1)
+
+        by : (found : Found) → BootsStopped wanted port found b.asked new → StandsBehind wanted found port.0 new
+        by Unserved none = absurd none
+        by (Ready info) is = (still, is.ready)
+        by (Unready state) is = (still, is.ended)
+
+    pub again_shown : (state : PortState) → IsOn old → FoundBadDisk state → booted.found ≡ Unready state → HasDeviceOrNone (new.port port.0)
+    again_shown state on bad is =
+        let boots : BootsStopped wanted port (Unready state) b.asked new = subst (λ (found : Found). BootsStopped wanted port found b.asked new) is b.boots in
+        let asked : IsOn b.asked = on_over laws (IsOf port) old b.asked surveyed (laws.of_spares_ghc port) on in
+        way_shown laws port state b.asked new bad asked
+        (b.asked, by_none (IsControl WritesCommand port) b.asked, booted_driven laws wanted port (Unready state) b.asked new boots, boots.early, boots.late)
+
+  pub beside_shown : (port other : Port) (old new : Device) → port.0 ≢ other.0 → IsOn old → IsDrivenBy (IsOf other) old new → HasDeviceOrNone (old.port port.0) → HasDeviceOrNone (new.port port.0)
+  beside_shown port other old new apart on driven =
+      gently laws port old new on
+      (driven_as (IsOf other) _ old new (λ access is. (laws.of_spares_ghc other access is, laws.of_spares other port Sctl apart access is)) driven)

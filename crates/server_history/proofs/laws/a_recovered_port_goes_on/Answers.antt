@@ -1,0 +1,9 @@
+use Rattle.server_history.proofs.Counted.{places}
+use Rattle.server_history.proofs.Recovered.{bootable}
+use Rattle.server_history.proofs.laws.a_recovered_port_goes_on.Goals as goal
+
+pub returns-clause-places : goal.returns-clause-places
+returns-clause-places c = places c.the_laws_below_hold.ensures
+
+pub returns-clause-bootable : goal.returns-clause-bootable
+returns-clause-bootable c = λ s mid device port token k ready r looks. bootable c.the_laws_below_hold.ensures port s mid device k ready r looks token
