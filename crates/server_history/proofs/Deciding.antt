@@ -80,7 +80,6 @@ pub record DecidesTurn (port : Port) (replies : List Reply) (old new : Server) (
   pub grounded : AllGrounded evidence steps
   pub tells : Tells steps replies
   pub unplugs : UnplugsAll steps (after m steps)
-  pub disk : HadDisk (moment_of old m) steps (moment_of new (after m steps)) port
   pub keeps : SameDisk (ports_of old) (ports_of new) port ⊎ NoneWaits (after m steps) port
   pub issues : (ports_of new).state port ≡ ReadyState → IssuesDue (mode_in new port) steps (after m steps) port
 
@@ -467,25 +466,8 @@ module _ (laws : LawsBelow) (port : Port) (replies : List Reply) (old new : Serv
         by OtherDisk x = inr (none_waits x)
         by NoEnd x = inl (same_disk a.was (ap (λ (found : Found). disk_of found (Some a.was)) (subst (IsProspect a.was a.found) x a.expects)) refl refl)
 
-    -- where a disk was in once the port was looked at, it was in when the turn began, or one went or came until the masks were read
-    pub had_first : (after m f.early.looked).present port ≡ true → (m.present port ≡ true) ⊎ (list_any (changes_disk port) f.first ≡ true)
-    had_first here = ⊎_elim
-        (λ was. inl was)
-        (λ changes. inr (ap (list_any (changes_disk port)) f.early.first_is ∙ any_append (changes_disk port) f.early.later f.early.looked
-        ∙ or_right (list_any (changes_disk port) f.early.later) (list_any (changes_disk port) f.early.looked) changes))
-        (present_before m port f.early.looked here)
-
-    -- and then so it is of all its steps
-    disk : (m.present port ≡ true) ⊎ (list_any (changes_disk port) f.first ≡ true) → (m.present port ≡ true) ⊎ (list_any (changes_disk port) (z.steps ++ base) ≡ true)
-    disk (inl here) = inl here
-    disk (inr changes) = inr (
-        any_append (changes_disk port) z.steps base ∙ or_right (list_any (changes_disk port) z.steps) (list_any (changes_disk port) base)
-        (any_append (changes_disk port) f.fates (f.middle ++ (answers_in f.ended ++ f.first)) ∙ or_right (list_any (changes_disk port) f.fates) (list_any (changes_disk port) (f.middle ++ (answers_in f.ended ++ f.first)))
-        (any_append (changes_disk port) f.middle (answers_in f.ended ++ f.first) ∙ or_right (list_any (changes_disk port) f.middle) (list_any (changes_disk port) (answers_in f.ended ++ f.first))
-        (any_append (changes_disk port) (answers_in f.ended) f.first ∙ or_right (list_any (changes_disk port) (answers_in f.ended)) (list_any (changes_disk port) f.first) changes))))
-
-    pub decides_turn : (m.present port ≡ true) ⊎ (list_any (changes_disk port) f.first ≡ true) → DecidesTurn port replies old new evidence m
-    decides_turn had = record {
+    pub decides_turn : DecidesTurn port replies old new evidence m
+    decides_turn = record {
       steps = z.steps ++ base;
       may = may-append m z.steps base f.may z.may;
       stands = subst (IsMachineOf new) (sym all_is) z.stands;
@@ -497,7 +479,6 @@ module _ (laws : LawsBelow) (port : Port) (replies : List Reply) (old new : Serv
       grounded = grounded;
       tells = tells;
       unplugs = unplugs;
-      disk = λ shows. disk had;
       keeps = keeps;
       issues = λ is_ready. issues;
     }

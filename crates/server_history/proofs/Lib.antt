@@ -54,3 +54,4 @@ pub mod Counted
 pub mod Recovered
 pub mod Remaining
 pub mod Beside
+pub mod Mending

@@ -55,7 +55,7 @@ ghost use Rattle.error_recovery.specs.declared.Next.TheVariants.{Restart};
 ghost use Rattle.port_boot.specs.States.{IsBootable};
 ghost use Rattle.port_control.specs.Ports.{IsStopped};
 ghost use Rattle.port_control.specs.declared.Stopped.{Stopped};
-ghost use Rattle.server_history.specs.Recovered.{AreQueued, IsRecovered, requests_of};
+ghost use Rattle.server_history.specs.Recovered.{AreQueued, IsRecovered, IsSettledAfter, RecoversPort, requests_of};
 
 use adapter::laws::saying_is_one;
 use agreement::acts::acts_give;
@@ -281,7 +281,8 @@ pub fn looks_keep()
 }
 
 /// How a ready port is served: it is looked at, and that is all where it told of something, or uses no slot; else the slots that it uses are
-/// checked; those that are found done are answered, and what is due then is issued.
+/// checked; those that are found done are answered, and what is due then is issued. Where the look told that a command had failed, the port is
+/// recovered.
 pub fn a_port_is_served()
     ensures told { (s : Server) (seen : Device) (port : Port) (look : Look) → IsSettled s → state_of (found_of s.ports port.0) ≡ ReadyState
         → LooksAt port look s.device seen → IsFollowed (IsLooking port) AnyUse s.device seen → look ≢ Calm → look ≢ Fails
@@ -298,6 +299,9 @@ pub fn a_port_is_served()
         → LooksAt port Calm s.device seen → IsFollowed (IsLooking port) AnyUse s.device seen → IsMaskOf (slots_at s.slots port.0) mask
         → (HasNone mask → ⊥) → ReadsDone port mask done seen found → SeesClear port mask done seen → (HasNone done → ⊥)
         → AnswersDone port done replies (record s { device = found }) new → ServesPort port replies s new }
+    ensures recovered { (s new : Server) (port : Port) (replies : List Reply) → IsSettled s → state_of (found_of s.ports port.0) ≡ ReadyState
+        → (r : RecoversPort port replies s new) → IsFollowed (IsLooking port) AnyUse s.device r.settled.recovered.seen
+        → ServesPort port replies s new × IsSettled new }
 {
     the_laws_below_hold();
 }
@@ -318,13 +322,16 @@ pub fn a_failed_port_may_be_recovered()
     the_laws_below_hold();
 }
 
-/// What comes after a recovery. A port that has to be booted may be; and there is a place for the loan of each request of the port that is issued.
+/// What comes after a recovery. A port that has to be booted may be; there is a place for the loan of each request of the port that is issued; and once
+/// its requests met their fates, the server goes on.
 pub fn a_recovered_port_goes_on()
     ensures bootable { (s mid : Server) (device : Device) (port : Port) (token : Stopped) → IsKept s → state_of (found_of s.ports port.0) ≡ ReadyState
         → (r : IsRecovered port s mid device) → IsFollowed (IsLooking port) AnyUse s.device r.seen → r.result.next ≡ Restart token
         → IsBootable port device × IsStopped (device.port port.0) }
     ensures places { (s : Server) (port : Port) → IsKept s → state_of (found_of s.ports port.0) ≡ ReadyState
         → (kept_at s.kept port.0 ≡ []) × (count_by (λ (e : Held). e.entry.issued) (requests_of port s.book) ≤ 32) }
+    ensures settled { (s new : Server) (port : Port) (later : List Reply) → IsKept s → state_of (found_of s.ports port.0) ≡ ReadyState
+        → (a : IsSettledAfter port later s new) → IsFollowed (IsLooking port) AnyUse s.device a.recovered.seen → IsKept new }
 {
     the_laws_below_hold();
 }

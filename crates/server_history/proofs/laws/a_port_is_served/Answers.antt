@@ -1,3 +1,4 @@
+use Rattle.server_history.proofs.Mending.{recovered, settles}
 use Rattle.server_history.proofs.Serving.{finished, idle, told_trouble, unfinished}
 use Rattle.server_history.proofs.laws.a_port_is_served.Goals as goal
 
@@ -13,3 +14,7 @@ returns-clause-unfinished c s seen new port mask t ready l looks its some done r
 pub returns-clause-finished : goal.returns-clause-finished
 returns-clause-finished c s new seen found port mask done replies t ready l looks its some reads sees was_done answers =
     finished s seen port t ready looks l c.the_laws_below_hold.ensures mask its some new found done replies reads sees was_done answers
+
+pub returns-clause-recovered : goal.returns-clause-recovered
+returns-clause-recovered c s new port replies t ready r looks =
+    (recovered c.the_laws_below_hold.ensures port replies s new t ready r looks, settles c.the_laws_below_hold.ensures port replies s new t ready r looks)

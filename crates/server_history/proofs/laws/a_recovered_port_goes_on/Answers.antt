@@ -1,3 +1,4 @@
+use Rattle.server_history.proofs.Mending.{goes_on}
 use Rattle.server_history.proofs.Counted.{places}
 use Rattle.server_history.proofs.Recovered.{bootable}
 use Rattle.server_history.proofs.laws.a_recovered_port_goes_on.Goals as goal
@@ -7,3 +8,6 @@ returns-clause-places c = places c.the_laws_below_hold.ensures
 
 pub returns-clause-bootable : goal.returns-clause-bootable
 returns-clause-bootable c = λ s mid device port token k ready r looks. bootable c.the_laws_below_hold.ensures port s mid device k ready r looks token
+
+pub returns-clause-settled : goal.returns-clause-settled
+returns-clause-settled c = λ s new port later k ready a looks. goes_on c.the_laws_below_hold.ensures port later s new k ready a looks

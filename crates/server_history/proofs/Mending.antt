@@ -1,0 +1,104 @@
+-- A port's turn in which a command had failed is a part of a service, and leaves the server settled.
+use Rattle.std.proofs.Common.{ℕ, List, ◌≡◌, ◌≢◌, inr, sym, ap, ◌∙◌, subst}
+use Rattle.ata_types.specs.declared.Port.{Port}
+use Rattle.ata_types.specs.declared.PortState.TheVariants.{Ready as ReadyState}
+use Rattle.ata_types.specs.declared.request.Reply.{Reply}
+use Rattle.ata_types.specs.declared.request.RequestId.{RequestId}
+use Rattle.agreement.specs.Driven.{AnyUse, IsFollowed}
+use Rattle.block_machine.specs.Due.{IsDue, NoneDue, of_port}
+use Rattle.block_machine.specs.Histories.{IsReached}
+use Rattle.block_machine.specs.Left.{after}
+use Rattle.block_machine.specs.State.{Machine}
+use Rattle.block_machine.specs.declared.due.Mode.{Mode}
+use Rattle.block_machine.proofs.HistoryLemmas.{reached_more}
+use Rattle.host_boot.specs.Taken.{found_of}
+use Rattle.port_boot.specs.States.{ShowsOwnDisk}
+use Rattle.port_look.specs.Looks.{IsLooking}
+use Rattle.request_queue.specs.Entries.{asks_of, due_ids}
+use Rattle.server_history.specs.Below.{LawsBelow}
+use Rattle.server_history.specs.Recovered.{IsSettledAfter, RecoversPort}
+use Rattle.server_history.specs.Server.{IsKept, IsMachineOf, IsSettled, Server, mode_in, state_of}
+use Rattle.server_history.specs.Turns.{MakesTurn, ServesPort}
+use Rattle.server_history.proofs.Apart.{leaves_others}
+use Rattle.server_history.proofs.Deciding.{DecidesTurn, decides_turn}
+use Rattle.server_history.proofs.Evident.{IsEvident, evident}
+use Rattle.server_history.proofs.Following.{adds_fates}
+use Rattle.server_history.proofs.Looking.{looking_kept}
+use Rattle.server_history.proofs.Recovered.{recovered_kept}
+use Rattle.server_history.proofs.Recovery.{AddsFates}
+use Rattle.server_history.proofs.Rounds.{each_apart, each_settings, settled}
+use Rattle.server_history.proofs.Slots.{ready_found}
+
+-- once its requests met their fates, the server keeps what it keeps
+pub goes_on : LawsBelow → (port : Port) (later : List Reply) (old new : Server) → IsKept old → state_of (found_of old.ports port.0) ≡ ReadyState → (a : IsSettledAfter port later old new)
+    → IsFollowed (IsLooking port) AnyUse old.device a.recovered.seen → IsKept new
+goes_on laws port later old new k ready a looks =
+    let f = adds_fates laws port later old new k ready a looks k.machine k.reached k.stands in
+    recovered_kept laws port later old new k ready a looks _ (reached_more k.machine _ k.reached f.may) f.stands
+
+module _ (laws : LawsBelow) (port : Port) (replies : List Reply) (old new : Server) (t : IsSettled old) (ready : state_of (found_of old.ports port.0) ≡ ReadyState)
+    (r : RecoversPort port replies old new) (looks : IsFollowed (IsLooking port) AnyUse old.device r.settled.recovered.seen) where
+  abbrev k : IsKept old
+  k = t.kept
+
+  kept : IsKept r.mid
+  kept = goes_on laws port r.later old r.mid k ready r.settled looks
+
+  e : IsEvident port replies old new r
+  e = evident laws port replies old new k ready r looks kept
+
+  -- where the port showed a device when it was looked at, a disk was in
+  own : ShowsOwnDisk (r.settled.recovered.seen.port port.0)
+  own = ((looking_kept old r.settled.recovered.seen port k ready laws looks).behind port.0 (ready_found old port.0 k ready).0).own ready
+
+  makes : (m : Machine) → IsReached m → IsMachineOf old m → MakesTurn port replies e.accesses old new m
+  makes m reached is =
+      let d = decides_turn laws port replies old new k ready r looks kept m reached is (adds_fates laws port r.later old r.mid k ready r.settled looks m reached is) in
+      record {
+        steps = d.steps;
+        evidence = _;
+        may = d.may;
+        stands = d.stands;
+        backed = d.backed;
+        own = d.own;
+        belong = d.belong;
+        last = d.last;
+        names = e.names;
+        lawful = d.lawful;
+        grounded = d.grounded;
+        tells = d.tells;
+        unplugs = d.unplugs;
+        becomes = e.becomes;
+        disk = inr (e.had own m is d.steps d.backed);
+        keeps = d.keeps;
+        issues = d.issues;
+        evidenced = e.evidenced m;
+        faults = e.faults;
+        calm = e.calm d.steps;
+      }
+
+  pub recovered : ServesPort port replies old new
+  recovered = record {
+    does = inr r;
+    part = record {
+      accesses = e.accesses;
+      does = e.does;
+      of = e.of;
+      own = e.own;
+      others = e.others;
+      silent = e.silent;
+      makes = makes;
+    };
+  }
+
+  -- nothing is due on another port, as before
+  none_other : (other : Port) → other ≢ port → NoneDue (mode_in r.mid other) (asks_of r.mid.book) other
+  none_other other ne u its due =
+      let ids = due_ids (mode_in r.mid port) port (asks_of r.mid.book) in
+      let number : other.0 ≢ port.0 = λ same. ne (ap (λ (n : ℕ). record { 0 = n }) same) in
+      let mode_is : mode_in r.mid other ≡ mode_in old other = sym (ap (λ (n : Server). mode_in n other) (each_settings laws port ids r.mid new r.issued)) ∙ e.others.modes other.0 number in
+      let book_is : of_port other (asks_of r.mid.book) ≡ of_port other (asks_of old.book) = sym (each_apart laws port ids r.mid new kept.ordered r.issued other ne) ∙ e.others.book other ne in
+      t.issued other u its ((laws.same_due (mode_in old other) other (asks_of r.mid.book) (asks_of old.book) u book_is its).0 (subst (λ (mode : Mode). IsDue mode (asks_of r.mid.book) u) mode_is due))
+
+  pub settles : IsSettled new
+  settles = settled laws port r.mid new kept none_other r.issued
