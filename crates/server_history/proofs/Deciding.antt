@@ -55,7 +55,7 @@ use Rattle.server_history.specs.Turns.{IsOfTurn, moment_of}
 use Rattle.server_history.proofs.Answered.{answered_in, ended_stood, issuing_answers, may_parts, no_answer, no_answer_issuing, told_so, with_ok}
 use Rattle.server_history.proofs.Devices.{devices_belong, devices_lawful}
 use Rattle.server_history.proofs.Fated.{Why, answered_left, deciding_belong, deciding_grounded, deciding_issues_none, deciding_lawful, deciding_own, issuing_belong, none_left, other_ends, why, why_again}
-use Rattle.server_history.proofs.Following.{in_filter, in_ports, mid_kept, mid_ready, unnamed}
+use Rattle.server_history.proofs.Following.{adds_fates, in_filter, in_ports, mid_kept, mid_ready, unnamed}
 use Rattle.server_history.proofs.Joined.{all_pairs_append, answers_append, answers_there}
 use Rattle.server_history.proofs.Making.{answered_permuted, answers_all, device_grounded, device_own, devices_all, devices_answers, issues_all, none_last, told_ordered}
 use Rattle.server_history.proofs.Ordering.{AreDifferent, AreOfPort, answered_id, told_differ, told_in_order}
@@ -209,7 +209,7 @@ module _ (laws : LawsBelow) (port : Port) (replies : List Reply) (old new : Serv
     base_reached : IsReached (after m base)
     base_reached = reached_more m base reached f.may
 
-    z : AreIssued port ids r.mid new (after m base)
+    pub z : AreIssued port ids r.mid new (after m base)
     z = each_issued laws port ids r.mid new k_mid r.issued (after m base) base_reached f.stands
 
     abbrev all : List Step
@@ -476,20 +476,24 @@ module _ (laws : LawsBelow) (port : Port) (replies : List Reply) (old new : Serv
         (present_before m port f.early.looked here)
 
     -- and then so it is of all its steps
-    disk : (m.present port ≡ true) ⊎ (list_any (changes_disk port) f.first ≡ true) → (m.present port ≡ true) ⊎ (list_any (changes_disk port) (z.steps ++ base) ≡ true)
-    disk (inl here) = inl here
-    disk (inr changes) = inr (
+    pub had_disk : (m.present port ≡ true) ⊎ (list_any (changes_disk port) f.first ≡ true) → HadDisk (moment_of old m) (z.steps ++ base) (moment_of new (after m (z.steps ++ base))) port
+    had_disk (inl here) = λ shows. inl here
+    had_disk (inr changes) = λ shows. inr (
         any_append (changes_disk port) z.steps base ∙ or_right (list_any (changes_disk port) z.steps) (list_any (changes_disk port) base)
         (any_append (changes_disk port) f.fates (f.middle ++ (answers_in f.ended ++ f.first)) ∙ or_right (list_any (changes_disk port) f.fates) (list_any (changes_disk port) (f.middle ++ (answers_in f.ended ++ f.first)))
         (any_append (changes_disk port) f.middle (answers_in f.ended ++ f.first) ∙ or_right (list_any (changes_disk port) f.middle) (list_any (changes_disk port) (answers_in f.ended ++ f.first))
         (any_append (changes_disk port) (answers_in f.ended) f.first ∙ or_right (list_any (changes_disk port) (answers_in f.ended)) (list_any (changes_disk port) f.first) changes))))
 
-    pub decides_turn : (m.present port ≡ true) ⊎ (list_any (changes_disk port) f.first ≡ true) → DecidesTurn port replies old new evidence m
+    pub backed : IsBacked old.device new.device m (z.steps ++ base)
+    backed = laws.backed_parts old.device r.mid.device new.device m base z.steps f.backed z.backed
+
+    -- where a disk was in, as `had_disk` has it, or by what backs the steps
+    pub decides_turn : HadDisk (moment_of old m) (z.steps ++ base) (moment_of new (after m (z.steps ++ base))) port → DecidesTurn port replies old new evidence m
     decides_turn had = record {
       steps = z.steps ++ base;
       may = may-append m z.steps base f.may z.may;
       stands = subst (IsMachineOf new) (sym all_is) z.stands;
-      backed = laws.backed_parts old.device r.mid.device new.device m base z.steps f.backed z.backed;
+      backed = backed;
       own = own;
       belong = belong;
       last = last;
@@ -497,7 +501,18 @@ module _ (laws : LawsBelow) (port : Port) (replies : List Reply) (old new : Serv
       grounded = grounded;
       tells = tells;
       unplugs = unplugs;
-      disk = λ shows. disk had;
+      disk = had;
       keeps = keeps;
       issues = λ is_ready. issues;
     }
+
+-- ---- the whole
+
+-- So it is from each machine that stands for the server, where a disk was in as what backs the steps tells.
+pub recovered_decides : LawsBelow → (port : Port) (replies : List Reply) (old new : Server) → IsKept old → state_of (found_of old.ports port.0) ≡ ReadyState → (r : RecoversPort port replies old new)
+    → IsFollowed (IsLooking port) AnyUse old.device r.settled.recovered.seen → IsKept r.mid
+    → ((m : Machine) → IsMachineOf old m → (steps : List Step) → IsBacked old.device new.device m steps → HadDisk (moment_of old m) steps (moment_of new (after m steps)) port)
+    → (m : Machine) → IsReached m → IsMachineOf old m → DecidesTurn port replies old new (evidence_of port r.settled.failed r.settled.prospect r.settled.recovered.result.next) m
+recovered_decides laws port replies old new k ready r looks k_mid had m reached is =
+    let f : AddsFates port r.later old r.mid r.settled m = adds_fates laws port r.later old r.mid k ready r.settled looks m reached is in
+    decides_turn laws port replies old new k ready r looks k_mid m reached is f (had m is _ (backed laws port replies old new k ready r looks k_mid m reached is f))
