@@ -255,19 +255,19 @@ module _ (laws : LawsBelow) (port : Port) (replies : List Reply) (old new : Serv
         by (inl x) =
             let issued = failed_issued x.0 x.1 w.0 there x.2 in
             subst (IsLawful began evidence (ports_of new) e) (sym x.3) (
-            was issued,
-            w.2.issued ∙ issued,
-            subst (λ (failed : Option Failed). Contains (faults_of failed) (record { id = e.request.id; status = x.0.status; error = x.0.error })) (sym x.1)
-            (contains_here _ [] _ (λ i. record { id = (w.2.id ∙ ap (λ (n : ℕ). record { 0 = n }) (sym x.2)) i; status = x.0.status; error = x.0.error })),
-            subst (Contains evidence.stopped) (sym its_port) (stopped_named port a.recovered.result.next (λ stuck. let y : None ≡ Some x.0 = sym (no_way stuck).1 ∙ x.1 in absurd cc)),
+              was issued,
+              w.2.issued ∙ issued,
+              subst (λ (failed : Option Failed). Contains (faults_of failed) (record { id = e.request.id; status = x.0.status; error = x.0.error })) (sym x.1)
+                  (contains_here _ [] _ (λ i. record { id = (w.2.id ∙ ap (λ (n : ℕ). record { 0 = n }) (sym x.2)) i; status = x.0.status; error = x.0.error })),
+              subst (Contains evidence.stopped) (sym its_port) (stopped_named port a.recovered.result.next (λ stuck. let y : None ≡ Some x.0 = sym (no_way stuck).1 ∙ x.1 in absurd cc)),
             )
         by (inr (inl x)) =
             subst (IsLawful began evidence (ports_of new) e) (sym x.3) (
-            was x.1,
-            w.2.issues ∙ x.2,
-            ap (ports_of new).state its_port ∙ same_ready x.0,
-            subst (Contains evidence.stopped) (sym its_port) (same_stopped x.0),
-            subst (SameDisk (ports_of old) (ports_of new)) (sym its_port) (same_shown x.0),
+              was x.1,
+              w.2.issues ∙ x.2,
+              ap (ports_of new).state its_port ∙ same_ready x.0,
+              subst (Contains evidence.stopped) (sym its_port) (same_stopped x.0),
+              subst (SameDisk (ports_of old) (ports_of new)) (sym its_port) (same_shown x.0),
             )
         by (inr (inr (inl x))) =
             subst (IsLawful began evidence (ports_of new) e) (sym x.1) (subst (Contains evidence.lost) (sym its_port) (other_lost x.0), subst (Contains evidence.stopped) (sym its_port) (other_stopped x.0))
