@@ -54,7 +54,7 @@ use Rattle.server_history.specs.Server.{IsKept, IsMachineOf, Server, disk_in, di
 use Rattle.server_history.specs.Turns.{IsOfTurn, moment_of}
 use Rattle.server_history.proofs.Answered.{answered_in, ended_stood, issuing_answers, may_parts, no_answer, no_answer_issuing, told_so, with_ok}
 use Rattle.server_history.proofs.Devices.{devices_belong, devices_lawful}
-use Rattle.server_history.proofs.Fated.{Why, answered_left, deciding_belong, deciding_grounded, deciding_issues_none, deciding_lawful, deciding_own, issuing_belong, none_left, other_ends, why, why_again}
+use Rattle.server_history.proofs.Reasons.{Why, answered_left, deciding_belong, deciding_grounded, deciding_issues_none, deciding_lawful, deciding_own, issuing_belong, none_left, other_ends, why, why_again}
 use Rattle.server_history.proofs.Following.{adds_fates, in_filter, in_ports, mid_kept, mid_ready, unnamed}
 use Rattle.server_history.proofs.Joined.{all_pairs_append, answers_append, answers_there}
 use Rattle.server_history.proofs.Making.{answered_permuted, answers_all, device_grounded, device_own, devices_all, devices_answers, issues_all, none_last, told_ordered}
@@ -67,7 +67,7 @@ use Rattle.server_history.proofs.Slots.{of_ready, ready_found, served_request, s
 use Rattle.server_history.proofs.Turns.{belong_join, grounded_join, lawful_join, present_before}
 use Rattle.server_history.proofs.Zips.{at_left, at_right}
 
--- What a machine that stands for the server makes of the turn by its steps, with this evidence.
+-- What a machine that stands for the server makes of the turn by its steps, with this evidence. (That a disk was in, `had_disk` has of them.)
 pub record DecidesTurn (port : Port) (replies : List Reply) (old new : Server) (evidence : Evidence) (m : Machine) : Type 0 where
   pub steps : List Step
   pub may : AllMay m steps
@@ -80,7 +80,6 @@ pub record DecidesTurn (port : Port) (replies : List Reply) (old new : Server) (
   pub grounded : AllGrounded evidence steps
   pub tells : Tells steps replies
   pub unplugs : UnplugsAll steps (after m steps)
-  pub disk : HadDisk (moment_of old m) steps (moment_of new (after m steps)) port
   pub keeps : SameDisk (ports_of old) (ports_of new) port ⊎ NoneWaits (after m steps) port
   pub issues : (ports_of new).state port ≡ ReadyState → IssuesDue (mode_in new port) steps (after m steps) port
 
@@ -484,12 +483,11 @@ module _ (laws : LawsBelow) (port : Port) (replies : List Reply) (old new : Serv
         (any_append (changes_disk port) f.middle (answers_in f.ended ++ f.first) ∙ or_right (list_any (changes_disk port) f.middle) (list_any (changes_disk port) (answers_in f.ended ++ f.first))
         (any_append (changes_disk port) (answers_in f.ended) f.first ∙ or_right (list_any (changes_disk port) (answers_in f.ended)) (list_any (changes_disk port) f.first) changes))))
 
-    pub backed : IsBacked old.device new.device m (z.steps ++ base)
+    backed : IsBacked old.device new.device m (z.steps ++ base)
     backed = laws.backed_parts old.device r.mid.device new.device m base z.steps f.backed z.backed
 
-    -- where a disk was in, as `had_disk` has it, or by what backs the steps
-    pub decides_turn : HadDisk (moment_of old m) (z.steps ++ base) (moment_of new (after m (z.steps ++ base))) port → DecidesTurn port replies old new evidence m
-    decides_turn had = record {
+    pub decides_turn : DecidesTurn port replies old new evidence m
+    decides_turn = record {
       steps = z.steps ++ base;
       may = may-append m z.steps base f.may z.may;
       stands = subst (IsMachineOf new) (sym all_is) z.stands;
@@ -501,18 +499,15 @@ module _ (laws : LawsBelow) (port : Port) (replies : List Reply) (old new : Serv
       grounded = grounded;
       tells = tells;
       unplugs = unplugs;
-      disk = had;
       keeps = keeps;
       issues = λ is_ready. issues;
     }
 
 -- ---- the whole
 
--- So it is from each machine that stands for the server, where a disk was in as what backs the steps tells.
+-- So it is from each machine that stands for the server.
 pub recovered_decides : LawsBelow → (port : Port) (replies : List Reply) (old new : Server) → IsKept old → state_of (found_of old.ports port.0) ≡ ReadyState → (r : RecoversPort port replies old new)
-    → IsFollowed (IsLooking port) AnyUse old.device r.settled.recovered.seen → IsKept r.mid
-    → ((m : Machine) → IsMachineOf old m → (steps : List Step) → IsBacked old.device new.device m steps → HadDisk (moment_of old m) steps (moment_of new (after m steps)) port)
-    → (m : Machine) → IsReached m → IsMachineOf old m → DecidesTurn port replies old new (evidence_of port r.settled.failed r.settled.prospect r.settled.recovered.result.next) m
-recovered_decides laws port replies old new k ready r looks k_mid had m reached is =
-    let f : AddsFates port r.later old r.mid r.settled m = adds_fates laws port r.later old r.mid k ready r.settled looks m reached is in
-    decides_turn laws port replies old new k ready r looks k_mid m reached is f (had m is _ (backed laws port replies old new k ready r looks k_mid m reached is f))
+    → IsFollowed (IsLooking port) AnyUse old.device r.settled.recovered.seen → IsKept r.mid → (m : Machine) → IsReached m → IsMachineOf old m
+    → DecidesTurn port replies old new (evidence_of port r.settled.failed r.settled.prospect r.settled.recovered.result.next) m
+recovered_decides laws port replies old new k ready r looks k_mid m reached is =
+    decides_turn laws port replies old new k ready r looks k_mid m reached is (adds_fates laws port r.later old r.mid k ready r.settled looks m reached is)
