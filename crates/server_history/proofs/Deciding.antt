@@ -2,7 +2,7 @@
 use Rattle.std.proofs.Common.{ℕ, ◌≡◌, ◌≢◌, ◌⊎◌, ◌<◌, ◌||◌, ◌++◌, Bool, true, false, eq-eqb, eqb-true, List, [], map, Option, Some, None, inl, inr, refl, sym, ap, ◌∙◌, subst, ⊎_elim, arith}
 use Rattle.std.specs.List.{All, AllPairs, Contains, list_any}
 use Rattle.std.specs.List.Sorted.{IsPermutation}
-use Rattle.std.proofs.lemmas.Bool.{false≢true, or_right}
+use Rattle.std.proofs.lemmas.Bool.{false≢true}
 use Rattle.std.proofs.lemmas.List.{append-nil, get_or-set_same, map-append}
 use Rattle.std.proofs.lemmas.List.Elements.{All-append, All-contains, All-contains_itself, All-cons, All-filter, All-map, All-nil, All-weaker, Contains-append_cases, filter_passes}
 use Rattle.std.proofs.lemmas.List.Sorted.{Contains-permutation, IsPermutation-append, IsPermutation-append_comm, IsPermutation-trans}
@@ -16,7 +16,7 @@ use Rattle.adapter.specs.declared.access.DeviceStep.{DeviceStep}
 use Rattle.agreement.specs.Driven.{AnyUse, IsFollowed}
 use Rattle.agreement.specs.Driver.{IsBacked}
 use Rattle.agreement.proofs.Sparing.{found_before, steps_spare}
-use Rattle.block_machine.specs.Events.{AllDevices, AllGrounded, AllLawful, AllMay, Belong, HadDisk, IsIssuedIn, IsLawful, IssuesLast, IsToldBefore, Moment, Service, Tells, UnplugsAll, WasIssued, answers_of, changes_disk, issues_it, reply_of}
+use Rattle.block_machine.specs.Events.{AllDevices, AllGrounded, AllLawful, AllMay, Belong, IsIssuedIn, IsLawful, IssuesLast, IsToldBefore, Moment, Service, Tells, UnplugsAll, WasIssued, answers_of, issues_it, reply_of}
 use Rattle.block_machine.specs.Histories.{IsReached}
 use Rattle.block_machine.specs.Left.{after}
 use Rattle.block_machine.specs.Ports.{Evidence, Ports, SameDisk}
@@ -54,8 +54,8 @@ use Rattle.server_history.specs.Server.{IsKept, IsMachineOf, Server, disk_in, di
 use Rattle.server_history.specs.Turns.{IsOfTurn, moment_of}
 use Rattle.server_history.proofs.Answered.{answered_in, ended_stood, issuing_answers, may_parts, no_answer, no_answer_issuing, told_so, with_ok}
 use Rattle.server_history.proofs.Devices.{devices_belong, devices_lawful}
-use Rattle.server_history.proofs.Fated.{Why, answered_left, deciding_belong, deciding_grounded, deciding_issues_none, deciding_lawful, deciding_own, issuing_belong, none_left, other_ends, why, why_again}
-use Rattle.server_history.proofs.Following.{in_filter, in_ports, mid_kept, mid_ready, unnamed}
+use Rattle.server_history.proofs.Reasons.{Why, answered_left, deciding_belong, deciding_grounded, deciding_issues_none, deciding_lawful, deciding_own, issuing_belong, none_left, other_ends, why, why_again}
+use Rattle.server_history.proofs.Following.{adds_fates, in_filter, in_ports, mid_kept, mid_ready, unnamed}
 use Rattle.server_history.proofs.Joined.{all_pairs_append, answers_append, answers_there}
 use Rattle.server_history.proofs.Making.{answered_permuted, answers_all, device_grounded, device_own, devices_all, devices_answers, issues_all, none_last, told_ordered}
 use Rattle.server_history.proofs.Ordering.{AreDifferent, AreOfPort, answered_id, told_differ, told_in_order}
@@ -64,10 +64,10 @@ use Rattle.server_history.proofs.Recovery.{AddsFates, evidence_of, faults_of, lo
 use Rattle.server_history.proofs.Rounds.{AreIssued, any_append, devices_issue_none, dues, dues_carried, each_issued, each_settings, last_on, lawful_on, or_none}
 use Rattle.server_history.proofs.Serving.{answers_issue_none}
 use Rattle.server_history.proofs.Slots.{of_ready, ready_found, served_request, serves_used}
-use Rattle.server_history.proofs.Turns.{belong_join, grounded_join, lawful_join, present_before}
+use Rattle.server_history.proofs.Turns.{belong_join, grounded_join, lawful_join}
 use Rattle.server_history.proofs.Zips.{at_left, at_right}
 
--- What a machine that stands for the server makes of the turn by its steps, with this evidence.
+-- What a machine that stands for the server makes of the turn by its steps, with this evidence. (That a disk was in, `had_disk` has of them.)
 pub record DecidesTurn (port : Port) (replies : List Reply) (old new : Server) (evidence : Evidence) (m : Machine) : Type 0 where
   pub steps : List Step
   pub may : AllMay m steps
@@ -208,7 +208,7 @@ module _ (laws : LawsBelow) (port : Port) (replies : List Reply) (old new : Serv
     base_reached : IsReached (after m base)
     base_reached = reached_more m base reached f.may
 
-    z : AreIssued port ids r.mid new (after m base)
+    pub z : AreIssued port ids r.mid new (after m base)
     z = each_issued laws port ids r.mid new k_mid r.issued (after m base) base_reached f.stands
 
     abbrev all : List Step
@@ -254,19 +254,19 @@ module _ (laws : LawsBelow) (port : Port) (replies : List Reply) (old new : Serv
         by (inl x) =
             let issued = failed_issued x.0 x.1 w.0 there x.2 in
             subst (IsLawful began evidence (ports_of new) e) (sym x.3) (
-            was issued,
-            w.2.issued ∙ issued,
-            subst (λ (failed : Option Failed). Contains (faults_of failed) (record { id = e.request.id; status = x.0.status; error = x.0.error })) (sym x.1)
-            (contains_here _ [] _ (λ i. record { id = (w.2.id ∙ ap (λ (n : ℕ). record { 0 = n }) (sym x.2)) i; status = x.0.status; error = x.0.error })),
-            subst (Contains evidence.stopped) (sym its_port) (stopped_named port a.recovered.result.next (λ stuck. let y : None ≡ Some x.0 = sym (no_way stuck).1 ∙ x.1 in absurd cc)),
+              was issued,
+              w.2.issued ∙ issued,
+              subst (λ (failed : Option Failed). Contains (faults_of failed) (record { id = e.request.id; status = x.0.status; error = x.0.error })) (sym x.1)
+                  (contains_here _ [] _ (λ i. record { id = (w.2.id ∙ ap (λ (n : ℕ). record { 0 = n }) (sym x.2)) i; status = x.0.status; error = x.0.error })),
+              subst (Contains evidence.stopped) (sym its_port) (stopped_named port a.recovered.result.next (λ stuck. let y : None ≡ Some x.0 = sym (no_way stuck).1 ∙ x.1 in absurd cc)),
             )
         by (inr (inl x)) =
             subst (IsLawful began evidence (ports_of new) e) (sym x.3) (
-            was x.1,
-            w.2.issues ∙ x.2,
-            ap (ports_of new).state its_port ∙ same_ready x.0,
-            subst (Contains evidence.stopped) (sym its_port) (same_stopped x.0),
-            subst (SameDisk (ports_of old) (ports_of new)) (sym its_port) (same_shown x.0),
+              was x.1,
+              w.2.issues ∙ x.2,
+              ap (ports_of new).state its_port ∙ same_ready x.0,
+              subst (Contains evidence.stopped) (sym its_port) (same_stopped x.0),
+              subst (SameDisk (ports_of old) (ports_of new)) (sym its_port) (same_shown x.0),
             )
         by (inr (inr (inl x))) =
             subst (IsLawful began evidence (ports_of new) e) (sym x.1) (subst (Contains evidence.lost) (sym its_port) (other_lost x.0), subst (Contains evidence.stopped) (sym its_port) (other_stopped x.0))
@@ -482,3 +482,12 @@ module _ (laws : LawsBelow) (port : Port) (replies : List Reply) (old new : Serv
       keeps = keeps;
       issues = λ is_ready. issues;
     }
+
+-- ---- the whole
+
+-- So it is from each machine that stands for the server.
+pub recovered_decides : LawsBelow → (port : Port) (replies : List Reply) (old new : Server) → IsKept old → state_of (found_of old.ports port.0) ≡ ReadyState → (r : RecoversPort port replies old new)
+    → IsFollowed (IsLooking port) AnyUse old.device r.settled.recovered.seen → IsKept r.mid → (m : Machine) → IsReached m → IsMachineOf old m
+    → DecidesTurn port replies old new (evidence_of port r.settled.failed r.settled.prospect r.settled.recovered.result.next) m
+recovered_decides laws port replies old new k ready r looks k_mid m reached is =
+    decides_turn laws port replies old new k ready r looks k_mid m reached is (adds_fates laws port r.later old r.mid k ready r.settled looks m reached is)

@@ -55,7 +55,7 @@ use Rattle.server_history.proofs.Joined.{first_or_later, nowhere}
 use Rattle.server_history.proofs.Keeping.{none_alive}
 use Rattle.server_history.proofs.Looking.{finding_kept, found_over, looking_kept}
 use Rattle.server_history.proofs.Meeting.{in_loans, loans_in, meet, tame}
-use Rattle.server_history.proofs.Passing.{IsPassed, devices_both, passed}
+use Rattle.server_history.proofs.Leading.{IsPassed, devices_both, passed}
 use Rattle.server_history.proofs.Recovery.{AddsFates}
 use Rattle.server_history.proofs.Serving.{finds_serve, followed_steps, looks_serve}
 use Rattle.server_history.proofs.Settling.{AreAnswered, answers_kept, answers_settings, each_answered}

@@ -38,10 +38,10 @@ pub mod Making
 pub mod Meeting
 pub mod Failing
 pub mod Recovery
-pub mod Passing
+pub mod Leading
 pub mod Following
 pub mod Ordering
-pub mod Fated
+pub mod Reasons
 pub mod Deciding
 pub mod Recovering
 pub mod Apart

@@ -3,11 +3,9 @@ use Rattle.std.proofs.Common.{ℕ, List, ◌≡◌, ◌≢◌, inr, sym, ap, ◌
 use Rattle.ata_types.specs.declared.Port.{Port}
 use Rattle.ata_types.specs.declared.PortState.TheVariants.{Ready as ReadyState}
 use Rattle.ata_types.specs.declared.request.Reply.{Reply}
-use Rattle.ata_types.specs.declared.request.RequestId.{RequestId}
 use Rattle.agreement.specs.Driven.{AnyUse, IsFollowed}
 use Rattle.block_machine.specs.Due.{IsDue, NoneDue, of_port}
 use Rattle.block_machine.specs.Histories.{IsReached}
-use Rattle.block_machine.specs.Left.{after}
 use Rattle.block_machine.specs.State.{Machine}
 use Rattle.block_machine.specs.declared.due.Mode.{Mode}
 use Rattle.block_machine.proofs.HistoryLemmas.{reached_more}
@@ -19,13 +17,11 @@ use Rattle.server_history.specs.Below.{LawsBelow}
 use Rattle.server_history.specs.Recovered.{IsSettledAfter, RecoversPort}
 use Rattle.server_history.specs.Server.{IsKept, IsMachineOf, IsSettled, Server, mode_in, state_of}
 use Rattle.server_history.specs.Turns.{MakesTurn, ServesPort}
-use Rattle.server_history.proofs.Apart.{leaves_others}
-use Rattle.server_history.proofs.Deciding.{DecidesTurn, decides_turn}
+use Rattle.server_history.proofs.Deciding.{recovered_decides}
 use Rattle.server_history.proofs.Evident.{IsEvident, evident}
 use Rattle.server_history.proofs.Following.{adds_fates}
 use Rattle.server_history.proofs.Looking.{looking_kept}
 use Rattle.server_history.proofs.Recovered.{recovered_kept}
-use Rattle.server_history.proofs.Recovery.{AddsFates}
 use Rattle.server_history.proofs.Rounds.{each_apart, each_settings, settled}
 use Rattle.server_history.proofs.Slots.{ready_found}
 
@@ -53,7 +49,7 @@ module _ (laws : LawsBelow) (port : Port) (replies : List Reply) (old new : Serv
 
   makes : (m : Machine) → IsReached m → IsMachineOf old m → MakesTurn port replies e.accesses old new m
   makes m reached is =
-      let d = decides_turn laws port replies old new k ready r looks kept m reached is (adds_fates laws port r.later old r.mid k ready r.settled looks m reached is) in
+      let d = recovered_decides laws port replies old new k ready r looks kept m reached is in
       record {
         steps = d.steps;
         evidence = _;

@@ -54,7 +54,7 @@ use Rattle.driver_history.specs.Evidence.{HasErrors, HasFatalErrors, IsEvidenced
 use Rattle.error_recovery.specs.Evidence.{BringsLog, HasFailed}
 use Rattle.driver_history.specs.Histories.{LosesNoTrouble}
 use Rattle.driver_history.specs.Parts.{HasTurnIn, NamesAlike, all_of}
-use Rattle.port_boot.specs.States.{RunsOn, ShowsOwnDisk, IsOfBoot}
+use Rattle.port_boot.specs.States.{RunsOn, IsOfBoot}
 use Rattle.port_control.specs.Engines.{Falls, Sticks}
 use Rattle.error_recovery.specs.Recovery.{IsRecovering}
 use Rattle.ncq.specs.Masks.{ReadsDone, IsFinding}
