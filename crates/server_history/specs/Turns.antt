@@ -13,7 +13,7 @@ use Rattle.agreement.specs.Driven.{IsDrivenBy, IsOf, SendsNone}
 use Rattle.agreement.specs.Driver.{IsBacked}
 use Rattle.block_machine.specs.Events.{AllGrounded, AllLawful, AllMay, Belong, HadDisk, IsDevices, IssuesLast, Moment, Served, Service, Tells, UnplugsAll}
 use Rattle.block_machine.specs.Due.{of_port}
-use Rattle.block_machine.specs.Histories.{Instant, IsReached}
+use Rattle.block_machine.specs.Histories.{Happening, Instant, IsReached}
 use Rattle.block_machine.specs.Left.{after}
 use Rattle.block_machine.specs.Ports.{Evidence, Fault, IsInterrupted, IsServiced, SameDisk, SamePort}
 use Rattle.block_machine.specs.State.{Machine}
@@ -21,7 +21,8 @@ use Rattle.block_machine.specs.Steps.{Step, Again, Answer, Issue}
 use Rattle.driver_history.specs.Evidence.{IsEvidencedOf, StaysHealthy}
 use Rattle.error_recovery.specs.Evidence.{BringsLog, HasFailed}
 use Rattle.error_log.specs.Log.{TellsError}
-use Rattle.driver_history.specs.Histories.{IssuesDue}
+use Rattle.driver_history.specs.Guard.{IsAskedOf}
+use Rattle.driver_history.specs.Histories.{IssuesDue, TiesPort}
 use Rattle.driver_history.specs.Holds.{NoneWaits}
 use Rattle.driver_history.specs.Trace.{IsDriversOwn, ReadsMasks}
 use Rattle.host_boot.specs.Taken.{found_of}
@@ -104,6 +105,18 @@ pub record IsCalmTurn (port : Port) (replies : List Reply) (accesses : List Acce
       → (old.device.port port.0).sact slot ≡ false → IsAnsweredIn used.id replies
 
 -- ---- a turn
+
+-- a turn, as though it were a service of its own
+abbrev pub turn_of : List Reply → Server → Evidence → List Step → Happening Device DeviceStep
+turn_of replies new evidence steps = record {
+  event = record { ask = Service; said = Served replies; evidence = evidence; steps = steps; ports = ports_of new };
+  device = new.device;
+}
+
+-- As such it has done of its port, if that is asked, what a call does of a port.
+abbrev pub TiesTurn : Port → List Reply → List Access → Server → Server → Machine → Evidence → List Step → Type 0
+TiesTurn port replies accesses old new m evidence steps =
+    IsAskedOf port (instant_of old m) new.device → TiesPort (instant_of old m) (turn_of replies new evidence steps) accesses port
 
 -- What a turn that made these accesses and said these replies has made of the machine: its steps may come, and lead to a machine that stands for
 -- the new server; the tape backs them; and they are the device's own, or of requests of the port. Its evidence names the port alone, and is
