@@ -3,7 +3,7 @@ use Rattle.std.proofs.Common.{ℕ, ◌≡◌, ◌≢◌, true, List, refl, sym, 
 use Rattle.std.specs.List.{All, Contains, list_any}
 use Rattle.std.proofs.lemmas.Bool.{false≢true}
 use Rattle.std.proofs.lemmas.List.{append_cancel_left}
-use Rattle.std.proofs.lemmas.List.Elements.{All-contains, Contains-append_right}
+use Rattle.std.proofs.lemmas.List.Elements.{All-contains, All-weaker, Contains-append_right}
 use Rattle.ata_types.specs.declared.Port.{Port}
 use Rattle.ata_types.specs.declared.PortState.TheVariants.{Ready}
 use Rattle.adapter.specs.Device.{Device, PortState}
@@ -23,6 +23,7 @@ use Rattle.identify.specs.declared.wanted.Wanted.{Wanted}
 use Rattle.driver_history.specs.Claims.{IsSpared}
 use Rattle.driver_history.specs.Evidence.{Gains, HasErrors, HasFatalErrors, IsEvidencedOf, IsGone, ShowsFailure, StaysHealthy}
 use Rattle.error_recovery.specs.Evidence.{GainsRunning, ShowsFatal}
+use Rattle.driver_history.specs.Guard.{IsAskedOf}
 use Rattle.driver_history.specs.Histories.{LosesNoTrouble, Ties}
 use Rattle.driver_history.specs.Trace.{LeavesEngine}
 
@@ -99,6 +100,20 @@ untroubled evidence old ports new port healthy = record {
       (λ change. ⊎_elim (λ n. false≢true (sym healthy.well.quiet.serr_n ∙ n)) (λ x. false≢true (sym healthy.well.quiet.serr_x ∙ x)) change)
       (none_gained port.0 (IsPlugging port.0) old.device new (plugging_disturbs port.0) healthy.undisturbed)
       trouble);
+}
+
+none_of : (port : ℕ) (Such : Entry → Type 0) (old new : Device) → ((e : Entry) → Such e → IsDisturbance port e) → (u : Undisturbed port old new) → All (λ e. Such e → ⊥) u.gained
+none_of port Such old new disturbs u = All-weaker (λ e. IsDisturbance port e → ⊥) (λ e. Such e → ⊥) (λ e calm is. calm (disturbs e is)) u.gained u.calm
+
+-- a ready port that stays healthy is one of which the call's part is asked
+pub healthy_asked : (port : Port) (old : Instant Device) (new : Device) → old.moment.ports.state port ≡ Ready → StaysHealthy port.0 old.device new → IsAskedOf port old new
+healthy_asked port old new ready healthy = record {
+  ready = ready;
+  fatal = no_fatal (old.device.port port.0) healthy.well.quiet;
+  change = λ change. ⊎_elim (λ n. false≢true (sym healthy.well.quiet.serr_n ∙ n)) (λ x. false≢true (sym healthy.well.quiet.serr_x ∙ x)) change;
+  device = healthy.well.det;
+  unbroken = record { gained = healthy.undisturbed.gained; tape = healthy.undisturbed.tape; none = none_of port.0 (IsFatalOf port.0) old.device new (fatal_disturbs port.0) healthy.undisturbed };
+  plugged = record { gained = healthy.undisturbed.gained; tape = healthy.undisturbed.tape; none = none_of port.0 (IsPlugging port.0) old.device new (plugging_disturbs port.0) healthy.undisturbed };
 }
 
 -- nothing of what trouble is named for is so of it

@@ -8,3 +8,6 @@ pub mod Resting
 pub mod Standing
 pub mod Healthy
 pub mod Parting
+pub mod Losing
+pub mod Within
+pub mod Turned

@@ -1,16 +1,14 @@
 -- What stands behind a port's evidence in its own turn stands behind it in the whole call.
-use Rattle.std.proofs.Common.{ℕ, ◌≡◌, ◌≢◌, ◌⊎◌, ◌≤◌, ◌++◌, true, false, List, [], ◌∷◌, refl, sym, ap, ◌∙◌, subst, inl, inr, ⊎_elim, append_assoc, arith, drop}
+use Rattle.std.proofs.Common.{ℕ, ◌≡◌, ◌≢◌, ◌⊎◌, ◌++◌, true, false, List, [], ◌∷◌, refl, sym, ap, ◌∙◌, subst, inl, inr, ⊎_elim, append_assoc, arith, drop}
 use Rattle.std.specs.List.{All, Contains}
 use Rattle.std.proofs.lemmas.Bool.{cases_Bool, cases_eq, false≢true}
 use Rattle.std.proofs.lemmas.List.Elements.{All-append, All-cons, All-head, All-nil, All-tail, All-weaker, Contains-append_left, Contains-append_right}
 use Rattle.ata_types.specs.declared.Port.{Port}
 use Rattle.ata_types.specs.declared.PortState.TheVariants.{Ready}
-use Rattle.hba_regs.specs.declared.reg.Reg.{Reg}
-use Rattle.hba_regs.specs.declared.reg.Reg.TheVariants.{Ghc, Px}
-use Rattle.hba_regs.specs.declared.reg.PortReg.{PortReg}
 use Rattle.hba_regs.specs.declared.reg.PortReg.TheVariants.{Cmd, Sctl}
+use Rattle.hba_regs.specs.declared.reg.PortReg.TheVariants as register
 use Rattle.adapter.specs.Access.{Access, Does, DoesAll}
-use Rattle.adapter.specs.Device.{PortState, Device}
+use Rattle.adapter.specs.Device.{Device}
 use Rattle.adapter.specs.Rules.{IsOn}
 use Rattle.adapter.specs.declared.access.DeviceStep.{DeviceStep}
 use Rattle.adapter.specs.declared.tape.Entry.{Entry}
@@ -19,13 +17,12 @@ use Rattle.adapter.specs.declared.tape.Fault as tape_fault
 use Rattle.adapter.specs.declared.command.Operation.TheVariants.{ReadLog}
 use Rattle.agreement.specs.Driven.{IsDrivenBy, IsOf, Grows, LeavesPort, SendsNone}
 use Rattle.agreement.specs.Slots.{IsMove}
-use Rattle.agreement.specs.Errors.{ChangesByDisks, ChangesByErrors, IsFatalOf, NoneComes, NoneFails, NoneFatal}
+use Rattle.agreement.specs.Errors.{ChangesByDisks, ChangesByErrors, IsFatalOf, NoneFails}
 use Rattle.agreement.specs.Facts.{IsFaultOf}
-use Rattle.agreement.specs.Links.{ComesUp, IsPlugging, LeavesLink, PlugsNone, SameLink, SparesRegister}
+use Rattle.agreement.specs.Links.{ComesUp, IsPlugging, PlugsNone, SameLink}
 use Rattle.block_machine.specs.Events.{Ask, Moment, Said}
 use Rattle.block_machine.specs.Histories.{Instant}
-use Rattle.block_machine.specs.Ports.{Ports, SamePort, SameDisk, Evidence, IsInterrupted}
-use Rattle.port_control.specs.Engines.{Falls, Sticks, Stops}
+use Rattle.block_machine.specs.Ports.{Ports, SamePort, Evidence, IsInterrupted}
 use Rattle.driver_history.specs.Evidence.{Gains, HasErrors, HasFatalErrors, IsEvidencedOf, IsGone, IsLost, ShowsChange, ShowsFailure, ShowsLoss}
 use Rattle.error_recovery.specs.Evidence.{BringsLog, HasFailed, ShowsFatal}
 use Rattle.driver_history.specs.Laws.{Laws}
@@ -35,7 +32,7 @@ use Rattle.driver_history.specs.Trace.{LeavesCommand, LeavesEngine}
 -- ---- entries of a kind, or none
 
 -- the tape gained one of these, or none
-GainsOrNone : (Is : Entry → Type 0) (old new : Device) → Type 0
+unfoldable pub GainsOrNone : (Is : Entry → Type 0) (old new : Device) → Type 0
 GainsOrNone Is old new = Gains Is old new ⊎ ((gained : List Entry) × (new.tape ≡ old.tape ++ gained) × All (λ e. Is e → ⊥) gained)
 
 one_or_none : (Is : Entry → Type 0) → ((e : Entry) → Is e ⊎ (Is e → ⊥)) → (gained : List Entry) → ((e : Entry) × Contains gained e × Is e) ⊎ All (λ e. Is e → ⊥) gained
@@ -48,7 +45,7 @@ one_or_none Is decides (e ∷ gained) = ⊎_elim
     (one_or_none Is decides gained))
     (decides e)
 
-gains_or_none : (Is : Entry → Type 0) → ((e : Entry) → Is e ⊎ (Is e → ⊥)) → (old new : Device) → Grows old new → GainsOrNone Is old new
+pub gains_or_none : (Is : Entry → Type 0) → ((e : Entry) → Is e ⊎ (Is e → ⊥)) → (old new : Device) → Grows old new → GainsOrNone Is old new
 unfolding GainsOrNone
 gains_or_none Is decides old new grows = ⊎_elim
     (λ found. inl (record { gained = grows.0; tape = grows.1; entry = found.0; here = found.1; is = found.2 }))
@@ -64,7 +61,7 @@ is_plugging port (entry.Done x) = inr (λ is. is)
 is_plugging port (entry.Fault x) = inr (λ is. is)
 is_plugging port (entry.Fatal x) = inr (λ is. is)
 
-is_fault : (port : ℕ) (e : Entry) → IsFaultOf port e ⊎ (IsFaultOf port e → ⊥)
+pub is_fault : (port : ℕ) (e : Entry) → IsFaultOf port e ⊎ (IsFaultOf port e → ⊥)
 is_fault port (entry.Fault x) = cases_eq x.port.0 port
 is_fault port (entry.Unplug at) = inr (λ is. is)
 is_fault port (entry.Plug at name) = inr (λ is. is)
@@ -83,7 +80,7 @@ is_fatal port (entry.Done x) = inr (λ is. is)
 is_fatal port (entry.Fault x) = inr (λ is. is)
 
 -- what a part of a call gained, the call did
-gains_within : (Is : Entry → Type 0) (old start end new : Device) → Grows old start → Grows end new → Gains Is start end → Gains Is old new
+pub gains_within : (Is : Entry → Type 0) (old start end new : Device) → Grows old start → Grows end new → Gains Is start end → Gains Is old new
 gains_within Is old start end new first last g = record {
   gained = first.0 ++ (g.gained ++ last.0);
   tape = last.1 ∙ ap (λ (tape : List Entry). tape ++ last.0) (g.tape ∙ ap (λ (tape : List Entry). tape ++ g.gained) first.1)
@@ -97,19 +94,21 @@ gains_within Is old start end new first last g = record {
 
 module _ (laws : Laws) (port : Port) where
   -- What is left of the port by accesses of others: the adapter is on; the port is left to its device; and its errors rise by errors alone.
-  record IsLeft (old new : Device) : Type 0 where
-    on : IsOn new
-    leaves : LeavesPort (old.port port.0) (new.port port.0)
-    grows : Grows old new
-    errors : ChangesByErrors port.0 old new
-    undue : (old.port port.0).link_due ≡ false → (new.port port.0).link_due ≡ false
-    disks : (old.port port.0).link_due ≡ false → ChangesByDisks port.0 old new
-    shows : (old.port port.0).link_due ≡ false → PlugsNone port.0 old new → (new.port port.0).ssts_det ≡ (old.port port.0).ssts_det
+  pub record IsLeft (old new : Device) : Type 0 where
+    pub on : IsOn new
+    pub leaves : LeavesPort (old.port port.0) (new.port port.0)
+    pub grows : Grows old new
+    pub errors : ChangesByErrors port.0 old new
+    pub undue : (old.port port.0).link_due ≡ false → (new.port port.0).link_due ≡ false
+    pub disks : (old.port port.0).link_due ≡ false → ChangesByDisks port.0 old new
+    pub shows : (old.port port.0).link_due ≡ false → PlugsNone port.0 old new → (new.port port.0).ssts_det ≡ (old.port port.0).ssts_det
+    pub fresh : (old.port port.0).link_due ≡ false → PlugsNone port.0 old new → (new.port port.0).fresh ≡ (old.port port.0).fresh
+    pub faults : (new.port port.0).is 30 ≡ false → ((old.port port.0).is 30 ≡ false) × NoneFails port.0 old new
 
-  errors_none : (d : Device) → ChangesByErrors port.0 d d
+  pub errors_none : (d : Device) → ChangesByErrors port.0 d d
   errors_none d = record { fatal = λ none place low high is. is; fault = λ none is. is }
 
-  errors_more : (old mid new : Device) → Grows old mid → Grows mid new → ChangesByErrors port.0 old mid → ChangesByErrors port.0 mid new → ChangesByErrors port.0 old new
+  pub errors_more : (old mid new : Device) → Grows old mid → Grows mid new → ChangesByErrors port.0 old mid → ChangesByErrors port.0 mid new → ChangesByErrors port.0 old new
   errors_more old mid new first last a b = record {
     fatal = λ none place low high is.
         let parts = laws.fatal_parts port.0 old mid new first.0 last.0 first.1 last.1 none in
@@ -133,9 +132,14 @@ module _ (laws : Laws) (port : Port) where
             (λ (same : SameLink (old.port port.0) (new.port port.0)). same.det)
             (λ (up : ComesUp (old.port port.0) (new.port port.0)). absurd (false≢true (sym undue ∙ up.due)))
             (laws.link port access old new on.no_reset (laws.spares other port Sctl apart access of) does none);
+        fresh = λ undue none. ⊎_elim
+            (λ (same : SameLink (old.port port.0) (new.port port.0)). same.fresh)
+            (λ (up : ComesUp (old.port port.0) (new.port port.0)). absurd (false≢true (sym undue ∙ up.due)))
+            (laws.link port access old new on.no_reset (laws.spares other port Sctl apart access of) does none);
+        faults = λ clear. laws.shown port access old new on.no_reset (laws.spares other port register.Is apart access of) does clear;
       }
 
-  others_leave : (accesses : List Access) (old new : Device) → IsOn old → DoesAll accesses old new → All (IsOfOther port) accesses → IsLeft old new
+  pub others_leave : (accesses : List Access) (old new : Device) → IsOn old → DoesAll accesses old new → All (IsOfOther port) accesses → IsLeft old new
   others_leave [] old new on same of = subst (IsLeft old) (sym same) (record {
     on = on;
     leaves = laws.left_none (old.port port.0);
@@ -144,6 +148,8 @@ module _ (laws : Laws) (port : Port) where
     undue = λ undue. undue;
     disks = λ undue. laws.disks_none port.0 old;
     shows = λ undue none. refl;
+    fresh = λ undue none. refl;
+    faults = λ clear. (clear, laws.fails_none port.0 old);
   })
   others_leave (access ∷ accesses) old new on (mid, does, rest) of =
       let a = one_left access old mid on (All-head (IsOfOther port) access accesses of) does in
@@ -158,15 +164,19 @@ module _ (laws : Laws) (port : Port) where
         shows = λ undue none.
             let parts = laws.plugs_parts port.0 old mid new a.grows.0 b.grows.0 a.grows.1 b.grows.1 none in
             b.shows (a.undue undue) parts.1 ∙ a.shows undue parts.0;
+        fresh = λ undue none.
+            let parts = laws.plugs_parts port.0 old mid new a.grows.0 b.grows.0 a.grows.1 b.grows.1 none in
+            b.fresh (a.undue undue) parts.1 ∙ a.fresh undue parts.0;
+        faults = λ clear. let y = b.faults clear in let z = a.faults y.0 in (z.0, laws.fails_more port.0 old mid new z.1 y.1);
       }
 
   -- they write neither PxCMD nor PxSCTL of it
-  others_leave_engine : (accesses : List Access) → All (IsOfOther port) accesses → All (LeavesEngine port) accesses
+  pub others_leave_engine : (accesses : List Access) → All (IsOfOther port) accesses → All (LeavesEngine port) accesses
   others_leave_engine accesses of =
       All-weaker (IsOfOther port) (LeavesEngine port) (λ access x. (laws.spares x.0 port Cmd x.1 access x.2, laws.spares x.0 port Sctl x.1 access x.2)) accesses of
 
   -- the tape gains over accesses
-  grows_over : (accesses : List Access) (old new : Device) → DoesAll accesses old new → Grows old new
+  pub grows_over : (accesses : List Access) (old new : Device) → DoesAll accesses old new → Grows old new
   grows_over [] old new same = subst (Grows old) (sym same) (laws.grows_none old)
   grows_over (access ∷ accesses) old new (mid, does, rest) = laws.grows_more old mid new (laws.grows_access access old mid does) (grows_over accesses mid new rest)
 

@@ -7,6 +7,7 @@ use Rattle.hba_regs.specs.declared.reg.Reg.TheVariants.{Ghc, Px}
 use Rattle.hba_regs.specs.declared.reg.PortReg.TheVariants.{Cmd, Sctl, Sact, Ci}
 use Rattle.adapter.specs.Access.{Access}
 use Rattle.adapter.specs.Access.Access.{Reading, Writing, Loading, Storing}
+use Rattle.agreement.specs.Facts.{ClearsNoTrouble}
 use Rattle.agreement.specs.Links.{SparesRegister}
 
 -- ---- what one access is
@@ -18,6 +19,11 @@ LeavesCommand port access = SparesRegister (Px port Cmd) access
 -- nor PxSCTL: so it doesn't reset its link either
 abbrev pub LeavesEngine : Port → Access → Type 0
 LeavesEngine port access = LeavesCommand port access × SparesRegister (Px port Sctl) access
+
+-- the access clears no bit that tells of the port's trouble
+abbrev pub ClearsNone : Port → Access → Type 0
+ClearsNone port (Writing r v) = ClearsNoTrouble port r v
+ClearsNone port access = Unit {0}
 
 -- The driver's own stores lie in its frames, and so does what it loads. Registers are left to the rules of the adapter.
 abbrev pub IsDriversOwn : Access → Type 0

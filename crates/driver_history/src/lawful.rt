@@ -1,12 +1,14 @@
 // What laws of the crates below say of accesses, for this crate's proofs. Nothing comes of calling it.
 ghost use Rattle.driver_history.specs.Laws.{Laws};
 
-use adapter::laws::accesses_compose;
+use adapter::laws::{accesses_compose, steps_keep};
 use agreement::facts::{
-    cleared_stays, coming_composes, errors_rise_by_disks, fatal_errors_compose, faults_compose,
-    link_stays, plugging_composes,
+    adapter_stays, calm_composes, cleared_stays, coming_composes, controls_are_set, controls_stay,
+    errors_are_shown, errors_rise_by_disks, fatal_errors_compose, faults_compose, link_stays,
+    plugging_composes,
 };
 use agreement::stretches::{other_ports_are_left, tapes_grow};
+use port_boot::laws::a_port_runs_on;
 use port_control::laws::what_is_told_of_engines_stays;
 
 /// The laws that the proofs on parts of calls rest on.
@@ -14,8 +16,14 @@ pub fn laws_hold()
     ensures { Laws }
 {
     accesses_compose();
+    steps_keep();
+    adapter_stays();
+    calm_composes();
     cleared_stays();
     coming_composes();
+    controls_are_set();
+    controls_stay();
+    errors_are_shown();
     errors_rise_by_disks();
     fatal_errors_compose();
     faults_compose();
@@ -23,5 +31,6 @@ pub fn laws_hold()
     plugging_composes();
     other_ports_are_left();
     tapes_grow();
+    a_port_runs_on();
     what_is_told_of_engines_stays();
 }

@@ -4,3 +4,4 @@
 
 mod lawful;
 pub mod laws;
+pub mod troubles;

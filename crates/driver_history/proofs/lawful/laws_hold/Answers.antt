@@ -26,4 +26,17 @@ returns c = record {
   sticks_then = c.what_is_told_of_engines_stays.ensures.sticks_then;
   sticks_since = c.what_is_told_of_engines_stays.ensures.sticks_since;
   does_append = c.accesses_compose.ensures.all;
+  steps = c.steps_keep.ensures;
+  on_all = c.adapter_stays.ensures.on_all;
+  spares_host = c.other_ports_are_left.ensures.spares_host;
+  shown_steps = c.errors_are_shown.ensures.fault;
+  shown = c.errors_are_shown.ensures.fault_access;
+  fails_none = c.faults_compose.ensures.none;
+  fails_more = c.faults_compose.ensures.more;
+  controls = c.controls_stay.ensures;
+  command = c.controls_are_set.ensures.command;
+  start = c.controls_are_set.ensures.start;
+  calm_parts = c.calm_composes.ensures.parts;
+  runs = c.a_port_runs_on.ensures.runs;
+  well = c.a_port_runs_on.ensures.well;
 }

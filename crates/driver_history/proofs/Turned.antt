@@ -1,0 +1,258 @@
+-- A port's turn in a call of which its part is asked: what is asked then, and what its trouble is in the whole.
+use Rattle.std.proofs.Common.{◌≡◌, ◌⊎◌, ◌<◌, ◌≤◌, ◌+◌, ◌++◌, true, false, List, [], ◌∷◌, length, refl, sym, ap, ◌∙◌, subst, inl, inr, ⊎_elim, append_assoc, length-append, arith}
+use Rattle.std.specs.List.{All}
+use Rattle.std.proofs.lemmas.Bool.{cases_Bool, false≢true}
+use Rattle.std.proofs.lemmas.List.{append_cancel_left}
+use Rattle.std.proofs.lemmas.List.Elements.{All-weaker, Contains-append_right}
+use Rattle.ata_types.specs.declared.Port.{Port}
+use Rattle.ata_types.specs.declared.PortState.TheVariants.{Ready}
+use Rattle.hba_regs.specs.declared.reg.Reg.TheVariants.{Ghc, Px}
+use Rattle.hba_regs.specs.declared.reg.PortReg.TheVariants.{Cmd, Sctl}
+use Rattle.adapter.specs.Access.{Access, DoesAll}
+use Rattle.adapter.specs.Device.{Device}
+use Rattle.adapter.specs.Rules.{IsOn}
+use Rattle.adapter.specs.declared.tape.Entry.{Entry}
+use Rattle.agreement.specs.Driven.{Grows}
+use Rattle.agreement.specs.Errors.{ChangesByErrors, IsFatalOf, NoneFails, NoneFatal}
+use Rattle.agreement.specs.Facts.{IsFaultOf}
+use Rattle.agreement.specs.Links.{IsPlugging, PlugsNone, SparesRegister}
+use Rattle.block_machine.specs.Events.{Moment, Said, Service}
+use Rattle.block_machine.specs.Histories.{Instant}
+use Rattle.block_machine.specs.Ports.{Evidence, IsInterrupted, Ports, SamePort}
+use Rattle.error_recovery.specs.Evidence.{GainsRunning, ShowsFatal}
+use Rattle.driver_history.specs.Evidence.{Gains, ShowsFailure}
+use Rattle.driver_history.specs.Guard.{IsAskedOf}
+use Rattle.driver_history.specs.Histories.{BootsAnew, LosesNoTrouble, RunsWellAnew}
+use Rattle.driver_history.specs.Laws.{Laws}
+use Rattle.driver_history.specs.Parts.{HasTurnIn, IsOfOther, NamesAlike, all_of}
+use Rattle.driver_history.specs.Trace.{ResetsLink}
+use Rattle.driver_history.proofs.Calm.{gains_of}
+use Rattle.driver_history.proofs.Parting.{GainsOrNone, IsLeft, errors_more, errors_none, gains_or_none, grows_over, is_fault, others_leave}
+use Rattle.driver_history.proofs.Losing.{denies, never_fatal, never_plugged}
+use Rattle.driver_history.proofs.Within.{parts_at, reset_after, reset_before, reset_within}
+
+-- what the tape gained, as a list in two parts or three
+gained_at : (Such : Entry → Type 0) (old new : Device) (before : List Entry) (e : Entry) (later : List Entry) → new.tape ≡ old.tape ++ (before ++ e ∷ later) → Such e → Gains Such old new
+gained_at Such old new before e later tape is = record {
+  gained = before ++ e ∷ later;
+  tape = tape;
+  entry = e;
+  here = Contains-append_right before (e ∷ later) e (0, omega arith, refl);
+  is = is;
+}
+
+module _ (laws : Laws) (port : Port) where
+  -- the tape gained no fault of the port
+  abbrev Lacks : Device → Device → Type 0
+  Lacks one other = (gained : List Entry) × (other.tape ≡ one.tape ++ gained) × All (λ e. IsFaultOf port.0 e → ⊥) gained
+
+  lacks : (one other : Device) → Lacks one other → NoneFails port.0 one other
+  lacks one other n = record { gained = n.0; tape = n.1; none = n.2 }
+
+  -- errors rise by errors alone over any accesses
+  errors_over : (accesses : List Access) (old new : Device) → DoesAll accesses old new → ChangesByErrors port.0 old new
+  errors_over [] old new same = subst (ChangesByErrors port.0 old) (sym same) (errors_none laws port old)
+  errors_over (access ∷ accesses) old new (mid, does, rest) =
+      errors_more laws port old mid new (laws.grows_access access old mid does) (grows_over laws port accesses mid new rest) (laws.errors port access old mid does) (errors_over accesses mid new rest)
+
+  no_fatal_then : (old new : Device) → ChangesByErrors port.0 old new → NoneFatal port.0 old new → (ShowsFatal (old.port port.0) → ⊥) → ShowsFatal (new.port port.0) → ⊥
+  no_fatal_then old new rises none clear shown =
+      let low = shown.from in
+      let high = shown.to in
+      ⊎_elim
+      (λ (set : (old.port port.0).is shown.place ≡ true). clear (record { place = shown.place; from = low; to = high; set = set }))
+      (λ (off : (old.port port.0).is shown.place ≡ false). false≢true (sym (rises.fatal none shown.place low high off) ∙ shown.set))
+      (cases_Bool ((old.port port.0).is shown.place))
+
+  module _ (old : Instant Device) (begun : Moment) (new : Device) (on : IsOn old.device) (undue : (old.device.port port.0).link_due ≡ false) (t : HasTurnIn port old.device new) (on_then : IsOn t.end)
+      (ready_then : begun.ports.state port ≡ Ready) (asked : IsAskedOf port old new) where
+    first : IsLeft laws port old.device t.start
+    first = others_leave laws port t.before old.device t.start on t.first t.others
+
+    last : IsLeft laws port t.end new
+    last = others_leave laws port t.later t.end new on_then t.last t.others_later
+
+    middle : Grows t.start t.end
+    middle = grows_over laws port t.turn t.start t.end t.then
+
+    since : Grows t.start new
+    since = laws.grows_more t.start t.end new middle last.grows
+
+    abbrev began : Instant Device
+    began = record { device = t.start; moment = begun }
+
+    -- ---- what is asked of the turn
+
+    fatal_parts : NoneFatal port.0 old.device t.start × NoneFatal port.0 t.start t.end
+    fatal_parts =
+        let a = laws.fatal_parts port.0 old.device t.start new first.grows.0 since.0 first.grows.1 since.1 asked.unbroken in
+        (a.0, (laws.fatal_parts port.0 t.start t.end new middle.0 last.grows.0 middle.1 last.grows.1 a.1).0)
+
+    plug_parts : PlugsNone port.0 old.device t.start × PlugsNone port.0 t.start t.end
+    plug_parts =
+        let a = laws.plugs_parts port.0 old.device t.start new first.grows.0 since.0 first.grows.1 since.1 asked.plugged in
+        (a.0, (laws.plugs_parts port.0 t.start t.end new middle.0 last.grows.0 middle.1 last.grows.1 a.1).0)
+
+    pub asked_then : IsAskedOf port began t.end
+    asked_then = record {
+      ready = ready_then;
+      fatal = no_fatal_then old.device t.start first.errors fatal_parts.0 asked.fatal;
+      change = λ shown. asked.change (⊎_elim
+          (λ n. inl (⊎_elim (λ set. set) (λ clear. absurd (false≢true (sym ((first.disks undue).serr_n plug_parts.0 clear) ∙ n))) (cases_Bool (old.device.port port.0).serr_n)))
+          (λ x. inr (⊎_elim (λ set. set) (λ clear. absurd (false≢true (sym ((first.disks undue).serr_x (laws.plugs_come port.0 old.device t.start plug_parts.0) clear) ∙ x)))
+          (cases_Bool (old.device.port port.0).serr_x)))
+          shown);
+      device = first.shows undue plug_parts.0 ∙ asked.device;
+      unbroken = fatal_parts.1;
+      plugged = plug_parts.1;
+    }
+
+    -- what it showed of a fault it shows then
+    pub shown_then : (old.device.port port.0).is 30 ≡ true → (t.start.port port.0).is 30 ≡ true
+    shown_then set = first.leaves.controls.is 30 set
+
+    -- ---- and of what was done then in the whole
+
+    module _ (ended ports : Ports) (stays : SamePort ended ports port) where
+      -- boots
+
+      spares_other : (accesses : List Access) → All (IsOfOther port) accesses → All (SparesRegister (Px port Sctl)) accesses
+      spares_other accesses of = All-weaker (IsOfOther port) (SparesRegister (Px port Sctl)) (λ access x. laws.spares x.0 port Sctl x.1 access x.2) accesses of
+
+      reset_in_call : ResetsLink port t.turn → ResetsLink port (all_of t)
+      reset_in_call r = reset_within port t.before t.turn t.later (spares_other t.later t.others_later) r
+
+      reset_in_turn : ResetsLink port (all_of t) → ResetsLink port t.turn
+      reset_in_turn r = reset_before port t.turn t.later (spares_other t.later t.others_later) (reset_after port t.before (t.turn ++ t.later) (spares_other t.before t.others) r)
+
+      pub boots_are_the_calls : (one other : Said) → SamePort old.moment.ports begun.ports port → BootsAnew Service one t.turn began ended t.end port → BootsAnew Service other (all_of t) old ports new port
+      boots_are_the_calls one other was its = (
+        λ ready trouble. absurd (⊎_elim asked.fatal (λ loss. ⊎_elim asked.change (λ (out : _ × _). out.0 asked.device) loss) trouble),
+        ⊎_elim
+            (λ (same : SamePort begun.ports ended port). inl (
+              stays.0 ∙ same.0 ∙ was.0,
+              stays.1 ∙ same.1 ∙ was.1,
+              stays.2 ∙ same.2 ∙ was.2,
+              stays.3 ∙ same.3 ∙ was.3,
+              stays.4 ∙ same.4 ∙ was.4,
+              stays.5 ∙ same.5 ∙ was.5,
+            ))
+            (λ anew. inr (⊎_elim (λ dead. inl (stays.1 ∙ dead)) (λ rest. inr (⊎_elim (λ absent. inl (stays.1 ∙ absent)) (λ r. inr (reset_in_call r)) rest)) anew))
+            its.1,
+      )
+
+      module _ (turn call : Evidence) (alike : NamesAlike port turn call) where
+        named : IsInterrupted turn port → IsInterrupted call port
+        named i = ⊎_elim (λ stopped. inl (alike.stopped.0 stopped)) (λ stuck. inr (alike.stuck.0 stuck)) i
+
+        unnamed : IsInterrupted call port → IsInterrupted turn port
+        unnamed i = ⊎_elim (λ stopped. inl (alike.stopped.1 stopped)) (λ stuck. inr (alike.stuck.1 stuck)) i
+
+        -- TFES stays after the turn, and tells of what comes then
+        kept_after : (t.end.port port.0).is 30 ≡ true → (new.port port.0).is 30 ≡ true
+        kept_after set = last.leaves.controls.is 30 set
+
+        came_after : Gains (IsFaultOf port.0) t.end new → (new.port port.0).is 30 ≡ true
+        came_after g = ⊎_elim
+            (λ is. is)
+            (λ clear. let none = (last.faults clear).1 in absurd (denies (IsFaultOf port.0) t.end new none.gained none.tape none.none g))
+            (cases_Bool ((new.port port.0).is 30))
+
+        came_before : Gains (IsFaultOf port.0) old.device t.start → (t.start.port port.0).is 30 ≡ true
+        came_before g = ⊎_elim
+            (λ is. is)
+            (λ clear. let none = (first.faults clear).1 in absurd (denies (IsFaultOf port.0) old.device t.start none.gained none.tape none.none g))
+            (cases_Bool ((t.start.port port.0).is 30))
+
+        -- at the turn's end no fatal error is shown
+        no_fatal_end : ShowsFatal (t.end.port port.0) → ⊥
+        no_fatal_end = no_fatal_then t.start t.end (errors_over t.turn t.start t.end t.then) fatal_parts.1 asked_then.fatal
+
+        failed_after : ShowsFailure (t.end.port port.0) → (new.port port.0).is 30 ≡ true
+        failed_after failure = ⊎_elim (λ f. absurd (no_fatal_end f)) kept_after failure
+
+        -- the tape, as what the three parts of the call gained
+        whole_tape : new.tape ≡ old.device.tape ++ (first.grows.0 ++ (middle.0 ++ last.grows.0))
+        whole_tape = last.grows.1 ∙ ap (λ (tape : List Entry). tape ++ last.grows.0) (middle.1 ∙ ap (λ (tape : List Entry). tape ++ middle.0) first.grows.1)
+            ∙ append_assoc (old.device.tape ++ first.grows.0) middle.0 last.grows.0 ∙ append_assoc old.device.tape first.grows.0 (middle.0 ++ last.grows.0)
+
+        -- an entry that the call gained came before the turn, in it, or after it
+        module _ (Such : Entry → Type 0) (Result : Type 0) (before : List Entry) (e : Entry) (later : List Entry) (tape : new.tape ≡ old.device.tape ++ (before ++ e ∷ later)) (is : Such e)
+            (early : Gains Such old.device t.start → length old.device.tape + length before < length t.start.tape → Result)
+            (within : (ahead rest : List Entry) → t.end.tape ≡ t.start.tape ++ (ahead ++ e ∷ rest) → length old.device.tape + length before ≡ length t.start.tape + length ahead → Result)
+            (late : Gains Such t.end new → Result) where
+          by_parts : Result
+          by_parts = ⊎_elim
+              (λ (i : (rest : List Entry) × (first.grows.0 ≡ before ++ e ∷ rest) × (later ≡ rest ++ (middle.0 ++ last.grows.0))).
+              let tape_then : t.start.tape ≡ old.device.tape ++ (before ++ e ∷ i.0) = first.grows.1 ∙ ap (λ (xs : List Entry). old.device.tape ++ xs) i.1 in
+              let long = ap (λ (xs : List Entry). length xs) tape_then ∙ length-append old.device.tape (before ++ e ∷ i.0) in
+              let more = length-append before (e ∷ i.0) in
+              early (gained_at Such old.device t.start before e i.0 tape_then is) (omega (arith, long, more)))
+              (λ (o : (ahead : List Entry) × (before ≡ first.grows.0 ++ ahead) × (middle.0 ++ last.grows.0 ≡ ahead ++ e ∷ later)).
+              ⊎_elim
+              (λ (i : (rest : List Entry) × (middle.0 ≡ o.0 ++ e ∷ rest) × (later ≡ rest ++ last.grows.0)).
+              let long = ap (λ (xs : List Entry). length xs) first.grows.1 ∙ length-append old.device.tape first.grows.0 in
+              let more = ap (λ (xs : List Entry). length xs) o.1 ∙ length-append first.grows.0 o.0 in
+              within o.0 i.0 (middle.1 ∙ ap (λ (xs : List Entry). t.start.tape ++ xs) i.1) (omega (arith, long, more)))
+              (λ (p : (ahead : List Entry) × (o.0 ≡ middle.0 ++ ahead) × (last.grows.0 ≡ ahead ++ e ∷ later)).
+              late (gained_at Such t.end new p.0 e later (last.grows.1 ∙ ap (λ (xs : List Entry). t.end.tape ++ xs) p.2) is))
+              (parts_at middle.0 last.grows.0 o.0 later e o.2))
+              (parts_at first.grows.0 (middle.0 ++ last.grows.0) before later e (append_cancel_left old.device.tape (first.grows.0 ++ (middle.0 ++ last.grows.0)) (before ++ e ∷ later) (sym whole_tape ∙ tape)))
+
+        module _ (set_since : ended.state port ≡ Ready → IsInterrupted turn port → length t.start.tape ≤ (t.end.port port.0).notes.st_set_at) (its : LosesNoTrouble turn began ended t.end port) where
+          -- what was shown when the turn began is shown at the call's end, unless the port was stopped
+          then_failed : ShowsFailure (t.start.port port.0) → IsInterrupted call port ⊎ ShowsFailure (new.port port.0)
+          then_failed failure = ⊎_elim (λ i. inl (named i)) (λ f. inr (inr (failed_after f))) (its.errors ready_then (inl failure))
+
+          a_fault_came : Gains (IsFaultOf port.0) old.device new → IsInterrupted call port ⊎ ShowsFailure (new.port port.0)
+          unfolding GainsOrNone
+          a_fault_came g = ⊎_elim
+              (λ early. then_failed (inr (came_before early)))
+              (λ (none_early : Lacks old.device t.start). ⊎_elim
+              (λ within. ⊎_elim (λ i. inl (named i)) (λ f. inr (inr (failed_after f))) (its.errors ready_then (inr (inl within))))
+              (λ (none_within : Lacks t.start t.end). ⊎_elim
+              (λ late. inr (inr (came_after late)))
+              (λ (none_late : Lacks t.end new).
+              let none = laws.fails_more port.0 old.device t.end new (laws.fails_more port.0 old.device t.start t.end (lacks old.device t.start none_early) (lacks t.start t.end none_within)) (lacks t.end new none_late) in
+              absurd (denies (IsFaultOf port.0) old.device new none.gained none.tape none.none g))
+              (gains_or_none (IsFaultOf port.0) (is_fault port.0) t.end new last.grows))
+              (gains_or_none (IsFaultOf port.0) (is_fault port.0) t.start t.end middle))
+              (gains_or_none (IsFaultOf port.0) (is_fault port.0) old.device t.start first.grows)
+
+          fault_since : ports.state port ≡ Ready → GainsRunning (IsFaultOf port.0) port.0 old.device new → (new.port port.0).is 30 ≡ true
+          fault_since ready g =
+              let at : (new.port port.0).notes.st_set_at ≡ (t.end.port port.0).notes.st_set_at = ap (λ n. n.st_set_at) last.leaves.notes in
+              let least = g.since in
+              let is_ready : ended.state port ≡ Ready = sym stays.1 ∙ ready in
+              by_parts (IsFaultOf port.0) ((new.port port.0).is 30 ≡ true) g.before g.entry g.later g.tape g.is
+              (λ early small. ⊎_elim
+              (λ i. let set = set_since is_ready i in absurd (omega (arith, at, least, set, small)))
+              failed_after
+              (its.errors ready_then (inl (inr (came_before early)))))
+              (λ ahead rest tape place. kept_after (its.fault is_ready (record { before = ahead; entry = g.entry; later = rest; tape = tape; is = g.is; since = omega (arith, at, least, place) })))
+              came_after
+
+          pub trouble_is_the_calls : LosesNoTrouble call old ports new port
+          trouble_is_the_calls = record {
+            errors = λ ready trouble. ⊎_elim
+                (λ failure. ⊎_elim (λ f. absurd (asked.fatal f)) (λ shown. then_failed (inr (shown_then shown))) failure)
+                (λ came. ⊎_elim a_fault_came (λ f. absurd (never_fatal laws port old new asked f)) came)
+                trouble;
+            changes = λ tends trouble. absurd (⊎_elim asked.change (never_plugged laws port old new asked) trouble);
+            fault = fault_since;
+            fatal = λ ready g. absurd (never_fatal laws port old new asked (gains_of port.0 (IsFatalOf port.0) old.device new g));
+            disk = λ ready g. absurd (never_plugged laws port old new asked (gains_of port.0 (IsPlugging port.0) old.device new g));
+          }
+
+        pub well_is_the_calls : RunsWellAnew turn t.turn began ended t.end port → RunsWellAnew call (all_of t) old ports new port
+        well_is_the_calls its i ready calm reset =
+            let a = laws.calm_parts port.0 old.device t.start new first.grows.0 since.0 first.grows.1 since.1 calm in
+            let b = laws.calm_parts port.0 t.start t.end new middle.0 last.grows.0 middle.1 last.grows.1 a.1 in
+            let fresh : ResetsLink port t.turn ⊎ ((t.start.port port.0).fresh ≡ true) =
+                ⊎_elim (λ r. inl (reset_in_turn r)) (λ f. inr (first.fresh undue plug_parts.0 ∙ f)) reset in
+            laws.well port.0 t.end new
+            (laws.runs port t.later t.end new on_then t.last
+            (All-weaker (IsOfOther port) (SparesRegister Ghc) (λ access x. laws.spares_host x.0 access x.2) t.later t.others_later)
+            (spares_other t.later t.others_later)
+            (All-weaker (IsOfOther port) (SparesRegister (Px port Cmd)) (λ access x. laws.spares x.0 port Cmd x.1 access x.2) t.later t.others_later))
+            b.1 (its (unnamed i) (sym stays.1 ∙ ready) b.0 fresh)

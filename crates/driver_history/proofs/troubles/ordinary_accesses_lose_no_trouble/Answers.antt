@@ -1,0 +1,10 @@
+use Rattle.driver_history.proofs.Losing.{accesses_show, loses_none}
+use Rattle.driver_history.proofs.troubles.ordinary_accesses_lose_no_trouble.Goals as goal
+
+pub returns-clause-accesses : goal.returns-clause-accesses
+returns-clause-accesses c port old new accesses evidence ports on asked does spares clears =
+    loses_none c.laws_hold.ensures port old new asked (accesses_show c.laws_hold.ensures port accesses old.device new on does spares clears) evidence ports
+
+pub returns-clause-steps : goal.returns-clause-steps
+returns-clause-steps c port old new evidence ports on asked moves =
+    loses_none c.laws_hold.ensures port old new asked (c.laws_hold.ensures.shown_steps port.0 old.device new on.no_reset moves) evidence ports

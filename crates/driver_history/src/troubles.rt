@@ -1,0 +1,82 @@
+// Laws of what a call owes a port on which a command fails, for callers: the clause is the theorem. These functions do nothing.
+ghost use Rattle.std.specs.Prelude.{ℕ, true, false, ◌≡◌, ◌≤◌, List, All, length};
+ghost use Rattle.ata_types.specs.declared.Port.{Port};
+ghost use Rattle.ata_types.specs.declared.PortState.TheVariants.{Ready};
+ghost use Rattle.hba_regs.specs.declared.reg.Reg.TheVariants.{Ghc};
+ghost use Rattle.adapter.specs.Access.{Access, DoesAll};
+ghost use Rattle.adapter.specs.Device.{Device};
+ghost use Rattle.adapter.specs.Rules.{IsOn};
+ghost use Rattle.adapter.specs.Steps.{Steps};
+ghost use Rattle.agreement.specs.Links.{SparesRegister};
+ghost use Rattle.block_machine.specs.Events.{Moment, Said, Service};
+ghost use Rattle.block_machine.specs.Histories.{Instant};
+ghost use Rattle.block_machine.specs.Ports.{Evidence, IsInterrupted, Ports, SamePort};
+ghost use Rattle.driver_history.specs.Evidence.{StaysHealthy};
+ghost use Rattle.driver_history.specs.Guard.{IsAskedOf};
+ghost use Rattle.driver_history.specs.Histories.{BootsAnew, LosesNoTrouble, RunsWellAnew};
+ghost use Rattle.driver_history.specs.Parts.{HasTurnIn, NamesAlike, all_of};
+ghost use Rattle.driver_history.specs.Trace.{ClearsNone};
+ghost use Rattle.port_control.specs.Engines.{Stops};
+
+use super::lawful::laws_hold;
+
+/// A ready port that stays healthy in a call is one of which the call's part is asked.
+pub fn healthy_ports_are_asked_of()
+    ensures { (port : Port) (old : Instant Device) (new : Device) → old.moment.ports.state port ≡ Ready → StaysHealthy port.0 old.device new
+        → IsAskedOf port old new }
+{}
+
+/// Accesses that leave the adapter on, and clear no bit that tells of a port's trouble, lose none of it; nor does the device by itself: of a port of
+/// which a call's part is asked, a fault that was shown is shown still, and so is one that came. (No other trouble comes there.)
+pub fn ordinary_accesses_lose_no_trouble()
+    ensures accesses { (port : Port) (old : Instant Device) (new : Device) (accesses : List Access) (evidence : Evidence) (ports : Ports)
+        → IsOn old.device → IsAskedOf port old new → DoesAll accesses old.device new → All (SparesRegister Ghc) accesses
+        → All (ClearsNone port) accesses → LosesNoTrouble evidence old ports new port }
+    ensures steps { (port : Port) (old : Instant Device) (new : Device) (evidence : Evidence) (ports : Ports) → IsOn old.device
+        → IsAskedOf port old new → Steps old.device new → LosesNoTrouble evidence old ports new port }
+{
+    laws_hold();
+}
+
+/// Where a call's part is asked of a port, so it is of the port's own turn in it, if no link is due when the call begins; and the fault that the port shows
+/// when the call begins it shows when its turn begins.
+pub fn what_is_asked_of_a_call_is_asked_of_a_turn()
+    ensures asked { (port : Port) (old : Instant Device) (begun : Moment) (new : Device) → IsOn old.device
+        → (old.device.port port.0).link_due ≡ false → (t : HasTurnIn port old.device new) → IsOn t.end → begun.ports.state port ≡ Ready
+        → IsAskedOf port old new → IsAskedOf port (record { device = t.start; moment = begun }) t.end }
+    ensures shown { (port : Port) (old new : Device) → IsOn old → (t : HasTurnIn port old new) → (old.port port.0).is 30 ≡ true
+        → (t.start.port port.0).is 30 ≡ true }
+{
+    laws_hold();
+}
+
+/// Of a port of which a call's part is asked, and no link of which is due when the call begins: what its turn owes of trouble the whole call does, where the turn's
+/// and the call's evidence name the port in the same lists, and ST was set in the turn if it stopped the port and left it ready. So it is with boots, and with a
+/// port that runs well anew.
+pub fn a_turns_trouble_is_the_calls()
+    ensures trouble { (port : Port) (old : Instant Device) (begun : Moment) (ended ports : Ports) (new : Device) (turn call : Evidence) → IsOn old.device
+        → (old.device.port port.0).link_due ≡ false → (t : HasTurnIn port old.device new) → IsOn t.end → begun.ports.state port ≡ Ready
+        → IsAskedOf port old new → SamePort ended ports port → NamesAlike port turn call
+        → (ended.state port ≡ Ready → IsInterrupted turn port → length t.start.tape ≤ (t.end.port port.0).notes.st_set_at)
+        → LosesNoTrouble turn (record { device = t.start; moment = begun }) ended t.end port → LosesNoTrouble call old ports new port }
+    ensures boots { (port : Port) (old : Instant Device) (begun : Moment) (ended ports : Ports) (new : Device) (one other : Said) → IsOn old.device
+        → (old.device.port port.0).link_due ≡ false → (t : HasTurnIn port old.device new) → IsOn t.end → begun.ports.state port ≡ Ready
+        → IsAskedOf port old new → SamePort ended ports port → SamePort old.moment.ports begun.ports port
+        → BootsAnew Service one t.turn (record { device = t.start; moment = begun }) ended t.end port
+        → BootsAnew Service other (all_of t) old ports new port }
+    ensures well { (port : Port) (old : Instant Device) (begun : Moment) (ended ports : Ports) (new : Device) (turn call : Evidence) → IsOn old.device
+        → (old.device.port port.0).link_due ≡ false → (t : HasTurnIn port old.device new) → IsOn t.end → begun.ports.state port ≡ Ready
+        → IsAskedOf port old new → SamePort ended ports port → NamesAlike port turn call
+        → RunsWellAnew turn t.turn (record { device = t.start; moment = begun }) ended t.end port
+        → RunsWellAnew call (all_of t) old ports new port }
+{
+    laws_hold();
+}
+
+/// Where accesses that leave the adapter on stopped a port, and its ST is one after them, it was set since they began.
+pub fn a_port_that_was_stopped_was_set_since()
+    ensures { (port : Port) (accesses : List Access) (old new : Device) → IsOn old → All (SparesRegister Ghc) accesses
+        → DoesAll accesses old new → Stops port accesses → (new.port port.0).st ≡ true → length old.tape ≤ (new.port port.0).notes.st_set_at }
+{
+    laws_hold();
+}
