@@ -28,6 +28,7 @@ use Rattle.block_machine.proofs.HistoryLemmas.{history_reaches}
 use Rattle.identify.specs.declared.wanted.Wanted.{Wanted}
 use Rattle.driver_history.specs.Evidence.{Gains, ShowsChange, StaysHealthy}
 use Rattle.driver_history.specs.Histories.{Begins, IsHistory, Ties}
+use Rattle.driver_history.proofs.Calm.{healthy_asked}
 use Rattle.driver_history.proofs.Instants.{fit_at, holds_at, ready_at}
 use Rattle.driver_history.proofs.Resting.{answer_rests}
 
@@ -70,7 +71,7 @@ seen_answered wanted first past h port slot id history asks ready healthy serves
     let booked : Contains old.moment.machine.book serves.pending = ⊎_elim (λ b. b.0) (λ k. absurd (at.kept serves.pending k same_port)) serves.moves in
     let ended : serves.pending.ended ≡ true = ended_of old.device.memory (old.device.port port.0) port.0 slot serves.pending serves.command serves.places serves.stage at.runs.st ci sact in
     let Heeded : Ask DeviceStep → Type 0 = λ ask. HeedsAt port ask old.moment h.event.evidence h.event.steps (moment_after old.moment h.event) in
-    let served : Heeded Service = subst Heeded asks (t.port port healthy).heeds in
+    let served : Heeded Service = subst Heeded asks (t.port port (healthy_asked port old h.device ready healthy)).heeds in
     let answer = (served ready).ended serves.pending booked same_port ended in
     (answer.0, ap (λ (r : Accepted). r.id) answer.1 ∙ serves.id_is, answer.2)
 

@@ -1,5 +1,5 @@
 -- What the server doesn't heed yet (this project's own).
-use Rattle.std.specs.Prelude.{ℕ, ◌≡◌}
+use Rattle.std.specs.Prelude.{◌≡◌}
 use Rattle.ata_types.specs.declared.Port.{Port}
 use Rattle.ata_types.specs.declared.PortState.TheVariants.{Ready}
 use Rattle.adapter.specs.Device.{Device}
@@ -7,10 +7,7 @@ use Rattle.agreement.specs.Errors.{NoneFatal}
 use Rattle.agreement.specs.Links.{PlugsNone}
 use Rattle.block_machine.specs.Histories.{Instant}
 use Rattle.error_recovery.specs.Evidence.{ShowsFatal}
-use Rattle.driver_history.specs.Evidence.{ShowsChange, StaysHealthy}
-
-abbrev pub WasAskedOf : ℕ → Device → Device → Type 0
-WasAskedOf port old new = StaysHealthy port old new
+use Rattle.driver_history.specs.Evidence.{ShowsChange}
 
 -- The ports of which a call's part is asked: one that is ready when it begins, and shows then a device, and neither a fatal error nor a change of its link;
 -- and of which no fatal error comes in the call, nor a disk, nor goes one. So a command that fails is heeded. (Until the server heeds those other troubles, too, nothing
