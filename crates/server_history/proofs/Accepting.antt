@@ -36,7 +36,13 @@ use Rattle.host_boot.specs.Taken.{found_of}
 use Rattle.host_boot.specs.declared.Found.{Found}
 use Rattle.request_queue.specs.Entries.{Held, IsAccepted, IsEarlier, asks, asks_of, due_ids}
 use Rattle.driver_history.specs.Histories.{IssuesDue, IssuesOn}
-use Rattle.driver_history.specs.Trace.{LeavesEngine}
+use Rattle.driver_history.specs.Trace.{ClearsNone, LeavesEngine}
+use Rattle.agreement.specs.Links.{SparesRegister}
+use Rattle.hba_regs.specs.declared.reg.Reg.TheVariants.{Ghc, Px}
+use Rattle.hba_regs.specs.declared.reg.PortReg.TheVariants.{Ci, Sact}
+use Rattle.hba_regs.specs.declared.reg.PortReg.TheVariants as register
+use Rattle.adapter.specs.Access.{Access}
+use Rattle.adapter.specs.Access.Access.{Loading, Reading, Storing, Writing}
 use Rattle.server_history.specs.Below.{LawsBelow}
 use Rattle.server_history.specs.Histories.{Adds, Leads}
 use Rattle.server_history.specs.Served.{IssuesIn, Accepts, IssuesAll, accepted_as, accepting}
@@ -51,6 +57,25 @@ use Rattle.server_history.proofs.Granting.{has_room, is_accepted, is_new, on_rea
 use Rattle.server_history.proofs.Rounds.{AreIssued, accepts_on, any_append, belong_on, dues, dues_carried, each_driven, each_issued, each_settings, last_on, lawful_on, or_none, settled}
 use Rattle.server_history.proofs.Slots.{ready_found, served_request, serves_used, used_ready}
 use Rattle.server_history.proofs.Told.{no_evidence, told_by, uninterrupted}
+
+-- ---- what issuing writes
+
+-- neither GHC, nor a bit that tells of trouble
+issuing_spares_host : (port : Port) (access : Access) → IssuesIn port access → SparesRegister Ghc access
+issuing_spares_host port (Writing r v) here =
+    λ q. ⊎_elim (λ (is : r ≡ Px port Sact). let z : Px port Sact ≡ Ghc = sym is ∙ q in absurd cc) (λ (is : r ≡ Px port Ci). let z : Px port Ci ≡ Ghc = sym is ∙ q in absurd cc) here.2.0
+issuing_spares_host port (Storing at bytes) here = tt
+issuing_spares_host port (Loading at bytes) here = absurd here.2
+issuing_spares_host port (Reading r v) here = absurd here.2
+
+issuing_clears_none : (port other : Port) (access : Access) → IssuesIn port access → ClearsNone other access
+issuing_clears_none port other (Writing r v) here = record {
+  is = λ q. absurd (⊎_elim (λ (is : r ≡ Px port Sact). let z : Px port Sact ≡ Px other register.Is = sym is ∙ q in absurd cc) (λ (is : r ≡ Px port Ci). let z : Px port Ci ≡ Px other register.Is = sym is ∙ q in absurd cc) here.2.0);
+  serr = λ q. absurd (⊎_elim (λ (is : r ≡ Px port Sact). let z : Px port Sact ≡ Px other register.Serr = sym is ∙ q in absurd cc) (λ (is : r ≡ Px port Ci). let z : Px port Ci ≡ Px other register.Serr = sym is ∙ q in absurd cc) here.2.0);
+}
+issuing_clears_none port other (Storing at bytes) here = tt
+issuing_clears_none port other (Loading at bytes) here = absurd here.2
+issuing_clears_none port other (Reading r v) here = absurd here.2
 
 -- ---- lending
 
@@ -189,7 +214,7 @@ module _ (laws : LawsBelow) (s : Server) (k : IsKept s) (r : Request) (acc : IsA
         (driven.all, (row, its_row, All-weaker (IssuesIn port) (IssuesOn row.port) (λ access here. subst (λ (p : Port). IssuesOn p access) (sym port_is) (issuing_is port port_low access here)) driven.accesses driven.only))
         (λ other. All-weaker (IssuesIn port) (LeavesEngine other) (issuing_leaves port other) driven.accesses driven.only)
         (λ other is_ready. due_now other)
-        (λ other healthy. record { finds = tt; faults = tt; tries = tt; boots = tt; trouble = laws.untroubled (told_by s.device old.moment.ports) (with_device s.device old) (ports_of new) new.device other healthy; well = λ i. absurd (uninterrupted s.device old.moment.ports other i); heeds = uninterrupted s.device old.moment.ports other })
+        (λ other asks. record { finds = tt; faults = tt; tries = tt; boots = tt; trouble = laws.ordinary other (with_device s.device old) new.device driven.accesses (told_by s.device old.moment.ports) (ports_of new) k.on asks driven.all (All-weaker (IssuesIn port) (SparesRegister Ghc) (issuing_spares_host port) driven.accesses driven.only) (All-weaker (IssuesIn port) (ClearsNone other) (issuing_clears_none port other) driven.accesses driven.only); well = λ i. absurd (uninterrupted s.device old.moment.ports other i); heeds = uninterrupted s.device old.moment.ports other })
         (laws.backed_parts s.device s.device new.device m early x.steps (laws.backed_own s.device m (Accept asked) (λ no. no)) x.backed)
         stands
       where

@@ -10,7 +10,7 @@ use Rattle.ata_types.specs.declared.request.Frame.{Frame}
 use Rattle.ata_types.specs.declared.request.Request.{Request}
 use Rattle.ata_types.specs.declared.request.RequestId.{RequestId}
 use Rattle.adapter.specs.Access.{Access, Does, Loads, Stores}
-use Rattle.adapter.specs.Access.Access.{Loading, Storing}
+use Rattle.adapter.specs.Access.Access.{Loading, Reading, Storing, Writing}
 use Rattle.adapter.specs.Asked.{Asked}
 use Rattle.adapter.specs.Device.{Device}
 use Rattle.adapter.specs.Rules.{IsFree, Stays}
@@ -20,7 +20,8 @@ use Rattle.adapter.specs.declared.command.Operation.TheVariants.{Identify}
 use Rattle.adapter.proofs.Changed.{fun_ext}
 use Rattle.agreement.specs.Driven.{IsDrivenBy, SendsNone, known}
 use Rattle.agreement.specs.Driver.{EndsWith}
-use Rattle.agreement.specs.Links.{SameAdapter}
+use Rattle.agreement.specs.Links.{SameAdapter, SparesRegister}
+use Rattle.hba_regs.specs.declared.reg.Reg.TheVariants.{Ghc}
 use Rattle.agreement.specs.Spares.{SparesBook}
 use Rattle.agreement.proofs.Adding.{device_adds, nothing_backed}
 use Rattle.agreement.proofs.Clients.{client_loads, client_stores}
@@ -47,9 +48,9 @@ use Rattle.ata_types.specs.declared.PortState.TheVariants.{Dead}
 use Rattle.port_look.specs.Services.{IsService}
 use Rattle.server_history.specs.Below.{LawsBelow}
 use Rattle.port_look.proofs.Serving.{services_on}
-use Rattle.driver_history.specs.Histories.{Begins, CameBy, Issues, Ties, TiesPort}
-use Rattle.driver_history.specs.Evidence.{StaysHealthy}
-use Rattle.driver_history.specs.Trace.{LeavesEngine}
+use Rattle.driver_history.specs.Histories.{Begins, CameBy, Issues, LosesNoTrouble, Ties, TiesPort}
+use Rattle.driver_history.specs.Guard.{IsAskedOf}
+use Rattle.driver_history.specs.Trace.{ClearsNone, LeavesEngine}
 use Rattle.server_history.specs.Histories.{Adds, Leads, Stands, load_said, store_said}
 use Rattle.server_history.specs.Server.{HasCommand, Server, IsKept, IsMachineOf, IsPortOf, IsSettled, mode_in, ports_of, situation_of, used_for}
 use Rattle.slots.specs.declared.Use.{Use as SlotUse}
@@ -87,7 +88,36 @@ above_table port slot place low small (inl t) high = omega (arith, low, small, t
 above_table port slot place low small (inr (inl t)) high = omega (arith, low, small, t.1, high)
 above_table port slot place low small (inr (inr t)) high = omega (arith, low, small, t.1, high)
 
+-- the server's device, at a moment
+abbrev still : Server → Moment → Instant Device
+still s m = record { device = s.device; moment = m }
+
+-- accesses of bytes write no register
+bytes_spare_host : (access : Access) → IsOfBytes access → SparesRegister Ghc access
+bytes_spare_host (Loading at bytes) its = tt
+bytes_spare_host (Storing at bytes) its = tt
+bytes_spare_host (Reading r v) its = absurd its
+bytes_spare_host (Writing r v) its = absurd its
+
+bytes_clear_none : (port : Port) (access : Access) → IsOfBytes access → ClearsNone port access
+bytes_clear_none port (Loading at bytes) its = tt
+bytes_clear_none port (Storing at bytes) its = tt
+bytes_clear_none port (Reading r v) its = absurd its
+bytes_clear_none port (Writing r v) its = absurd its
+
 module _ (laws : LawsBelow) where
+  -- ---- trouble that isn't lost
+
+  untroubled : (s : Server) → IsKept s → (m : Moment) (port : Port) → IsAskedOf port (still s m) s.device → LosesNoTrouble (told_by s.device m.ports) (still s m) (ports_of s) s.device port
+  untroubled s k m port asked = laws.ordinary port (still s m) s.device [] (told_by s.device m.ports) (ports_of s) k.on asked refl (All-nil (SparesRegister Ghc)) (All-nil (ClearsNone port))
+
+  one_untroubled : (s : Server) → IsKept s → (new : Device) (access : Access) → IsOfBytes access → Does access s.device new → (m : Moment) (port : Port) → IsAskedOf port (still s m) new
+      → LosesNoTrouble (told_by s.device m.ports) (still s m) (ports_of s) new port
+  one_untroubled s k new access its does m port asked =
+      laws.ordinary port (still s m) new (access ∷ []) (told_by s.device m.ports) (ports_of s) k.on asked (new, does, refl)
+      (All-cons (SparesRegister Ghc) access [] (bytes_spare_host access its) (All-nil (SparesRegister Ghc)))
+      (All-cons (ClearsNone port) access [] (bytes_clear_none port access its) (All-nil (ClearsNone port)))
+
   -- ---- accesses of bytes
 
   module _ (s : Server) (k : IsKept s) (new : Device) (access : Access) (its : IsOfBytes access) (above : StoresAbove access) (does : Does access s.device new) where
@@ -150,7 +180,7 @@ module _ (laws : LawsBelow) where
           (refl, asked)
           (λ port. All-nil (LeavesEngine port))
           (λ port. tt)
-          (λ port healthy. record { finds = tt; faults = tt; tries = tt; boots = tt; trouble = laws.untroubled (told_by s.device old.moment.ports) (with_device s.device old) (ports_of s) new port healthy; well = λ i. absurd (uninterrupted s.device old.moment.ports port i); heeds = uninterrupted s.device old.moment.ports port })
+          (λ port asked. record { finds = tt; faults = tt; tries = tt; boots = tt; trouble = laws.ordinary_steps port (with_device s.device old) new (told_by s.device old.moment.ports) (ports_of s) k.kept.on asked moves; well = λ i. absurd (uninterrupted s.device old.moment.ports port i); heeds = uninterrupted s.device old.moment.ports port })
           x.3.backed
           (machine_on s new old.moment.machine steps m x.3.only x.2)
 
@@ -159,7 +189,7 @@ module _ (laws : LawsBelow) where
   nothing_adds : (s : Server) (ask : Ask DeviceStep) (said : Said) → IsSettled s → ((m : Moment) → CameBy m ask said [] s.device s.device)
       → ((old : Instant Device) → Stands old s → (evidence : Evidence) → IsAnswered ask said old.moment evidence [] (record { machine = old.moment.machine; ports = ports_of s }))
       → ((old : Instant Device) → IsReached old.moment.machine → Stands old s → (port : Port) → Issues ask [] old.moment.machine (ports_of s) port)
-      → ((old : Instant Device) (port : Port) → StaysHealthy port.0 old.device s.device → TiesPort old (happening old s.device ask said [] (ports_of s)) [] port)
+      → ((m : Moment) (port : Port) → IsAskedOf port (still s m) s.device → TiesPort (still s m) (happening (still s m) s.device ask said [] (ports_of s)) [] port)
       → Adds s s ask said
   nothing_adds s ask said k came answered issues parts = record { settled = k; adds = adds }
     where
@@ -168,19 +198,19 @@ module _ (laws : LawsBelow) where
       adds first past leads =
           let old : Instant Device = now first past in
           lead_by first past s s ask said [] refl refl leads k.kept tt tt tt tt (answered old leads.stands (told_by s.device old.moment.ports)) [] (came old.moment)
-          (λ port. All-nil (LeavesEngine port)) (issues old (reached first past s leads) leads.stands) (λ port healthy. parts (with_device s.device old) port healthy) (nothing_backed s.device old.moment.machine) leads.stands.machine
+          (λ port. All-nil (LeavesEngine port)) (issues old (reached first past s leads) leads.stands) (λ port asked. parts old.moment port asked) (nothing_backed s.device old.moment.machine) leads.stands.machine
 
   pub undone_adds : (s : Server) (step : DeviceStep) → IsSettled s → Adds s s (Told step) (Stepped false)
   undone_adds s step k =
       nothing_adds s (Told step) (Stepped false) k (λ m. (refl, refl))
       (λ old at evidence. (refl, ports_same old.moment.ports (ports_of s) at.ports_are)) (λ old was at port. tt)
-      (λ old port healthy. record { finds = tt; faults = tt; tries = tt; boots = tt; trouble = laws.untroubled (told_by old.device old.moment.ports) old (ports_of s) s.device port healthy; well = λ i. absurd (uninterrupted old.device old.moment.ports port i); heeds = uninterrupted old.device old.moment.ports port })
+      (λ m port asked. record { finds = tt; faults = tt; tries = tt; boots = tt; trouble = untroubled s k.kept m port asked; well = λ i. absurd (uninterrupted s.device m.ports port i); heeds = uninterrupted s.device m.ports port })
 
   pub state_adds : (s : Server) (port : Port) → IsSettled s → Adds s s (State port) (Shown ((ports_of s).state port))
   state_adds s port k =
       nothing_adds s (State port) (Shown ((ports_of s).state port)) k (λ m. (refl, refl))
       (λ old at evidence. (ap (λ (ports : Ports). ports.state port) (sym at.ports_are), refl, ports_same old.moment.ports (ports_of s) at.ports_are)) (λ old was at port. tt)
-      (λ old port healthy. record { finds = tt; faults = tt; tries = tt; boots = tt; trouble = laws.untroubled (told_by old.device old.moment.ports) old (ports_of s) s.device port healthy; well = λ i. absurd (uninterrupted old.device old.moment.ports port i); heeds = uninterrupted old.device old.moment.ports port })
+      (λ m port asked. record { finds = tt; faults = tt; tries = tt; boots = tt; trouble = untroubled s k.kept m port asked; well = λ i. absurd (uninterrupted s.device m.ports port i); heeds = uninterrupted s.device m.ports port })
 
   pub store_refused : (s : Server) (client : ClientId) (frame : Frame) (offset : ℕ) (bytes : List ℕ) (fault : MemFault) → IsSettled s
       → IsFirstMemFault (owner_of s.table) (lent_to s.table) client frame offset (length bytes) fault → Adds s s (StoreAt client frame offset bytes) (store_said (Err fault))
@@ -188,7 +218,7 @@ module _ (laws : LawsBelow) where
       nothing_adds s (StoreAt client frame offset bytes) (store_said (Err fault)) k (λ m. (refl, refl))
       (λ old at evidence. (as_told s old.moment.machine at.machine (λ owner lent. IsFirstMemFault owner lent client frame offset (length bytes) fault) is, refl, ports_same old.moment.ports (ports_of s) at.ports_are))
       (λ old was at port. tt)
-      (λ old port healthy. record { finds = tt; faults = tt; tries = tt; boots = tt; trouble = laws.untroubled (told_by old.device old.moment.ports) old (ports_of s) s.device port healthy; well = λ i. absurd (uninterrupted old.device old.moment.ports port i); heeds = uninterrupted old.device old.moment.ports port })
+      (λ m port asked. record { finds = tt; faults = tt; tries = tt; boots = tt; trouble = untroubled s k.kept m port asked; well = λ i. absurd (uninterrupted s.device m.ports port i); heeds = uninterrupted s.device m.ports port })
 
   pub load_refused : (s : Server) (client : ClientId) (frame : Frame) (offset count : ℕ) (bytes : List ℕ) (fault : MemFault) → IsSettled s
       → IsFirstMemFault (owner_of s.table) (lent_to s.table) client frame offset count fault → Adds s s (LoadAt client frame offset count) (load_said (Err fault) bytes)
@@ -196,7 +226,7 @@ module _ (laws : LawsBelow) where
       nothing_adds s (LoadAt client frame offset count) (load_said (Err fault) bytes) k (λ m. (refl, refl))
       (λ old at evidence. (as_told s old.moment.machine at.machine (λ owner lent. IsFirstMemFault owner lent client frame offset count fault) is, refl, ports_same old.moment.ports (ports_of s) at.ports_are))
       (λ old was at port. tt)
-      (λ old port healthy. record { finds = tt; faults = tt; tries = tt; boots = tt; trouble = laws.untroubled (told_by old.device old.moment.ports) old (ports_of s) s.device port healthy; well = λ i. absurd (uninterrupted old.device old.moment.ports port i); heeds = uninterrupted old.device old.moment.ports port })
+      (λ m port asked. record { finds = tt; faults = tt; tries = tt; boots = tt; trouble = untroubled s k.kept m port asked; well = λ i. absurd (uninterrupted s.device m.ports port i); heeds = uninterrupted s.device m.ports port })
 
   -- ---- what a request meets
 
@@ -217,7 +247,7 @@ module _ (laws : LawsBelow) where
       nothing_adds s (Submit r) (Submitted (Err refusal)) k (λ m. (refl, refl))
       (λ old at evidence. (subst (λ (x : Situation). IsFirstRefusal x r refusal) (sym (situation_is s old at)) is, refl, ports_same old.moment.ports (ports_of s) at.ports_are))
       (λ old was at port ready. none_issued s old.moment.machine at.machine [] (λ id. refl) (mode_in s port) port (k.issued port))
-      (λ old port healthy. record { finds = tt; faults = tt; tries = tt; boots = tt; trouble = laws.untroubled (told_by old.device old.moment.ports) old (ports_of s) s.device port healthy; well = λ i. absurd (uninterrupted old.device old.moment.ports port i); heeds = uninterrupted old.device old.moment.ports port })
+      (λ m port asked. record { finds = tt; faults = tt; tries = tt; boots = tt; trouble = untroubled s k.kept m port asked; well = λ i. absurd (uninterrupted s.device m.ports port i); heeds = uninterrupted s.device m.ports port })
 
   -- ---- clients' bytes
 
@@ -292,7 +322,7 @@ module _ (laws : LawsBelow) where
             ((new, loads, refl), refl)
             (λ port. All-cons (LeavesEngine port) (Loading (4096 * frame.0 + offset) bytes) [] (tt, tt) (All-nil (LeavesEngine port)))
             (λ port. tt)
-            (λ port healthy. record { finds = tt; faults = tt; tries = tt; boots = tt; trouble = laws.untroubled (told_by s.device old.moment.ports) (with_device s.device old) (ports_of s) new port healthy; well = λ i. absurd (uninterrupted s.device old.moment.ports port i); heeds = uninterrupted s.device old.moment.ports port })
+            (λ port asked. record { finds = tt; faults = tt; tries = tt; boots = tt; trouble = one_untroubled s k new (Loading (4096 * frame.0 + offset) bytes) tt loads old.moment port asked; well = λ i. absurd (uninterrupted s.device old.moment.ports port i); heeds = uninterrupted s.device old.moment.ports port })
             x.0.backed x.1
 
     pub store_adds : Stores (4096 * frame.0 + offset) bytes s.device new → Adds s (record s { device = new }) (StoreAt client frame offset bytes) (store_said (Ok tt))
@@ -312,7 +342,7 @@ module _ (laws : LawsBelow) where
             ((new, stores, refl), refl)
             (λ port. All-cons (LeavesEngine port) (Storing (4096 * frame.0 + offset) bytes) [] (tt, tt) (All-nil (LeavesEngine port)))
             (λ port. tt)
-            (λ port healthy. record { finds = tt; faults = tt; tries = tt; boots = tt; trouble = laws.untroubled (told_by s.device old.moment.ports) (with_device s.device old) (ports_of s) new port healthy; well = λ i. absurd (uninterrupted s.device old.moment.ports port i); heeds = uninterrupted s.device old.moment.ports port })
+            (λ port asked. record { finds = tt; faults = tt; tries = tt; boots = tt; trouble = one_untroubled s k new (Storing (4096 * frame.0 + offset) bytes) tt stores old.moment port asked; well = λ i. absurd (uninterrupted s.device old.moment.ports port i); heeds = uninterrupted s.device old.moment.ports port })
             x.0.backed x.1
 
   -- of so many bytes

@@ -15,6 +15,7 @@ use Rattle.adapter.specs.declared.tape.Entry.{Entry as TapeEntry}
 use Rattle.adapter.specs.declared.tape.Fault.{Fault}
 use Rattle.adapter.specs.Commands.{Meaning}
 use Rattle.adapter.specs.Rules.{IsOn}
+use Rattle.adapter.specs.Steps.{Steps}
 use Rattle.agreement.specs.Acts.{Act, AreDone, InSlots, accesses_of, steps_of}
 use Rattle.agreement.specs.Agrees.{Agrees, AreApart}
 use Rattle.agreement.specs.Readying.{IsStored, LeavesStored}
@@ -44,18 +45,20 @@ use Rattle.ata_types.specs.declared.request.ClientId.{ClientId}
 use Rattle.block_machine.specs.declared.due.Mode.{Mode}
 use Rattle.block_machine.specs.declared.due.Unanswered.{Unanswered}
 use Rattle.dma_frames.specs.Table.{Table, LendsOnly, lent_to}
-use Rattle.agreement.specs.Facts.{IsFaulted, IsRecorded, RunsWell, Undisturbed}
+use Rattle.agreement.specs.Facts.{IsFaulted, IsRecorded, RunsWell, ShowsFault, Undisturbed}
 use Rattle.std.specs.List.{list_any}
-use Rattle.block_machine.specs.Events.{changes_disk, Ask, IsDevices, Moment, Said}
+use Rattle.block_machine.specs.Events.{changes_disk, Ask, IsDevices, Moment, Said, Service}
 use Rattle.block_machine.specs.Left.{after}
 use Rattle.block_machine.specs.Histories.{Instant, IsReached}
-use Rattle.block_machine.specs.Ports.{Evidence, Ports, SamePort}
+use Rattle.block_machine.specs.Ports.{Evidence, IsInterrupted, Ports, SamePort}
 use Rattle.driver_history.specs.Evidence.{HasErrors, HasFatalErrors, IsEvidencedOf, IsGone, StaysHealthy}
 use Rattle.error_recovery.specs.Evidence.{BringsLog, HasFailed}
-use Rattle.driver_history.specs.Histories.{LosesNoTrouble}
+use Rattle.driver_history.specs.Guard.{IsAskedOf}
+use Rattle.driver_history.specs.Histories.{BootsAnew, LosesNoTrouble, RunsWellAnew}
 use Rattle.driver_history.specs.Parts.{HasTurnIn, NamesAlike, all_of}
+use Rattle.driver_history.specs.Trace.{ClearsNone}
 use Rattle.port_boot.specs.States.{RunsOn, IsOfBoot}
-use Rattle.port_control.specs.Engines.{Falls, Sticks}
+use Rattle.port_control.specs.Engines.{Falls, Sticks, Stops}
 use Rattle.error_recovery.specs.Recovery.{IsRecovering}
 use Rattle.ncq.specs.Masks.{ReadsDone, IsFinding}
 use Rattle.ncq.specs.Tasks.{IsIssuing, IsTaskOf, IssuesTask, MayServe, with_serving}
@@ -202,3 +205,26 @@ pub record LawsBelow : Type 0 where
   pub out_on : (port : Port) (access : Access) (old new : Device) → NoneComes port.0 old new → Does access old new → (old.port port.0).present ≡ false → (new.port port.0).present ≡ false
   pub disks_told : (port : Port) (m : Machine) (gained : List TapeEntry) (steps : List Step) → TellsAmong m gained steps → (e : TapeEntry) → Contains gained e → IsPlugging port.0 e
       → list_any (changes_disk port) steps ≡ true
+  -- a port of which a call's part is asked, and its turn in the call
+  pub ordinary : (port : Port) (old : Instant Device) (new : Device) (accesses : List Access) (evidence : Evidence) (ports : Ports) → IsOn old.device → IsAskedOf port old new
+      → DoesAll accesses old.device new → All (SparesRegister Ghc) accesses → All (ClearsNone port) accesses → LosesNoTrouble evidence old ports new port
+  pub ordinary_steps : (port : Port) (old : Instant Device) (new : Device) (evidence : Evidence) (ports : Ports) → IsOn old.device → IsAskedOf port old new → Steps old.device new
+      → LosesNoTrouble evidence old ports new port
+  pub asked_then : (port : Port) (old : Instant Device) (begun : Moment) (new : Device) → IsOn old.device → (old.device.port port.0).link_due ≡ false → (t : HasTurnIn port old.device new) → IsOn t.end
+      → begun.ports.state port ≡ Ready → IsAskedOf port old new → IsAskedOf port (record { device = t.start; moment = begun }) t.end
+  pub shown_then : (port : Port) (old new : Device) → IsOn old → (t : HasTurnIn port old new) → (old.port port.0).is 30 ≡ true → (t.start.port port.0).is 30 ≡ true
+  pub trouble : (port : Port) (old : Instant Device) (begun : Moment) (ended ports : Ports) (new : Device) (turn call : Evidence) → IsOn old.device → (old.device.port port.0).link_due ≡ false
+      → (t : HasTurnIn port old.device new) → IsOn t.end → begun.ports.state port ≡ Ready → IsAskedOf port old new → SamePort ended ports port → NamesAlike port turn call
+      → (ended.state port ≡ Ready → IsInterrupted turn port → length t.start.tape ≤ (t.end.port port.0).notes.st_set_at)
+      → LosesNoTrouble turn (record { device = t.start; moment = begun }) ended t.end port → LosesNoTrouble call old ports new port
+  pub boots : (port : Port) (old : Instant Device) (begun : Moment) (ended ports : Ports) (new : Device) (one other : Said) → IsOn old.device → (old.device.port port.0).link_due ≡ false
+      → (t : HasTurnIn port old.device new) → IsOn t.end → begun.ports.state port ≡ Ready → IsAskedOf port old new → SamePort ended ports port → SamePort old.moment.ports begun.ports port
+      → BootsAnew Service one t.turn (record { device = t.start; moment = begun }) ended t.end port → BootsAnew Service other (all_of t) old ports new port
+  pub well : (port : Port) (old : Instant Device) (begun : Moment) (ended ports : Ports) (new : Device) (turn call : Evidence) → IsOn old.device → (old.device.port port.0).link_due ≡ false
+      → (t : HasTurnIn port old.device new) → IsOn t.end → begun.ports.state port ≡ Ready → IsAskedOf port old new → SamePort ended ports port → NamesAlike port turn call
+      → RunsWellAnew turn t.turn (record { device = t.start; moment = begun }) ended t.end port → RunsWellAnew call (all_of t) old ports new port
+  pub set_since : (port : Port) (accesses : List Access) (old new : Device) → IsOn old → All (SparesRegister Ghc) accesses → DoesAll accesses old new → Stops port accesses → (new.port port.0).st ≡ true
+      → length old.tape ≤ (new.port port.0).notes.st_set_at
+  -- a fault that is shown is of the slot that alone is used
+  pub fault_sole : (uses : Uses) (m : Machine) (d : Device) (port slot : ℕ) (entries : List TapeEntry) → Agrees uses m d → (s : ShowsFault entries (d.port port) port)
+      → ((other : ℕ) → other ≢ slot → uses port other ≡ Free) → s.fault.slot.0 ≡ slot

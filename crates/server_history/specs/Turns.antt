@@ -1,8 +1,9 @@
 -- What a port's turn in a service makes of a machine that stands for the server (this project's own).
-use Rattle.std.specs.Prelude.{ℕ, Bool, true, false, ◌≡◌, ◌≢◌, ◌⊎◌, ◌<◌, ◌+◌, ◌++◌, List, [], ◌∷◌, All, Contains, Some}
+use Rattle.std.specs.Prelude.{ℕ, Bool, true, false, ◌≡◌, ◌≢◌, ◌⊎◌, ◌<◌, ◌+◌, ◌++◌, List, [], ◌∷◌, All, Contains, None, Some}
 use Rattle.ata_types.specs.declared.Port.{Port}
 use Rattle.ata_types.specs.declared.PortState.TheVariants.{Dead, Ready as ReadyState}
 use Rattle.ata_types.specs.declared.request.Reply.{Reply}
+use Rattle.hba_regs.specs.Bits.{bit}
 use Rattle.adapter.specs.Access.{Access, DoesAll}
 use Rattle.adapter.specs.Device.{Device}
 use Rattle.adapter.specs.declared.access.DeviceStep.{DeviceStep}
@@ -16,13 +17,13 @@ use Rattle.block_machine.specs.Due.{of_port}
 use Rattle.block_machine.specs.Histories.{Happening, Instant, IsReached}
 use Rattle.block_machine.specs.Left.{after}
 use Rattle.block_machine.specs.Ports.{Evidence, Fault, IsInterrupted, IsServiced, SameDisk, SamePort}
-use Rattle.block_machine.specs.State.{Machine}
+use Rattle.block_machine.specs.State.{Machine, Pending}
 use Rattle.block_machine.specs.Steps.{Step, Again, Answer, Issue}
-use Rattle.driver_history.specs.Evidence.{IsEvidencedOf, StaysHealthy}
+use Rattle.driver_history.specs.Evidence.{IsEvidencedOf}
 use Rattle.error_recovery.specs.Evidence.{BringsLog, HasFailed}
 use Rattle.error_log.specs.Log.{TellsError}
 use Rattle.driver_history.specs.Guard.{IsAskedOf}
-use Rattle.driver_history.specs.Histories.{IssuesDue, TiesPort}
+use Rattle.driver_history.specs.Histories.{FindsDone, IsIssuedOn, IssuesDue, TiesPort}
 use Rattle.driver_history.specs.Holds.{NoneWaits}
 use Rattle.driver_history.specs.Trace.{IsDriversOwn, ReadsMasks}
 use Rattle.host_boot.specs.Taken.{found_of}
@@ -118,9 +119,16 @@ abbrev pub TiesTurn : Port → List Reply → List Access → Server → Server 
 TiesTurn port replies accesses old new m evidence steps =
     IsAskedOf port (instant_of old m) new.device → TiesPort (instant_of old m) (turn_of replies new evidence steps) accesses port
 
+-- What was done was found by a reading of the masks, in which the bits of each slot that wasn't used when the turn began were clear. (The bytes of such a slot may say
+-- still the command of a request that has ended.)
+pub record FindsTurn (port : Port) (accesses : List Access) (old : Server) (m : Machine) (steps : List Step) : Type 0 where
+  pub done : FindsDone port accesses (instant_of old m) steps
+  pub unused : (slot : ℕ) → slot < 32 → used_for old.slots port.0 slot ≡ None → (bit done.ci slot ≡ false) × (bit done.sact slot ≡ false)
+
 -- What a turn that made these accesses and said these replies has made of the machine: its steps may come, and lead to a machine that stands for
 -- the new server; the tape backs them; and they are the device's own, or of requests of the port. Its evidence names the port alone, and is
--- backed by the device. Of what a service owes and claims it owes and claims what the block machine asks, and what is asked of a port that stays healthy.
+-- backed by the device. Of what a service owes and claims it owes and claims what the block machine asks; and where that is asked of the port, it has done what a call
+-- does of one.
 pub record MakesTurn (port : Port) (replies : List Reply) (accesses : List Access) (old new : Server) (m : Machine) : Type 0 where
   pub steps : List Step
   pub evidence : Evidence
@@ -141,7 +149,8 @@ pub record MakesTurn (port : Port) (replies : List Reply) (accesses : List Acces
   pub issues : (ports_of new).state port ≡ ReadyState → IssuesDue (mode_in new port) steps (after m steps) port
   pub evidenced : IsEvidencedOf Service (Served replies) accesses (instant_of old m) (ports_of new) new.device evidence port
   pub faults : (told : Fault) → Contains evidence.faults told → TellsFault port accesses old new told
-  pub calm : StaysHealthy port.0 old.device new.device → IsCalmTurn port replies accesses old new evidence steps
+  pub ties : TiesTurn port replies accesses old new m evidence steps
+  pub finds : IsAskedOf port (instant_of old m) new.device → (e : Pending) → IsIssuedOn port m e → FindsTurn port accesses old m steps
 
 -- what a turn of the port leaves of the server: its grants, the disks that are wanted, the id that was handed out last, and what it has of other ports and their
 -- requests (the machine that stands for it has the owners, and the loans that are kept)

@@ -60,7 +60,7 @@ ghost use Rattle.server_history.specs.Recovered.{AreQueued, IsRecovered, IsSettl
 use adapter::laws::saying_is_one;
 use agreement::acts::acts_give;
 use agreement::disks::none_comes_in;
-use agreement::giving_up::slots_are_given_up;
+use agreement::giving_up::{fault_is_outstanding, slots_are_given_up};
 use agreement::laws::{
     answering_agrees, backing_composes, disks_are_told, due_finds_free_slot, going_again_agrees,
     going_composes, keeping_agrees, own_steps_are_backed, putting_is_of_one_slot, slots_are_counted,
@@ -73,6 +73,10 @@ use block_machine::laws::{
     other_ports_stay, own_requests_count,
 };
 use driver_history::laws::{a_turns_evidence_is_the_calls, healthy_ports_are_untroubled};
+use driver_history::troubles::{
+    a_port_that_was_stopped_was_set_since, a_turns_trouble_is_the_calls,
+    ordinary_accesses_lose_no_trouble, what_is_asked_of_a_call_is_asked_of_a_turn,
+};
 use error_recovery::laws::{recovery_is_of_its_port, what_stands_behind_a_fault_stays};
 use host_boot::laws::{what_was_booted_again_may_be_served, what_was_taken_over_may_be_served};
 use ncq::laws::{calls_are_of_one_port, finding_is_followed, issuing_performs};
@@ -140,6 +144,11 @@ fn the_laws_below_hold()
     acts_give();
     none_comes_in();
     disks_are_told();
+    ordinary_accesses_lose_no_trouble();
+    what_is_asked_of_a_call_is_asked_of_a_turn();
+    a_turns_trouble_is_the_calls();
+    a_port_that_was_stopped_was_set_since();
+    fault_is_outstanding();
 }
 
 /// A ready port of a new server runs well, if nothing went wrong on it since the adapter was idle.
