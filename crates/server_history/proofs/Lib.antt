@@ -27,7 +27,9 @@ pub mod Answered
 pub mod Serviced
 pub mod Joined
 pub mod Progress
-pub mod Calmly
+pub mod Clear
+pub mod Tying
+pub mod Carrying
 pub mod Services
 pub mod Origins
 pub mod Coming

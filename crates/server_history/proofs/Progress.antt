@@ -25,13 +25,14 @@ use Rattle.block_machine.specs.Ports.{Evidence, Fault, IsInterrupted, IsServiced
 use Rattle.block_machine.specs.State.{Pending}
 use Rattle.block_machine.specs.Steps.{Step, Answer}
 use Rattle.host_boot.specs.Taken.{found_of}
-use Rattle.driver_history.specs.Evidence.{IsEvidencedOf, IsFaultTold, StaysHealthy}
-use Rattle.driver_history.specs.Histories.{FindsDone, IsIssuedOn, IssuesDue, TendsPort}
+use Rattle.driver_history.specs.Evidence.{IsEvidencedOf, IsFaultTold}
+use Rattle.driver_history.specs.Guard.{IsAskedOf}
+use Rattle.driver_history.specs.Histories.{IssuesDue, TendsPort, TiesPort}
 use Rattle.driver_history.specs.Holds.{NoneWaits}
 use Rattle.driver_history.specs.Parts.{IsOfOther}
 use Rattle.driver_history.specs.Trace.{IsServing, LeavesEngine}
 use Rattle.server_history.specs.Below.{LawsBelow}
-use Rattle.server_history.specs.Turns.{IsStepOf, moment_of}
+use Rattle.server_history.specs.Turns.{IsStepOf, moment_of, turn_of}
 use Rattle.server_history.specs.Server.{Server, IsKept, IsMachineOf, IsSettled, mode_at, mode_in, ports_of, remembered_at, slots_at, state_of}
 use Rattle.server_history.proofs.Asks.{none_issued}
 use Rattle.server_history.proofs.Told.{no_evidence}
@@ -54,21 +55,13 @@ module _ (laws : LawsBelow) (s : Server) (start : IsSettled s) (old : Moment) (r
   abbrev pub HadTurn : ℕ → Port → Type 0
   HadTurn n q = (q.0 < n) × (state_at q.0 ≡ ReadyState)
 
-  -- What is so of a port that stayed healthy.
-  pub record IsCalm (c : Server) (accesses : List Access) (steps : List Step) (evidence : Evidence) (q : Port) : Type 0 where
-    pub same : SamePort old.ports (ports_of c) q
-    pub alone : IsInterrupted evidence q → ⊥
-    pub told : (e : Pending) (o : Outcome) → Contains steps (Answer e o) → e.request.port ≡ q → o ≡ Ok
-    pub heeded : AnswersEnded old.machine steps q
-    pub finds : (e : Pending) → IsIssuedOn q old.machine e → FindsDone q accesses began steps
-
   -- What is so of a port that had its turn, or none, at the end of what was done so far.
   pub record IsDone (c : Server) (accesses : List Access) (steps : List Step) (evidence : Evidence) (q : Port) : Type 0 where
     pub becomes : IsServiced old.ports evidence (ports_of c) q
     pub disk : SamePort old.ports (ports_of c) q ⊎ HadDisk old steps (moment_of c (after old.machine steps)) q
     pub keeps : SameDisk old.ports (ports_of c) q ⊎ NoneWaits (after old.machine steps) q
     pub evidenced : IsEvidencedOf Service (Served []) accesses began (ports_of c) c.device evidence q
-    pub calm : StaysHealthy q.0 s.device c.device → state_at q.0 ≡ ReadyState → IsCalm c accesses steps evidence q
+    pub ties : IsAskedOf q began c.device → TiesPort began (turn_of [] c evidence steps) accesses q
 
   -- a fault that is told of a port that had its turn
   pub record HasTold (n : ℕ) (c : Server) (accesses : List Access) (told : Fault) : Type 0 where
@@ -206,7 +199,7 @@ module _ (laws : LawsBelow) (s : Server) (start : IsSettled s) (old : Moment) (r
         disk = inl same;
         keeps = inl (same.2, same.3);
         evidenced = none_evidenced p.accesses c.device (ports_of c) p.evidence q unready (names_more (HadTurn n) (λ r. state_at r.0 ≡ ReadyState) (λ r served. served.1) p.evidence p.names) (p.others q none);
-        calm = λ well is_ready. absurd (unready is_ready);
+        ties = λ asked. absurd (unready (sym (ap (λ (ports : Ports). ports.state q) ports_are) ∙ asked.ready));
       }
 
   -- a port that isn't ready has no turn

@@ -22,7 +22,8 @@ use Rattle.block_machine.proofs.HistoryLemmas.{history_reaches}
 use Rattle.host_boot.specs.Taken.{found_of}
 use Rattle.host_boot.specs.declared.Found.{Found}
 use Rattle.host_boot.specs.declared.Found.TheVariants.{Unserved, Ready, Unready}
-use Rattle.driver_history.specs.Evidence.{IsEvidenced, IsEvidencedOf, StaysHealthy}
+use Rattle.driver_history.specs.Evidence.{IsEvidenced}
+use Rattle.driver_history.specs.Guard.{IsAskedOf}
 use Rattle.driver_history.specs.Histories.{Begins, HasBadDisk, TendsPort, Ties, TiesPort}
 use Rattle.request_queue.specs.Machine.{IsEntry}
 use Rattle.driver_history.specs.Trace.{IsServing}
@@ -38,20 +39,8 @@ use Rattle.server_history.proofs.Told.{fatal_shows, loss_shows, no_fatal, no_los
 use Rattle.server_history.proofs.Slots.{of_ready}
 use Rattle.server_history.proofs.Zips.{at_right}
 use Rattle.server_history.proofs.Joined.{ready_or_not}
-use Rattle.server_history.proofs.Progress.{IsCalm, IsDone, Progress, answered_was, begun, idle_done, unready_same, unready_spared}
+use Rattle.server_history.proofs.Progress.{IsDone, Progress, answered_was, begun, idle_done, unready_same, unready_spared}
 use Rattle.server_history.proofs.Services.{Whole, go}
-
--- where each of the port's requests is answered Ok, no fault of it is told
-tells_none : (q : Port) (steps : List Step) → ((e : Pending) (o : Outcome) → Contains steps (Answer e o) → e.request.port ≡ q → o ≡ Ok) → list_any (tells_fault q) steps ≡ false
-tells_none q [] told = refl
-tells_none q (Answer e (DeviceError status error) ∷ steps) told =
-    or_from _ _
-    (⊎_elim
-    (λ (its : (e.request.port.0 == q.0) ≡ true). absurd (let z : DeviceError status error ≡ Ok = told e (DeviceError status error) (All-head (Contains (Answer e (DeviceError status error) ∷ steps)) (Answer e (DeviceError status error)) steps (All-contains_itself (Answer e (DeviceError status error) ∷ steps))) (ap port_at (eqb-true e.request.port.0 q.0 its)) in cc))
-    (λ none. none)
-    (cases_Bool (e.request.port.0 == q.0)))
-    (tells_none q steps (λ x o here. told x o (Contains-append_right (Answer e (DeviceError status error) ∷ []) steps (Answer x o) here)))
-tells_none q (step ∷ steps) told = tells_none q steps (λ x o here. told x o (Contains-append_right (step ∷ []) steps (Answer x o) here))
 
 module _ (laws : LawsBelow) (s new : Server) (replies : List Reply) (start : IsSettled s) (serves : ServePorts 0 s.ports replies s new) (first : Instant Device) (past : List (Happening Device DeviceStep)) (leads : Leads first past s) where
   abbrev old : Moment
@@ -134,70 +123,11 @@ module _ (laws : LawsBelow) (s new : Server) (replies : List Reply) (start : IsS
         };
   }
 
-  -- a ready port that stays healthy is served
-  module _ (port : Port) (well : StaysHealthy port.0 s.device new.device) (ready : old.ports.state port ≡ ReadyState) where
-    abbrev calm : IsCalm laws s start old reached at same new p.accesses p.steps p.evidence port
-    calm = (done port).calm well (sym (is_ready port) ∙ ready)
-
-    abbrev ev : IsEvidencedOf Service (Served []) p.accesses began (ports_of new) new.device p.evidence port
-    ev = (done port).evidenced
-
-    not_gone : Contains p.evidence.gone port → ⊥
-    not_gone here = laws.never_gone port began new.device well (ev.gone_only here)
-
-    not_failed : Contains p.evidence.failed port → ⊥
-    not_failed here = laws.never_failed port began new.device well (ev.failed_only here)
-
-    heeds : ServesReady old p.evidence p.steps end port
-    heeds = record {
-      ended = calm.heeded;
-      emptied = λ gone. absurd (not_gone gone);
-      told = λ gone. absurd (not_gone gone);
-      interrupts = λ trouble. absurd (⊎_elim not_failed not_gone trouble);
-      anew = λ trouble. absurd (⊎_elim not_failed (λ stopped. calm.alone (inl stopped)) trouble);
-      single = let none = counts_none (tells_fault port) port (λ step t. t) p.steps (tells_none port p.steps calm.told) in omega (arith, none);
-      fatal = λ here. absurd (laws.never_fatal port began new.device well (ev.fatal_only here));
-      disk = λ shows. inl ((at.knows.agrees.disk port.0).present ∙ well.well.present);
-      calm = inr (record { same = calm.same; told = λ e o here own. inl (calm.told e o here own); uninterrupted = calm.alone });
-    }
-
-  -- a port that isn't ready is stopped, or idle: it doesn't run well
-  port_part : (port : Port) → StaysHealthy port.0 s.device new.device → TiesPort began (happening_with p.evidence new.device Service (Served replies) p.steps (ports_of new)) p.accesses port
-  port_part port well = record {
-    finds = λ ready e its. ((done port).calm well (sym (is_ready port) ∙ ready)).finds e its;
-    faults = λ alone. absurd (false≢true (sym (well.well.quiet.quiet 30 (omega arith) (omega arith)) ∙ alone.shows.fault));
-    tries = λ served coming. record {
-      shown = λ absent det. absurd (idle (ap (λ (ports : Ports). ports.served port) (sym same) ∙ served) (λ ready. let z : Absent ≡ ReadyState = sym absent ∙ is_ready port ∙ ready in cc));
-      absent = λ absent det fresh. absurd (idle (ap (λ (ports : Ports). ports.served port) (sym same) ∙ served) (λ ready. let z : Absent ≡ ReadyState = sym absent ∙ is_ready port ∙ ready in cc));
-      missing = λ bad. absurd (idle (ap (λ (ports : Ports). ports.served port) (sym same) ∙ served) (λ ready. not_bad bad (is_ready port ∙ ready)));
-      changed = λ bad. absurd (idle (ap (λ (ports : Ports). ports.served port) (sym same) ∙ served) (λ ready. not_bad bad (is_ready port ∙ ready)));
-    };
-    boots = (
-      λ ready trouble. absurd (⊎_elim
-          (λ fatal. no_fatal (s.device.port port.0) well.well (fatal_shows (s.device.port port.0) fatal))
-          (λ loss. no_loss (s.device.port port.0) well.well (loss_shows (s.device.port port.0) (⊎_elim (λ change. inl change) (λ out. inr out.0) loss)))
-          trouble),
-      inl (same_port (ready_or_not (state_of (found_of s.ports port.0)))),
-    );
-    trouble = laws.untroubled p.evidence began (ports_of new) new.device port well;
-    well = λ i is undisturbed. absurd (not_stopped (ready_or_not (state_of (found_of s.ports port.0))) i);
-    heeds = λ ready. heeds port well ready;
-  }
-    where
-      idle : (ports_of s).served port ≡ true → state_of (found_of s.ports port.0) ≢ ReadyState → ⊥
-      idle served other = not_running s start.kept port served other well.well
-
-      not_bad : HasBadDisk old.ports port → old.ports.state port ≡ ReadyState → ⊥
-      not_bad (inl foreign) ready = let z : Foreign ≡ ReadyState = sym foreign ∙ ready in cc
-      not_bad (inr (cause, unfit)) ready = let z : Unfit cause ≡ ReadyState = sym unfit ∙ ready in cc
-
-      same_port : (state_of (found_of s.ports port.0) ≡ ReadyState) ⊎ (state_of (found_of s.ports port.0) ≢ ReadyState) → SamePort old.ports (ports_of new) port
-      same_port (inl ready) = ((done port).calm well ready).same
-      same_port (inr unready) = subst (λ (ports : Ports). SamePort ports (ports_of new) port) (sym same) (unready_same laws s start old reached at same ends.count new replies p port unready)
-
-      not_stopped : (state_of (found_of s.ports port.0) ≡ ReadyState) ⊎ (state_of (found_of s.ports port.0) ≢ ReadyState) → IsInterrupted p.evidence port → ⊥
-      not_stopped (inl ready) i = ((done port).calm well ready).alone i
-      not_stopped (inr unready) i = unready_spared laws s start old reached at same ends.count new replies p port unready i
+  -- what the service has done of each port of which that is asked
+  port_part : (port : Port) → IsAskedOf port began new.device → TiesPort began (happening_with p.evidence new.device Service (Served replies) p.steps (ports_of new)) p.accesses port
+  port_part port asked =
+      let did = (done port).ties asked in
+      record { finds = did.finds; faults = did.faults; tries = did.tries; boots = did.boots; trouble = did.trouble; well = did.well; heeds = did.heeds }
 
   pub service_event : (h : Happening Device DeviceStep) × (h.event.ask ≡ Service) × (h.event.said ≡ Served replies) × Leads first (h ∷ past) new
   service_event =

@@ -62,7 +62,8 @@ use Rattle.slots.specs.Uses.{Uses as PortSlots, use_at}
 use Rattle.block_machine.specs.declared.due.Mode.{Mode}
 use Rattle.server_history.proofs.Turns.{AreTurns, all_of_ports, answered_of, belong_join, belong_on, grounded_join, grounded_on, lawful_join, lawful_on, present_before, turn_on, unplugs_join}
 use Rattle.port_look.proofs.Serving.{calm_parts}
-use Rattle.server_history.proofs.Calmly.{calm_whole}
+use Rattle.server_history.proofs.Carrying.{ties_still}
+use Rattle.server_history.proofs.Tying.{ties_whole}
 use Rattle.server_history.proofs.Progress.{none_evidenced, skipped}
 use Rattle.server_history.proofs.Progress as progress
 use Rattle.server_history.proofs.Joined.{NamesSome, alike_first, alike_then, all_pairs_append, answers_append, answers_there, joined, lawful_lift, names_joined, names_more, names_only, ready_or_not, same_at, same_disk, same_then, serviced_lift}
@@ -82,9 +83,6 @@ module _ (laws : LawsBelow) (s : Server) (start : IsSettled s) (old : Moment) (r
 
   abbrev HadTurn : ℕ → Port → Type 0
   HadTurn n q = (q.0 < n) × (state_at q.0 ≡ ReadyState)
-
-  abbrev IsCalm : Server → List Access → List Step → Evidence → Port → Type 0
-  IsCalm c accesses steps evidence q = progress.IsCalm laws s start old reached at ports_are c accesses steps evidence q
 
   abbrev IsDone : Server → List Access → List Step → Evidence → Port → Type 0
   IsDone c accesses steps evidence q = progress.IsDone laws s start old reached at ports_are c accesses steps evidence q
@@ -345,67 +343,7 @@ module _ (laws : LawsBelow) (s : Server) (start : IsSettled s) (old : Moment) (r
         (IsPermutation-append p.answers (answers_of p.steps) x.tells.answers (answers_of x.steps) p.permuted x.tells.same)
         (IsPermutation-append_comm (answers_of p.steps) (answers_of x.steps)))
 
-    -- ---- a port that stays healthy
-
-    -- what goes well in the whole went well so far, and since
-    well_parts : (q : Port) → StaysHealthy q.0 s.device mid.device → Undisturbed q.0 s.device c.device × Undisturbed q.0 c.device mid.device
-    well_parts q well =
-        calm_parts laws.looks q.0 s.device c.device mid.device
-        (tape_over (IsServing (TendsPort (ports_of s))) s.device c.device (record { accesses = p.accesses; all = p.does; only = p.serving }))
-        (tape_over (IsOf (port_at n)) c.device mid.device its_driven) well.undisturbed
-
-    healthy_before : (q : Port) → StaysHealthy q.0 s.device mid.device → StaysHealthy q.0 s.device c.device
-    healthy_before q well = record { well = well.well; undisturbed = (well_parts q well).0 }
-
-    -- the port runs well when its turn begins
-    healthy_then : StaysHealthy n s.device mid.device → StaysHealthy n c.device mid.device
-    healthy_then well =
-        let parts = well_parts (port_at n) well in
-        let of = p.others (port_at n) not_yet in
-        record {
-          well = laws.runs_well n s.device c.device
-              (laws.runs_on (port_at n) p.accesses s.device c.device kept.on p.does
-              (All-weaker (IsOfOther (port_at n)) (SparesRegister Ghc) (λ access o. laws.of_host o.0 access o.2) p.accesses of)
-              (All-weaker (IsOfOther (port_at n)) (SparesRegister (Px (port_at n) Sctl)) (λ access o. laws.of_spares o.0 (port_at n) Sctl o.1 access o.2) p.accesses of)
-              (All-weaker (IsOfOther (port_at n)) (SparesRegister (Px (port_at n) Cmd)) (λ access o. laws.of_spares o.0 (port_at n) Cmd o.1 access o.2) p.accesses of))
-              parts.0 well.well;
-          undisturbed = parts.1;
-        }
-
-    calm_n : StaysHealthy n s.device mid.device → IsCalm mid accesses all evidence (port_at n)
-    calm_n well =
-        let its_calm = x.calm (healthy_then well) in
-        calm_whole laws s start old reached at ports_are n c mid before its ready p part m_reached its_calm evidence
-        (same_then old.ports (ports_of c) (ports_of mid) (port_at n) same_n its_calm.same)
-        (λ i. its_calm.alone (⊎_elim (λ stopped. inl (alike_n.stopped.1 stopped)) (λ stuck. inr (alike_n.stuck.1 stuck)) i))
-
     -- ---- each port
-
-    -- what was found done on another port was so still
-    finds_more : (q : Port) → q ≢ port_at n → FindsDone q p.accesses began p.steps → FindsDone q accesses began all
-    finds_more q ne f = record {
-      ci = f.ci;
-      sact = f.sact;
-      reads = record {
-        before = f.reads.before;
-        later = f.reads.later ++ part.accesses;
-        here = ap (λ (list : List Access). list ++ part.accesses) f.reads.here
-            ∙ append_assoc f.reads.before (Reading (Px q Ci) f.ci ∷ Reading (Px q Sact) f.sact ∷ f.reads.later) part.accesses;
-        running = f.reads.running;
-      };
-      exact = λ e slot own says.
-          let y = f.exact e slot own says in (
-            (λ ok. y.0 (
-              ok.0,
-              ok.1,
-              ⊎_elim
-                  (λ there. absurd (ne (sym own.port_is ∙ sym (ap (λ r. r.port) ok.1) ∙ answered_of (λ r. r ≡ port_at n) x.steps x.own ok.0 Ok there)))
-                  (λ there. there)
-                  (Contains-append_cases x.steps p.steps (Answer ok.0 Ok) ok.2),
-            )),
-            (λ clear. let ok = y.1 clear in (ok.0, ok.1, Contains-append_right x.steps p.steps (Answer ok.0 Ok) ok.2)),
-          );
-    }
 
     done_n : IsDone mid accesses all evidence (port_at n)
     done_n = record {
@@ -422,7 +360,7 @@ module _ (laws : LawsBelow) (s : Server) (start : IsSettled s) (old : Moment) (r
           (λ none. inr (λ e here. none e (subst (λ (k : Machine). Contains k.book e) whole_is here)))
           x.keeps;
       evidenced = evidenced_n;
-      calm = λ well is_ready. calm_n well;
+      ties = λ asked. ties_whole laws s start old reached at ports_are n c mid before its ready p next part m_reached on_mid evidence alike_n same_n asked;
     }
 
     done_before : (q : Port) → q.0 < n → IsDone c p.accesses p.steps p.evidence q → IsDone mid accesses all evidence q
@@ -445,18 +383,7 @@ module _ (laws : LawsBelow) (s : Server) (start : IsSettled s) (old : Moment) (r
           (λ is_ready. evidenced_before q lt is_ready d.evidenced)
           (λ unready. idle q unready)
           (ready_or_not (state_at q.0));
-      calm = λ well is_ready.
-          let k = d.calm (healthy_before q well) is_ready in
-          record {
-            same = same_then old.ports (ports_of c) (ports_of mid) q k.same same;
-            alone = λ i. k.alone (⊎_elim (λ stopped. inl (alike.stopped.1 stopped)) (λ stuck. inr (alike.stuck.1 stuck)) i);
-            told = λ e o here own. ⊎_elim
-                (λ late. absurd (earlier q lt (sym own ∙ answered_of (λ r. r ≡ port_at n) x.steps x.own e o late)))
-                (λ early. k.told e o early own)
-                (Contains-append_cases x.steps p.steps (Answer e o) here);
-            heeded = λ e there own ended. let y = k.heeded e there own ended in (y.0, y.1, Contains-append_right x.steps p.steps (Answer y.0 Ok) y.2);
-            finds = λ e its. finds_more q (earlier q lt) (k.finds e its);
-          };
+      ties = λ asked. ties_still laws s start old reached at ports_are n c mid before its p part m_reached q (earlier q lt) d evidence alike same asked;
     }
       where
         same : SamePort (ports_of c) (ports_of mid) q
