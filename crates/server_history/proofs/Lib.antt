@@ -28,6 +28,7 @@ pub mod Serviced
 pub mod Joined
 pub mod Progress
 pub mod Clear
+pub mod Masked
 pub mod Tying
 pub mod Carrying
 pub mod Services
