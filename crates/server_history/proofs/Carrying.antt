@@ -40,7 +40,7 @@ use Rattle.server_history.proofs.Progress as progress
 use Rattle.server_history.proofs.Rounds.{any_append, issued_early}
 use Rattle.server_history.proofs.Slots.{ready_found}
 use Rattle.server_history.proofs.Turns.{answered_of}
-use Rattle.server_history.proofs.Tying.{counts_apart}
+use Rattle.server_history.proofs.Lifting.{counts_apart}
 
 module _ (laws : LawsBelow) (s : Server) (start : IsSettled s) (old : Moment) (reached : IsReached old.machine) (at : IsMachineOf s old.machine) (ports_are : old.ports ≡ ports_of s) where
   abbrev kept : IsKept s
@@ -238,8 +238,8 @@ module _ (laws : LawsBelow) (s : Server) (start : IsSettled s) (old : Moment) (r
           missing = λ bad. absurd (not_bad bad);
           changed = λ bad. absurd (not_bad bad);
         };
-        boots = laws.boots q began old (ports_of c) (ports_of mid) mid.device (Served []) (Served []) kept.on undue t p.on asked.ready asked same same_self did.boots;
-        trouble = laws.trouble q began old (ports_of c) (ports_of mid) mid.device p.evidence evidence kept.on undue t p.on asked.ready asked same alike set_since did.trouble;
-        well = laws.well q began old (ports_of c) (ports_of mid) mid.device p.evidence evidence kept.on undue t p.on asked.ready asked same alike did.well;
+        boots = laws.call_boots q began old (ports_of c) (ports_of mid) mid.device (Served []) (Served []) kept.on undue t p.on asked.ready asked same same_self did.boots;
+        trouble = laws.call_trouble q began old (ports_of c) (ports_of mid) mid.device p.evidence evidence kept.on undue t p.on asked.ready asked same alike set_since did.trouble;
+        well = laws.call_well q began old (ports_of c) (ports_of mid) mid.device p.evidence evidence kept.on undue t p.on asked.ready asked same alike did.well;
         heeds = λ _. heeds_whole;
       }

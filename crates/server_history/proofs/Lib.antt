@@ -29,7 +29,7 @@ pub mod Joined
 pub mod Progress
 pub mod Clear
 pub mod Masked
-pub mod Tying
+pub mod Lifting
 pub mod Carrying
 pub mod Services
 pub mod Origins

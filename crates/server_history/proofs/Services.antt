@@ -63,7 +63,7 @@ use Rattle.block_machine.specs.declared.due.Mode.{Mode}
 use Rattle.server_history.proofs.Turns.{AreTurns, all_of_ports, answered_of, belong_join, belong_on, grounded_join, grounded_on, lawful_join, lawful_on, present_before, turn_on, unplugs_join}
 use Rattle.port_look.proofs.Serving.{calm_parts}
 use Rattle.server_history.proofs.Carrying.{ties_still}
-use Rattle.server_history.proofs.Tying.{ties_whole}
+use Rattle.server_history.proofs.Lifting.{ties_whole}
 use Rattle.server_history.proofs.Progress.{none_evidenced, skipped}
 use Rattle.server_history.proofs.Progress as progress
 use Rattle.server_history.proofs.Joined.{NamesSome, alike_first, alike_then, all_pairs_append, answers_append, answers_there, joined, lawful_lift, names_joined, names_more, names_only, ready_or_not, same_at, same_disk, same_then, serviced_lift}

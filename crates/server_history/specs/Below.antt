@@ -213,14 +213,14 @@ pub record LawsBelow : Type 0 where
   pub asked_then : (port : Port) (old : Instant Device) (begun : Moment) (new : Device) → IsOn old.device → (old.device.port port.0).link_due ≡ false → (t : HasTurnIn port old.device new) → IsOn t.end
       → begun.ports.state port ≡ Ready → IsAskedOf port old new → IsAskedOf port (record { device = t.start; moment = begun }) t.end
   pub shown_then : (port : Port) (old new : Device) → IsOn old → (t : HasTurnIn port old new) → (old.port port.0).is 30 ≡ true → (t.start.port port.0).is 30 ≡ true
-  pub trouble : (port : Port) (old : Instant Device) (begun : Moment) (ended ports : Ports) (new : Device) (turn call : Evidence) → IsOn old.device → (old.device.port port.0).link_due ≡ false
+  pub call_trouble : (port : Port) (old : Instant Device) (begun : Moment) (ended ports : Ports) (new : Device) (turn call : Evidence) → IsOn old.device → (old.device.port port.0).link_due ≡ false
       → (t : HasTurnIn port old.device new) → IsOn t.end → begun.ports.state port ≡ Ready → IsAskedOf port old new → SamePort ended ports port → NamesAlike port turn call
       → (ended.state port ≡ Ready → IsInterrupted turn port → length t.start.tape ≤ (t.end.port port.0).notes.st_set_at)
       → LosesNoTrouble turn (record { device = t.start; moment = begun }) ended t.end port → LosesNoTrouble call old ports new port
-  pub boots : (port : Port) (old : Instant Device) (begun : Moment) (ended ports : Ports) (new : Device) (one other : Said) → IsOn old.device → (old.device.port port.0).link_due ≡ false
+  pub call_boots : (port : Port) (old : Instant Device) (begun : Moment) (ended ports : Ports) (new : Device) (one other : Said) → IsOn old.device → (old.device.port port.0).link_due ≡ false
       → (t : HasTurnIn port old.device new) → IsOn t.end → begun.ports.state port ≡ Ready → IsAskedOf port old new → SamePort ended ports port → SamePort old.moment.ports begun.ports port
       → BootsAnew Service one t.turn (record { device = t.start; moment = begun }) ended t.end port → BootsAnew Service other (all_of t) old ports new port
-  pub well : (port : Port) (old : Instant Device) (begun : Moment) (ended ports : Ports) (new : Device) (turn call : Evidence) → IsOn old.device → (old.device.port port.0).link_due ≡ false
+  pub call_well : (port : Port) (old : Instant Device) (begun : Moment) (ended ports : Ports) (new : Device) (turn call : Evidence) → IsOn old.device → (old.device.port port.0).link_due ≡ false
       → (t : HasTurnIn port old.device new) → IsOn t.end → begun.ports.state port ≡ Ready → IsAskedOf port old new → SamePort ended ports port → NamesAlike port turn call
       → RunsWellAnew turn t.turn (record { device = t.start; moment = begun }) ended t.end port → RunsWellAnew call (all_of t) old ports new port
   pub set_since : (port : Port) (accesses : List Access) (old new : Device) → IsOn old → All (SparesRegister Ghc) accesses → DoesAll accesses old new → Stops port accesses → (new.port port.0).st ≡ true

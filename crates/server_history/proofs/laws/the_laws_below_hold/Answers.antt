@@ -100,9 +100,9 @@ returns c = record {
   ordinary_steps = c.ordinary_accesses_lose_no_trouble.ensures.steps;
   asked_then = c.what_is_asked_of_a_call_is_asked_of_a_turn.ensures.asked;
   shown_then = c.what_is_asked_of_a_call_is_asked_of_a_turn.ensures.shown;
-  trouble = c.a_turns_trouble_is_the_calls.ensures.trouble;
-  boots = c.a_turns_trouble_is_the_calls.ensures.boots;
-  well = c.a_turns_trouble_is_the_calls.ensures.well;
+  call_trouble = c.a_turns_trouble_is_the_calls.ensures.trouble;
+  call_boots = c.a_turns_trouble_is_the_calls.ensures.boots;
+  call_well = c.a_turns_trouble_is_the_calls.ensures.well;
   set_since = c.a_port_that_was_stopped_was_set_since.ensures;
   fault_sole = c.fault_is_outstanding.ensures.sole;
 }

@@ -424,9 +424,9 @@ module _ (laws : LawsBelow) (s : Server) (start : IsSettled s) (old : Moment) (r
           changed = λ bad. absurd (not_bad bad);
         };
         boots = subst (λ (list : List Access). BootsAnew Service (Served []) (p.accesses ++ list) began (ports_of mid) mid.device (port_at n)) (append-nil part.accesses)
-            (laws.boots (port_at n) began (moment_of c m) (ports_of mid) (ports_of mid) mid.device (Served its) (Served []) kept.on undue t on_mid ready_c asked same_self same_n did.boots);
-        trouble = laws.trouble (port_at n) began (moment_of c m) (ports_of mid) (ports_of mid) mid.device x.evidence evidence kept.on undue t on_mid ready_c asked same_self alike set_since did.trouble;
+            (laws.call_boots (port_at n) began (moment_of c m) (ports_of mid) (ports_of mid) mid.device (Served its) (Served []) kept.on undue t on_mid ready_c asked same_self same_n did.boots);
+        trouble = laws.call_trouble (port_at n) began (moment_of c m) (ports_of mid) (ports_of mid) mid.device x.evidence evidence kept.on undue t on_mid ready_c asked same_self alike set_since did.trouble;
         well = subst (λ (list : List Access). RunsWellAnew evidence (p.accesses ++ list) began (ports_of mid) mid.device (port_at n)) (append-nil part.accesses)
-            (laws.well (port_at n) began (moment_of c m) (ports_of mid) (ports_of mid) mid.device x.evidence evidence kept.on undue t on_mid ready_c asked same_self alike did.well);
+            (laws.call_well (port_at n) began (moment_of c m) (ports_of mid) (ports_of mid) mid.device x.evidence evidence kept.on undue t on_mid ready_c asked same_self alike did.well);
         heeds = λ _. heeds_whole;
       }
