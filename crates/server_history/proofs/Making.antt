@@ -18,7 +18,6 @@ use Rattle.adapter.specs.declared.access.DeviceStep.{DeviceStep}
 use Rattle.adapter.specs.declared.command.Operation.TheVariants.{ReadLog}
 use Rattle.agreement.specs.Driven.{SendsNone}
 use Rattle.agreement.specs.Driver.{IsBacked}
-use Rattle.agreement.specs.Facts.{RunsWell, Undisturbed}
 use Rattle.agreement.proofs.Sparing.{found_before, steps_spare}
 use Rattle.block_machine.specs.Events.{AllDevices, AllGrounded, AllLawful, AllMay, Belong, IsDevices, IsLawful, IssuesLast, IsToldBefore, Moment, Served, Service, Tells, answers_of, issues_it}
 use Rattle.block_machine.specs.Histories.{IsReached}
@@ -30,6 +29,7 @@ use Rattle.block_machine.specs.declared.due.Mode.{Mode}
 use Rattle.driver_history.specs.Evidence.{StaysHealthy}
 use Rattle.driver_history.specs.Histories.{IssuesDue}
 use Rattle.host_boot.specs.Taken.{found_of}
+use Rattle.port_look.specs.declared.Look.TheVariants.{Undisturbed as Calm}
 use Rattle.port_look.proofs.Seeing.{look_driven}
 use Rattle.request_queue.specs.Entries.{Held, IsEarlier}
 use Rattle.slots.specs.declared.Use.{Use as SlotUse}
@@ -42,6 +42,7 @@ use Rattle.server_history.proofs.Joined.{nowhere}
 use Rattle.server_history.proofs.Coming.{TurnList, turn_list}
 use Rattle.server_history.proofs.Settling.{turn_apart, turn_settings, turn_slots}
 use Rattle.server_history.proofs.Slots.{ready_found}
+use Rattle.server_history.proofs.Tying.{ties}
 use Rattle.server_history.proofs.Zips.{at_right}
 use Rattle.server_history.proofs.Told.{chosen, chosen_of, evidenced_of, ready_that, shows_failure, shows_fatal, shows_loss, told_of}
 
@@ -201,7 +202,7 @@ module _ (laws : LawsBelow) (port : Port) (replies : List Reply) (old new : Serv
   }
 
   module _ (m : Machine) (reached : IsReached m) (is : IsMachineOf old m) (x : AddsTurn port replies old new m)
-      (answered : RunsWell (old.device.port port.0) → Undisturbed port.0 old.device new.device → (slot : ℕ) (used : SlotUse) → slot < 32 → used_for old.slots port.0 slot ≡ Some used
+      (answered : turn.look ≡ Calm → (slot : ℕ) (used : SlotUse) → slot < 32 → used_for old.slots port.0 slot ≡ Some used
       → (old.device.port port.0).ci slot ≡ false → (old.device.port port.0).sact slot ≡ false → IsAnsweredIn used.id replies) where
     abbrev mode : Mode
     mode = mode_in old port
@@ -303,7 +304,7 @@ module _ (laws : LawsBelow) (port : Port) (replies : List Reply) (old new : Serv
             checks = masks.2.0;
             masks = masks.2.1;
           };
-      answered = answered well.well well.undisturbed;
+      answered = answered (list.calm t.kept.on well.well well.undisturbed);
     }
 
     makes : MakesTurn port replies list.driven.accesses old new m
@@ -329,10 +330,11 @@ module _ (laws : LawsBelow) (port : Port) (replies : List Reply) (old new : Serv
           (λ _. Contains-get_or (port ∷ []) 0 port (omega arith)) list.leaves;
       faults = λ told here. absurd (nowhere told here);
       calm = calm;
+      ties = ties laws port replies old new t ready turn list port_same m reached is x.steps x.may b answered;
     }
 
   module _ (adds : (m : Machine) → IsReached m → IsMachineOf old m → AddsTurn port replies old new m)
-      (answered : RunsWell (old.device.port port.0) → Undisturbed port.0 old.device new.device → (slot : ℕ) (used : SlotUse) → slot < 32 → used_for old.slots port.0 slot ≡ Some used
+      (answered : turn.look ≡ Calm → (slot : ℕ) (used : SlotUse) → slot < 32 → used_for old.slots port.0 slot ≡ Some used
       → (old.device.port port.0).ci slot ≡ false → (old.device.port port.0).sact slot ≡ false → IsAnsweredIn used.id replies)
       (silent : (q : ℕ) → state_of (found_of old.ports q) ≢ Dead → SendsNone q ReadLog old.device new.device) where
     pub serves : ServesPort port replies old new

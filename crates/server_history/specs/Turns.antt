@@ -142,6 +142,7 @@ pub record MakesTurn (port : Port) (replies : List Reply) (accesses : List Acces
   pub evidenced : IsEvidencedOf Service (Served replies) accesses (instant_of old m) (ports_of new) new.device evidence port
   pub faults : (told : Fault) → Contains evidence.faults told → TellsFault port accesses old new told
   pub calm : StaysHealthy port.0 old.device new.device → IsCalmTurn port replies accesses old new evidence steps
+  pub ties : TiesTurn port replies accesses old new m evidence steps
 
 -- what a turn of the port leaves of the server: its grants, the disks that are wanted, the id that was handed out last, and what it has of other ports and their
 -- requests (the machine that stands for it has the owners, and the loans that are kept)
