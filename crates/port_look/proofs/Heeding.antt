@@ -80,9 +80,9 @@ module _ (laws : Laws) where
   write_shows : (port : Port) (v : ℕ) (old new : Device) → old.hr ≡ false → Writes (Px port Is) v old new → bit v 30 ≡ false → ShowsFaults port.0 old new
   write_shows port v old new off w unread clear =
       let early = laws.steps_unfailed port.0 old w.mid off w.steps (⊎_elim
-          (λ (set : (w.mid.port port.0).is 30 ≡ true). absurd (false≢true (sym clear ∙ left_set laws port v 30 old new off w set unread)))
-          (λ unset. unset)
-          (cases_Bool ((w.mid.port port.0).is 30))) in
+      (λ (set : (w.mid.port port.0).is 30 ≡ true). absurd (false≢true (sym clear ∙ left_set laws port v 30 old new off w set unread)))
+      (λ unset. unset)
+      (cases_Bool ((w.mid.port port.0).is 30))) in
       (early.0, laws.fails_more port.0 old w.mid new early.1 (record { gained = []; tape = ap (λ (d : Device). d.tape) w.effect ∙ sym (append-nil w.mid.tape); none = All-nil (λ e. IsFaultOf port.0 e → ⊥) }))
 
   -- ---- a look

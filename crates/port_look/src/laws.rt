@@ -112,12 +112,12 @@ pub fn failures_are_found()
     laws_hold();
 }
 
-/// Where a port shows neither a fatal error nor a change of its link, and a device, with no link due, and the tape tells of no fatal error of it, and of no
-/// disk that goes or comes, a look tells that a command failed, or nothing. And a fault that wasn't read is shown: where TFES is clear after a look that
-/// hasn't read it, or after ordinary accesses, it was clear before, and no fault of the port came.
+/// A command that fails is heeded. Where a port showed neither a fatal error nor a change of its link, and a device, with no link due, and no
+/// fatal error of it came, and no disk went or came, a look tells that a command failed, or nothing. And a fault that wasn't read is shown: where
+/// TFES is clear after a look that hasn't read it, or after ordinary accesses, it was clear before, and no fault of the port came.
 pub fn a_fault_is_heeded()
-    ensures look { (port : Port) (result : Look) (old new : Device) → IsOn old → LooksAt port result old new → (old.port port.0).link_due ≡ false
-        → ((place : ℕ) → 27 ≤ place → place ≤ 29 → (old.port port.0).is place ≡ false)
+    ensures look { (port : Port) (result : Look) (old new : Device) → IsOn old → LooksAt port result old new
+        → (old.port port.0).link_due ≡ false → ((place : ℕ) → 27 ≤ place → place ≤ 29 → (old.port port.0).is place ≡ false)
         → (old.port port.0).serr_n ≡ false → (old.port port.0).serr_x ≡ false → (old.port port.0).ssts_det ≡ 3
         → NoneFatal port.0 old new → PlugsNone port.0 old new → (result ≡ look.Undisturbed) ⊎ (result ≡ look.Failed) }
     ensures unread { (port : Port) (result : Look) (old new : Device) → IsOn old → (l : LooksAt port result old new)

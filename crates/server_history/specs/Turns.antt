@@ -120,7 +120,8 @@ TiesTurn port replies accesses old new m evidence steps =
 
 -- What a turn that made these accesses and said these replies has made of the machine: its steps may come, and lead to a machine that stands for
 -- the new server; the tape backs them; and they are the device's own, or of requests of the port. Its evidence names the port alone, and is
--- backed by the device. Of what a service owes and claims it owes and claims what the block machine asks, and what is asked of a port that stays healthy.
+-- backed by the device. Of what a service owes and claims it owes and claims what the block machine asks, and what is asked of a port that stays healthy;
+-- and if that is asked of it as of a call, it has done of the port what a call does.
 pub record MakesTurn (port : Port) (replies : List Reply) (accesses : List Access) (old new : Server) (m : Machine) : Type 0 where
   pub steps : List Step
   pub evidence : Evidence
