@@ -1,5 +1,5 @@
 -- A port's turn heeds a command that fails: its look told it, or it is shown still.
-use Rattle.std.proofs.Common.{ℕ, ◌≡◌, ◌≢◌, ◌≤◌, ◌<◌, ◌++◌, Bool, true, false, List, [], ◌∷◌, inl, inr, refl, sym, ap, ◌∙◌, subst, ⊎_elim, arith}
+use Rattle.std.proofs.Common.{ℕ, ◌≡◌, ◌≤◌, ◌++◌, Bool, true, false, List, ◌∷◌, inl, inr, refl, sym, ◌∙◌, subst, ⊎_elim, arith}
 use Rattle.std.specs.List.{All, Contains}
 use Rattle.std.proofs.lemmas.Bool.{cases_Bool, false≢true}
 use Rattle.std.proofs.lemmas.List.{append_cancel_left}
@@ -35,7 +35,12 @@ use Rattle.slots.specs.Uses.{Uses as PortSlots}
 use Rattle.server_history.specs.Below.{LawsBelow}
 use Rattle.server_history.specs.Served.{ChecksUsed, HasNone, HasTurn, IssuesIn}
 use Rattle.server_history.proofs.Coming.{calm_or_not, none_or_some}
-use Rattle.server_history.proofs.Plain.{finding_serves, issues_serve}
+use Rattle.server_history.proofs.Plain.{issues_serve}
+
+-- a bit that isn't set is clear
+clear_unless : (b : Bool) → (b ≡ true → ⊥) → b ≡ false
+clear_unless true none = absurd (none refl)
+clear_unless false none = refl
 
 -- ---- what the tape gained
 
@@ -133,11 +138,7 @@ module _ (laws : LawsBelow) where
     -- a look at such a port told nothing
     module _ (undue : (old.device.port port.0).link_due ≡ false) (asked : IsAskedOf port old new) where
       whole : (place : ℕ) → 27 ≤ place → place ≤ 29 → (old.device.port port.0).is place ≡ false
-      whole place from to = ⊎_elim (λ set. absurd (asked.fatal (record { place = place; from = from; to = to; set = set }))) (λ clear. clear) (cases_Bool ((old.device.port port.0).is place))
-
-      clear_unless : (b : Bool) → (b ≡ true → ⊥) → b ≡ false
-      clear_unless true none = absurd (none refl)
-      clear_unless false none = refl
+      whole place from to = clear_unless ((old.device.port port.0).is place) (λ set. asked.fatal (record { place = place; from = from; to = to; set = set }))
 
       pub told_nothing : turn.look ≡ Calm
       told_nothing = ⊎_elim

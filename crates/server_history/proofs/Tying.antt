@@ -1,11 +1,10 @@
 -- A turn in which a ready port is left as it was: what it has done of the port, as a call of its own.
-use Rattle.std.proofs.Common.{◌&&◌, ◌==◌, eqb-true, ℕ, ◌≡◌, ◌≢◌, ◌⊎◌, ◌<◌, not, Bool, true, false, List, [], ◌∷◌, ◌++◌, Some, None, refl, sym, ap, ◌∙◌, subst, inl, inr, ⊎_elim, arith}
-use Rattle.std.specs.List.{All, Contains, list_any}
+use Rattle.std.proofs.Common.{◌&&◌, ℕ, ◌≡◌, ◌≢◌, ◌⊎◌, ◌<◌, not, Bool, true, false, List, [], ◌∷◌, ◌++◌, Some, None, refl, sym, ap, ◌∙◌, subst, inl, inr, ⊎_elim, arith}
+use Rattle.std.specs.List.{Contains, list_any}
 use Rattle.std.specs.Prelude.{◌↔◌}
-use Rattle.std.proofs.lemmas.Bool.{and_from, and_parts, cases_Bool, cases_eq, false≢true, or_from}
+use Rattle.std.proofs.lemmas.Bool.{and_from, and_parts, cases_eq, false≢true}
 use Rattle.std.proofs.lemmas.List.Elements.{All-contains_itself, All-head, Contains-append_cases, Contains-append_left, Contains-append_right}
 use Rattle.ata_types.specs.declared.Port.{Port}
-use Rattle.ata_types.specs.declared.PortState as shown
 use Rattle.ata_types.specs.declared.PortState.TheVariants.{Absent, Foreign, Ready as ReadyState, Unfit}
 use Rattle.ata_types.specs.declared.request.Outcome.{Outcome}
 use Rattle.ata_types.specs.declared.request.Outcome.TheVariants.{DeviceError, Ok}
@@ -14,16 +13,15 @@ use Rattle.ata_types.specs.declared.request.RequestId.{RequestId}
 use Rattle.hba_regs.specs.Bits.{bit}
 use Rattle.hba_regs.specs.declared.reg.Reg.TheVariants.{Px}
 use Rattle.hba_regs.specs.declared.reg.PortReg.TheVariants.{Ci, Sact}
-use Rattle.adapter.specs.Access.{Access, Reads}
+use Rattle.adapter.specs.Access.{Reads}
 use Rattle.adapter.specs.Device.{Device}
-use Rattle.agreement.specs.Agrees.{port_at}
 use Rattle.agreement.specs.Driven.{IsDrivenBy}
 use Rattle.agreement.specs.Slots.{IsFree, IsOver, IsServed, Serves, ServesRequest, Stage, Use}
 use Rattle.agreement.proofs.Finished.{steps_over}
 use Rattle.agreement.proofs.Unarmed.{reads_clear, steps_clear}
 use Rattle.agreement.proofs.Finding.{ended_is_clear}
 use Rattle.agreement.proofs.Sparing.{found_before, steps_spare}
-use Rattle.block_machine.specs.Events.{AllMay, AnswersEnded, Moment, ServesReady, tells_fault}
+use Rattle.block_machine.specs.Events.{AllMay, AnswersEnded, ServesReady, tells_fault}
 use Rattle.block_machine.specs.Histories.{IsReached}
 use Rattle.block_machine.specs.Left.{after}
 use Rattle.block_machine.specs.Ports.{Evidence, IsInterrupted, SamePort}
@@ -55,15 +53,11 @@ use Rattle.server_history.proofs.Joined.{nowhere}
 use Rattle.server_history.proofs.Looking.{still_over}
 use Rattle.server_history.proofs.Plain.{both_read}
 use Rattle.server_history.proofs.Said.{one_said}
-use Rattle.server_history.proofs.Slots.{HasSlot, free_unused, issued_has, ready_found, serves_used, still_booked, used_or_not}
-use Rattle.server_history.proofs.Told.{chosen, named_is, ready_that, shows_failure, shows_fatal, shows_loss, told_of, unfailed, unfatal, unlost}
+use Rattle.server_history.proofs.Slots.{HasSlot, free_unused, issued_has, not_true, ready_found, serves_used, still_booked, used_or_not}
+use Rattle.server_history.proofs.Told.{named_is, shows_failure, shows_fatal, shows_loss, told_of, unfailed, unfatal, unlost}
 use Rattle.server_history.proofs.Zips.{at_left, at_right}
 
 -- ---- bits that are read
-
-not_true : (b : Bool) → not b ≡ true → b ≡ false
-not_true false is = refl
-not_true true is = absurd (false≢true is)
 
 -- PxCI shows the bit of a slot clear whose command is over
 issued_clear : (port : Port) (slot v : ℕ) (old new : Device) → slot < 32 → Reads (Px port Ci) v old new → IsOver (old.port port.0) slot → bit v slot ≡ false
