@@ -6,3 +6,4 @@ pub mod Recording
 pub mod Seeing
 pub mod Stretching
 pub mod Failing
+pub mod Heeding

@@ -51,7 +51,7 @@ module _ (port : Port) (result : Look) (old new : Device) (l : LooksAt port resu
   }
 
   -- what comes once PxIS is cleared
-  rest : IsDrivenBy (IsOrdinary port) l.cleared new
+  pub rest : IsDrivenBy (IsOrdinary port) l.cleared new
   rest = record {
     accesses = clears_own;
     all = (l.acknowledged, l.acknowledges, (new, l.shows, refl));
@@ -86,7 +86,7 @@ module _ (laws : Laws) where
 
   -- ---- a bit of PxIS that a write leaves set
 
-  left_set : (port : Port) (v place : ℕ) (old new : Device) → old.hr ≡ false → (w : Writes (Px port Is) v old new) → (w.mid.port port.0).is place ≡ true → bit v place ≡ false → (new.port port.0).is place ≡ true
+  pub left_set : (port : Port) (v place : ℕ) (old new : Device) → old.hr ≡ false → (w : Writes (Px port Is) v old new) → (w.mid.port port.0).is place ≡ true → bit v place ≡ false → (new.port port.0).is place ≡ true
   left_set port v place old new off w set unread =
       let again : Writes (Px port Is) v w.mid new = record { mid = w.mid; steps = laws.steps_none w.mid; effect = w.effect } in
       let p : PutAt port.0 Is v w.mid new = laws.put port Is v w.mid new again ((laws.steps_keep old w.mid w.steps).on off).no_reset in
@@ -96,10 +96,10 @@ module _ (laws : Laws) where
   -- ---- a look
 
   module _ (port : Port) (result : Look) (old new : Device) (l : LooksAt port result old new) (on : IsOn old) where
-    seen_on : IsOn l.seen
+    pub seen_on : IsOn l.seen
     seen_on = spared_on laws (Reading (Px port Is) l.causes) old l.seen tt l.reads on
 
-    cleared_on : IsOn l.cleared
+    pub cleared_on : IsOn l.cleared
     cleared_on = spared_on laws (Writing (Px port Is) l.causes) l.seen l.cleared (λ e. cc) l.clears seen_on
 
     acknowledged_on : IsOn l.acknowledged

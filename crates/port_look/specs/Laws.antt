@@ -1,5 +1,5 @@
 -- What laws of the crates below say of accesses, with the kinds of accesses of this crate: its proofs rest on them.
-use Rattle.std.specs.Prelude.{ℕ, true, false, ◌≡◌, ◌≢◌, ◌⊎◌, ◌<◌, ◌++◌, List, [], ◌∷◌}
+use Rattle.std.specs.Prelude.{ℕ, true, false, ◌≡◌, ◌≢◌, ◌⊎◌, ◌<◌, ◌%◌, ◌++◌, List, [], ◌∷◌}
 use Rattle.ata_types.specs.declared.Port.{Port}
 use Rattle.hba_regs.specs.Bits.{bit}
 use Rattle.hba_regs.specs.declared.reg.PortReg.{PortReg}
@@ -17,9 +17,9 @@ use Rattle.adapter.specs.Steps.{Steps}
 use Rattle.adapter.specs.declared.tape.Entry.{Entry}
 use Rattle.agreement.specs.Driven.{AnyAccess, AnyUse, Grows, IsAgreed, IsDrivenBy, IsFollowedTo, IsOf, IsTold, IsToldTo, IsUse, LeavesPort}
 use Rattle.agreement.specs.Driver.{LeavesUses}
-use Rattle.agreement.specs.Errors.{ChangesByDisks, NoneComes, StaysClear}
+use Rattle.agreement.specs.Errors.{ChangesByDisks, ChangesByErrors, NoneComes, NoneFails, NoneFatal, StaysClear}
 use Rattle.agreement.specs.Facts.{IsFaulted, IsRecorded, RunsWell, ShowsNoTrouble, TellsNoTrouble, Undisturbed}
-use Rattle.agreement.specs.Links.{LeavesControls, SameAdapter, SparesRegister}
+use Rattle.agreement.specs.Links.{LeavesControls, LeavesLink, PlugsNone, SameAdapter, SparesRegister}
 use Rattle.agreement.specs.Noted.{LeavesNotes}
 use Rattle.agreement.specs.Slots.{Uses}
 use Rattle.agreement.specs.Started.{ClearsNoStart, IsStarted}
@@ -79,7 +79,17 @@ pub record Laws : Type 0 where
   pub access_undue : (port : Port) (access : Access) (old new : Device) → old.hr ≡ false → (old.port port.0).link_due ≡ false → SparesRegister (Px port Sctl) access → Does access old new → (new.port port.0).link_due ≡ false
   pub access_recorded : (port : Port) (access : Access) (old new : Device) → SparesRegister (Px port Cmd) access → SparesRegister (Px port Sctl) access → Does access old new
       → IsRecorded old.tape (old.port port.0) port.0 → IsRecorded new.tape (new.port port.0) port.0
+  pub access_errors : (port : Port) (access : Access) (old new : Device) → Does access old new → ChangesByErrors port.0 old new
+  pub access_link : (port : Port) (access : Access) (old new : Device) → old.hr ≡ false → SparesRegister (Px port Sctl) access → Does access old new → PlugsNone port.0 old new
+      → LeavesLink (old.port port.0) (new.port port.0)
+  pub changes_lost : (port : Port) (v : ℕ) (old new : Device) → old.hr ≡ false → (old.port port.0).link_due ≡ false → Reads (Px port Is) v old new → (bit v 22 ≡ true) ⊎ (bit v 6 ≡ true)
+      → ((old.port port.0).serr_n ≡ true) ⊎ (((old.port port.0).serr_x ≡ true) ⊎ (PlugsNone port.0 old new → ⊥))
+  pub link_lost : (port : Port) (v : ℕ) (old new : Device) → old.hr ≡ false → (old.port port.0).link_due ≡ false → Reads (Px port Ssts) v old new → v % 16 ≢ 3
+      → ((old.port port.0).ssts_det ≢ 3) ⊎ (PlugsNone port.0 old new → ⊥)
   -- a fault
+  pub steps_unfailed : (port : ℕ) (old new : Device) → old.hr ≡ false → Steps old new → (new.port port).is 30 ≡ false → ((old.port port).is 30 ≡ false) × NoneFails port old new
+  pub access_unfailed : (port : Port) (access : Access) (old new : Device) → old.hr ≡ false → SparesRegister (Px port Is) access → Does access old new → (new.port port.0).is 30 ≡ false
+      → ((old.port port.0).is 30 ≡ false) × NoneFails port.0 old new
   pub fault_told : (port : Port) (v : ℕ) (old new : Device) → old.hr ≡ false → (old.port port.0).st ≡ true → IsRecorded old.tape (old.port port.0) port.0 → Reads (Px port Is) v old new → bit v 30 ≡ true → IsFaulted (new.port port.0).halt
   pub fault_reads : (port : ℕ) (r : Reg) (v : ℕ) (old new : Device) → old.hr ≡ false → (old.port port).st ≡ true → IsRecorded old.tape (old.port port) port → IsFaulted (old.port port).halt → Reads r v old new → IsFaulted (new.port port).halt
   pub fault_writes : (port : ℕ) (r : Reg) (v : ℕ) (old new : Device) → old.hr ≡ false → (old.port port).st ≡ true → IsRecorded old.tape (old.port port) port → IsFaulted (old.port port).halt → Writes r v old new → IsFaulted (new.port port).halt
@@ -91,6 +101,10 @@ pub record Laws : Type 0 where
   pub access_grows : (access : Access) (old new : Device) → Does access old new → Grows old new
   pub calm_parts : (port : ℕ) (old mid new : Device) (early late : List Entry) → mid.tape ≡ old.tape ++ early → new.tape ≡ mid.tape ++ late → Undisturbed port old new → Undisturbed port old mid × Undisturbed port mid new
   pub comes_parts : (port : ℕ) (old mid new : Device) (early late : List Entry) → mid.tape ≡ old.tape ++ early → new.tape ≡ mid.tape ++ late → NoneComes port old new → NoneComes port old mid × NoneComes port mid new
+  pub plugs_parts : (port : ℕ) (old mid new : Device) (early late : List Entry) → mid.tape ≡ old.tape ++ early → new.tape ≡ mid.tape ++ late → PlugsNone port old new → PlugsNone port old mid × PlugsNone port mid new
+  pub fatal_parts : (port : ℕ) (old mid new : Device) (early late : List Entry) → mid.tape ≡ old.tape ++ early → new.tape ≡ mid.tape ++ late → NoneFatal port old new → NoneFatal port old mid × NoneFatal port mid new
+  pub fails_none : (port : ℕ) (d : Device) → NoneFails port d d
+  pub fails_more : (port : ℕ) (old mid new : Device) → NoneFails port old mid → NoneFails port mid new → NoneFails port old new
   -- stretches
   pub other_left : (port : Port) (q : ℕ) (old new : Device) → q ≢ port.0 → IsOn old → IsDrivenBy (IsOf port) old new → LeavesPort (old.port q) (new.port q)
   pub same_over : (old new : Device) → IsDrivenBy AnyAccess old new → SameAdapter old new

@@ -5,9 +5,9 @@ use adapter::laws::{port_registers_are_accessed, steps_compose, steps_keep};
 use agreement::disks::look_tells;
 use agreement::facts::{
     adapter_stays, calm_composes, cleared_stays, coming_composes, controls_stay, errors_are_kept,
-    errors_rise_by_disks, fault_is_found, faults_are_recorded, healthy_stays,
-    loads_and_stores_leave_ports, notes_are_set, notes_stay, running_well_is_found,
-    trouble_is_shown,
+    errors_are_shown, errors_rise_by_disks, fatal_errors_compose, fault_is_found,
+    faults_are_recorded, faults_compose, healthy_stays, link_stays, loads_and_stores_leave_ports,
+    notes_are_set, notes_stay, plugging_composes, running_well_is_found, trouble_is_shown,
 };
 use agreement::kinds::{
     Kinds, accesses_are_followed, followed_stretches_give, stretches_are_followed,
@@ -40,13 +40,18 @@ pub fn laws_hold()
     coming_composes();
     controls_stay();
     errors_are_kept();
+    errors_are_shown();
     errors_rise_by_disks();
+    fatal_errors_compose();
     fault_is_found();
     faults_are_recorded();
+    faults_compose();
     healthy_stays();
+    link_stays();
     loads_and_stores_leave_ports();
     notes_are_set();
     notes_stay();
+    plugging_composes();
     running_well_is_found();
     trouble_is_shown();
     accesses_are_followed::<Looks>();

@@ -99,7 +99,7 @@ unmasked : (slots : PortSlots) (mask : ℕ) → IsMaskOf slots mask → HasNone 
 unmasked slots mask its none busy = false≢true (sym (none busy.0 busy.1) ∙ its busy.0 busy.1 ∙ busy.2)
 
 -- a mask has a bit of these, or it has none
-none_or_some : (n mask : ℕ) → ((slot : ℕ) → slot < n → bit mask slot ≡ false) ⊎ ((slot : ℕ) × (slot < n) × (bit mask slot ≡ true))
+pub none_or_some : (n mask : ℕ) → ((slot : ℕ) → slot < n → bit mask slot ≡ false) ⊎ ((slot : ℕ) × (slot < n) × (bit mask slot ≡ true))
 none_or_some zero mask = inl (λ slot small. absurd (omega (arith, small)))
 none_or_some (suc n) mask = ⊎_elim
     (λ (none : (slot : ℕ) → slot < n → bit mask slot ≡ false). ⊎_elim
@@ -111,6 +111,13 @@ none_or_some (suc n) mask = ⊎_elim
     (cases_Bool (bit mask n)))
     (λ (some : (slot : ℕ) × (slot < n) × (bit mask slot ≡ true)). let small = some.1 in inr (some.0, omega (arith, small), some.2))
     (none_or_some n mask)
+
+-- a look told nothing, or something
+pub calm_or_not : (look : Look) → (look ≡ Calm) ⊎ (look ≢ Calm)
+calm_or_not Calm = inl refl
+calm_or_not Lost = inr (λ e. let z : Lost ≡ Calm = e in absurd cc)
+calm_or_not Broken = inr (λ e. let z : Broken ≡ Calm = e in absurd cc)
+calm_or_not Failed = inr (λ e. let z : Failed ≡ Calm = e in absurd cc)
 
 module _ (port : Port) where
   -- a look, access by access
@@ -204,12 +211,6 @@ module _ (port : Port) where
       calm = λ _ _ _. calm;
       masks = λ _ _. ((t.calm calm).mask, (t.calm calm).its, (c calm some, masks_there calm some));
     }
-
-    calm_or_not : (look : Look) → (look ≡ Calm) ⊎ (look ≢ Calm)
-    calm_or_not Calm = inl refl
-    calm_or_not Lost = inr (λ e. let z : Lost ≡ Calm = e in absurd cc)
-    calm_or_not Broken = inr (λ e. let z : Broken ≡ Calm = e in absurd cc)
-    calm_or_not Failed = inr (λ e. let z : Failed ≡ Calm = e in absurd cc)
 
     pub turn_list : TurnList slots replies old new t
     turn_list = ⊎_elim

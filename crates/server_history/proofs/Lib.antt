@@ -58,3 +58,5 @@ pub mod Recovered
 pub mod Remaining
 pub mod Beside
 pub mod Mending
+pub mod Heeding
+pub mod Tying

@@ -13,8 +13,9 @@ use Rattle.adapter.specs.declared.command.Operation.{Operation}
 use Rattle.adapter.specs.declared.command.Operation.TheVariants.{Identify}
 use Rattle.agreement.specs.Agrees.{port_at}
 use Rattle.agreement.specs.Driven.{AnyUse, IsDrivenBy, IsFollowed, LeavesPort, NoneWrites, SendsNone}
-use Rattle.agreement.specs.Slots.{Uses, op_of}
-use Rattle.agreement.proofs.Driven.{driven_as, followed_adds, followed_silent}
+use Rattle.agreement.specs.Slots.{IsOver, Uses, op_of}
+use Rattle.agreement.proofs.Driven.{along, driven_as, followed_adds, followed_silent}
+use Rattle.agreement.proofs.Finished.{access_over}
 use Rattle.host_boot.specs.Taken.{found_of}
 use Rattle.host_boot.specs.declared.Found.TheVariants.{Unready}
 use Rattle.server_history.specs.Served.{IsMaskOf}
@@ -129,3 +130,18 @@ module _ (s : Server) (new : Device) (port : Port) (k : IsKept s) (ready : state
       where
         started : (s.device.port port.0).st ≡ true
         started = ((k.behind port.0 (ready_found s port.0 k ready).0).runs ready).st
+
+-- ---- commands that are over
+
+-- a look writes no PxCI
+no_issue : (port : Port) (access : Access) → IsLooking port access → (v : ℕ) → access ≡ Writing (Px port Ci) v → ⊥
+no_issue port access is v same = by (subst (IsLooking port) same is)
+  where
+    by : IsLooking port (Writing (Px port Ci) v) → ⊥
+    by (inl e) = let z : Px port Ci ≡ Px port Is = e in absurd cc
+    by (inr e) = absurd (let z = e.0 in cc)
+
+pub still_over : (port : Port) (slot : ℕ) (old new : Device) → IsDrivenBy (IsLooking port) old new → IsOver (old.port port.0) slot → IsOver (new.port port.0) slot
+still_over port slot old new driven =
+    along (λ a b. IsOver (a.port port.0) slot → IsOver (b.port port.0) slot) (λ d h. h) (λ a b c x y h. y (x h)) (IsLooking port)
+    (λ access a b is does h. access_over port slot access a b (λ v same. absurd (no_issue port access is v same)) does h) driven.accesses old new driven.only driven.all

@@ -18,7 +18,6 @@ use Rattle.adapter.specs.declared.access.DeviceStep.{DeviceStep}
 use Rattle.adapter.specs.declared.command.Operation.TheVariants.{ReadLog}
 use Rattle.agreement.specs.Driven.{SendsNone}
 use Rattle.agreement.specs.Driver.{IsBacked}
-use Rattle.agreement.specs.Facts.{RunsWell, Undisturbed}
 use Rattle.agreement.proofs.Sparing.{found_before, steps_spare}
 use Rattle.block_machine.specs.Events.{AllDevices, AllGrounded, AllLawful, AllMay, Belong, IsDevices, IsLawful, IssuesLast, IsToldBefore, Moment, Served, Service, Tells, answers_of, issues_it}
 use Rattle.block_machine.specs.Histories.{IsReached}
@@ -27,21 +26,22 @@ use Rattle.block_machine.specs.Ports.{Evidence, IsServiced, Ports, SamePort}
 use Rattle.block_machine.specs.State.{Machine, Pending}
 use Rattle.block_machine.specs.Steps.{Step, Again, Answer, Issue}
 use Rattle.block_machine.specs.declared.due.Mode.{Mode}
-use Rattle.driver_history.specs.Evidence.{StaysHealthy}
 use Rattle.driver_history.specs.Histories.{IssuesDue}
 use Rattle.host_boot.specs.Taken.{found_of}
+use Rattle.port_look.specs.declared.Look.TheVariants.{Undisturbed as Calm}
 use Rattle.port_look.proofs.Seeing.{look_driven}
 use Rattle.request_queue.specs.Entries.{Held, IsEarlier}
 use Rattle.slots.specs.declared.Use.{Use as SlotUse}
 use Rattle.server_history.specs.Below.{LawsBelow}
 use Rattle.server_history.specs.Served.{AnswersBy, AnswersTurn, HasEnded, HasTurn, IsAnsweredIn, IssuesOnly, SameSettings, answers_in, is_used}
 use Rattle.server_history.specs.Server.{Server, IsMachineOf, IsSettled, mode_in, ports_of, remembered_at, slots_at, state_of, used_for}
-use Rattle.server_history.specs.Turns.{ServesPort, IsCalmTurn, IsOfTurn, LeavesOthers, MakesTurn, NamesOnly, moment_of}
+use Rattle.server_history.specs.Turns.{ServesPort, IsOfTurn, LeavesOthers, MakesTurn, NamesOnly, moment_of}
 use Rattle.server_history.proofs.Answered.{answered_in, ended_stood, issuing_answers, may_parts, no_answer, no_answer_issuing, told_so, with_ok}
 use Rattle.server_history.proofs.Joined.{nowhere}
 use Rattle.server_history.proofs.Coming.{TurnList, turn_list}
 use Rattle.server_history.proofs.Settling.{turn_apart, turn_settings, turn_slots}
 use Rattle.server_history.proofs.Slots.{ready_found}
+use Rattle.server_history.proofs.Tying.{finds, ties}
 use Rattle.server_history.proofs.Zips.{at_right}
 use Rattle.server_history.proofs.Told.{chosen, chosen_of, evidenced_of, ready_that, shows_failure, shows_fatal, shows_loss, told_of}
 
@@ -201,7 +201,7 @@ module _ (laws : LawsBelow) (port : Port) (replies : List Reply) (old new : Serv
   }
 
   module _ (m : Machine) (reached : IsReached m) (is : IsMachineOf old m) (x : AddsTurn port replies old new m)
-      (answered : RunsWell (old.device.port port.0) → Undisturbed port.0 old.device new.device → (slot : ℕ) (used : SlotUse) → slot < 32 → used_for old.slots port.0 slot ≡ Some used
+      (answered : turn.look ≡ Calm → (slot : ℕ) (used : SlotUse) → slot < 32 → used_for old.slots port.0 slot ≡ Some used
       → (old.device.port port.0).ci slot ≡ false → (old.device.port port.0).sact slot ≡ false → IsAnsweredIn used.id replies) where
     abbrev mode : Mode
     mode = mode_in old port
@@ -288,24 +288,6 @@ module _ (laws : LawsBelow) (port : Port) (replies : List Reply) (old new : Serv
       ),
     )
 
-    calm : StaysHealthy port.0 old.device new.device → IsCalmTurn port replies list.driven.accesses old new its x.steps
-    calm well = record {
-      same = port_same;
-      alone = λ i. ⊎_elim (nowhere port) (nowhere port) i;
-      answers = b;
-      checked = λ slot used small its_use.
-          let masks = list.masks (list.calm t.kept.on well.well well.undisturbed) (slot, small, ap is_used its_use) in
-          record {
-            mask = masks.0;
-            its = masks.1;
-            seen = turn.seen;
-            looks = look_driven port turn.look old.device turn.seen turn.looks;
-            checks = masks.2.0;
-            masks = masks.2.1;
-          };
-      answered = answered well.well well.undisturbed;
-    }
-
     makes : MakesTurn port replies list.driven.accesses old new m
     makes = record {
       steps = x.steps;
@@ -328,11 +310,12 @@ module _ (laws : LawsBelow) (port : Port) (replies : List Reply) (old new : Serv
       evidenced = evidenced_of (port ∷ []) Service (Served replies) list.driven.accesses (record { device = old.device; moment = began }) (ports_of new) new.device port
           (λ _. Contains-get_or (port ∷ []) 0 port (omega arith)) list.leaves;
       faults = λ told here. absurd (nowhere told here);
-      calm = calm;
+      ties = ties laws port replies old new t ready turn list port_same m reached is x.steps x.may b answered;
+      finds = finds laws port replies old new t ready turn list port_same m reached is x.steps x.may b answered;
     }
 
   module _ (adds : (m : Machine) → IsReached m → IsMachineOf old m → AddsTurn port replies old new m)
-      (answered : RunsWell (old.device.port port.0) → Undisturbed port.0 old.device new.device → (slot : ℕ) (used : SlotUse) → slot < 32 → used_for old.slots port.0 slot ≡ Some used
+      (answered : turn.look ≡ Calm → (slot : ℕ) (used : SlotUse) → slot < 32 → used_for old.slots port.0 slot ≡ Some used
       → (old.device.port port.0).ci slot ≡ false → (old.device.port port.0).sact slot ≡ false → IsAnsweredIn used.id replies)
       (silent : (q : ℕ) → state_of (found_of old.ports q) ≢ Dead → SendsNone q ReadLog old.device new.device) where
     pub serves : ServesPort port replies old new

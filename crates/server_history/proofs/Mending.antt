@@ -71,6 +71,7 @@ module _ (laws : LawsBelow) (port : Port) (replies : List Reply) (old new : Serv
         evidenced = e.evidenced m;
         faults = e.faults;
         calm = e.calm d.steps;
+        ties = ?;
       }
 
   pub recovered : ServesPort port replies old new

@@ -9,19 +9,13 @@ use Rattle.ata_types.specs.declared.request.Outcome.TheVariants.{Ok}
 use Rattle.ata_types.specs.declared.request.Reply.{Reply}
 use Rattle.ata_types.specs.declared.request.RequestId.{RequestId}
 use Rattle.hba_regs.specs.Bits.{bit}
-use Rattle.hba_regs.specs.declared.reg.Reg.TheVariants.{Px}
-use Rattle.hba_regs.specs.declared.reg.PortReg.TheVariants.{Ci, Is}
-use Rattle.adapter.specs.Access.{Access}
-use Rattle.adapter.specs.Access.Access.{Writing}
 use Rattle.adapter.specs.Commands.{is_queued}
 use Rattle.adapter.specs.Device.{Device}
 use Rattle.adapter.specs.declared.command.Operation.TheVariants.{ReadLog}
 use Rattle.agreement.specs.Driven.{AnyUse, IsDrivenBy, IsFollowed, SendsNone}
 use Rattle.agreement.specs.Driver.{IsBacked}
-use Rattle.agreement.specs.Facts.{RunsWell, Undisturbed}
 use Rattle.agreement.specs.Slots.{IsOver, Serves, ServesRequest, Stage}
-use Rattle.agreement.proofs.Driven.{along, by_none, followed_as, followed_then, followed_adds}
-use Rattle.agreement.proofs.Finished.{access_over}
+use Rattle.agreement.proofs.Driven.{by_none, followed_as, followed_then, followed_adds}
 use Rattle.block_machine.specs.Events.{AllDevices, AllMay, issues_it}
 use Rattle.block_machine.specs.Histories.{IsReached}
 use Rattle.block_machine.specs.Left.{after}
@@ -41,7 +35,6 @@ use Rattle.port_look.specs.Laws.{Laws}
 use Rattle.port_look.specs.Services.{IsService}
 use Rattle.port_look.specs.declared.Look.{Look}
 use Rattle.port_look.specs.declared.Look.TheVariants.{Failed, Undisturbed as Calm}
-use Rattle.port_look.proofs.Seeing.{seen_well}
 use Rattle.port_look.proofs.Serving.{looking_service, looks_inactive}
 use Rattle.request_queue.specs.Entries.{Held, asks_of, due_ids}
 use Rattle.slots.specs.Uses.{Uses as PortSlots}
@@ -56,6 +49,7 @@ use Rattle.server_history.proofs.Coming.{bit_zero}
 use Rattle.server_history.proofs.Going.{machine_on}
 use Rattle.server_history.proofs.Devices.{devices_last}
 use Rattle.server_history.proofs.Looking.{finding_kept, finding_silent, found_over, looking_kept, looking_silent}
+pub use Rattle.server_history.proofs.Looking.{still_over}
 use Rattle.server_history.proofs.Making.{AddsTurn, none_last, serves}
 use Rattle.server_history.proofs.Silent.{silent_more}
 use Rattle.server_history.proofs.Placing.{placed_other, placed_same}
@@ -83,10 +77,9 @@ followed_steps s new followed m reached is =
     let x = (followed_adds followed is.uses is.parked tt).adds m reached is.knows in
     (x.0, x.1, machine_on s new m x.0 is x.3.only x.2, x.3.backed, x.3.only)
 
-nobody_answered : LawsBelow → (s : Server) (new : Device) (port : Port) → IsSettled s → state_of (found_of s.ports port.0) ≡ ReadyState → HasTurn port (slots_at s.slots port.0) [] s.device new → IsFollowed IsService AnyUse s.device new
+nobody_answered : LawsBelow → (s : Server) (new : Device) (port : Port) → IsSettled s → state_of (found_of s.ports port.0) ≡ ReadyState → (turn : HasTurn port (slots_at s.slots port.0) [] s.device new) → IsFollowed IsService AnyUse s.device new
     → ((q : ℕ) → state_of (found_of s.ports q) ≢ Dead → SendsNone q ReadLog s.device new)
-    → (RunsWell (s.device.port port.0) → Undisturbed port.0 s.device new → (slot : ℕ) (used : SlotUse) → slot < 32 → used_for s.slots port.0 slot ≡ Some used
-    → (s.device.port port.0).ci slot ≡ false → (s.device.port port.0).sact slot ≡ false → ⊥)
+    → (turn.look ≡ Calm → (slot : ℕ) (used : SlotUse) → slot < 32 → used_for s.slots port.0 slot ≡ Some used → (s.device.port port.0).ci slot ≡ false → (s.device.port port.0).sact slot ≡ false → ⊥)
     → ServesPort port [] s (record s { device = new })
 nobody_answered laws s new port settled ready turn followed silent never =
     serves laws port [] s (record s { device = new }) settled ready turn (inl (refl, refl))
@@ -112,23 +105,10 @@ nobody_answered laws s new port settled ready turn followed silent never =
       last = devices_last x.0 x.4;
       issues = none_issued (record s { device = new }) (after m x.0) x.2 x.0 (λ id. devices_issue_none id x.0 x.4) (mode_in s port) port (settled.issued port);
     })
-    (λ well calm slot used small its ci sact. absurd (never well calm slot used small its ci sact))
+    (λ calm slot used small its ci sact. absurd (never calm slot used small its ci sact))
     silent
 
 -- ---- bits that are clear
-
--- a look writes no PxCI
-no_issue : (port : Port) (access : Access) → IsLooking port access → (v : ℕ) → access ≡ Writing (Px port Ci) v → ⊥
-no_issue port access is v same = by (subst (IsLooking port) same is)
-  where
-    by : IsLooking port (Writing (Px port Ci) v) → ⊥
-    by (inl e) = let z : Px port Ci ≡ Px port Is = e in absurd cc
-    by (inr e) = absurd (let z = e.0 in cc)
-
-pub still_over : (port : Port) (slot : ℕ) (old new : Device) → IsDrivenBy (IsLooking port) old new → IsOver (old.port port.0) slot → IsOver (new.port port.0) slot
-still_over port slot old new driven =
-    along (λ a b. IsOver (a.port port.0) slot → IsOver (b.port port.0) slot) (λ d h. h) (λ a b c x y h. y (x h)) (IsLooking port)
-    (λ access a b is does h. access_over port slot access a b (λ v same. absurd (no_issue port access is v same)) does h) driven.accesses old new driven.only driven.all
 
 -- a command that runs has one of the two bits
 never_both : (started queued ci sact : Bool) → started ≡ true → ci ≡ started && not queued → sact ≡ started && queued → ci ≡ false → sact ≡ false → ⊥
@@ -235,7 +215,7 @@ module _ (s : Server) (seen : Device) (port : Port) (t : IsSettled s) (ready : s
       (record { look = look; seen = seen; looks = l; whole = whole; told = λ _. (refl, refl); calm = λ calm. absurd (told calm) })
       (looks_serve port s.device seen looks)
       seen_silent
-      (λ well calm slot used small its ci sact. told (seen_well laws.looks port look s.device seen l k.on well calm).0)
+      (λ calm slot used small its ci sact. told calm)
 
   module _ (l : LooksAt port Calm s.device seen) where
     -- no slot is used
@@ -252,7 +232,7 @@ module _ (s : Server) (seen : Device) (port : Port) (t : IsSettled s) (ready : s
         })
         (looks_serve port s.device seen looks)
         seen_silent
-        (λ well calm slot used small is ci sact. false≢true (sym (bit_zero slot) ∙ its slot small ∙ ap is_used is))
+        (λ calm slot used small is ci sact. false≢true (sym (bit_zero slot) ∙ its slot small ∙ ap is_used is))
 
     module _ (laws : LawsBelow) (mask : ℕ) (its : IsMaskOf (slots_at s.slots port.0) mask) (some : HasNone mask → ⊥) where
       -- a used slot is asked for
@@ -294,7 +274,7 @@ module _ (s : Server) (seen : Device) (port : Port) (t : IsSettled s) (ready : s
           })
           (followed_then IsService AnyUse s.device seen new (looks_serve port s.device seen looks) (finds_serve laws port mask done seen new reads))
           (found_silent new done reads)
-          (λ well calm slot used small is ci sact.
+          (λ calm slot used small is ci sact.
           let c = still_clear s port k ready slot laws.looks seen looks.driven used is ci sact in
           false≢true (sym (none slot small) ∙ sees slot small (asked slot used small is) c.0 c.1))
 
@@ -436,7 +416,7 @@ module _ (s : Server) (seen : Device) (port : Port) (t : IsSettled s) (ready : s
             })
             (inr (refl, some, a))
             turn_adds
-            (λ well calm slot used small is ci sact.
+            (λ calm slot used small is ci sact.
             let c = still_clear s port k ready slot laws.looks seen looks.driven used is ci sact in
             (exactly slot used small is).0 (sees slot small (asked slot used small is) c.0 c.1))
             whole_silent

@@ -123,7 +123,7 @@ told_of list d ports = record no_evidence {
 abbrev pub told_by : Device → Ports → Evidence
 told_by d ports = told_of four d ports
 
-unfatal : (p : PortState) → shows_fatal p ≡ true → ShowsFatal p
+pub unfatal : (p : PortState) → shows_fatal p ≡ true → ShowsFatal p
 unfatal p h = ⊎_elim
     (λ a. record { place = 27; from = omega arith; to = omega arith; set = a })
     (λ more. ⊎_elim
@@ -145,14 +145,14 @@ fatal_shows p f = by (cases_eq f.place 27)
         (λ b. or_right (p.is 28) (p.is 29) (subst P (let low = f.from in let high = f.to in omega (arith, low, high, a, b)) f.set))
         (cases_eq f.place 28))
 
-unfailed : (p : PortState) → shows_failure p ≡ true → ShowsFailure p
+pub unfailed : (p : PortState) → shows_failure p ≡ true → ShowsFailure p
 unfailed p h = ⊎_elim (λ a. inl (unfatal p a)) (λ a. inr a) (or_cases (shows_fatal p) (p.is 30) h)
 
 failure_shows : (p : PortState) → ShowsFailure p → shows_failure p ≡ true
 failure_shows p (inl f) = or_left (shows_fatal p) (p.is 30) (fatal_shows p f)
 failure_shows p (inr a) = or_right (shows_fatal p) (p.is 30) a
 
-unlost : (p : PortState) → shows_loss p ≡ true → ShowsChange p ⊎ (p.ssts_det ≢ 3)
+pub unlost : (p : PortState) → shows_loss p ≡ true → ShowsChange p ⊎ (p.ssts_det ≢ 3)
 unlost p h = ⊎_elim
     (λ n. inl (inl n))
     (λ more. ⊎_elim (λ x. inl (inr x)) (λ other. inr (λ is. false≢true (sym (ap not (eq-eqb p.ssts_det 3 is)) ∙ other))) (or_cases p.serr_x (not (nat_eq p.ssts_det 3)) more))
@@ -178,7 +178,7 @@ module _ (p : PortState) (well : RunsWell p) where
 
 module _ (list : List Port) (d : Device) (ports : Ports) (shows : PortState → Bool) where
   -- who is named is ready, and shows it
-  named_is : (port : Port) → Contains (chosen (ready_that shows d ports) list) port → (ports.state port ≡ Ready) × (shows (d.port port.0) ≡ true)
+  pub named_is : (port : Port) → Contains (chosen (ready_that shows d ports) list) port → (ports.state port ≡ Ready) × (shows (d.port port.0) ≡ true)
   named_is port here =
       let both = and_parts (is_ready (ports.state port)) (shows (d.port port.0)) (chosen_is (ready_that shows d ports) list port here) in
       (ready_is (ports.state port) both.0, both.1)

@@ -23,7 +23,7 @@ use Rattle.adapter.specs.Access.{Access, Does, DoesAll, Reads}
 use Rattle.adapter.specs.Access.Access.{Loading, Storing}
 use Rattle.adapter.specs.Says.{Says}
 use Rattle.agreement.specs.Driver.{MissesTable}
-use Rattle.agreement.specs.Links.{IsPlugging, SparesRegister}
+use Rattle.agreement.specs.Links.{IsPlugging, PlugsNone, SparesRegister}
 use Rattle.agreement.specs.Tape.{TellsAmong}
 use Rattle.agreement.specs.Started.{ClearsNoStart}
 use Rattle.hba_regs.specs.Bits.{bit}
@@ -36,7 +36,7 @@ use Rattle.agreement.specs.Driver.{EndsWith, Forgets, Goes, HasNoSlot, IsBacked,
 use Rattle.agreement.specs.GivingUp.{parking_all, served_ids}
 use Rattle.agreement.specs.Slots.{Armed, Free, Own, Serves, Use, Uses, op_of, put}
 use Rattle.block_machine.specs.Due.{AreDueInTurn, IsDue, is_plain, IsInOrder as machine_in_order, due_of, of_port, with_issued, with_none, with_waiting}
-use Rattle.agreement.specs.Errors.{NoneComes}
+use Rattle.agreement.specs.Errors.{NoneComes, NoneFails, NoneFatal}
 use Rattle.block_machine.specs.State.{Machine, Pending}
 use Rattle.block_machine.specs.Steps.{Step, Accept, Again, Issue, Answer, May, after_step, newly_accepted, stays}
 use Rattle.block_machine.specs.State as machine
@@ -45,7 +45,7 @@ use Rattle.ata_types.specs.declared.request.ClientId.{ClientId}
 use Rattle.block_machine.specs.declared.due.Mode.{Mode}
 use Rattle.block_machine.specs.declared.due.Unanswered.{Unanswered}
 use Rattle.dma_frames.specs.Table.{Table, LendsOnly, lent_to}
-use Rattle.agreement.specs.Facts.{IsFaulted, IsRecorded, RunsWell, ShowsFault, Undisturbed}
+use Rattle.agreement.specs.Facts.{IsFaulted, IsRecorded, RunsWell, ShowsFault, ShowsNoTrouble, TellsNoTrouble, Undisturbed}
 use Rattle.std.specs.List.{list_any}
 use Rattle.block_machine.specs.Events.{changes_disk, Ask, IsDevices, Moment, Said, Service}
 use Rattle.block_machine.specs.Left.{after}
@@ -65,8 +65,9 @@ use Rattle.ncq.specs.Tasks.{IsIssuing, IsTaskOf, IssuesTask, MayServe, with_serv
 use Rattle.ncq.specs.declared.Task.{Task}
 use Rattle.port_look.specs.Laws.{Laws}
 use Rattle.port_look.specs.Looks.{LooksAt, look_of}
+use Rattle.port_look.specs.Services.{IsOrdinary}
 use Rattle.port_look.specs.declared.Look.{Look}
-use Rattle.port_look.specs.declared.Look.TheVariants.{Failed, Lost}
+use Rattle.port_look.specs.declared.Look.TheVariants.{Failed, Lost, Undisturbed as Calm}
 use Rattle.request_queue.specs.Entries.{Held, IsAccepted, IsEarlier, IsFresh, IsInOrder, IsWaiting, MayGoAgain, asks_of, at, issue, requeued as requeued_entry, unanswered_of, without}
 use Rattle.request_queue.specs.declared.Entry.{Entry}
 use Rattle.request_queue.specs.Machine.{IsBook, IsEntry}
@@ -184,6 +185,15 @@ pub record LawsBelow : Type 0 where
   pub looks_unlinked : (port : Port) (result : Look) (old new : Device) → IsOn old → LooksAt port result old new → (old.port port.0).ssts_det ≢ 3 → (old.port port.0).link_due ≡ false → NoneComes port.0 old new → result ≡ Lost
   pub looks_failed : (causes status : ℕ) → look_of causes status ≡ Failed
       → (bit causes 30 ≡ true) × (bit causes 6 ≡ false) × (bit causes 22 ≡ false) × ((place : ℕ) → 27 ≤ place → place ≤ 29 → bit causes place ≡ false) × (status % 16 ≡ 3)
+  pub looks_undisturbed : (causes status : ℕ) → look_of causes status ≡ Calm → TellsNoTrouble causes × (status % 16 ≡ 3)
+  pub looks_calm : (port : Port) (result : Look) (old new : Device) → IsOn old → (l : LooksAt port result old new) → result ≡ Calm → ShowsNoTrouble (old.port port.0) × Undisturbed port.0 old l.seen
+  -- a command that fails is heeded
+  pub looks_heed : (port : Port) (result : Look) (old new : Device) → IsOn old → LooksAt port result old new → (old.port port.0).link_due ≡ false
+      → ((place : ℕ) → 27 ≤ place → place ≤ 29 → (old.port port.0).is place ≡ false) → (old.port port.0).serr_n ≡ false → (old.port port.0).serr_x ≡ false → (old.port port.0).ssts_det ≡ 3
+      → NoneFatal port.0 old new → PlugsNone port.0 old new → (result ≡ Calm) ⊎ (result ≡ Failed)
+  pub looks_unread : (port : Port) (result : Look) (old new : Device) → IsOn old → (l : LooksAt port result old new) → bit l.causes 30 ≡ false → (new.port port.0).is 30 ≡ false
+      → ((old.port port.0).is 30 ≡ false) × NoneFails port.0 old new
+  pub ordinary_shows : (port : Port) (old new : Device) → IsOn old → IsDrivenBy (IsOrdinary port) old new → (new.port port.0).is 30 ≡ false → ((old.port port.0).is 30 ≡ false) × NoneFails port.0 old new
   -- a port that is recovered, or booted anew
   pub recovering_of : (port : Port) (access : Access) → IsRecovering port access → IsOf port access
   pub recovering_loads : (port : Port) (at : ℕ) (bytes : List ℕ) → port.0 < 4 → IsRecovering port (Loading at bytes) → at + length bytes ≤ DRIVER_BYTES

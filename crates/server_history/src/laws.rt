@@ -63,8 +63,8 @@ use agreement::disks::none_comes_in;
 use agreement::giving_up::{fault_is_outstanding, slots_are_given_up};
 use agreement::laws::{
     answering_agrees, backing_composes, disks_are_told, due_finds_free_slot, going_again_agrees,
-    going_composes, keeping_agrees, own_steps_are_backed, putting_is_of_one_slot, slots_are_counted,
-    waiting_has_no_slot,
+    going_composes, keeping_agrees, own_steps_are_backed, putting_is_of_one_slot,
+    slots_are_counted, waiting_has_no_slot,
 };
 use agreement::readying::{readied_stays, stored_stays_over_acts};
 use agreement::stretches::other_ports_are_left;
@@ -83,7 +83,7 @@ use ncq::laws::{calls_are_of_one_port, finding_is_followed, issuing_performs};
 use port_boot::laws::{a_boot_is_of_its_port, a_disk_is_in_where_one_shows, a_port_runs_on};
 use port_control::laws::what_is_told_of_engines_stays;
 use port_look::lawful::laws_hold;
-use port_look::laws::{answers_tell, failures_are_found, trouble_is_seen};
+use port_look::laws::{a_fault_is_heeded, answers_tell, failures_are_found, trouble_is_seen};
 use request_queue::laws::{
     accepted_requests_stay, an_id_is_one_request, clients_have_as_many,
     operations_change_one_request, operations_change_what_is_due, steps_change_the_book,
@@ -137,6 +137,7 @@ fn the_laws_below_hold()
     healthy_ports_are_untroubled();
     trouble_is_seen();
     answers_tell();
+    a_fault_is_heeded();
     recovery_is_of_its_port();
     a_boot_is_of_its_port();
     what_is_told_of_engines_stays();

@@ -1,0 +1,154 @@
+-- A port's turn heeds a command that fails: its look told it, or it is shown still.
+use Rattle.std.proofs.Common.{ℕ, ◌≡◌, ◌≤◌, ◌++◌, Bool, true, false, List, ◌∷◌, inl, inr, refl, sym, ◌∙◌, subst, ⊎_elim, arith}
+use Rattle.std.specs.List.{All, Contains}
+use Rattle.std.proofs.lemmas.Bool.{cases_Bool, false≢true}
+use Rattle.std.proofs.lemmas.List.{append_cancel_left}
+use Rattle.std.proofs.lemmas.List.Elements.{All-contains, Contains-append_right}
+use Rattle.ata_types.specs.declared.Port.{Port}
+use Rattle.ata_types.specs.declared.request.Reply.{Reply}
+use Rattle.hba_regs.specs.declared.reg.Reg.TheVariants.{Px}
+use Rattle.hba_regs.specs.declared.reg.PortReg.TheVariants.{Is, Ci, Sact}
+use Rattle.adapter.specs.Access.{Access}
+use Rattle.adapter.specs.Access.Access.{Reading, Writing, Loading, Storing}
+use Rattle.adapter.specs.Device.{Device}
+use Rattle.adapter.specs.Rules.{IsOn}
+use Rattle.adapter.specs.declared.tape.Entry.{Entry}
+use Rattle.agreement.specs.Driven.{IsDrivenBy, IsOf}
+use Rattle.agreement.specs.Errors.{IsFatalOf, NoneFails, NoneFatal}
+use Rattle.agreement.specs.Facts.{IsFaultOf, ShowsNoTrouble}
+use Rattle.agreement.specs.Links.{IsPlugging, PlugsNone, SparesRegister}
+use Rattle.agreement.proofs.Driven.{by_none, by_then, driven_as}
+use Rattle.block_machine.specs.Histories.{Instant}
+use Rattle.block_machine.specs.Ports.{Evidence, Ports}
+use Rattle.driver_history.specs.Evidence.{Gains}
+use Rattle.driver_history.specs.Guard.{IsAskedOf}
+use Rattle.driver_history.specs.Histories.{LosesNoTrouble}
+use Rattle.error_recovery.specs.Evidence.{GainsRunning}
+use Rattle.ncq.specs.Masks.{IsFinding}
+use Rattle.ncq.specs.Tasks.{IsIssuing}
+use Rattle.port_look.specs.Looks.{IsLooking}
+use Rattle.port_look.specs.Services.{IsOrdinary}
+use Rattle.port_look.specs.declared.Look.TheVariants.{Undisturbed as Calm}
+use Rattle.port_look.proofs.Apart.{looking_of}
+use Rattle.port_look.proofs.Seeing.{look_driven}
+use Rattle.slots.specs.Uses.{Uses as PortSlots}
+use Rattle.server_history.specs.Below.{LawsBelow}
+use Rattle.server_history.specs.Served.{ChecksUsed, HasNone, HasTurn, IssuesIn}
+use Rattle.server_history.proofs.Coming.{calm_or_not, none_or_some}
+use Rattle.server_history.proofs.Plain.{issues_serve}
+
+-- a bit that isn't set is clear
+clear_unless : (b : Bool) → (b ≡ true → ⊥) → b ≡ false
+clear_unless true none = absurd (none refl)
+clear_unless false none = refl
+
+-- ---- what the tape gained
+
+-- a kind of entry that none of those gained is of
+pub gains_none : (Such : Entry → Type 0) (old new : Device) (gained : List Entry) → new.tape ≡ old.tape ++ gained → All (λ e. Such e → ⊥) gained → Gains Such old new → ⊥
+gains_none Such old new gained tape none g =
+    let same : g.gained ≡ gained = append_cancel_left old.tape g.gained gained (sym g.tape ∙ tape) in
+    All-contains (λ e. Such e → ⊥) gained g.entry none (subst (λ (xs : List Entry). Contains xs g.entry) same g.here) g.is
+
+-- what was gained since ST was set was gained
+pub gained_running : (Such : Entry → Type 0) (port : ℕ) (old new : Device) → GainsRunning Such port old new → Gains Such old new
+gained_running Such port old new g = record {
+  gained = g.before ++ (g.entry ∷ g.later);
+  tape = g.tape;
+  entry = g.entry;
+  here = Contains-append_right g.before (g.entry ∷ g.later) g.entry (0, omega arith, refl);
+  is = g.is;
+}
+
+-- ---- accesses that are ordinary
+
+finding_ordinary : (port : Port) (access : Access) → IsFinding port access → IsOrdinary port access
+finding_ordinary port (Reading r v) here = (tt, tt)
+finding_ordinary port (Writing r v) here = absurd here
+finding_ordinary port (Loading at bytes) here = absurd here
+finding_ordinary port (Storing at bytes) here = absurd here
+
+issuing_spares : (port : Port) (slot : ℕ) (access : Access) → IsIssuing port slot access → SparesRegister (Px port Is) access
+issuing_spares port slot (Writing r v) here = ⊎_elim
+    (λ (is : r ≡ Px port Sact). λ q. let z : Px port Sact ≡ Px port Is = sym is ∙ q in absurd cc)
+    (λ (is : r ≡ Px port Ci). λ q. let z : Px port Ci ≡ Px port Is = sym is ∙ q in absurd cc)
+    here.0
+issuing_spares port slot (Storing at bytes) here = tt
+issuing_spares port slot (Loading at bytes) here = tt
+issuing_spares port slot (Reading r v) here = tt
+
+issuing_ordinary : (port : Port) (access : Access) → IssuesIn port access → IsOrdinary port access
+issuing_ordinary port access here = (issues_serve port access here, issuing_spares port here.0 access here.2)
+
+module _ (laws : LawsBelow) where
+  module _ (port : Port) (slots : PortSlots) (replies : List Reply) (old : Instant Device) (new : Device) (turn : HasTurn port slots replies old.device new) (on : IsOn old.device) where
+    -- what comes after a look that told nothing
+    later_driven : turn.look ≡ Calm → IsDrivenBy (IsOrdinary port) turn.seen new
+    later_driven calm = ⊎_elim
+        (λ (none : HasNone c.mask). subst (IsDrivenBy (IsOrdinary port) turn.seen) (sym (c.idle none).1) (by_none (IsOrdinary port) turn.seen))
+        (λ some.
+        let k = c.checks (λ none. false≢true (sym (none some.0 some.1) ∙ some.2)) in
+        by_then (driven_as (IsFinding port) (IsOrdinary port) turn.seen k.read (finding_ordinary port) k.reads.driven)
+        (driven_as (IssuesIn port) (IsOrdinary port) k.read new (issuing_ordinary port) k.over))
+        (none_or_some 32 c.mask)
+      where
+        c : ChecksUsed port slots replies turn.seen new
+        c = turn.calm calm
+
+    seen_on : IsOn turn.seen
+    seen_on = laws.of_on port old.device turn.seen on (driven_as (IsLooking port) (IsOf port) old.device turn.seen (looking_of port) (look_driven port turn.look old.device turn.seen turn.looks))
+
+    module _ (calm : turn.look ≡ Calm) where
+      -- it showed no trouble, then
+      pub shown_none : ShowsNoTrouble (old.device.port port.0)
+      shown_none = (laws.looks_calm port turn.look old.device turn.seen on turn.looks calm).0
+
+      -- where TFES is clear, no fault came
+      pub fails_none : (new.port port.0).is 30 ≡ false → NoneFails port.0 old.device new
+      fails_none clear =
+          let late = laws.ordinary_shows port turn.seen new seen_on (later_driven calm) clear in
+          let told = laws.looks_undisturbed turn.looks.causes turn.looks.status (sym turn.looks.tells ∙ calm) in
+          laws.looks.fails_more port.0 old.device turn.seen new (laws.looks_unread port turn.look old.device turn.seen on turn.looks (told.0.quiet 30 (omega arith) (omega arith)) late.0).1 late.1
+
+      -- so a fault that came is shown
+      fault_shown : Gains (IsFaultOf port.0) old.device new → (new.port port.0).is 30 ≡ true
+      fault_shown g = ⊎_elim
+          (λ set. set)
+          (λ clear. let none = fails_none clear in absurd (gains_none (IsFaultOf port.0) old.device new none.gained none.tape none.none g))
+          (cases_Bool ((new.port port.0).is 30))
+
+      pub trouble_shown : (evidence : Evidence) (ports : Ports) → IsAskedOf port old new → LosesNoTrouble evidence old ports new port
+      trouble_shown evidence ports asked = record {
+        errors = λ ready trouble. inr (inr (⊎_elim
+            (λ shows. ⊎_elim (λ fatal. absurd (asked.fatal fatal)) (λ fault. absurd (false≢true (sym (shown_none.quiet 30 (omega arith) (omega arith)) ∙ fault))) shows)
+            (λ gains. ⊎_elim fault_shown (λ fatal. absurd (never_fatal fatal)) gains)
+            trouble));
+        changes = λ tended trouble. absurd (⊎_elim asked.change never_plugged trouble);
+        fault = λ ready g. fault_shown (gained_running (IsFaultOf port.0) port.0 old.device new g);
+        fatal = λ ready g. absurd (never_fatal (gained_running (IsFatalOf port.0) port.0 old.device new g));
+        disk = λ ready g. absurd (never_plugged (gained_running (IsPlugging port.0) port.0 old.device new g));
+      }
+        where
+          never_fatal : Gains (IsFatalOf port.0) old.device new → ⊥
+          never_fatal g = gains_none (IsFatalOf port.0) old.device new asked.unbroken.gained asked.unbroken.tape asked.unbroken.none g
+
+          never_plugged : Gains (IsPlugging port.0) old.device new → ⊥
+          never_plugged g = gains_none (IsPlugging port.0) old.device new asked.plugged.gained asked.plugged.tape asked.plugged.none g
+
+    -- a look at such a port told nothing
+    module _ (undue : (old.device.port port.0).link_due ≡ false) (asked : IsAskedOf port old new) where
+      whole : (place : ℕ) → 27 ≤ place → place ≤ 29 → (old.device.port port.0).is place ≡ false
+      whole place from to = clear_unless ((old.device.port port.0).is place) (λ set. asked.fatal (record { place = place; from = from; to = to; set = set }))
+
+      pub told_nothing : turn.look ≡ Calm
+      told_nothing = ⊎_elim
+          (λ calm. calm)
+          (λ told.
+          let same = (turn.told told).1 in
+          ⊎_elim
+          (λ calm. calm)
+          (λ failed. absurd (turn.whole failed))
+          (laws.looks_heed port turn.look old.device turn.seen on turn.looks undue whole
+          (clear_unless (old.device.port port.0).serr_n (λ n. asked.change (inl n))) (clear_unless (old.device.port port.0).serr_x (λ x. asked.change (inr x))) asked.device
+          (subst (NoneFatal port.0 old.device) same asked.unbroken) (subst (PlugsNone port.0 old.device) same asked.plugged)))
+          (calm_or_not turn.look)
