@@ -1,5 +1,5 @@
 -- A turn on a port that stays healthy: who had ended is told, and who is told had ended.
-use Rattle.std.proofs.Common.{◌&&◌, ℕ, ◌≡◌, ◌≢◌, ◌<◌, not, Bool, true, false, List, ◌∷◌, ◌++◌, Some, None, refl, sym, ap, ◌∙◌, subst, inl, inr, ⊎_elim, arith, append_assoc}
+use Rattle.std.proofs.Common.{◌&&◌, ℕ, ◌≡◌, ◌≢◌, ◌<◌, not, Bool, true, false, List, ◌∷◌, ◌++◌, Some, None, refl, sym, ap, ◌∙◌, subst, inl, ⊎_elim, arith, append_assoc}
 use Rattle.std.specs.List.{Contains}
 use Rattle.std.specs.Prelude.{◌↔◌}
 use Rattle.std.proofs.lemmas.Bool.{and_from, and_parts, cases_eq, false≢true}
@@ -18,9 +18,7 @@ use Rattle.adapter.specs.Access.{Access, Reads}
 use Rattle.adapter.specs.Access.Access.{Reading}
 use Rattle.adapter.specs.Device.{Device}
 use Rattle.agreement.specs.Agrees.{port_at}
-use Rattle.agreement.specs.Slots.{IsFree, IsOver, IsServed, Serves, ServesRequest, Stage, Use}
-use Rattle.agreement.proofs.Finished.{steps_over}
-use Rattle.agreement.proofs.Unarmed.{reads_clear, steps_clear}
+use Rattle.agreement.specs.Slots.{IsFree, IsServed, Serves, ServesRequest, Use}
 use Rattle.agreement.proofs.Finding.{ended_is_clear}
 use Rattle.agreement.proofs.Sparing.{found_before, steps_spare}
 use Rattle.block_machine.specs.Events.{AllMay, Moment}
@@ -40,33 +38,22 @@ use Rattle.server_history.specs.Served.{AnswersBy, Checks, HasEnded, IsAnsweredI
 use Rattle.server_history.specs.Turns.{HasPart, IsCalmTurn, IsChecked, MakesTurn}
 use Rattle.server_history.specs.Server.{Server, IsKept, IsMachineOf, IsSettled, mode_in, ports_of, slots_at, state_of, used_for}
 use Rattle.server_history.proofs.Origins.{IsSame}
-use Rattle.server_history.proofs.Serving.{still_over}
 use Rattle.server_history.proofs.Answered.{answered_in, ended_stood, in_answered, may_parts, no_answer, no_answer_issuing}
-use Rattle.server_history.proofs.Slots.{HasSlot, free_unused, issued_has, ready_found, serves_used, still_booked, used_or_not}
-use Rattle.server_history.proofs.Said.{one_said}
-use Rattle.slots.specs.declared.Use.{Use as SlotUse}
+use Rattle.server_history.proofs.Slots.{HasSlot, free_unused, issued_has, ready_found, serves_used}
 use Rattle.slots.specs.Uses.{Uses as PortSlots, use_at}
 use Rattle.block_machine.specs.declared.due.Mode.{Mode}
 use Rattle.server_history.proofs.Zips.{at_left, at_right}
 use Rattle.server_history.proofs.Turns.{answered_of}
 use Rattle.server_history.proofs.Plain.{both_read}
-use Rattle.port_look.proofs.Serving.{looks_inactive}
+use Rattle.server_history.proofs.Elsewhere.{both_clear, has_ended, unused}
 use Rattle.server_history.proofs.Progress.{others_leave}
 use Rattle.server_history.proofs.Progress as progress
 
 -- ---- bits that are read
 
-not_true : (b : Bool) → not b ≡ true → b ≡ false
+pub not_true : (b : Bool) → not b ≡ true → b ≡ false
 not_true false is = refl
 not_true true is = absurd (false≢true is)
-
--- PxCI shows the bit of a slot clear whose command is over
-issued_clear : (port : Port) (slot v : ℕ) (old new : Device) → slot < 32 → Reads (Px port Ci) v old new → IsOver (old.port port.0) slot → bit v slot ≡ false
-issued_clear port slot v old new small r over = r.shows slot small ∙ (steps_over port.0 slot old r.mid r.steps over).issued
-
--- and PxSACT one that is clear
-active_clear : (port : Port) (slot v : ℕ) (old new : Device) → slot < 32 → Reads (Px port Sact) v old new → (old.port port.0).sact slot ≡ false → bit v slot ≡ false
-active_clear port slot v old new small r clear = r.shows slot small ∙ steps_clear port.0 slot old r.mid r.steps clear
 
 module _ (laws : LawsBelow) (s : Server) (start : IsSettled s) (old : Moment) (reached : IsReached old.machine) (at : IsMachineOf s old.machine) (ports_are : old.ports ≡ ports_of s) where
   abbrev kept : IsKept s
@@ -248,47 +235,30 @@ module _ (laws : LawsBelow) (s : Server) (start : IsSettled s) (old : Moment) (r
             used_then : (i : ℕ) → used_for c.slots n i ≡ used_for s.slots n i
             used_then i = ap (λ (slots : PortSlots). use_at slots i) (p.slots (port_at n) not_yet)
 
-            unused : used_for s.slots n slot ≡ None
-            unused = ⊎_elim
-                (λ (y : (u : SlotUse) × (used_for s.slots n slot ≡ Some u)).
-                let same : other.request.id ≡ y.0.id = one_said laws s kept old.machine at n slot y.0 other.request.id ready y.1 says in
-                let there = serves_used s old.machine n at ready slot y.0 y.1 ∙ ap Serves (sym same) in
-                let here = serves_used s old.machine n at ready h.slot h.used (sym (used_then h.slot) ∙ h.used_is) ∙ ap Serves (h.id_is ∙ ap (λ r. r.id) (leading other own).same_as.request) in
-                absurd (apart (at.knows.agrees.apart n slot n h.slot other.request.id there here).1))
-                (λ none. none)
-                (used_or_not (used_for s.slots n slot))
+            now_used : used_for s.slots n h.slot ≡ Some h.used
+            now_used = sym (used_then h.slot) ∙ h.used_is
 
-            has_ended : other.ended ≡ true
-            has_ended = ap (λ (y : Pending). y.ended) (sym same) ∙ by says.stage
-              where
-                free : IsFree (s.device.port n) slot
-                free = subst (λ (u : Use). IsServed old.machine s.device.memory s.device.tape (s.device.port n) n slot u) (free_unused s old.machine n at ready slot unused) (at.knows.agrees.slot n slot)
+            its_id_is : h.used.id ≡ other.request.id
+            its_id_is = h.id_is ∙ ap (λ r. r.id) (leading other own).same_as.request
 
-                same : says.pending ≡ other
-                same = (standing old.machine reached).sound.one says.pending other (still_booked s old.machine n at ready says.pending says.moves says.port_is).0 own.here (ap (λ (i : RequestId). i.0) says.id_is)
+            none_there : used_for s.slots n slot ≡ None
+            none_there = unused laws s kept old.machine reached at n ready other own.here h.slot h.used now_used its_id_is slot apart says
 
-                by : Stage s.device.memory (s.device.port n) n slot says.pending says.command says.places → says.pending.ended ≡ true
-                by (inl waits) = absurd (false≢true (sym free.issued ∙ waits.issued))
-                by (inr (inl taken)) = let z : None ≡ Some taken.command = sym free.free ∙ taken.taken in absurd cc
-                by (inr (inr (inl ended))) = ended.ended
-                by (inr (inr (inr dropped))) = absurd (false≢true (sym dropped.stopped ∙ ((kept.behind n low).runs ready).st))
+            ended_then : other.ended ≡ true
+            ended_then = has_ended laws s kept old.machine reached at n ready other own.here h.slot h.used now_used its_id_is slot apart says
 
             clear_there : AreClear slot
-            clear_there = (
-              issued_clear (port_at n) slot k.reads.issued found.seen masks_read.0 says.placed.slot_below masks_read.1
-                  (still_over (port_at n) slot c.device found.seen found.looks (record { issued = free.issued; free = free.free })),
-              active_clear (port_at n) slot k.reads.active masks_read.0 k.read says.placed.slot_below masks_read.2
-                  (reads_clear n slot (Px (port_at n) Ci) k.reads.issued found.seen masks_read.0 masks_read.1
-                  (looks_inactive laws.looks (port_at n) n slot c.device found.seen found.looks free.unarmed)),
-            )
+            clear_there =
+                both_clear laws (port_at n) slot k.reads.issued k.reads.active c.device found.seen masks_read.0 k.read says.placed.slot_below found.looks masks_read.1 masks_read.2
+                (record { issued = free.issued; free = free.free }) free.unarmed
               where
                 free : IsFree (c.device.port n) slot
-                free = subst (λ (u : Use). IsServed m c.device.memory c.device.tape (c.device.port n) n slot u) (free_unused c m n p.stands ready_c slot (used_then slot ∙ unused)) (p.stands.knows.agrees.slot n slot)
+                free = subst (λ (u : Use). IsServed m c.device.memory c.device.tape (c.device.port n) n slot u) (free_unused c m n p.stands ready_c slot (used_then slot ∙ none_there)) (p.stands.knows.agrees.slot n slot)
 
             apart_too : IsAnsweredOk other all ↔ AreClear slot
             apart_too = (
               (λ _. clear_there),
-              (λ _. told_answered other (leading other own) (ended_told other (leading other own) has_ended)),
+              (λ _. told_answered other (leading other own) (ended_told other (leading other own) ended_then)),
             )
 
         finding : FindsDone (port_at n) accesses began all

@@ -1,4 +1,6 @@
 pub mod Told
+pub mod Finding
+pub mod Elsewhere
 pub mod Running
 pub mod Standing
 pub mod Behind

@@ -23,12 +23,13 @@ use Rattle.agreement.specs.Agrees.{port_at}
 use Rattle.agreement.specs.Driven.{AnyUse, IsDrivenBy, IsFollowed, SendsNone}
 use Rattle.agreement.specs.GivingUp.{given_up}
 use Rattle.agreement.specs.Slots.{Free, Own, Use}
-use Rattle.agreement.proofs.Driven.{by_then, driven_as}
+use Rattle.agreement.proofs.Driven.{driven_as}
 use Rattle.block_machine.specs.Due.{due_of}
 use Rattle.block_machine.specs.Left.{after}
 use Rattle.block_machine.specs.declared.due.Unanswered.{Unanswered}
 use Rattle.block_machine.proofs.HistoryLemmas.{reached_more}
 use Rattle.block_machine.proofs.Members.{contains_here, map_in}
+use Rattle.driver_history.specs.Trace.{LeavesCommand, ReadsMasks}
 use Rattle.error_recovery.specs.Recovery.{IsRecovering, LeavesSlots}
 use Rattle.error_recovery.specs.declared.Next.{Next}
 use Rattle.error_recovery.specs.declared.Next.TheVariants as next
@@ -61,6 +62,7 @@ recovery_does port next.Dead accesses old new p = ⊎_elim (λ a. a.does) (λ b.
 -- No page of the log comes on another port that isn't dead.
 pub record TurnParts (port : Port) (replies : List Reply) (old new : Server) (r : RecoversPort port replies old new) : Type 0 where
   pub early : IsDrivenBy (IsEarlyPart port) old.device r.settled.mid.device
+  pub masks : ReadsMasks port r.settled.recovered.reads.issued r.settled.recovered.reads.active early.accesses
   pub does : DoesAll r.settled.recovered.recovers.accesses r.settled.mid.device r.settled.device
   pub kinds : All (IsPart port) r.settled.recovered.recovers.accesses
   pub late : IsDrivenBy (IsPart port) r.settled.device new.device
@@ -134,6 +136,23 @@ module _ (laws : LawsBelow) (port : Port) (replies : List Reply) (old new : Serv
         only = All-cons (IsEarlyPart port) (Reading (Px port Ci) x.reads.issued) (Reading (Px port Sact) x.reads.active ∷ []) ((tt, refl), tt)
             (All-cons (IsEarlyPart port) (Reading (Px port Sact) x.reads.active) [] ((tt, refl), tt) (All-nil (IsEarlyPart port)));
       }
+
+  -- both, in which the masks were read at the end
+  early : IsDrivenBy (IsEarlyPart port) old.device a.mid.device
+  early = record {
+    accesses = looking.accesses ++ finding.accesses;
+    all = subst (DoesAll (looking.accesses ++ finding.accesses) old.device) (sym mid_device) (does_append looking.accesses finding.accesses old.device x.seen x.found looking.all finding.all);
+    only = All-append (IsEarlyPart port) looking.accesses finding.accesses looking.only finding.only;
+  }
+
+  masks : ReadsMasks port x.reads.issued x.reads.active early.accesses
+  unfolding early finding
+  masks = record {
+    before = looking.accesses;
+    later = [];
+    here = refl;
+    running = All-weaker (IsEarlyPart port) (LeavesCommand port) (λ access is. is.1) looking.accesses looking.only;
+  }
 
   afterwards : AfterList port x.result.next a.found a.device r.mid.device
   afterwards = after_list laws port low (wanted_of old.wanted port.0) a.was x.result.next a.device r.mid.device a.found a.is
@@ -228,7 +247,8 @@ module _ (laws : LawsBelow) (port : Port) (replies : List Reply) (old new : Serv
 
   pub turn_parts : TurnParts port replies old new r
   turn_parts = record {
-    early = subst (IsDrivenBy (IsEarlyPart port) old.device) (sym mid_device) (by_then looking finding);
+    early = early;
+    masks = masks;
     does = recovery_does port.0 x.result.next x.recovers.accesses a.mid.device a.device x.recovers.does.slots;
     kinds = All-weaker (IsRecovering port) (IsPart port) (recovering_part laws port low) x.recovers.accesses x.recovers.does.only;
     late = late;
