@@ -1,5 +1,6 @@
 pub mod Told
 pub mod Finding
+pub mod Heeding
 pub mod Faulting
 pub mod Elsewhere
 pub mod Running
