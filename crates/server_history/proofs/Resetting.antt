@@ -1,16 +1,14 @@
 -- A boot of a stopped port that doesn't end with a dead one resets the port's link: by one list of accesses that are of the boot's way.
-use Rattle.std.proofs.Common.{ℕ, ◌≡◌, ◌≢◌, ◌++◌, List, [], ◌∷◌, refl, sym, ap, ◌∙◌, subst, inl, inr, append_assoc, ⊎_elim}
+use Rattle.std.proofs.Common.{ℕ, ◌≡◌, ◌≢◌, ◌++◌, List, [], ◌∷◌, refl, sym, ap, ◌∙◌, subst, inl, inr, append_assoc}
 use Rattle.std.specs.List.{All}
-use Rattle.std.proofs.lemmas.Bool.{cases_eq}
 use Rattle.std.proofs.lemmas.List.Elements.{All-append, All-cons, All-nil, All-weaker}
 use Rattle.ata_types.specs.declared.Port.{Port}
 use Rattle.ata_types.specs.declared.PortState.{PortState as Shown}
-use Rattle.ata_types.specs.declared.PortState.TheVariants as shown
 use Rattle.hba_regs.specs.declared.reg.PortReg.{PortReg}
 use Rattle.hba_regs.specs.declared.reg.PortReg.TheVariants.{Cmd, Clb, Clbu, Fb, Fbu, Ie, Is, Sctl, Serr, Sig, Ssts, Tfd, Ci}
 use Rattle.hba_regs.specs.declared.reg.Reg.{Reg}
 use Rattle.hba_regs.specs.declared.reg.Reg.TheVariants.{Px}
-use Rattle.adapter.specs.Access.{Access, Does, DoesAll, Reads, Writes}
+use Rattle.adapter.specs.Access.{Access, Does, Reads, Writes}
 use Rattle.adapter.specs.Access.Access.{Loading, Reading, Storing, Writing}
 use Rattle.adapter.specs.Device.{Device}
 use Rattle.adapter.proofs.Calls.{does_append}
@@ -20,7 +18,7 @@ use Rattle.agreement.proofs.Driven.{by_then, driven_as}
 use Rattle.disk_page.specs.Asking.{IsAsking}
 use Rattle.driver_history.specs.Trace.{ResetsLink}
 use Rattle.port_boot.specs.States.{EndsEarly, EndsLate, GetsReady, GetsUp, IsBooting, IsOfBoot, told_causes}
-use Rattle.port_control.specs.Ports.{ClearsErrors, FindsBusy, FindsLink, FindsSignature, IsPlacing, Looks, ReadsNot, ReadsUntil, ReadsWithout, WasReset, WritesCommand}
+use Rattle.port_control.specs.Ports.{ClearsErrors, FindsLink, FindsSignature, IsPlacing, Looks, ReadsNot, ReadsUntil, ReadsWithout, WritesCommand}
 use Rattle.port_control.specs.declared.PortFault.{PortFault}
 use Rattle.port_control.specs.declared.PortFault.TheVariants.{NoDevice, Busy, EngineStuck, NotAta}
 

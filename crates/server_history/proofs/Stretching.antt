@@ -9,7 +9,7 @@ use Rattle.ata_types.specs.declared.PortState.TheVariants as shown
 use Rattle.ata_types.specs.declared.PortState.TheVariants.{Dead as DeadState, Ready as ReadyState}
 use Rattle.ata_types.specs.declared.request.Reply.{Reply}
 use Rattle.ata_types.specs.declared.request.RequestId.{RequestId}
-use Rattle.hba_regs.specs.declared.reg.PortReg.TheVariants.{Ci, Sact}
+use Rattle.hba_regs.specs.declared.reg.PortReg.TheVariants.{Ci, Sact, Sctl}
 use Rattle.hba_regs.specs.declared.reg.Reg.TheVariants.{Px}
 use Rattle.adapter.specs.Access.{Access, DoesAll}
 use Rattle.adapter.specs.Access.Access.{Reading}
@@ -22,14 +22,14 @@ use Rattle.agreement.specs.Acts.{AnySlots, ByDeviceAlone, InSlots, Performs, at 
 use Rattle.agreement.specs.Agrees.{port_at}
 use Rattle.agreement.specs.Driven.{AnyUse, IsDrivenBy, IsFollowed, SendsNone}
 use Rattle.agreement.specs.GivingUp.{given_up}
+use Rattle.agreement.specs.Links.{SparesRegister}
 use Rattle.agreement.specs.Slots.{Free, Own, Use}
-use Rattle.agreement.proofs.Driven.{driven_as}
 use Rattle.block_machine.specs.Due.{due_of}
 use Rattle.block_machine.specs.Left.{after}
 use Rattle.block_machine.specs.declared.due.Unanswered.{Unanswered}
 use Rattle.block_machine.proofs.HistoryLemmas.{reached_more}
 use Rattle.block_machine.proofs.Members.{contains_here, map_in}
-use Rattle.driver_history.specs.Trace.{LeavesCommand, ReadsMasks}
+use Rattle.driver_history.specs.Trace.{LeavesCommand, ReadsMasks, ResetsLink}
 use Rattle.error_recovery.specs.Recovery.{IsRecovering, LeavesSlots}
 use Rattle.error_recovery.specs.declared.Next.{Next}
 use Rattle.error_recovery.specs.declared.Next.TheVariants as next
@@ -43,10 +43,11 @@ use Rattle.server_history.specs.Below.{LawsBelow}
 use Rattle.server_history.specs.Recovered.{IsRecovered, IsSettledAfter, RecoversPort}
 use Rattle.server_history.specs.Served.{IssuesEach, IssuesIn}
 use Rattle.server_history.specs.Server.{Server, IsKept, mode_in, state_of, used_for}
-use Rattle.server_history.proofs.Coming.{issuing_turns, look_does, look_list, look_turns, turn_leaves}
+use Rattle.server_history.proofs.Coming.{issuing_leaves, issuing_turns, look_does, look_list, look_turns, turn_leaves}
 use Rattle.server_history.proofs.Looking.{finding_kept, finding_silent, found_over, looking_kept, looking_silent}
 use Rattle.server_history.proofs.Plain.{both_read}
 use Rattle.server_history.proofs.Recovering.{AfterList, IsEarlyPart, IsGivenUp, IsPart, after_list, recovering_part}
+use Rattle.server_history.proofs.Resetting.{resets_more}
 use Rattle.server_history.proofs.Rounds.{each_driven, each_silent}
 use Rattle.server_history.proofs.Settling.{answers_kept, answers_settings}
 use Rattle.server_history.proofs.Silent.{silent_more}
@@ -68,6 +69,7 @@ pub record TurnParts (port : Port) (replies : List Reply) (old new : Server) (r 
   pub late : IsDrivenBy (IsPart port) r.settled.device new.device
   pub sticks : r.settled.found ≡ Unready DeadState → r.settled.recovered.result.next ≢ next.Dead → Sticks port late.accesses
   pub stuck : r.settled.found ≡ Unready DeadState → r.settled.recovered.result.next ≢ next.Dead → (new.device.port port.0).notes.engine_count ≡ 64
+  pub resets : (token : Stopped) → r.settled.recovered.result.next ≡ next.Restart token → r.settled.found ≢ Unready DeadState → ResetsLink port late.accesses
   pub unissued : r.settled.found ≡ Unready DeadState → new ≡ r.mid
   pub silent : (q : ℕ) → q ≢ port.0 → state_of (found_of old.ports q) ≢ DeadState → SendsNone q ReadLog old.device new.device
   pub issuing_silent : state_of (found_of r.mid.ports port.0) ≢ DeadState → SendsNone port.0 ReadLog r.mid.device new.device
@@ -157,8 +159,15 @@ module _ (laws : LawsBelow) (port : Port) (replies : List Reply) (old new : Serv
   afterwards : AfterList port x.result.next a.found a.device r.mid.device
   afterwards = after_list laws port low (wanted_of old.wanted port.0) a.was x.result.next a.device r.mid.device a.found a.is
 
+  each : IsDrivenBy (IssuesIn port) r.mid.device new.device
+  each = each_driven laws port (due_ids (mode_in r.mid port) port (asks_of r.mid.book)) r.mid new r.issued
+
   issuing : IsDrivenBy (IsPart port) r.mid.device new.device
-  issuing = driven_as (IssuesIn port) (IsPart port) r.mid.device new.device (λ access is. (issuing_turns laws port low access is).1) (each_driven laws port (due_ids (mode_in r.mid port) port (asks_of r.mid.book)) r.mid new r.issued)
+  issuing = record { accesses = each.accesses; all = each.all; only = All-weaker (IssuesIn port) (IsPart port) (λ access is. (issuing_turns laws port low access is).1) each.accesses each.only }
+
+  issuing_spares : All (SparesRegister (Px port Sctl)) issuing.accesses
+  unfolding issuing
+  issuing_spares = All-weaker (IssuesIn port) (SparesRegister (Px port Sctl)) (λ access is. (issuing_leaves port port access is).1) each.accesses each.only
 
   -- nothing is issued on a dead port, of which there are no requests
   none_issued : state_of (found_of r.mid.ports port.0) ≡ DeadState → new ≡ r.mid
@@ -245,6 +254,10 @@ module _ (laws : LawsBelow) (port : Port) (replies : List Reply) (old new : Serv
   unfolding late
   late_sticks dead lives = laws.sticks_then afterwards.driven.accesses issuing.accesses port (afterwards.sticks dead lives)
 
+  late_resets : (token : Stopped) → x.result.next ≡ next.Restart token → a.found ≢ Unready DeadState → ResetsLink port late.accesses
+  unfolding late
+  late_resets token is lives = resets_more port [] afterwards.driven.accesses issuing.accesses (afterwards.resets token is lives) issuing_spares
+
   pub turn_parts : TurnParts port replies old new r
   turn_parts = record {
     early = early;
@@ -254,6 +267,7 @@ module _ (laws : LawsBelow) (port : Port) (replies : List Reply) (old new : Serv
     late = late;
     sticks = late_sticks;
     stuck = λ dead lives. ap (λ (n : Server). (n.device.port port.0).notes.engine_count) (dead_unissued dead) ∙ afterwards.stuck dead lives;
+    resets = late_resets;
     unissued = dead_unissued;
     silent = whole_silent;
     issuing_silent = λ lives. each_silent laws port (due_ids (mode_in r.mid port) port (asks_of r.mid.book)) r.mid new kept r.issued port.0 ReadLog refl (λ dead. lives (ap state_of dead));
