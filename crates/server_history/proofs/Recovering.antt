@@ -1,14 +1,13 @@
 -- The accesses of a port's turn in which a command had failed: one by one, of what kind they are, and what they tell of the port's engines.
-use Rattle.std.proofs.Common.{ℕ, ◌≡◌, ◌≢◌, ◌<◌, ◌++◌, List, [], None, refl, sym, ◌∙◌, subst, inl, inr, arith, ⊎_elim}
+use Rattle.std.proofs.Common.{ℕ, ◌≡◌, ◌≢◌, ◌<◌, ◌++◌, List, None, refl, sym, ◌∙◌, subst, inl, inr, arith, ⊎_elim}
 use Rattle.std.proofs.lemmas.Bool.{cases_eq}
-use Rattle.std.proofs.lemmas.List.{append-nil}
-use Rattle.std.proofs.lemmas.List.Elements.{All-append, All-nil, All-weaker}
+use Rattle.std.proofs.lemmas.List.Elements.{All-append, All-weaker}
 use Rattle.ata_types.specs.declared.Port.{Port}
 use Rattle.ata_types.specs.declared.PortState.{PortState as Shown}
 use Rattle.ata_types.specs.declared.PortState.TheVariants as shown
 use Rattle.ata_types.specs.declared.PortState.TheVariants.{Dead as DeadState, Ready as ReadyState}
 use Rattle.ata_types.specs.declared.request.RequestId.{RequestId}
-use Rattle.hba_regs.specs.declared.reg.PortReg.TheVariants.{Ci, Sact, Sctl}
+use Rattle.hba_regs.specs.declared.reg.PortReg.TheVariants.{Ci, Sact}
 use Rattle.hba_regs.specs.declared.reg.Reg.{Reg}
 use Rattle.hba_regs.specs.declared.reg.Reg.TheVariants.{Px}
 use Rattle.adapter.specs.Access.{Access}
@@ -19,7 +18,6 @@ use Rattle.adapter.specs.declared.command.Operation.TheVariants.{Identify}
 use Rattle.adapter.proofs.Calls.{does_append}
 use Rattle.agreement.specs.Driven.{AnyUse, IsDrivenBy, IsFollowed, IsFollowedTo, IsOf, IsToldTo, NoneWrites, SendsNone, known}
 use Rattle.agreement.specs.Driver.{AllFree, Knows}
-use Rattle.agreement.specs.Links.{SparesRegister}
 use Rattle.agreement.specs.Slots.{Own, Uses, op_of, put}
 use Rattle.agreement.proofs.Driven.{by_none, followed_adds, followed_silent}
 use Rattle.block_machine.specs.Histories.{IsReached}
@@ -44,7 +42,7 @@ use Rattle.port_control.specs.declared.Stopped.{Stopped}
 use Rattle.server_history.specs.Below.{LawsBelow}
 use Rattle.server_history.specs.Recovered.{IsFoundAfter}
 use Rattle.server_history.proofs.Coming.{table_own}
-use Rattle.server_history.proofs.Resetting.{ResetsBy, early_resets, late_resets, ready_resets, resets_more}
+use Rattle.server_history.proofs.Resetting.{ResetsBy, early_resets, late_resets, ready_resets, resets_since}
 use Rattle.server_history.proofs.Silent.{silent_more, silent_none}
 
 -- ---- kinds of accesses
@@ -138,8 +136,7 @@ module _ (laws : LawsBelow) (port : Port) (low : port.0 < 4) (wanted : Wanted) w
       };
       sticks = λ dead _. laws.sticks_since asks.driven.accesses by.accesses port (sticks dead);
       stuck = λ dead _. stuck dead;
-      resets = λ _ _ lives. subst (λ (list : List Access). ResetsLink port (asks.driven.accesses ++ list)) (append-nil by.accesses)
-          (resets_more port asks.driven.accesses by.accesses [] (resets lives) (All-nil (SparesRegister (Px port Sctl))));
+      resets = λ _ _ lives. resets_since port asks.driven.accesses by.accesses (resets lives);
       silent = λ q o other own given. let g = given token refl in boot_silent q o other own g.0 g.1;
     }
 

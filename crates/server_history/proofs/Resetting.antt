@@ -1,6 +1,7 @@
 -- A boot of a stopped port that doesn't end with a dead one resets the port's link: by one list of accesses that are of the boot's way.
 use Rattle.std.proofs.Common.{ℕ, ◌≡◌, ◌≢◌, ◌++◌, List, [], ◌∷◌, refl, sym, ap, ◌∙◌, subst, inl, inr, append_assoc}
 use Rattle.std.specs.List.{All}
+use Rattle.std.proofs.lemmas.List.{append-nil}
 use Rattle.std.proofs.lemmas.List.Elements.{All-append, All-cons, All-nil, All-weaker}
 use Rattle.ata_types.specs.declared.Port.{Port}
 use Rattle.ata_types.specs.declared.PortState.{PortState as Shown}
@@ -45,6 +46,10 @@ resets_more port early part late r spared = record {
   held = r.held;
   left = All-append (SparesRegister (Px port Sctl)) r.later late r.left spared;
 }
+
+pub resets_since : (port : Port) (early part : List Access) → ResetsLink port part → ResetsLink port (early ++ part)
+resets_since port early part r =
+    subst (λ (list : List Access). ResetsLink port (early ++ list)) (append-nil part) (resets_more port early part [] r (All-nil (SparesRegister (Px port Sctl))))
 
 -- ---- accesses of a boot's way but those that reset the link
 
