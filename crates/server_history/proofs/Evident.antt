@@ -131,7 +131,7 @@ module _ (laws : LawsBelow) (port : Port) (replies : List Reply) (old new : Serv
 
   -- ---- the tape grows
 
-  grown : (accesses : List Access) (one two : Device) → DoesAll accesses one two → Grows one two
+  pub grown : (accesses : List Access) (one two : Device) → DoesAll accesses one two → Grows one two
   grown accesses one two does = along Grows laws.looks.grows_none laws.looks.grows_more AnyAccess (λ access d e may is. laws.looks.access_grows access d e is) accesses one two (λ i d small. tt) does
 
   grown_late : Grows a.mid.device new.device

@@ -15,7 +15,7 @@ use Rattle.adapter.specs.Device.{Device}
 use Rattle.adapter.proofs.Calls.{does_append}
 use Rattle.agreement.specs.Driven.{IsControl, IsDrivenBy}
 use Rattle.agreement.specs.Links.{SparesRegister}
-use Rattle.agreement.proofs.Driven.{by_then, driven_as}
+use Rattle.agreement.proofs.Driven.{by_none, by_then, driven_as}
 use Rattle.disk_page.specs.Asking.{IsAsking}
 use Rattle.driver_history.specs.Trace.{ResetsLink}
 use Rattle.port_boot.specs.States.{EndsEarly, EndsLate, GetsReady, GetsUp, IsBooting, IsOfBoot, told_causes}
@@ -173,3 +173,6 @@ module _ (port : Port) where
 
   pub late_resets : (old new : Device) → EndsLate port old new → ResetsBy port old new
   late_resets old new g = getting_up old g.up new g.first (by_then (asking g.up g.then.asked g.then.asks) (commanding g.then.asked new g.then.stops))
+
+  pub up_driven : (old up : Device) → GetsUp port old up → IsDrivenBy (IsOfBoot port) old up
+  up_driven old up g = (getting_up old up up g (by_none (IsBeside port) up)).driven
