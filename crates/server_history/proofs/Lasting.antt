@@ -102,7 +102,7 @@ module _ (laws : LawsBelow) (port : Port) (replies : List Reply) (old new : Serv
   issuing = driven_as (IssuesIn port) (LeavesTrouble port) r.mid.device new.device (issuing_leaves port) (each_driven laws port (due_ids (mode_in r.mid port) port (asks_of r.mid.book)) r.mid new r.issued)
 
   -- the adapter is on when the port was recovered
-  recovered_driven : IsDrivenBy (IsOf port) old.device a.device
+  pub recovered_driven : IsDrivenBy (IsOf port) old.device a.device
   recovered_driven = by_then (driven_as (IsEarlyPart port) (IsOf port) old.device a.mid.device (λ access is. is.0.1) t.early)
       (record { accesses = x.recovers.accesses; all = t.does; only = All-weaker (IsPart port) (IsOf port) (λ access is. is.1) x.recovers.accesses t.kinds })
 

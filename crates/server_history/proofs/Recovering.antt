@@ -1,13 +1,14 @@
 -- The accesses of a port's turn in which a command had failed: one by one, of what kind they are, and what they tell of the port's engines.
-use Rattle.std.proofs.Common.{ℕ, ◌≡◌, ◌≢◌, ◌<◌, ◌++◌, List, None, refl, sym, ◌∙◌, subst, inl, inr, arith, ⊎_elim}
+use Rattle.std.proofs.Common.{ℕ, ◌≡◌, ◌≢◌, ◌<◌, ◌++◌, List, [], None, refl, sym, ◌∙◌, subst, inl, inr, arith, ⊎_elim}
+use Rattle.std.specs.List.{All}
 use Rattle.std.proofs.lemmas.Bool.{cases_eq}
-use Rattle.std.proofs.lemmas.List.Elements.{All-append, All-weaker}
+use Rattle.std.proofs.lemmas.List.Elements.{All-append, All-nil, All-weaker}
 use Rattle.ata_types.specs.declared.Port.{Port}
 use Rattle.ata_types.specs.declared.PortState.{PortState as Shown}
 use Rattle.ata_types.specs.declared.PortState.TheVariants as shown
 use Rattle.ata_types.specs.declared.PortState.TheVariants.{Dead as DeadState, Ready as ReadyState}
 use Rattle.ata_types.specs.declared.request.RequestId.{RequestId}
-use Rattle.hba_regs.specs.declared.reg.PortReg.TheVariants.{Ci, Sact}
+use Rattle.hba_regs.specs.declared.reg.PortReg.TheVariants.{Ci, Sact, Sctl}
 use Rattle.hba_regs.specs.declared.reg.Reg.{Reg}
 use Rattle.hba_regs.specs.declared.reg.Reg.TheVariants.{Px}
 use Rattle.adapter.specs.Access.{Access}
@@ -18,8 +19,9 @@ use Rattle.adapter.specs.declared.command.Operation.TheVariants.{Identify}
 use Rattle.adapter.proofs.Calls.{does_append}
 use Rattle.agreement.specs.Driven.{AnyUse, IsDrivenBy, IsFollowed, IsFollowedTo, IsOf, IsToldTo, NoneWrites, SendsNone, known}
 use Rattle.agreement.specs.Driver.{AllFree, Knows}
+use Rattle.agreement.specs.Links.{SparesRegister}
 use Rattle.agreement.specs.Slots.{Own, Uses, op_of, put}
-use Rattle.agreement.proofs.Driven.{by_none, followed_adds, followed_silent}
+use Rattle.agreement.proofs.Driven.{followed_adds, followed_silent}
 use Rattle.block_machine.specs.Histories.{IsReached}
 use Rattle.block_machine.specs.Left.{after}
 use Rattle.block_machine.specs.State.{Machine}
@@ -113,6 +115,7 @@ pub record AfterList (port : Port) (then : Next) (found : Found) (old new : Devi
   pub sticks : found ≡ Unready DeadState → then ≢ next.Dead → Sticks port driven.accesses
   pub stuck : found ≡ Unready DeadState → then ≢ next.Dead → (new.port port.0).notes.engine_count ≡ 64
   pub resets : (token : Stopped) → then ≡ next.Restart token → found ≢ Unready DeadState → ResetsLink port driven.accesses
+  pub unreset : ((token : Stopped) → then ≢ next.Restart token) → All (SparesRegister (Px port Sctl)) driven.accesses
   pub silent : (q : Port) (o : Operation) → q.0 ≢ port.0 → op_of o ≡ None → ((token : Stopped) → then ≡ next.Restart token → (g : IsGivenUp port old) × (g.uses q.0 0 ≡ Own o → ⊥)) → SendsNone q.0 o old new
 
 module _ (laws : LawsBelow) (port : Port) (low : port.0 < 4) (wanted : Wanted) where
@@ -137,6 +140,7 @@ module _ (laws : LawsBelow) (port : Port) (low : port.0 < 4) (wanted : Wanted) w
       sticks = λ dead _. laws.sticks_since asks.driven.accesses by.accesses port (sticks dead);
       stuck = λ dead _. stuck dead;
       resets = λ _ _ lives. resets_since port asks.driven.accesses by.accesses (resets lives);
+      unreset = λ never. absurd (never token refl);
       silent = λ q o other own given. let g = given token refl in boot_silent q o other own g.0 g.1;
     }
 
@@ -180,17 +184,19 @@ module _ (laws : LawsBelow) (port : Port) (low : port.0 < 4) (wanted : Wanted) w
   after_list was (next.Running token) old new found is =
       let none : found ≡ Unready DeadState → ⊥ = λ dead. let z : Ready was ≡ Unready DeadState = sym is.0 ∙ dead in cc in
       subst (λ (d : Device). AfterList port (next.Running token) found old d) (sym is.1) (record {
-        driven = by_none (IsPart port) old;
+        driven = record { accesses = []; all = refl; only = All-nil (IsPart port) };
         sticks = λ dead _. absurd (none dead);
         stuck = λ dead _. absurd (none dead);
         resets = λ other is _. absurd (let z : next.Running token ≡ next.Restart other = is in cc);
+        unreset = λ _. All-nil (SparesRegister (Px port Sctl));
         silent = λ q o other own given. silent_none q.0 o old;
       })
   after_list was (next.Restart token) old new found is = subst (λ (f : Found). AfterList port (next.Restart token) f old new) is.1 (booted_list token is.0 old new is.2)
   after_list was next.Dead old new found is = subst (λ (d : Device). AfterList port next.Dead found old d) (sym is.1) (record {
-    driven = by_none (IsPart port) old;
+    driven = record { accesses = []; all = refl; only = All-nil (IsPart port) };
     sticks = λ _ lives. absurd (lives refl);
     stuck = λ _ lives. absurd (lives refl);
     resets = λ token is _. absurd (let z : next.Dead ≡ next.Restart token = is in cc);
+    unreset = λ _. All-nil (SparesRegister (Px port Sctl));
     silent = λ q o other own given. silent_none q.0 o old;
   })

@@ -18,6 +18,7 @@ use Rattle.agreement.specs.Links.{SparesRegister}
 use Rattle.agreement.proofs.Driven.{by_none, by_then, driven_as}
 use Rattle.disk_page.specs.Asking.{IsAsking}
 use Rattle.driver_history.specs.Trace.{ResetsLink}
+use Rattle.error_recovery.specs.Recovery.{IsRecovered, IsRecovering}
 use Rattle.port_boot.specs.States.{EndsEarly, EndsLate, GetsReady, GetsUp, IsBooting, IsOfBoot, told_causes}
 use Rattle.port_control.specs.Ports.{ClearsErrors, FindsLink, FindsSignature, IsPlacing, Looks, ReadsNot, ReadsUntil, ReadsWithout, WritesCommand}
 use Rattle.port_control.specs.declared.PortFault.{PortFault}
@@ -176,3 +177,22 @@ module _ (port : Port) where
 
   pub up_driven : (old up : Device) → GetsUp port old up → IsDrivenBy (IsOfBoot port) old up
   up_driven old up g = (getting_up old up up g (by_none (IsBeside port) up)).driven
+
+  -- ---- recovery
+
+  control_spares : (Such : PortReg → Type 0) → ((r : PortReg) → Such r → r ≢ Sctl) → (access : Access) → IsControl Such port access → SparesRegister (Px port Sctl) access
+  control_spares Such each (Reading r v) is = tt
+  control_spares Such each (Writing (Px at r) v) is = apart port at r Sctl (each r is.1)
+  control_spares Such each (Writing r v) is = absurd is
+  control_spares Such each (Loading at bytes) is = tt
+  control_spares Such each (Storing at bytes) is = tt
+
+  -- recovery leaves the link alone
+  pub recovering_spares : (access : Access) → IsRecovering port access → SparesRegister (Px port Sctl) access
+  recovering_spares access (inl is) = control_spares IsRecovered no access is
+    where
+      no : (r : PortReg) → IsRecovered r → r ≢ Sctl
+      no r (inl x) same = let z : Cmd ≡ Sctl = sym x ∙ same in absurd cc
+      no r (inr (inl x)) same = let z : Serr ≡ Sctl = sym x ∙ same in absurd cc
+      no r (inr (inr x)) same = let z : Is ≡ Sctl = sym x ∙ same in absurd cc
+  recovering_spares access (inr is) = (asking_beside access is).1

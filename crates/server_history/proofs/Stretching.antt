@@ -47,7 +47,7 @@ use Rattle.server_history.proofs.Coming.{issuing_leaves, issuing_turns, look_doe
 use Rattle.server_history.proofs.Looking.{finding_kept, finding_silent, found_over, looking_kept, looking_silent}
 use Rattle.server_history.proofs.Plain.{both_read}
 use Rattle.server_history.proofs.Recovering.{AfterList, IsEarlyPart, IsGivenUp, IsPart, after_list, recovering_part}
-use Rattle.server_history.proofs.Resetting.{resets_more}
+use Rattle.server_history.proofs.Resetting.{recovering_spares, resets_more}
 use Rattle.server_history.proofs.Rounds.{each_driven, each_silent}
 use Rattle.server_history.proofs.Settling.{answers_kept, answers_settings}
 use Rattle.server_history.proofs.Silent.{silent_more}
@@ -70,6 +70,7 @@ pub record TurnParts (port : Port) (replies : List Reply) (old new : Server) (r 
   pub sticks : r.settled.found ≡ Unready DeadState → r.settled.recovered.result.next ≢ next.Dead → Sticks port late.accesses
   pub stuck : r.settled.found ≡ Unready DeadState → r.settled.recovered.result.next ≢ next.Dead → (new.device.port port.0).notes.engine_count ≡ 64
   pub resets : (token : Stopped) → r.settled.recovered.result.next ≡ next.Restart token → r.settled.found ≢ Unready DeadState → ResetsLink port late.accesses
+  pub unreset : ((token : Stopped) → r.settled.recovered.result.next ≢ next.Restart token) → All (SparesRegister (Px port Sctl)) (early.accesses ++ (r.settled.recovered.recovers.accesses ++ late.accesses))
   pub unissued : r.settled.found ≡ Unready DeadState → new ≡ r.mid
   pub silent : (q : ℕ) → q ≢ port.0 → state_of (found_of old.ports q) ≢ DeadState → SendsNone q ReadLog old.device new.device
   pub issuing_silent : state_of (found_of r.mid.ports port.0) ≢ DeadState → SendsNone port.0 ReadLog r.mid.device new.device
@@ -146,6 +147,13 @@ module _ (laws : LawsBelow) (port : Port) (replies : List Reply) (old new : Serv
     all = subst (DoesAll (looking.accesses ++ finding.accesses) old.device) (sym mid_device) (does_append looking.accesses finding.accesses old.device x.seen x.found looking.all finding.all);
     only = All-append (IsEarlyPart port) looking.accesses finding.accesses looking.only finding.only;
   }
+
+  early_spares : All (SparesRegister (Px port Sctl)) early.accesses
+  unfolding early looking finding
+  early_spares = All-append (SparesRegister (Px port Sctl)) looking.accesses finding.accesses
+      (λ i d small. (turn_leaves port port _ (look_turns port x.looks.causes x.looks.own x.looks.status x.looks.alone i d small)).1)
+      (All-cons (SparesRegister (Px port Sctl)) (Reading (Px port Ci) x.reads.issued) (Reading (Px port Sact) x.reads.active ∷ []) tt
+      (All-cons (SparesRegister (Px port Sctl)) (Reading (Px port Sact) x.reads.active) [] tt (All-nil (SparesRegister (Px port Sctl)))))
 
   masks : ReadsMasks port x.reads.issued x.reads.active early.accesses
   unfolding early finding
@@ -258,6 +266,10 @@ module _ (laws : LawsBelow) (port : Port) (replies : List Reply) (old new : Serv
   unfolding late
   late_resets token is lives = resets_more port [] afterwards.driven.accesses issuing.accesses (afterwards.resets token is lives) issuing_spares
 
+  late_spares : ((token : Stopped) → x.result.next ≢ next.Restart token) → All (SparesRegister (Px port Sctl)) late.accesses
+  unfolding late
+  late_spares never = All-append (SparesRegister (Px port Sctl)) afterwards.driven.accesses issuing.accesses (afterwards.unreset never) issuing_spares
+
   pub turn_parts : TurnParts port replies old new r
   turn_parts = record {
     early = early;
@@ -268,6 +280,9 @@ module _ (laws : LawsBelow) (port : Port) (replies : List Reply) (old new : Serv
     sticks = late_sticks;
     stuck = λ dead lives. ap (λ (n : Server). (n.device.port port.0).notes.engine_count) (dead_unissued dead) ∙ afterwards.stuck dead lives;
     resets = late_resets;
+    unreset = λ never. All-append (SparesRegister (Px port Sctl)) early.accesses (x.recovers.accesses ++ late.accesses) early_spares
+        (All-append (SparesRegister (Px port Sctl)) x.recovers.accesses late.accesses
+        (All-weaker (IsRecovering port) (SparesRegister (Px port Sctl)) (recovering_spares port) x.recovers.accesses x.recovers.does.only) (late_spares never));
     unissued = dead_unissued;
     silent = whole_silent;
     issuing_silent = λ lives. each_silent laws port (due_ids (mode_in r.mid port) port (asks_of r.mid.book)) r.mid new kept r.issued port.0 ReadLog refl (λ dead. lives (ap state_of dead));
