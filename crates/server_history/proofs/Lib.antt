@@ -1,5 +1,6 @@
 pub mod Told
 pub mod Finding
+pub mod Tying
 pub mod Welling
 pub mod Lasting
 pub mod Showing
