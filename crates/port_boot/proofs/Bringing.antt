@@ -180,7 +180,7 @@ module _ (laws : Laws) where
             known = subst (λ (n : ℕ). n ≤ length new.tape) (sym s.set) (le_refl (length new.tape));
             since = later_still;
             marked = still;
-            way = record { placed = mid; places = first.followed.driven; found = reset; resets = f.resets; starts = third.driven };
+            way = record { placed = mid; places = first.followed.driven; found = reset; resets = f.resets; starts = third.driven; set = s.set };
             calm = λ place small. s.calm place (found.calm place small);
             clear = record {
               serr_n = λ none. let parts = plugs_in_parts laws port.0 old reset new (laws.grows_more old mid reset early late) last none in changes.serr_n parts.1 (found.clear.serr_n parts.0);

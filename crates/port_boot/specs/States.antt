@@ -141,14 +141,15 @@ IsBootTo Tells port _ old new = IsBoot Tells port old new
 
 -- ---- how a boot goes
 
--- The areas of a stopped port were put in their places. Then COMRESET was sent, and an ATA disk was found that was idle. Then ST was set
--- (AHCI 1.3.1, 10.1.2).
+-- The areas of a stopped port were put in their places. Then COMRESET was sent, and an ATA disk was found that was idle. Then ST was set,
+-- last of all (AHCI 1.3.1, 10.1.2).
 pub record GetsUp (port : Port) (old new : Device) : Type 0 where
   pub placed : Device
   pub places : IsDrivenBy (IsControl IsPlacing port) old placed
   pub found : Device
   pub resets : WasReset port (FindsSignature port 0x101) placed found
   pub starts : IsDrivenBy (IsControl WritesCommand port) found new
+  pub set : (new.port port.0).notes.st_set_at ≡ length new.tape
 
 -- The disk was asked for its page; and last of all the port was made to tell of the causes of interrupts.
 pub record GetsAsked (port : Port) (old new : Device) : Type 0 where

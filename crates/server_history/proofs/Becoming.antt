@@ -128,7 +128,7 @@ module _ (laws : LawsBelow) (port : Port) (replies : List Reply) (old new : Serv
   abbrev pub its : Evidence
   its = evidence_of port a.failed a.prospect x.result.next
 
-  issued_as : new ≡ record r.mid { device = new.device; slots = new.slots; book = new.book }
+  pub issued_as : new ≡ record r.mid { device = new.device; slots = new.slots; book = new.book }
   issued_as = each_settings laws port (due_ids (mode_in r.mid port) port (asks_of r.mid.book)) r.mid new r.issued
 
   answered_as : a.mid ≡ record old { device = x.found; table = a.mid.table; slots = a.mid.slots; book = a.mid.book }
@@ -146,10 +146,10 @@ module _ (laws : LawsBelow) (port : Port) (replies : List Reply) (old new : Serv
       ap (λ (n : Server). remembered_at n.remembered port.0) issued_as ∙ ap (λ (n : Server). remembered_at n.remembered port.0) a.server ∙ get_or-set_same a.mid.remembered port.0 (Some a.was) None within
 
   -- its disk, now and then
-  disk_new : disk_in new port ≡ disk_of a.found (Some a.was)
+  pub disk_new : disk_in new port ≡ disk_of a.found (Some a.was)
   disk_new = ap₂ (λ (f : Found) (was : Option DiskInfo). disk_of f was) found_new remembered_new
 
-  disk_old : disk_in old port ≡ Some a.was
+  pub disk_old : disk_in old port ≡ Some a.was
   disk_old = ap (λ (f : Found). disk_of f (remembered_at old.remembered port.0)) a.ready
 
   pub same_disk : disk_of a.found (Some a.was) ≡ Some a.was → SameDisk (ports_of old) (ports_of new) port

@@ -60,16 +60,20 @@ use Rattle.server_history.proofs.Joined.{all_pairs_append, answers_append, answe
 use Rattle.server_history.proofs.Making.{answered_permuted, answers_all, device_grounded, device_own, devices_all, devices_answers, issues_all, none_last, told_ordered}
 use Rattle.server_history.proofs.Ordering.{AreDifferent, AreOfPort, answered_id, told_differ, told_in_order}
 use Rattle.server_history.proofs.Origins.{stood}
-use Rattle.server_history.proofs.Recovery.{AddsFates, evidence_of, faults_of, lost_of, stopped_of}
+use Rattle.server_history.proofs.Recovery.{AddsFates, evidence_of, faults_of, lost_of, stopped_of, until_issues}
 use Rattle.server_history.proofs.Rounds.{AreIssued, any_append, devices_issue_none, dues, dues_carried, each_issued, each_settings, last_on, lawful_on, or_none}
 use Rattle.server_history.proofs.Serving.{answers_issue_none}
 use Rattle.server_history.proofs.Slots.{of_ready, ready_found, served_request, serves_used}
 use Rattle.server_history.proofs.Turns.{belong_join, grounded_join, lawful_join}
 use Rattle.server_history.proofs.Zips.{at_left, at_right}
 
--- What a machine that stands for the server makes of the turn by its steps, with this evidence. (That a disk was in, `had_disk` has of them.)
-pub record DecidesTurn (port : Port) (replies : List Reply) (old new : Server) (evidence : Evidence) (m : Machine) : Type 0 where
+-- What a machine that stands for the server makes of the turn by its steps, with this evidence. (That a disk was in, `had_disk` has of them.) They are those
+-- up to the fates of its requests, and then those that issue what is due.
+pub record DecidesTurn (port : Port) (replies : List Reply) (old new : Server) (r : RecoversPort port replies old new) (evidence : Evidence) (m : Machine) : Type 0 where
   pub steps : List Step
+  pub fates : AddsFates port r.later old r.mid r.settled m
+  pub issuing : AreIssued port (due_ids (mode_in r.mid port) port (asks_of r.mid.book)) r.mid new (after m (until_issues fates))
+  pub steps_are : steps ≡ issuing.steps ++ until_issues fates
   pub may : AllMay m steps
   pub stands : IsMachineOf new (after m steps)
   pub backed : IsBacked old.device new.device m steps
@@ -200,7 +204,7 @@ module _ (laws : LawsBelow) (port : Port) (replies : List Reply) (old new : Serv
 
   module _ (m : Machine) (reached : IsReached m) (is : IsMachineOf old m) (f : AddsFates port r.later old r.mid a m) where
     abbrev base : List Step
-    base = f.fates ++ (f.middle ++ (answers_in f.ended ++ f.first))
+    base = until_issues f
 
     abbrev began : Moment
     began = moment_of old m
@@ -466,9 +470,12 @@ module _ (laws : LawsBelow) (port : Port) (replies : List Reply) (old new : Serv
         by OtherDisk x = inr (none_waits x)
         by NoEnd x = inl (same_disk a.was (ap (λ (found : Found). disk_of found (Some a.was)) (subst (IsProspect a.was a.found) x a.expects)) refl refl)
 
-    pub decides_turn : DecidesTurn port replies old new evidence m
+    pub decides_turn : DecidesTurn port replies old new r evidence m
     decides_turn = record {
       steps = z.steps ++ base;
+      fates = f;
+      issuing = z;
+      steps_are = refl;
       may = may-append m z.steps base f.may z.may;
       stands = subst (IsMachineOf new) (sym all_is) z.stands;
       backed = laws.backed_parts old.device r.mid.device new.device m base z.steps f.backed z.backed;
@@ -488,6 +495,6 @@ module _ (laws : LawsBelow) (port : Port) (replies : List Reply) (old new : Serv
 -- So it is from each machine that stands for the server.
 pub recovered_decides : LawsBelow → (port : Port) (replies : List Reply) (old new : Server) → IsKept old → state_of (found_of old.ports port.0) ≡ ReadyState → (r : RecoversPort port replies old new)
     → IsFollowed (IsLooking port) AnyUse old.device r.settled.recovered.seen → IsKept r.mid → (m : Machine) → IsReached m → IsMachineOf old m
-    → DecidesTurn port replies old new (evidence_of port r.settled.failed r.settled.prospect r.settled.recovered.result.next) m
+    → DecidesTurn port replies old new r (evidence_of port r.settled.failed r.settled.prospect r.settled.recovered.result.next) m
 recovered_decides laws port replies old new k ready r looks k_mid m reached is =
     decides_turn laws port replies old new k ready r looks k_mid m reached is (adds_fates laws port r.later old r.mid k ready r.settled looks m reached is)

@@ -80,7 +80,7 @@ module _ (laws : LawsBelow) (port : Port) (early part late : List Access) where
 -- ---- slots
 
 -- what a slot is used for once requests were answered, it was used for before
-slots_were : (laws : LawsBelow) (port : Port) → port.0 < 4 → (done : ℕ) (requests : List Held) (old new : Server) → IsKept old → state_of (found_of old.ports port.0) ≡ ReadyState → AreOver port done old.device → AnswersEach port done requests old new
+pub slots_were : (laws : LawsBelow) (port : Port) → port.0 < 4 → (done : ℕ) (requests : List Held) (old new : Server) → IsKept old → state_of (found_of old.ports port.0) ≡ ReadyState → AreOver port done old.device → AnswersEach port done requests old new
     → (slot : ℕ) (used : SlotUse) → used_for new.slots port.0 slot ≡ Some used → used_for old.slots port.0 slot ≡ Some used
 slots_were laws port low done [] old new k ready over none slot used is = ap (λ (n : Server). used_for n.slots port.0 slot) (sym none) ∙ is
 slots_were laws port low done (e ∷ requests) old new k ready over (mid, one, its, more) slot used is =
@@ -95,7 +95,9 @@ slots_were laws port low done (e ∷ requests) old new k ready over (mid, one, i
 -- What stands behind the turn, but for its steps: its accesses, what it leaves of the other ports, and its evidence. (A port that a fault has halted didn't
 -- stay healthy. And where a disk is in when the look shows a device, the machine had one in the port, or one went or came.)
 pub record IsEvident (port : Port) (replies : List Reply) (old new : Server) (r : RecoversPort port replies old new) : Type 0 where
+  pub parts : TurnParts port replies old new r
   pub accesses : List Access
+  pub accesses_are : accesses ≡ accesses_in parts
   pub does : DoesAll accesses old.device new.device
   pub of : All (IsOf port) accesses
   pub own : All IsDriversOwn accesses
@@ -129,7 +131,7 @@ module _ (laws : LawsBelow) (port : Port) (replies : List Reply) (old new : Serv
 
   -- ---- the tape grows
 
-  grown : (accesses : List Access) (one two : Device) → DoesAll accesses one two → Grows one two
+  pub grown : (accesses : List Access) (one two : Device) → DoesAll accesses one two → Grows one two
   grown accesses one two does = along Grows laws.looks.grows_none laws.looks.grows_more AnyAccess (λ access d e may is. laws.looks.access_grows access d e is) accesses one two (λ i d small. tt) does
 
   grown_late : Grows a.mid.device new.device
@@ -265,7 +267,9 @@ module _ (laws : LawsBelow) (port : Port) (replies : List Reply) (old new : Serv
 
   pub evident : IsEvident port replies old new r
   evident = record {
+    parts = t;
     accesses = accesses_in t;
+    accesses_are = refl;
     does = does_append t.early.accesses (part ++ t.late.accesses) old.device a.mid.device new.device t.early.all (does_append part t.late.accesses a.mid.device a.device new.device t.does t.late.all);
     of = All-weaker (IsPart port) (IsOf port) (λ access is. is.1) (accesses_in t) kinds;
     own = All-weaker (IsPart port) IsDriversOwn (λ access is. is.0) (accesses_in t) kinds;

@@ -1,4 +1,14 @@
 pub mod Told
+pub mod Finding
+pub mod Tying
+pub mod Welling
+pub mod Lasting
+pub mod Showing
+pub mod Reboots
+pub mod Resetting
+pub mod Heeding
+pub mod Faulting
+pub mod Elsewhere
 pub mod Running
 pub mod Standing
 pub mod Behind
@@ -58,5 +68,5 @@ pub mod Recovered
 pub mod Remaining
 pub mod Beside
 pub mod Mending
-pub mod Heeding
-pub mod Tying
+pub mod Minding
+pub mod Binding

@@ -17,8 +17,10 @@ use Rattle.server_history.specs.Below.{LawsBelow}
 use Rattle.server_history.specs.Recovered.{IsSettledAfter, RecoversPort}
 use Rattle.server_history.specs.Server.{IsKept, IsMachineOf, IsSettled, Server, mode_in, state_of}
 use Rattle.server_history.specs.Turns.{MakesTurn, ServesPort}
+use Rattle.server_history.proofs.Binding.{ties_recovered}
 use Rattle.server_history.proofs.Deciding.{recovered_decides}
 use Rattle.server_history.proofs.Evident.{IsEvident, evident}
+use Rattle.server_history.proofs.Finding.{found_by_masks}
 use Rattle.server_history.proofs.Following.{adds_fates}
 use Rattle.server_history.proofs.Looking.{looking_kept}
 use Rattle.server_history.proofs.Recovered.{recovered_kept}
@@ -70,8 +72,8 @@ module _ (laws : LawsBelow) (port : Port) (replies : List Reply) (old new : Serv
         issues = d.issues;
         evidenced = e.evidenced m;
         faults = e.faults;
-        calm = e.calm d.steps;
-        ties = ?;
+        finds = λ _ x issued. found_by_masks laws port replies old new k ready r looks kept e m reached is d;
+        ties = ties_recovered laws port replies old new k ready r looks kept e (λ plain. ?) m reached is d;
       }
 
   pub recovered : ServesPort port replies old new

@@ -72,7 +72,7 @@ different_ids answers differ = IsDistinct-from_AllPairs Decides-eqb (ids answers
     by (a ∷ rest) differ i j d lt below same =
         differ i j a lt below (sym (get_or-map answered_id (a ∷ rest) i a d (omega (arith, lt, below))) ∙ same ∙ get_or-map answered_id (a ∷ rest) j a d below)
 
-still_differ : (answers other : List (Pending × Outcome)) → IsPermutation answers other → AreDifferent answers → AreDifferent other
+pub still_differ : (answers other : List (Pending × Outcome)) → IsPermutation answers other → AreDifferent answers → AreDifferent other
 still_differ answers other moved differ i j d lt below same =
     let long = length-map other answered_id in
     AllPairs-from_IsDistinct Decides-eqb (ids other)

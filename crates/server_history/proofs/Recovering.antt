@@ -1,12 +1,14 @@
 -- The accesses of a port's turn in which a command had failed: one by one, of what kind they are, and what they tell of the port's engines.
-use Rattle.std.proofs.Common.{ℕ, ◌≡◌, ◌≢◌, ◌<◌, ◌++◌, List, None, refl, sym, ◌∙◌, subst, inl, inr, arith, ⊎_elim}
-use Rattle.std.proofs.lemmas.List.Elements.{All-append, All-weaker}
+use Rattle.std.proofs.Common.{ℕ, ◌≡◌, ◌≢◌, ◌<◌, ◌++◌, List, [], None, refl, sym, ◌∙◌, subst, inl, inr, arith, ⊎_elim}
+use Rattle.std.specs.List.{All}
+use Rattle.std.proofs.lemmas.Bool.{cases_eq}
+use Rattle.std.proofs.lemmas.List.Elements.{All-append, All-nil, All-weaker}
 use Rattle.ata_types.specs.declared.Port.{Port}
 use Rattle.ata_types.specs.declared.PortState.{PortState as Shown}
 use Rattle.ata_types.specs.declared.PortState.TheVariants as shown
 use Rattle.ata_types.specs.declared.PortState.TheVariants.{Dead as DeadState, Ready as ReadyState}
 use Rattle.ata_types.specs.declared.request.RequestId.{RequestId}
-use Rattle.hba_regs.specs.declared.reg.PortReg.TheVariants.{Ci, Sact}
+use Rattle.hba_regs.specs.declared.reg.PortReg.TheVariants.{Ci, Sact, Sctl}
 use Rattle.hba_regs.specs.declared.reg.Reg.{Reg}
 use Rattle.hba_regs.specs.declared.reg.Reg.TheVariants.{Px}
 use Rattle.adapter.specs.Access.{Access}
@@ -17,14 +19,15 @@ use Rattle.adapter.specs.declared.command.Operation.TheVariants.{Identify}
 use Rattle.adapter.proofs.Calls.{does_append}
 use Rattle.agreement.specs.Driven.{AnyUse, IsDrivenBy, IsFollowed, IsFollowedTo, IsOf, IsToldTo, NoneWrites, SendsNone, known}
 use Rattle.agreement.specs.Driver.{AllFree, Knows}
+use Rattle.agreement.specs.Links.{SparesRegister}
 use Rattle.agreement.specs.Slots.{Own, Uses, op_of, put}
-use Rattle.agreement.proofs.Driven.{by_none, followed_adds, followed_silent}
+use Rattle.agreement.proofs.Driven.{followed_adds, followed_silent}
 use Rattle.block_machine.specs.Histories.{IsReached}
 use Rattle.block_machine.specs.Left.{after}
 use Rattle.block_machine.specs.State.{Machine}
 use Rattle.block_machine.proofs.HistoryLemmas.{reached_more}
 use Rattle.disk_page.specs.Asking.{IsAsking}
-use Rattle.driver_history.specs.Trace.{IsDriversOwn, LeavesCommand}
+use Rattle.driver_history.specs.Trace.{IsDriversOwn, LeavesCommand, ResetsLink}
 use Rattle.error_recovery.specs.Recovery.{IsRecovering}
 use Rattle.error_recovery.specs.declared.Next.{Next}
 use Rattle.error_recovery.specs.declared.Next.TheVariants as next
@@ -41,6 +44,7 @@ use Rattle.port_control.specs.declared.Stopped.{Stopped}
 use Rattle.server_history.specs.Below.{LawsBelow}
 use Rattle.server_history.specs.Recovered.{IsFoundAfter}
 use Rattle.server_history.proofs.Coming.{table_own}
+use Rattle.server_history.proofs.Resetting.{ResetsBy, early_resets, late_resets, ready_resets, resets_since}
 use Rattle.server_history.proofs.Silent.{silent_more, silent_none}
 
 -- ---- kinds of accesses
@@ -105,11 +109,13 @@ pub record IsGivenUp (port : Port) (d : Device) : Type 0 where
   pub knows : Knows machine (known uses parked d)
 
 -- The accesses between recovery and the issues, and what they tell of a port that is dead after its boot: 64 readings in a row showed an engine that is
--- stuck. Another port is sent no page by a command that its slot 0 hadn't.
+-- stuck. Another boot has reset the link. Another port is sent no page by a command that its slot 0 hadn't.
 pub record AfterList (port : Port) (then : Next) (found : Found) (old new : Device) : Type 0 where
   pub driven : IsDrivenBy (IsPart port) old new
   pub sticks : found ≡ Unready DeadState → then ≢ next.Dead → Sticks port driven.accesses
   pub stuck : found ≡ Unready DeadState → then ≢ next.Dead → (new.port port.0).notes.engine_count ≡ 64
+  pub resets : (token : Stopped) → then ≡ next.Restart token → found ≢ Unready DeadState → ResetsLink port driven.accesses
+  pub unreset : ((token : Stopped) → then ≢ next.Restart token) → All (SparesRegister (Px port Sctl)) driven.accesses
   pub silent : (q : Port) (o : Operation) → q.0 ≢ port.0 → op_of o ≡ None → ((token : Stopped) → then ≡ next.Restart token → (g : IsGivenUp port old) × (g.uses q.0 0 ≡ Own o → ⊥)) → SendsNone q.0 o old new
 
 module _ (laws : LawsBelow) (port : Port) (low : port.0 < 4) (wanted : Wanted) where
@@ -122,18 +128,25 @@ module _ (laws : LawsBelow) (port : Port) (low : port.0 < 4) (wanted : Wanted) w
         (followed_silent boots g.uses g.parked (after g.machine x.0) g.free (reached_more g.machine x.0 g.reached x.1) x.2 q o own
         (λ access is. laws.of_spares port q Ci other access (laws.booting_of port access is)) (λ access is. laws.of_spares port q Sact other access (laws.booting_of port access is)) none)
 
-    boot_list : (found : Found) → (found ≡ Unready DeadState → Sticks port boots.driven.accesses) → (found ≡ Unready DeadState → (new.port port.0).notes.engine_count ≡ 64) → AfterList port (next.Restart token) found old new
-    boot_list found sticks stuck = record {
+    boot_list : (found : Found) (by : IsDrivenBy (IsOfBoot port) asked new) → (found ≡ Unready DeadState → Sticks port by.accesses) → (found ≡ Unready DeadState → (new.port port.0).notes.engine_count ≡ 64)
+        → (found ≢ Unready DeadState → ResetsLink port by.accesses) → AfterList port (next.Restart token) found old new
+    boot_list found by sticks stuck resets = record {
       driven = record {
-        accesses = asks.driven.accesses ++ boots.driven.accesses;
-        all = does_append asks.driven.accesses boots.driven.accesses old asked new asks.driven.all boots.driven.all;
-        only = All-append (IsPart port) asks.driven.accesses boots.driven.accesses (All-weaker IsSurvey (IsPart port) (survey_part port) asks.driven.accesses asks.driven.only)
-            (All-weaker (IsOfBoot port) (IsPart port) (booting_part laws port low) boots.driven.accesses boots.driven.only);
+        accesses = asks.driven.accesses ++ by.accesses;
+        all = does_append asks.driven.accesses by.accesses old asked new asks.driven.all by.all;
+        only = All-append (IsPart port) asks.driven.accesses by.accesses (All-weaker IsSurvey (IsPart port) (survey_part port) asks.driven.accesses asks.driven.only)
+            (All-weaker (IsOfBoot port) (IsPart port) (booting_part laws port low) by.accesses by.only);
       };
-      sticks = λ dead _. laws.sticks_since asks.driven.accesses boots.driven.accesses port (sticks dead);
+      sticks = λ dead _. laws.sticks_since asks.driven.accesses by.accesses port (sticks dead);
       stuck = λ dead _. stuck dead;
+      resets = λ _ _ lives. resets_since port asks.driven.accesses by.accesses (resets lives);
+      unreset = λ never. absurd (never token refl);
       silent = λ q o other own given. let g = given token refl in boot_silent q o other own g.0 g.1;
     }
+
+    -- one that isn't dead has its link reset
+    lives_list : (found : Found) → found ≢ Unready DeadState → ResetsBy port asked new → AfterList port (next.Restart token) found old new
+    lives_list found lives by = boot_list found by.driven (λ dead. absurd (lives dead)) (λ dead. absurd (lives dead)) (λ _. by.resets)
 
   booted_list : (token : Stopped) (booted : Booted) (old new : Device) → BootsAgain wanted port booted old new → AfterList port (next.Restart token) booted.found old new
   booted_list token booted old new b = by booted.found b.boots
@@ -143,35 +156,47 @@ module _ (laws : LawsBelow) (port : Port) (low : port.0 < 4) (wanted : Wanted) w
 
       unready : (state : Shown) → EndsUnready wanted port state b.asked new → AfterList port (next.Restart token) (Unready state) old new
       unready shown.Dead x = ⊎_elim
-          (λ (told : IsBoot (Sticks port) port b.asked new). boot_list token old b.asked new b.asks (λ uses. uses) told.followed (Unready DeadState) (λ _. told.tells) (λ _. x.ended.1))
+          (λ (told : IsBoot (Sticks port) port b.asked new). boot_list token old b.asked new b.asks (λ uses. uses) told.followed (Unready DeadState) told.followed.driven (λ _. told.tells) (λ _. x.ended.1) (λ lives. absurd (lives refl)))
           (λ (told : IsToldTo (Sticks port) (IsOfBoot port) (λ uses. AllFree uses port.0) (λ uses. put uses port.0 0 (Own Identify)) b.asked new).
-          boot_list token old b.asked new b.asks (λ uses. put uses port.0 0 (Own Identify)) told.followed (Unready DeadState) (λ _. told.tells) (λ _. x.ended.1))
+          boot_list token old b.asked new b.asks (λ uses. put uses port.0 0 (Own Identify)) told.followed (Unready DeadState) told.followed.driven (λ _. told.tells) (λ _. x.ended.1) (λ lives. absurd (lives refl)))
           x.boots
-      unready shown.Absent x = let no = lives shown.Absent (λ e. let z : shown.Absent ≡ DeadState = e in cc) in boot_list token old b.asked new b.asks (λ uses. uses) x.boots.followed (Unready shown.Absent) (λ e. absurd (no e)) (λ e. absurd (no e))
-      unready shown.Foreign x = let no = lives shown.Foreign (λ e. let z : shown.Foreign ≡ DeadState = e in cc) in boot_list token old b.asked new b.asks (λ uses. uses) x.boots.followed (Unready shown.Foreign) (λ e. absurd (no e)) (λ e. absurd (no e))
-      unready (shown.Unfit n) x = let no = lives (shown.Unfit n) (λ e. let z : shown.Unfit n ≡ DeadState = e in cc) in boot_list token old b.asked new b.asks (λ uses. uses) x.boots.followed (Unready (shown.Unfit n)) (λ e. absurd (no e)) (λ e. absurd (no e))
+      unready shown.Absent x = lives_list token old b.asked new b.asks (λ uses. uses) x.boots.followed (Unready shown.Absent) (lives shown.Absent (λ e. let z : shown.Absent ≡ DeadState = e in cc)) (early_resets port shown.Absent b.asked new (x.early tt))
+      unready shown.Foreign x = lives_list token old b.asked new b.asks (λ uses. uses) x.boots.followed (Unready shown.Foreign) (lives shown.Foreign (λ e. let z : shown.Foreign ≡ DeadState = e in cc)) (late_resets port b.asked new (x.late tt))
+      unready (shown.Unfit n) x =
+          lives_list token old b.asked new b.asks (λ uses. uses) x.boots.followed (Unready (shown.Unfit n)) (lives (shown.Unfit n) (λ e. let z : shown.Unfit n ≡ DeadState = e in cc))
+          (⊎_elim
+          (λ (seven : n ≡ 7). early_resets port (shown.Unfit n) b.asked new (x.early (inl seven)))
+          (λ (not_seven : n ≢ 7). ⊎_elim
+          (λ (eight : n ≡ 8). early_resets port (shown.Unfit n) b.asked new (x.early (inr eight)))
+          (λ (not_eight : n ≢ 8). late_resets port b.asked new (x.late (not_seven, not_eight)))
+          (cases_eq n 8))
+          (cases_eq n 7))
       unready shown.Ready x = absurd x.ended
 
       by : (found : Found) → BootsStopped wanted port found b.asked new → AfterList port (next.Restart token) found old new
       by Unserved x = absurd x
       by (Ready info) x =
           let no : Ready info ≡ Unready DeadState → ⊥ = λ e. let z : Ready info ≡ Unready DeadState = e in cc in
-          boot_list token old b.asked new b.asks (λ uses. uses) x.boots.followed (Ready info) (λ e. absurd (no e)) (λ e. absurd (no e))
+          lives_list token old b.asked new b.asks (λ uses. uses) x.boots.followed (Ready info) no (ready_resets port b.asked new x.way)
       by (Unready state) x = unready state x
 
   pub after_list : (was : DiskInfo) (then : Next) (old new : Device) (found : Found) → IsFoundAfter wanted port was then old new found → AfterList port then found old new
   after_list was (next.Running token) old new found is =
       let none : found ≡ Unready DeadState → ⊥ = λ dead. let z : Ready was ≡ Unready DeadState = sym is.0 ∙ dead in cc in
       subst (λ (d : Device). AfterList port (next.Running token) found old d) (sym is.1) (record {
-        driven = by_none (IsPart port) old;
+        driven = record { accesses = []; all = refl; only = All-nil (IsPart port) };
         sticks = λ dead _. absurd (none dead);
         stuck = λ dead _. absurd (none dead);
+        resets = λ other is _. absurd (let z : next.Running token ≡ next.Restart other = is in cc);
+        unreset = λ _. All-nil (SparesRegister (Px port Sctl));
         silent = λ q o other own given. silent_none q.0 o old;
       })
   after_list was (next.Restart token) old new found is = subst (λ (f : Found). AfterList port (next.Restart token) f old new) is.1 (booted_list token is.0 old new is.2)
   after_list was next.Dead old new found is = subst (λ (d : Device). AfterList port next.Dead found old d) (sym is.1) (record {
-    driven = by_none (IsPart port) old;
+    driven = record { accesses = []; all = refl; only = All-nil (IsPart port) };
     sticks = λ _ lives. absurd (lives refl);
     stuck = λ _ lives. absurd (lives refl);
+    resets = λ token is _. absurd (let z : next.Dead ≡ next.Restart token = is in cc);
+    unreset = λ _. All-nil (SparesRegister (Px port Sctl));
     silent = λ q o other own given. silent_none q.0 o old;
   })

@@ -89,3 +89,7 @@ pub record AddsFates (port : Port) (later : List Reply) (old new : Server) (a : 
   pub again : (e : Pending) → Contains fates (Again e)
       → (request : Held) × Contains (requests_of port a.mid.book) request × IsEntry request e × (fate_of a.failed a.prospect request.entry ≡ GoesAgain)
   pub tells : Tells fates later
+
+-- all those steps
+abbrev pub until_issues : {port : Port} {later : List Reply} {old new : Server} {a : IsSettledAfter port later old new} {m : Machine} → AddsFates port later old new a m → List Step
+until_issues f = f.fates ++ (f.middle ++ (answers_in f.ended ++ f.first))

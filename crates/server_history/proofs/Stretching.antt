@@ -9,7 +9,7 @@ use Rattle.ata_types.specs.declared.PortState.TheVariants as shown
 use Rattle.ata_types.specs.declared.PortState.TheVariants.{Dead as DeadState, Ready as ReadyState}
 use Rattle.ata_types.specs.declared.request.Reply.{Reply}
 use Rattle.ata_types.specs.declared.request.RequestId.{RequestId}
-use Rattle.hba_regs.specs.declared.reg.PortReg.TheVariants.{Ci, Sact}
+use Rattle.hba_regs.specs.declared.reg.PortReg.TheVariants.{Ci, Sact, Sctl}
 use Rattle.hba_regs.specs.declared.reg.Reg.TheVariants.{Px}
 use Rattle.adapter.specs.Access.{Access, DoesAll}
 use Rattle.adapter.specs.Access.Access.{Reading}
@@ -22,13 +22,14 @@ use Rattle.agreement.specs.Acts.{AnySlots, ByDeviceAlone, InSlots, Performs, at 
 use Rattle.agreement.specs.Agrees.{port_at}
 use Rattle.agreement.specs.Driven.{AnyUse, IsDrivenBy, IsFollowed, SendsNone}
 use Rattle.agreement.specs.GivingUp.{given_up}
+use Rattle.agreement.specs.Links.{SparesRegister}
 use Rattle.agreement.specs.Slots.{Free, Own, Use}
-use Rattle.agreement.proofs.Driven.{by_then, driven_as}
 use Rattle.block_machine.specs.Due.{due_of}
 use Rattle.block_machine.specs.Left.{after}
 use Rattle.block_machine.specs.declared.due.Unanswered.{Unanswered}
 use Rattle.block_machine.proofs.HistoryLemmas.{reached_more}
 use Rattle.block_machine.proofs.Members.{contains_here, map_in}
+use Rattle.driver_history.specs.Trace.{LeavesCommand, ReadsMasks, ResetsLink}
 use Rattle.error_recovery.specs.Recovery.{IsRecovering, LeavesSlots}
 use Rattle.error_recovery.specs.declared.Next.{Next}
 use Rattle.error_recovery.specs.declared.Next.TheVariants as next
@@ -42,10 +43,11 @@ use Rattle.server_history.specs.Below.{LawsBelow}
 use Rattle.server_history.specs.Recovered.{IsRecovered, IsSettledAfter, RecoversPort}
 use Rattle.server_history.specs.Served.{IssuesEach, IssuesIn}
 use Rattle.server_history.specs.Server.{Server, IsKept, mode_in, state_of, used_for}
-use Rattle.server_history.proofs.Coming.{issuing_turns, look_does, look_list, look_turns, turn_leaves}
+use Rattle.server_history.proofs.Coming.{issuing_leaves, issuing_turns, look_does, look_list, look_turns, turn_leaves}
 use Rattle.server_history.proofs.Looking.{finding_kept, finding_silent, found_over, looking_kept, looking_silent}
 use Rattle.server_history.proofs.Plain.{both_read}
 use Rattle.server_history.proofs.Recovering.{AfterList, IsEarlyPart, IsGivenUp, IsPart, after_list, recovering_part}
+use Rattle.server_history.proofs.Resetting.{recovering_spares, resets_more}
 use Rattle.server_history.proofs.Rounds.{each_driven, each_silent}
 use Rattle.server_history.proofs.Settling.{answers_kept, answers_settings}
 use Rattle.server_history.proofs.Silent.{silent_more}
@@ -61,11 +63,14 @@ recovery_does port next.Dead accesses old new p = ⊎_elim (λ a. a.does) (λ b.
 -- No page of the log comes on another port that isn't dead.
 pub record TurnParts (port : Port) (replies : List Reply) (old new : Server) (r : RecoversPort port replies old new) : Type 0 where
   pub early : IsDrivenBy (IsEarlyPart port) old.device r.settled.mid.device
+  pub masks : ReadsMasks port r.settled.recovered.reads.issued r.settled.recovered.reads.active early.accesses
   pub does : DoesAll r.settled.recovered.recovers.accesses r.settled.mid.device r.settled.device
   pub kinds : All (IsPart port) r.settled.recovered.recovers.accesses
   pub late : IsDrivenBy (IsPart port) r.settled.device new.device
   pub sticks : r.settled.found ≡ Unready DeadState → r.settled.recovered.result.next ≢ next.Dead → Sticks port late.accesses
   pub stuck : r.settled.found ≡ Unready DeadState → r.settled.recovered.result.next ≢ next.Dead → (new.device.port port.0).notes.engine_count ≡ 64
+  pub resets : (token : Stopped) → r.settled.recovered.result.next ≡ next.Restart token → r.settled.found ≢ Unready DeadState → ResetsLink port late.accesses
+  pub unreset : ((token : Stopped) → r.settled.recovered.result.next ≢ next.Restart token) → All (SparesRegister (Px port Sctl)) (early.accesses ++ (r.settled.recovered.recovers.accesses ++ late.accesses))
   pub unissued : r.settled.found ≡ Unready DeadState → new ≡ r.mid
   pub silent : (q : ℕ) → q ≢ port.0 → state_of (found_of old.ports q) ≢ DeadState → SendsNone q ReadLog old.device new.device
   pub issuing_silent : state_of (found_of r.mid.ports port.0) ≢ DeadState → SendsNone port.0 ReadLog r.mid.device new.device
@@ -135,11 +140,42 @@ module _ (laws : LawsBelow) (port : Port) (replies : List Reply) (old new : Serv
             (All-cons (IsEarlyPart port) (Reading (Px port Sact) x.reads.active) [] ((tt, refl), tt) (All-nil (IsEarlyPart port)));
       }
 
+  -- both, in which the masks were read at the end
+  early : IsDrivenBy (IsEarlyPart port) old.device a.mid.device
+  early = record {
+    accesses = looking.accesses ++ finding.accesses;
+    all = subst (DoesAll (looking.accesses ++ finding.accesses) old.device) (sym mid_device) (does_append looking.accesses finding.accesses old.device x.seen x.found looking.all finding.all);
+    only = All-append (IsEarlyPart port) looking.accesses finding.accesses looking.only finding.only;
+  }
+
+  early_spares : All (SparesRegister (Px port Sctl)) early.accesses
+  unfolding early looking finding
+  early_spares = All-append (SparesRegister (Px port Sctl)) looking.accesses finding.accesses
+      (λ i d small. (turn_leaves port port _ (look_turns port x.looks.causes x.looks.own x.looks.status x.looks.alone i d small)).1)
+      (All-cons (SparesRegister (Px port Sctl)) (Reading (Px port Ci) x.reads.issued) (Reading (Px port Sact) x.reads.active ∷ []) tt
+      (All-cons (SparesRegister (Px port Sctl)) (Reading (Px port Sact) x.reads.active) [] tt (All-nil (SparesRegister (Px port Sctl)))))
+
+  masks : ReadsMasks port x.reads.issued x.reads.active early.accesses
+  unfolding early finding
+  masks = record {
+    before = looking.accesses;
+    later = [];
+    here = refl;
+    running = All-weaker (IsEarlyPart port) (LeavesCommand port) (λ access is. is.1) looking.accesses looking.only;
+  }
+
   afterwards : AfterList port x.result.next a.found a.device r.mid.device
   afterwards = after_list laws port low (wanted_of old.wanted port.0) a.was x.result.next a.device r.mid.device a.found a.is
 
+  each : IsDrivenBy (IssuesIn port) r.mid.device new.device
+  each = each_driven laws port (due_ids (mode_in r.mid port) port (asks_of r.mid.book)) r.mid new r.issued
+
   issuing : IsDrivenBy (IsPart port) r.mid.device new.device
-  issuing = driven_as (IssuesIn port) (IsPart port) r.mid.device new.device (λ access is. (issuing_turns laws port low access is).1) (each_driven laws port (due_ids (mode_in r.mid port) port (asks_of r.mid.book)) r.mid new r.issued)
+  issuing = record { accesses = each.accesses; all = each.all; only = All-weaker (IssuesIn port) (IsPart port) (λ access is. (issuing_turns laws port low access is).1) each.accesses each.only }
+
+  issuing_spares : All (SparesRegister (Px port Sctl)) issuing.accesses
+  unfolding issuing
+  issuing_spares = All-weaker (IssuesIn port) (SparesRegister (Px port Sctl)) (λ access is. (issuing_leaves port port access is).1) each.accesses each.only
 
   -- nothing is issued on a dead port, of which there are no requests
   none_issued : state_of (found_of r.mid.ports port.0) ≡ DeadState → new ≡ r.mid
@@ -226,14 +262,27 @@ module _ (laws : LawsBelow) (port : Port) (replies : List Reply) (old new : Serv
   unfolding late
   late_sticks dead lives = laws.sticks_then afterwards.driven.accesses issuing.accesses port (afterwards.sticks dead lives)
 
+  late_resets : (token : Stopped) → x.result.next ≡ next.Restart token → a.found ≢ Unready DeadState → ResetsLink port late.accesses
+  unfolding late
+  late_resets token is lives = resets_more port [] afterwards.driven.accesses issuing.accesses (afterwards.resets token is lives) issuing_spares
+
+  late_spares : ((token : Stopped) → x.result.next ≢ next.Restart token) → All (SparesRegister (Px port Sctl)) late.accesses
+  unfolding late
+  late_spares never = All-append (SparesRegister (Px port Sctl)) afterwards.driven.accesses issuing.accesses (afterwards.unreset never) issuing_spares
+
   pub turn_parts : TurnParts port replies old new r
   turn_parts = record {
-    early = subst (IsDrivenBy (IsEarlyPart port) old.device) (sym mid_device) (by_then looking finding);
+    early = early;
+    masks = masks;
     does = recovery_does port.0 x.result.next x.recovers.accesses a.mid.device a.device x.recovers.does.slots;
     kinds = All-weaker (IsRecovering port) (IsPart port) (recovering_part laws port low) x.recovers.accesses x.recovers.does.only;
     late = late;
     sticks = late_sticks;
     stuck = λ dead lives. ap (λ (n : Server). (n.device.port port.0).notes.engine_count) (dead_unissued dead) ∙ afterwards.stuck dead lives;
+    resets = late_resets;
+    unreset = λ never. All-append (SparesRegister (Px port Sctl)) early.accesses (x.recovers.accesses ++ late.accesses) early_spares
+        (All-append (SparesRegister (Px port Sctl)) x.recovers.accesses late.accesses
+        (All-weaker (IsRecovering port) (SparesRegister (Px port Sctl)) (recovering_spares port) x.recovers.accesses x.recovers.does.only) (late_spares never));
     unissued = dead_unissued;
     silent = whole_silent;
     issuing_silent = λ lives. each_silent laws port (due_ids (mode_in r.mid port) port (asks_of r.mid.book)) r.mid new kept r.issued port.0 ReadLog refl (λ dead. lives (ap state_of dead));

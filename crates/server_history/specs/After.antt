@@ -1,17 +1,21 @@
 -- What laws of the crates below say of a port that is recovered, and booted again, and of the others meanwhile.
-use Rattle.std.specs.Prelude.{ℕ, ◌≡◌, ◌≢◌, ◌<◌, List, [], map}
+use Rattle.std.specs.Prelude.{ℕ, false, ◌≡◌, ◌≢◌, ◌<◌, ◌≤◌, ◌++◌, List, [], map}
 use Rattle.ata_types.specs.declared.Port.{Port}
 use Rattle.ata_types.specs.declared.PortState.{PortState}
 use Rattle.ata_types.specs.declared.request.RequestId.{RequestId}
-use Rattle.adapter.specs.Access.{Access, DoesAll}
+use Rattle.hba_regs.specs.declared.reg.PortReg.TheVariants.{Is, Sctl, Serr}
+use Rattle.hba_regs.specs.declared.reg.Reg.TheVariants.{Px}
+use Rattle.adapter.specs.Access.{Access, Does, DoesAll}
 use Rattle.adapter.specs.Device.{Device}
 use Rattle.adapter.specs.Rules.{IsOn}
+use Rattle.adapter.specs.declared.tape.Entry.{Entry}
 use Rattle.agreement.specs.Acts.{Act, AreDone, steps_of}
 use Rattle.agreement.specs.Agrees.{Agrees, HaveSlots}
 use Rattle.agreement.specs.Driven.{AnyAccess, IsDrivenBy, IsOf}
 use Rattle.agreement.specs.Driver.{Goes, Known, Knows}
-use Rattle.agreement.specs.Facts.{IsRecorded}
-use Rattle.agreement.specs.Links.{HasDeviceOrNone, SameAdapter}
+use Rattle.agreement.specs.Errors.{NoneFails, NoneFatal}
+use Rattle.agreement.specs.Facts.{IsRecorded, Undisturbed}
+use Rattle.agreement.specs.Links.{HasDeviceOrNone, LeavesDisk, LeavesLink, PlugsNone, SameAdapter, SparesRegister}
 use Rattle.agreement.specs.Slots.{Serves, Use, Uses, put, serving_count}
 use Rattle.block_machine.specs.Due.{issued_count}
 use Rattle.block_machine.specs.Histories.{IsReached}
@@ -47,3 +51,28 @@ pub record RecoveryLaws : Type 0 where
   pub again_stands : (wanted : Wanted) (port : Port) (booted : Booted) (old new : Device) → BootsAgain wanted port booted old new → IsServed wanted port.0 old → StandsBehind wanted booted.found port.0 new
   pub again_shown : (wanted : Wanted) (port : Port) (booted : Booted) (state : PortState) (old new : Device) → IsOn old → BootsAgain wanted port booted old new → FoundBadDisk state
       → booted.found ≡ Unready state → HasDeviceOrNone (new.port port.0)
+
+-- What of a port's trouble is shown, and that stretches are of their parts.
+pub record TroubleLaws : Type 0 where
+  -- each error, and each disk that goes or comes, is shown until it is cleared
+  pub shows_fault : (port : Port) (access : Access) (old new : Device) → old.hr ≡ false → SparesRegister (Px port Is) access → Does access old new → (new.port port.0).is 30 ≡ false
+      → ((old.port port.0).is 30 ≡ false) × NoneFails port.0 old new
+  pub shows_fatal : (port : Port) (access : Access) (old new : Device) → old.hr ≡ false → SparesRegister (Px port Is) access → Does access old new
+      → ((place : ℕ) → 27 ≤ place → place ≤ 29 → (new.port port.0).is place ≡ false) → ((place : ℕ) → 27 ≤ place → place ≤ 29 → (old.port port.0).is place ≡ false) × NoneFatal port.0 old new
+  pub shows_disk : (port : Port) (access : Access) (old new : Device) → old.hr ≡ false → SparesRegister (Px port Serr) access → Does access old new → (new.port port.0).serr_n ≡ false
+      → ((old.port port.0).serr_n ≡ false) × PlugsNone port.0 old new
+  -- parts
+  pub fails_none : (port : ℕ) (d : Device) → NoneFails port d d
+  pub fails_more : (port : ℕ) (old mid new : Device) → NoneFails port old mid → NoneFails port mid new → NoneFails port old new
+  pub fatal_none : (port : ℕ) (d : Device) → NoneFatal port d d
+  pub fatal_more : (port : ℕ) (old mid new : Device) → NoneFatal port old mid → NoneFatal port mid new → NoneFatal port old new
+  pub fatal_parts : (port : ℕ) (old mid new : Device) (early late : List Entry) → mid.tape ≡ old.tape ++ early → new.tape ≡ mid.tape ++ late → NoneFatal port old new → NoneFatal port old mid × NoneFatal port mid new
+  pub plugs_none : (port : ℕ) (d : Device) → PlugsNone port d d
+  pub plugs_more : (port : ℕ) (old mid new : Device) → PlugsNone port old mid → PlugsNone port mid new → PlugsNone port old new
+  pub plugs_parts : (port : ℕ) (old mid new : Device) (early late : List Entry) → mid.tape ≡ old.tape ++ early → new.tape ≡ mid.tape ++ late → PlugsNone port old new → PlugsNone port old mid × PlugsNone port mid new
+  -- where nothing disturbs a port
+  pub calm_fatal : (port : ℕ) (old new : Device) → Undisturbed port old new → NoneFatal port old new
+  pub calm_plugs : (port : ℕ) (old new : Device) → Undisturbed port old new → PlugsNone port old new
+  -- its disk, and its link, stay
+  pub disk_left : (port : ℕ) (access : Access) (old new : Device) → Does access old new → PlugsNone port old new → LeavesDisk (old.port port) (new.port port)
+  pub link_left : (port : Port) (access : Access) (old new : Device) → old.hr ≡ false → SparesRegister (Px port Sctl) access → Does access old new → PlugsNone port.0 old new → LeavesLink (old.port port.0) (new.port port.0)

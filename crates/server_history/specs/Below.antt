@@ -71,7 +71,7 @@ use Rattle.port_look.specs.declared.Look.TheVariants.{Failed, Lost, Undisturbed 
 use Rattle.request_queue.specs.Entries.{Held, IsAccepted, IsEarlier, IsFresh, IsInOrder, IsWaiting, MayGoAgain, asks_of, at, issue, requeued as requeued_entry, unanswered_of, without}
 use Rattle.request_queue.specs.declared.Entry.{Entry}
 use Rattle.request_queue.specs.Machine.{IsBook, IsEntry}
-use Rattle.server_history.specs.After.{RecoveryLaws}
+use Rattle.server_history.specs.After.{RecoveryLaws, TroubleLaws}
 
 pub record LawsBelow : Type 0 where
   -- the book and the machine's
@@ -168,6 +168,8 @@ pub record LawsBelow : Type 0 where
   pub runs_well : (port : ℕ) (old new : Device) → RunsOn port old new → Undisturbed port old new → RunsWell (old.port port) → RunsWell (new.port port)
   -- a port is recovered
   pub recovery : RecoveryLaws
+  -- what is shown of trouble
+  pub trouble : TroubleLaws
   -- a port's turn in a call
   pub evidence : (port : Port) (old : Instant Device) (begun : Moment) (ended ports : Ports) (new : Device) (turn call : Evidence) (ask : Ask DeviceStep) (said : Said) → IsOn old.device
       → ((old.moment.ports.state port ≡ Ready) ⊎ Contains turn.lost port → (old.device.port port.0).link_due ≡ false)

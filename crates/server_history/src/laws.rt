@@ -60,6 +60,10 @@ ghost use Rattle.server_history.specs.Recovered.{AreQueued, IsRecovered, IsSettl
 use adapter::laws::saying_is_one;
 use agreement::acts::acts_give;
 use agreement::disks::none_comes_in;
+use agreement::facts::{
+    disk_stays, errors_are_shown, faults_compose, fatal_errors_compose, link_stays,
+    plugging_composes, plugging_is_found,
+};
 use agreement::giving_up::{fault_is_outstanding, slots_are_given_up};
 use agreement::laws::{
     answering_agrees, backing_composes, disks_are_told, due_finds_free_slot, going_again_agrees,
@@ -150,6 +154,13 @@ fn the_laws_below_hold()
     a_turns_trouble_is_the_calls();
     a_port_that_was_stopped_was_set_since();
     fault_is_outstanding();
+    errors_are_shown();
+    plugging_is_found();
+    faults_compose();
+    fatal_errors_compose();
+    plugging_composes();
+    disk_stays();
+    link_stays();
 }
 
 /// A ready port of a new server runs well, if nothing went wrong on it since the adapter was idle.

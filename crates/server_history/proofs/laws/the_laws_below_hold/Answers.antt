@@ -73,6 +73,23 @@ returns c = record {
     again_stands = c.what_was_booted_again_may_be_served.ensures.stands;
     again_shown = c.what_was_booted_again_may_be_served.ensures.shown;
   };
+  trouble = record {
+    shows_fault = c.errors_are_shown.ensures.fault_access;
+    shows_fatal = c.errors_are_shown.ensures.fatal_access;
+    shows_disk = c.plugging_is_found.ensures.access;
+    fails_none = c.faults_compose.ensures.none;
+    fails_more = c.faults_compose.ensures.more;
+    fatal_none = c.fatal_errors_compose.ensures.none;
+    fatal_more = c.fatal_errors_compose.ensures.more;
+    fatal_parts = c.fatal_errors_compose.ensures.parts;
+    plugs_none = c.plugging_composes.ensures.none;
+    plugs_more = c.plugging_composes.ensures.more;
+    plugs_parts = c.plugging_composes.ensures.parts;
+    calm_fatal = c.fatal_errors_compose.ensures.calm;
+    calm_plugs = c.plugging_composes.ensures.calm;
+    disk_left = c.disk_stays.ensures.access;
+    link_left = c.link_stays.ensures.access;
+  };
   evidence = c.a_turns_evidence_is_the_calls.ensures.evidence;
   failed = c.a_turns_evidence_is_the_calls.ensures.failed;
   brings = c.a_turns_evidence_is_the_calls.ensures.brings;

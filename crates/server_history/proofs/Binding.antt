@@ -1,0 +1,63 @@
+-- A turn in which a command had failed does of its port what a call does of a port.
+use Rattle.std.proofs.Common.{◌≡◌, false, List, sym, ◌∙◌, ⊎_elim}
+use Rattle.ata_types.specs.declared.Port.{Port}
+use Rattle.ata_types.specs.declared.PortState.TheVariants as shown
+use Rattle.ata_types.specs.declared.PortState.TheVariants.{Ready as ReadyState}
+use Rattle.ata_types.specs.declared.request.Reply.{Reply}
+use Rattle.agreement.specs.Driven.{AnyUse, IsFollowed}
+use Rattle.agreement.specs.Recovering.{WorksPlainly}
+use Rattle.block_machine.specs.Histories.{IsReached}
+use Rattle.block_machine.specs.State.{Machine}
+use Rattle.driver_history.specs.Histories.{HasBadDisk}
+use Rattle.host_boot.specs.Taken.{found_of}
+use Rattle.port_boot.specs.States.{ShowsOwnDisk}
+use Rattle.port_look.specs.Looks.{IsLooking}
+use Rattle.server_history.specs.Below.{LawsBelow}
+use Rattle.server_history.specs.Recovered.{RecoversPort}
+use Rattle.server_history.specs.Server.{Server, IsKept, IsMachineOf, ports_of, state_of}
+use Rattle.server_history.specs.Turns.{TiesTurn}
+use Rattle.server_history.proofs.Deciding.{DecidesTurn}
+use Rattle.server_history.proofs.Evident.{IsEvident}
+use Rattle.server_history.proofs.Faulting.{faulting}
+use Rattle.server_history.proofs.Finding.{finding}
+use Rattle.server_history.proofs.Minding.{serves_ready}
+use Rattle.server_history.proofs.Lasting.{lasting}
+use Rattle.server_history.proofs.Looking.{looking_kept}
+use Rattle.server_history.proofs.Reboots.{reboots}
+use Rattle.server_history.proofs.Recovery.{evidence_of}
+use Rattle.server_history.proofs.Slots.{ready_found}
+use Rattle.server_history.proofs.Welling.{going_well}
+
+module _ (laws : LawsBelow) (port : Port) (replies : List Reply) (old new : Server) (k : IsKept old) (ready : state_of (found_of old.ports port.0) ≡ ReadyState) (r : RecoversPort port replies old new)
+    (looks : IsFollowed (IsLooking port) AnyUse old.device r.settled.recovered.seen) (kept : IsKept r.mid) (evident : IsEvident port replies old new r)
+    (plainly : r.settled.recovered.queued ≡ false → WorksPlainly (r.settled.mid.device.port port.0)) (m : Machine) (reached : IsReached m) (is : IsMachineOf old m)
+    (d : DecidesTurn port replies old new r (evidence_of port r.settled.failed r.settled.prospect r.settled.recovered.result.next) m) where
+  -- where the port showed a device when it was looked at, a disk was in
+  own : ShowsOwnDisk (r.settled.recovered.seen.port port.0)
+  own = ((looking_kept old r.settled.recovered.seen port k ready laws looks).behind port.0 (ready_found old port.0 k ready).0).own ready
+
+  -- the port was ready when the turn began
+  not_absent : (ports_of old).state port ≡ shown.Absent → ⊥
+  not_absent absent = let z : ReadyState ≡ shown.Absent = sym ready ∙ absent in cc
+
+  not_bad : HasBadDisk (ports_of old) port → ⊥
+  not_bad bad = ⊎_elim
+      (λ foreign. let z : ReadyState ≡ shown.Foreign = sym ready ∙ foreign in absurd cc)
+      (λ unfit. let z : ReadyState ≡ shown.Unfit unfit.0 = sym ready ∙ unfit.1 in absurd cc)
+      bad
+
+  pub ties_recovered : TiesTurn port replies evident.accesses old new m (evidence_of port r.settled.failed r.settled.prospect r.settled.recovered.result.next) d.steps
+  ties_recovered asked = record {
+    finds = λ _ e issued. finding laws port replies old new k ready r looks kept evident m reached is d;
+    faults = λ _ e slot issued unended says plain. faulting laws port replies old new k ready r looks kept m reached is d e slot issued unended says plain;
+    tries = λ _ _. record {
+      shown = λ absent. absurd (not_absent absent);
+      absent = λ absent. absurd (not_absent absent);
+      missing = λ bad. absurd (not_bad bad);
+      changed = λ bad. absurd (not_bad bad);
+    };
+    boots = reboots laws port replies old new k ready r looks kept evident m;
+    trouble = lasting laws port replies old new k ready r looks kept evident.parts m;
+    well = going_well laws port replies old new k ready r looks kept evident plainly m asked;
+    heeds = λ _. serves_ready laws port replies old new k ready r looks kept evident m reached is d own;
+  }

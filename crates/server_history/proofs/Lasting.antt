@@ -1,0 +1,178 @@
+-- A turn in which a command had failed loses no trouble: what came since ST was set is shown, where the port is ready then.
+use Rattle.std.proofs.Common.{ℕ, ◌≡◌, List, [], ◌∷◌, refl, sym, ap, ◌∙◌, subst, inl, ⊎_elim}
+use Rattle.std.proofs.lemmas.List.Elements.{All-cons, All-nil, All-weaker}
+use Rattle.ata_types.specs.declared.Port.{Port}
+use Rattle.ata_types.specs.declared.PortState.TheVariants.{Dead as DeadState, Ready as ReadyState}
+use Rattle.ata_types.specs.declared.request.Reply.{Reply}
+use Rattle.hba_regs.specs.declared.reg.PortReg.TheVariants.{Ci, Cmd, Ie, Is, Sact, Sctl, Serr}
+use Rattle.hba_regs.specs.declared.reg.Reg.{Reg}
+use Rattle.hba_regs.specs.declared.reg.Reg.TheVariants.{Ghc, Px}
+use Rattle.adapter.specs.Access.{Access}
+use Rattle.adapter.specs.Access.Access.{Loading, Reading, Storing, Writing}
+use Rattle.adapter.specs.Device.{Device}
+use Rattle.adapter.specs.Rules.{IsOn}
+use Rattle.agreement.specs.Driven.{AnyUse, IsDrivenBy, IsFollowed, IsOf}
+use Rattle.agreement.proofs.Driven.{by_then, driven_as}
+use Rattle.block_machine.specs.State.{Machine}
+use Rattle.disk_page.specs.Asking.{IsAsking}
+use Rattle.driver_history.specs.Histories.{LosesNoTrouble}
+use Rattle.error_recovery.specs.Evidence.{ShowsTrouble}
+use Rattle.error_recovery.specs.Recovery.{EndsIn, RunsAgain}
+use Rattle.error_recovery.specs.declared.Next.{Next}
+use Rattle.error_recovery.specs.declared.Next.TheVariants as next
+use Rattle.host_boot.specs.Again.{BootsAgain, BootsStopped, EndsReady}
+use Rattle.host_boot.specs.Taken.{IsSurvey, found_of, wanted_of}
+use Rattle.host_boot.specs.declared.Booted.{Booted}
+use Rattle.host_boot.specs.declared.Found.{Found}
+use Rattle.host_boot.specs.declared.Found.TheVariants.{Ready}
+use Rattle.identify.specs.declared.DiskInfo.{DiskInfo}
+use Rattle.port_boot.specs.States.{GetsReady, IsOfBoot, told_causes}
+use Rattle.port_look.specs.Looks.{IsLooking}
+use Rattle.request_queue.specs.Entries.{asks_of, due_ids}
+use Rattle.server_history.specs.Below.{LawsBelow}
+use Rattle.server_history.specs.Recovered.{IsFoundAfter, IsRecovered, IsSettledAfter, RecoversPort}
+use Rattle.server_history.specs.Served.{IssuesIn}
+use Rattle.server_history.specs.Server.{Server, IsKept, mode_in, ports_of, state_of}
+use Rattle.server_history.specs.Turns.{instant_of}
+use Rattle.server_history.proofs.Becoming.{interrupted, next_dead, ready_info, state_new}
+use Rattle.server_history.proofs.Evident.{grown}
+use Rattle.server_history.proofs.Recovering.{IsEarlyPart, IsPart, survey_part}
+use Rattle.server_history.proofs.Recovery.{evidence_of}
+use Rattle.server_history.proofs.Resetting.{up_driven}
+use Rattle.server_history.proofs.Rounds.{each_driven}
+use Rattle.server_history.proofs.Showing.{LeavesTrouble, shown_more, shown_since, shows_over}
+use Rattle.server_history.proofs.Stretching.{TurnParts}
+
+-- ---- accesses that leave what a port shows
+
+ci_apart : (port : Port) (v : ℕ) → LeavesTrouble port (Writing (Px port Ci) v)
+ci_apart port v = (
+  (λ e. let z : Px port Ci ≡ Px port Is = e in cc),
+  (λ e. let z : Px port Ci ≡ Px port Serr = e in cc),
+  (λ e. let z : Px port Ci ≡ Px port Cmd = e in cc),
+  (λ e. let z : Px port Ci ≡ Px port Sctl = e in cc),
+  (λ e. let z : Px port Ci ≡ Ghc = e in cc),
+)
+
+sact_apart : (port : Port) (v : ℕ) → LeavesTrouble port (Writing (Px port Sact) v)
+sact_apart port v = (
+  (λ e. let z : Px port Sact ≡ Px port Is = e in cc),
+  (λ e. let z : Px port Sact ≡ Px port Serr = e in cc),
+  (λ e. let z : Px port Sact ≡ Px port Cmd = e in cc),
+  (λ e. let z : Px port Sact ≡ Px port Sctl = e in cc),
+  (λ e. let z : Px port Sact ≡ Ghc = e in cc),
+)
+
+ie_apart : (port : Port) (v : ℕ) → LeavesTrouble port (Writing (Px port Ie) v)
+ie_apart port v = (
+  (λ e. let z : Px port Ie ≡ Px port Is = e in cc),
+  (λ e. let z : Px port Ie ≡ Px port Serr = e in cc),
+  (λ e. let z : Px port Ie ≡ Px port Cmd = e in cc),
+  (λ e. let z : Px port Ie ≡ Px port Sctl = e in cc),
+  (λ e. let z : Px port Ie ≡ Ghc = e in cc),
+)
+
+issuing_leaves : (port : Port) (access : Access) → IssuesIn port access → LeavesTrouble port access
+issuing_leaves port (Reading r v) is = (tt, tt, tt, tt, tt)
+issuing_leaves port (Writing r v) is = ⊎_elim
+    (λ (same : r ≡ Px port Sact). subst (λ (x : Reg). LeavesTrouble port (Writing x v)) (sym same) (sact_apart port v))
+    (λ (same : r ≡ Px port Ci). subst (λ (x : Reg). LeavesTrouble port (Writing x v)) (sym same) (ci_apart port v))
+    is.2.0
+issuing_leaves port (Loading at bytes) is = (tt, tt, tt, tt, tt)
+issuing_leaves port (Storing at bytes) is = (tt, tt, tt, tt, tt)
+
+asking_leaves : (port : Port) (access : Access) → IsAsking port access → LeavesTrouble port access
+asking_leaves port (Reading r v) is = (tt, tt, tt, tt, tt)
+asking_leaves port (Writing r v) is = subst (λ (x : Reg). LeavesTrouble port (Writing x v)) (sym is.0) (ci_apart port v)
+asking_leaves port (Loading at bytes) is = (tt, tt, tt, tt, tt)
+asking_leaves port (Storing at bytes) is = (tt, tt, tt, tt, tt)
+
+-- ---- the whole
+
+module _ (laws : LawsBelow) (port : Port) (replies : List Reply) (old new : Server) (k : IsKept old) (ready : state_of (found_of old.ports port.0) ≡ ReadyState) (r : RecoversPort port replies old new)
+    (looks : IsFollowed (IsLooking port) AnyUse old.device r.settled.recovered.seen) (kept : IsKept r.mid) (t : TurnParts port replies old new r) where
+  abbrev a : IsSettledAfter port r.later old r.mid
+  a = r.settled
+
+  abbrev x : IsRecovered port old a.mid a.device
+  x = a.recovered
+
+  -- what is issued leaves what the port shows
+  pub issuing : IsDrivenBy (LeavesTrouble port) r.mid.device new.device
+  issuing = driven_as (IssuesIn port) (LeavesTrouble port) r.mid.device new.device (issuing_leaves port) (each_driven laws port (due_ids (mode_in r.mid port) port (asks_of r.mid.book)) r.mid new r.issued)
+
+  -- the adapter is on when the port was recovered
+  pub recovered_driven : IsDrivenBy (IsOf port) old.device a.device
+  recovered_driven = by_then (driven_as (IsEarlyPart port) (IsOf port) old.device a.mid.device (λ access is. is.0.1) t.early)
+      (record { accesses = x.recovers.accesses; all = t.does; only = All-weaker (IsPart port) (IsOf port) (λ access is. is.1) x.recovers.accesses t.kinds })
+
+  pub recovered_on : IsOn a.device
+  recovered_on = laws.of_on port old.device a.device k.on recovered_driven
+
+  -- a port that runs again
+  module _ (token : _) (is : x.result.next ≡ next.Running token) where
+    again_is : IsFoundAfter (wanted_of old.wanted port.0) port a.was (next.Running token) a.device r.mid.device a.found
+    again_is = subst (λ (n : Next). IsFoundAfter (wanted_of old.wanted port.0) port a.was n a.device r.mid.device a.found) is a.is
+
+    pub again : RunsAgain x.queued port.0 a.mid.device a.device
+    again = (subst (λ (n : Next). EndsIn x.queued port n a.mid.device a.device) is x.recovers.leaves.ends).1
+
+    pub then_issuing : IsDrivenBy (LeavesTrouble port) a.device new.device
+    then_issuing = subst (λ (d : Device). IsDrivenBy (LeavesTrouble port) d new.device) again_is.1 issuing
+
+    runs_shows : ShowsTrouble port.0 old.device new.device
+    runs_shows = shown_more port.0 old.device a.mid.device a.device new.device again.shows (grown laws port replies old new k ready r looks kept x.recovers.accesses a.mid.device a.device t.does) again.since
+        (shows_over laws port then_issuing.accesses a.device new.device recovered_on then_issuing.only then_issuing.all)
+
+  -- one that was booted
+  module _ (token : _) (is : x.result.next ≡ next.Restart token) (is_ready : (ports_of new).state port ≡ ReadyState) where
+    pub info : (info : DiskInfo) × (a.found ≡ Ready info)
+    info = ready_info laws port replies old new k ready r looks kept is_ready
+
+    pub again_booted : (booted : Booted) × (booted.found ≡ a.found) × BootsAgain (wanted_of old.wanted port.0) port booted a.device r.mid.device
+    again_booted = subst (λ (n : Next). IsFoundAfter (wanted_of old.wanted port.0) port a.was n a.device r.mid.device a.found) is a.is
+
+    abbrev pub asked : Device
+    asked = again_booted.2.asked
+
+    pub asked_on : IsOn asked
+    asked_on = laws.of_on port a.device asked recovered_on (driven_as IsSurvey (IsOf port) a.device asked (λ access s. (survey_part port access s).1) again_booted.2.asks.driven)
+
+    pub ends_ready : EndsReady (wanted_of old.wanted port.0) port info.0 asked r.mid.device
+    ends_ready = subst (λ (f : Found). BootsStopped (wanted_of old.wanted port.0) port f asked r.mid.device) (again_booted.1 ∙ info.1) again_booted.2.boots
+
+    abbrev way : GetsReady port asked r.mid.device
+    way = ends_ready.way
+
+    up_on : IsOn way.up
+    up_on = laws.of_on port asked way.up asked_on (driven_as (IsOfBoot port) (IsOf port) asked way.up (λ access b. laws.booting_of port access b) (up_driven port asked way.up way.first))
+
+    since_up : IsDrivenBy (LeavesTrouble port) way.up new.device
+    since_up =
+        by_then (driven_as (IsAsking port) (LeavesTrouble port) way.up way.then.asked (asking_leaves port) way.then.asks)
+        (by_then
+        (record { accesses = Writing (Px port Ie) told_causes ∷ []; all = (r.mid.device, way.then.tells, refl); only = All-cons (LeavesTrouble port) (Writing (Px port Ie) told_causes) [] (ie_apart port told_causes) (All-nil (LeavesTrouble port)) })
+        issuing)
+
+    boot_shows : ShowsTrouble port.0 old.device new.device
+    boot_shows = shown_since port.0 old.device way.up new.device (shows_over laws port since_up.accesses way.up new.device up_on since_up.only since_up.all) way.first.set
+
+  shows : (ports_of new).state port ≡ ReadyState → ShowsTrouble port.0 old.device new.device
+  shows is_ready = by x.result.next refl
+    where
+      by : (n : Next) → x.result.next ≡ n → ShowsTrouble port.0 old.device new.device
+      by (next.Running token) is = runs_shows token is
+      by (next.Restart token) is = boot_shows token is is_ready
+      by next.Dead is =
+          let dead = state_new laws port replies old new k ready r looks kept ∙ ap state_of (next_dead laws port replies old new k ready r looks kept is) in
+          let z : DeadState ≡ ReadyState = sym dead ∙ is_ready in absurd cc
+
+  -- the port was interrupted
+  pub lasting : (m : Machine) → LosesNoTrouble (evidence_of port a.failed a.prospect x.result.next) (instant_of old m) (ports_of new) new.device port
+  lasting m = record {
+    errors = λ _ _. inl (interrupted laws port replies old new k ready r looks kept);
+    changes = λ _ _. inl (interrupted laws port replies old new k ready r looks kept);
+    fault = λ is_ready g. (shows is_ready).fault g;
+    fatal = λ is_ready g. (shows is_ready).fatal g;
+    disk = λ is_ready g. (shows is_ready).disk g;
+  }

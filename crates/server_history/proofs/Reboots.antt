@@ -1,0 +1,126 @@
+-- A turn in which a command had failed leaves the port what it was, or dead, or has reset its link.
+use Rattle.std.proofs.Common.{◌≡◌, ◌≢◌, ◌<◌, ◌++◌, List, Some, refl, sym, ap, ◌∙◌, subst, inl, inr, arith, ⊎_elim}
+use Rattle.std.specs.Prelude.{◌⊎◌}
+use Rattle.std.proofs.lemmas.List.{get_or-set_same}
+use Rattle.ata_types.specs.declared.Port.{Port}
+use Rattle.ata_types.specs.declared.PortState.TheVariants as shown
+use Rattle.ata_types.specs.declared.PortState.TheVariants.{Dead as DeadState, Ready as ReadyState}
+use Rattle.ata_types.specs.declared.request.Reply.{Reply}
+use Rattle.adapter.specs.Access.{Access}
+use Rattle.adapter.specs.Device.{Device}
+use Rattle.adapter.proofs.Calls.{does_append}
+use Rattle.agreement.specs.Driven.{AnyUse, IsFollowed}
+use Rattle.agreement.specs.Links.{SameAdapter}
+use Rattle.block_machine.specs.Events.{Served, Service}
+use Rattle.block_machine.specs.Ports.{SamePort}
+use Rattle.block_machine.specs.State.{Machine}
+use Rattle.block_machine.proofs.Members.{contains_none}
+use Rattle.driver_history.specs.Histories.{BootsAnew}
+use Rattle.driver_history.specs.Trace.{ResetsLink}
+use Rattle.error_recovery.specs.declared.Next.{Next}
+use Rattle.error_recovery.specs.declared.Next.TheVariants as next
+use Rattle.host_boot.specs.Taken.{found_of, wanted_of}
+use Rattle.host_boot.specs.declared.Found.{Found}
+use Rattle.host_boot.specs.declared.Found.TheVariants.{Ready, Unready, Unserved}
+use Rattle.port_look.specs.Looks.{IsLooking}
+use Rattle.server_history.specs.Below.{LawsBelow}
+use Rattle.server_history.specs.Recovered.{IsFoundAfter, IsRecovered, IsSettledAfter, RecoversPort}
+use Rattle.server_history.specs.Server.{Server, IsKept, disk_in, disk_of, is_served, mode_found, mode_in, plain_mode, ports_of, sectors_of, serial_of, state_of, trims_of}
+use Rattle.server_history.specs.Turns.{instant_of}
+use Rattle.server_history.proofs.Becoming.{disk_new, disk_old, found_new, issued_as, next_dead, state_new}
+use Rattle.server_history.proofs.Evident.{IsEvident}
+use Rattle.server_history.proofs.Following.{mid_kept}
+use Rattle.server_history.proofs.Resetting.{resets_since}
+use Rattle.server_history.proofs.Slots.{ready_found}
+use Rattle.server_history.proofs.Stretching.{TurnParts}
+
+module _ (laws : LawsBelow) (port : Port) (replies : List Reply) (old new : Server) (k : IsKept old) (ready : state_of (found_of old.ports port.0) ≡ ReadyState) (r : RecoversPort port replies old new)
+    (looks : IsFollowed (IsLooking port) AnyUse old.device r.settled.recovered.seen) (kept : IsKept r.mid) (evident : IsEvident port replies old new r) where
+  abbrev a : IsSettledAfter port r.later old r.mid
+  a = r.settled
+
+  abbrev x : IsRecovered port old a.mid a.device
+  x = a.recovered
+
+  abbrev t : TurnParts port replies old new r
+  t = evident.parts
+
+  low : port.0 < 4
+  low = (ready_found old port.0 k ready).0
+
+  -- ---- a port that runs again
+
+  mode_new : mode_in new port ≡ a.mode
+  mode_new =
+      let then_kept = mid_kept laws port r.later old r.mid k ready a looks in
+      let four = then_kept.four_modes in
+      ap (λ (s : Server). mode_in s port) (issued_as laws port replies old new k ready r looks kept) ∙ ap (λ (s : Server). mode_in s port) a.server
+      ∙ get_or-set_same a.mid.modes port.0 a.mode plain_mode (let small = low in omega (arith, small, four))
+
+  abbrev until : List Access
+  until = t.early.accesses ++ x.recovers.accesses
+
+  adapter : SameAdapter old.device a.device
+  adapter = laws.recovery.any_same old.device a.device (record {
+    accesses = until;
+    all = does_append t.early.accesses x.recovers.accesses old.device a.mid.device a.device t.early.all t.does;
+    only = λ i access small. tt;
+  })
+
+  module _ (found : a.found ≡ Ready a.was) (device : r.mid.device ≡ a.device) where
+    found_same : found_of new.ports port.0 ≡ found_of old.ports port.0
+    found_same = found_new laws port replies old new k ready r looks kept ∙ found ∙ sym a.ready
+
+    disk_same : disk_in new port ≡ disk_in old port
+    disk_same = disk_new laws port replies old new k ready r looks kept ∙ ap (λ (f : Found). disk_of f (Some a.was)) found ∙ sym (disk_old laws port replies old new k ready r looks kept)
+
+    mode_same : mode_in new port ≡ mode_in old port
+    mode_same =
+        mode_new ∙ a.mode_is ∙ ap (mode_found r.mid.device.cap) (found ∙ sym a.ready)
+        ∙ ap (λ cap. mode_found cap (found_of old.ports port.0)) (ap (λ (d : Device). d.cap) device ∙ adapter.cap) ∙ sym (k.modes port.0 low)
+
+    same : SamePort (ports_of old) (ports_of new) port
+    same = (ap is_served found_same, ap state_of found_same, ap serial_of disk_same, ap sectors_of disk_same, ap trims_of found_same, mode_same)
+
+  -- ---- one that was booted
+
+  abbrev Ends : Type 0
+  Ends = SamePort (ports_of old) (ports_of new) port ⊎ (((ports_of new).state port ≡ DeadState) ⊎ (((ports_of new).state port ≡ shown.Absent) ⊎ ResetsLink port evident.accesses))
+
+  reset : ResetsLink port t.late.accesses → ResetsLink port evident.accesses
+  reset late = subst (ResetsLink port) (sym evident.accesses_are) (resets_since port t.early.accesses (x.recovers.accesses ++ t.late.accesses) (resets_since port x.recovers.accesses t.late.accesses late))
+
+  dead_or_not : (f : Found) → (f ≡ Unready DeadState) ⊎ (f ≢ Unready DeadState)
+  dead_or_not Unserved = inr (λ is. let z : Unserved ≡ Unready DeadState = is in cc)
+  dead_or_not (Ready info) = inr (λ is. let z : Ready info ≡ Unready DeadState = is in cc)
+  dead_or_not (Unready shown.Absent) = inr (λ is. let z : Unready shown.Absent ≡ Unready DeadState = is in cc)
+  dead_or_not (Unready shown.Ready) = inr (λ is. let z : Unready shown.Ready ≡ Unready DeadState = is in cc)
+  dead_or_not (Unready shown.Foreign) = inr (λ is. let z : Unready shown.Foreign ≡ Unready DeadState = is in cc)
+  dead_or_not (Unready (shown.Unfit n)) = inr (λ is. let z : Unready (shown.Unfit n) ≡ Unready DeadState = is in cc)
+  dead_or_not (Unready DeadState) = inl refl
+
+  dead : a.found ≡ Unready DeadState → (ports_of new).state port ≡ DeadState
+  dead is = state_new laws port replies old new k ready r looks kept ∙ ap state_of is
+
+  ends : Ends
+  ends = by x.result.next refl
+    where
+      by : (n : Next) → x.result.next ≡ n → Ends
+      by (next.Running token) is =
+          let then_is : IsFoundAfter (wanted_of old.wanted port.0) port a.was (next.Running token) a.device r.mid.device a.found = subst (λ (n : Next). IsFoundAfter (wanted_of old.wanted port.0) port a.was n a.device r.mid.device a.found) is a.is in
+          inl (same then_is.0 then_is.1)
+      by (next.Restart token) is = ⊎_elim
+          (λ (dies : a.found ≡ Unready DeadState). inr (inl (dead dies)))
+          (λ (lives : a.found ≢ Unready DeadState). inr (inr (inr (reset (t.resets token is lives)))))
+          (dead_or_not a.found)
+      by next.Dead is = inr (inl (dead (next_dead laws port replies old new k ready r looks kept is)))
+
+  -- The look told no loss and no fatal error.
+  pub reboots : (m : Machine) → BootsAnew Service (Served replies) evident.accesses (instant_of old m) (ports_of new) new.device port
+  reboots m = (
+    (λ is_ready trouble. absurd (⊎_elim
+      (λ fatal. contains_none port ((evident.evidenced m).fatal_all is_ready fatal))
+      (λ loss. contains_none port ((evident.evidenced m).gone_all is_ready loss))
+      trouble)),
+    ends,
+  )

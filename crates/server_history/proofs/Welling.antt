@@ -1,0 +1,198 @@
+-- A port that was recovered, or booted anew, runs well after the turn, unless there was new trouble.
+use Rattle.std.proofs.Common.{◌≡◌, ◌<◌, ◌++◌, true, false, List, [], ◌∷◌, refl, sym, ap, ◌∙◌, subst, ⊎_elim}
+use Rattle.std.specs.List.{All, Contains}
+use Rattle.std.specs.Prelude.{◌⊎◌}
+use Rattle.std.proofs.lemmas.Bool.{false≢true}
+use Rattle.std.proofs.lemmas.List.Elements.{All-contains, All-contains_itself, All-head, All-tail, All-weaker, Contains-append_left, Contains-append_right}
+use Rattle.ata_types.specs.declared.Port.{Port}
+use Rattle.ata_types.specs.declared.PortState.TheVariants.{Dead as DeadState, Ready as ReadyState}
+use Rattle.ata_types.specs.declared.request.Reply.{Reply}
+use Rattle.hba_regs.specs.declared.reg.PortReg.TheVariants.{Cmd, Sctl}
+use Rattle.hba_regs.specs.declared.reg.Reg.TheVariants.{Ghc, Px}
+use Rattle.adapter.specs.Access.{Access, DoesAll}
+use Rattle.adapter.specs.Access.Access.{Writing}
+use Rattle.adapter.specs.Device.{Device, PortState}
+use Rattle.adapter.specs.Rules.{IsOn}
+use Rattle.agreement.specs.Driven.{AnyUse, Grows, IsDrivenBy, IsFollowed}
+use Rattle.agreement.specs.Facts.{RunsWell, Undisturbed}
+use Rattle.agreement.specs.Links.{PlugsNone, SparesRegister}
+use Rattle.agreement.specs.Recovering.{IsLinked, WorksPlainly}
+use Rattle.block_machine.specs.State.{Machine}
+use Rattle.block_machine.proofs.Members.{contains_here}
+use Rattle.driver_history.specs.Guard.{IsAskedOf}
+use Rattle.driver_history.specs.Histories.{RunsWellAnew}
+use Rattle.driver_history.specs.Trace.{ResetsLink}
+use Rattle.error_recovery.specs.declared.Next.{Next}
+use Rattle.error_recovery.specs.declared.Next.TheVariants as next
+use Rattle.host_boot.specs.Taken.{StillStandsBehind, found_of, wanted_of}
+use Rattle.host_boot.specs.declared.Found.{Found}
+use Rattle.port_look.specs.Looks.{IsLooking}
+use Rattle.server_history.specs.Below.{LawsBelow}
+use Rattle.server_history.specs.Recovered.{IsRecovered, IsSettledAfter, RecoversPort}
+use Rattle.server_history.specs.Server.{Server, IsKept, ports_of, state_of}
+use Rattle.server_history.specs.Turns.{instant_of}
+use Rattle.server_history.proofs.Becoming.{next_dead, state_new}
+use Rattle.server_history.proofs.Evident.{IsEvident}
+use Rattle.server_history.proofs.Following.{mid_kept, mid_ready}
+use Rattle.server_history.proofs.Lasting.{again, again_booted, asked, ends_ready, issuing, recovered_on, then_issuing}
+use Rattle.server_history.proofs.Recovering.{IsEarlyPart}
+use Rattle.server_history.proofs.Recovery.{evidence_of}
+use Rattle.server_history.proofs.Showing.{LeavesTrouble, on_one}
+use Rattle.server_history.proofs.Slots.{ready_found}
+use Rattle.server_history.proofs.Stretching.{TurnParts}
+
+-- ---- a link that is up
+
+-- a device shows, its first FIS has come, and no link is due
+record ShowsLink (p : PortState) : Type 0 where
+  det : p.ssts_det ≡ 3
+  fresh : p.fresh ≡ true
+  undue : p.link_due ≡ false
+
+module _ (laws : LawsBelow) (port : Port) where
+  pub grows_over : (accesses : List Access) (old new : Device) → DoesAll accesses old new → Grows old new
+  grows_over [] old new is = subst (Grows old) (sym is) (laws.looks.grows_none old)
+  grows_over (access ∷ accesses) old new (mid, does, rest) = laws.looks.grows_more old mid new (laws.looks.access_grows access old mid does) (grows_over accesses mid new rest)
+
+  -- the access writes neither PxSCTL nor GHC
+  abbrev LeavesLinked : Access → Type 0
+  LeavesLinked access = SparesRegister (Px port Sctl) access × SparesRegister Ghc access
+
+  linked_over : (accesses : List Access) (old new : Device) → IsOn old → All LeavesLinked accesses → PlugsNone port.0 old new → DoesAll accesses old new → ShowsLink (old.port port.0) → ShowsLink (new.port port.0)
+  linked_over [] old new on all none is up = subst (λ (d : Device). ShowsLink (d.port port.0)) (sym is) up
+  linked_over (access ∷ accesses) old new on all none (mid, does, rest) up =
+      let kind = All-head LeavesLinked access accesses all in
+      let early = laws.looks.access_grows access old mid does in
+      let late = grows_over accesses mid new rest in
+      let parts = laws.trouble.plugs_parts port.0 old mid new early.0 late.0 early.1 late.1 none in
+      linked_over accesses mid new (on_one laws port access old mid on kind.1 does) (All-tail LeavesLinked access accesses all) parts.1 rest
+      (⊎_elim
+      (λ same. record { det = same.det ∙ up.det; fresh = same.fresh ∙ up.fresh; undue = same.due ∙ up.undue })
+      (λ comes. absurd (false≢true (sym up.undue ∙ comes.due)))
+      (laws.trouble.link_left port access old mid on.no_reset kind.0 does parts.0))
+
+  -- a port that runs well does so still
+  well_over : (old new : Device) → IsOn old → IsDrivenBy (LeavesTrouble port) old new → Undisturbed port.0 old new → RunsWell (old.port port.0) → RunsWell (new.port port.0)
+  well_over old new on driven calm well = laws.runs_well port.0 old new
+      (laws.runs_on port driven.accesses old new on driven.all
+      (All-weaker (LeavesTrouble port) (SparesRegister Ghc) (λ access is. is.4) driven.accesses driven.only)
+      (All-weaker (LeavesTrouble port) (SparesRegister (Px port Sctl)) (λ access is. is.3) driven.accesses driven.only)
+      (All-weaker (LeavesTrouble port) (SparesRegister (Px port Cmd)) (λ access is. is.2) driven.accesses driven.only))
+      calm well
+
+-- a link wasn't reset where PxSCTL wasn't written
+never_reset : (port : Port) (accesses : List Access) → All (SparesRegister (Px port Sctl)) accesses → ResetsLink port accesses → ⊥
+never_reset port accesses all r = All-contains (SparesRegister (Px port Sctl)) accesses (Writing (Px port Sctl) r.sending) all
+    (subst (λ (list : List Access). Contains list (Writing (Px port Sctl) r.sending)) (sym r.here)
+    (Contains-append_right r.before (Writing (Px port Sctl) r.sending ∷ (r.between ++ (Writing (Px port Sctl) r.ending ∷ r.later))) (Writing (Px port Sctl) r.sending)
+    (contains_here (Writing (Px port Sctl) r.sending) (r.between ++ (Writing (Px port Sctl) r.ending ∷ r.later)) (Writing (Px port Sctl) r.sending) refl))) refl
+
+-- ---- the whole
+
+module _ (laws : LawsBelow) (port : Port) (replies : List Reply) (old new : Server) (k : IsKept old) (ready : state_of (found_of old.ports port.0) ≡ ReadyState) (r : RecoversPort port replies old new)
+    (looks : IsFollowed (IsLooking port) AnyUse old.device r.settled.recovered.seen) (kept : IsKept r.mid) (evident : IsEvident port replies old new r)
+    (plainly : r.settled.recovered.queued ≡ false → WorksPlainly (r.settled.mid.device.port port.0)) where
+  abbrev a : IsSettledAfter port r.later old r.mid
+  a = r.settled
+
+  abbrev x : IsRecovered port old a.mid a.device
+  x = a.recovered
+
+  abbrev t : TurnParts port replies old new r
+  t = evident.parts
+
+  low : port.0 < 4
+  low = (ready_found old port.0 k ready).0
+
+  then_kept : IsKept a.mid
+  then_kept = mid_kept laws port r.later old r.mid k ready a looks
+
+  then_ready : state_of (found_of a.mid.ports port.0) ≡ ReadyState
+  then_ready = mid_ready laws port r.later old r.mid k ready a looks
+
+  early_grows : Grows old.device a.mid.device
+  early_grows = grows_over laws port t.early.accesses old.device a.mid.device t.early.all
+
+  part_grows : Grows a.mid.device a.device
+  part_grows = grows_over laws port x.recovers.accesses a.mid.device a.device t.does
+
+  late_grows : Grows a.device new.device
+  late_grows = grows_over laws port t.late.accesses a.device new.device t.late.all
+
+  -- ---- a port that runs again
+
+  module _ (token : _) (is : x.result.next ≡ next.Running token) where
+    unreset : All (SparesRegister (Px port Sctl)) (t.early.accesses ++ (x.recovers.accesses ++ t.late.accesses))
+    unreset = t.unreset (λ other same. let z : next.Running token ≡ next.Restart other = sym is ∙ same in absurd cc)
+
+    early_leaves : All (LeavesLinked laws port) t.early.accesses
+    early_leaves = All-weaker (λ access. Contains t.early.accesses access × IsEarlyPart port access) (LeavesLinked laws port)
+        (λ access w. (
+          All-contains (SparesRegister (Px port Sctl)) (t.early.accesses ++ (x.recovers.accesses ++ t.late.accesses)) access unreset (Contains-append_left t.early.accesses (x.recovers.accesses ++ t.late.accesses) access w.0),
+          laws.of_host port access w.1.0.1,
+        ))
+        t.early.accesses (λ i d small. (All-contains_itself t.early.accesses i d small, t.early.only i d small))
+
+    -- its link was up
+    linked : PlugsNone port.0 old.device new.device → (old.device.port port.0).ssts_det ≡ 3 → (old.device.port port.0).fresh ≡ true → IsLinked (a.mid.device.port port.0)
+    linked none det fresh = record {
+      det = up.det;
+      present = (then_kept.behind port.0 low).own then_ready up.det;
+      fresh = up.fresh;
+      linked = up.undue;
+      released = λ one. let z : 0 ≡ 1 = sym released ∙ one in absurd cc;
+    }
+      where
+        rest : Grows a.mid.device new.device
+        rest = laws.looks.grows_more a.mid.device a.device new.device part_grows late_grows
+
+        up : ShowsLink (a.mid.device.port port.0)
+        up = linked_over laws port t.early.accesses old.device a.mid.device k.on early_leaves
+            (laws.trouble.plugs_parts port.0 old.device a.mid.device new.device early_grows.0 rest.0 early_grows.1 rest.1 none).0 t.early.all
+            (record { det = det; fresh = fresh; undue = ((k.behind port.0 low).runs ready).recorded.linked })
+
+        released : (a.mid.device.port port.0).sctl_det ≡ 0
+        released =
+            let f = ready_found a.mid port.0 then_kept then_ready in
+            (subst (λ (f : Found). StillStandsBehind (wanted_of a.mid.wanted port.0) f port.0 a.mid.device) f.1.1 (then_kept.behind port.0 low).behind).1.det
+
+    runs_well : PlugsNone port.0 old.device new.device → (old.device.port port.0).ssts_det ≡ 3 → Undisturbed port.0 old.device new.device → ResetsLink port evident.accesses ⊎ ((old.device.port port.0).fresh ≡ true)
+        → RunsWell (new.device.port port.0)
+    runs_well none det calm how =
+        let rest = laws.looks.grows_more a.mid.device a.device new.device part_grows late_grows in
+        let one = laws.looks.calm_parts port.0 old.device a.mid.device new.device early_grows.0 rest.0 early_grows.1 rest.1 calm in
+        let two = laws.looks.calm_parts port.0 a.mid.device a.device new.device part_grows.0 late_grows.0 part_grows.1 late_grows.1 one.1 in
+        let fresh : (old.device.port port.0).fresh ≡ true = ⊎_elim
+            (λ reset. absurd (never_reset port (t.early.accesses ++ (x.recovers.accesses ++ t.late.accesses)) unreset (subst (ResetsLink port) evident.accesses_are reset)))
+            (λ is. is) how in
+        let well = (again laws port replies old new k ready r looks kept t token is).well (laws.trouble.calm_plugs port.0 a.mid.device a.device two.0) (laws.trouble.calm_fatal port.0 a.mid.device a.device two.0) (linked none det fresh) plainly in
+        well_over laws port a.device new.device (recovered_on laws port replies old new k ready r looks kept t) (then_issuing laws port replies old new k ready r looks kept t token is) two.1 well
+
+  -- ---- one that was booted
+
+  module _ (token : _) (is : x.result.next ≡ next.Restart token) (is_ready : (ports_of new).state port ≡ ReadyState) where
+    abbrev then_asked : Device
+    then_asked = asked laws port replies old new k ready r looks kept t token is is_ready
+
+    boots_well : Undisturbed port.0 old.device new.device → RunsWell (new.device.port port.0)
+    boots_well calm =
+        let ready_then = ends_ready laws port replies old new k ready r looks kept t token is is_ready in
+        let issued = issuing laws port replies old new k ready r looks kept t in
+        let first = laws.looks.grows_more old.device a.device then_asked (laws.looks.grows_more old.device a.mid.device a.device early_grows part_grows)
+            (let asks = (again_booted laws port replies old new k ready r looks kept t token is is_ready).2.asks.driven in grows_over laws port asks.accesses a.device then_asked asks.all) in
+        let booted = (let b = ready_then.boots.followed.driven in grows_over laws port b.accesses then_asked r.mid.device b.all) in
+        let last = grows_over laws port issued.accesses r.mid.device new.device issued.all in
+        let rest = laws.looks.grows_more then_asked r.mid.device new.device booted last in
+        let one = laws.looks.calm_parts port.0 old.device then_asked new.device first.0 rest.0 first.1 rest.1 calm in
+        let two = laws.looks.calm_parts port.0 then_asked r.mid.device new.device booted.0 last.0 booted.1 last.1 one.1 in
+        well_over laws port r.mid.device new.device kept.on issued two.1 (ready_then.news.well two.0)
+
+  pub going_well : (m : Machine) → IsAskedOf port (instant_of old m) new.device → RunsWellAnew (evidence_of port a.failed a.prospect x.result.next) evident.accesses (instant_of old m) (ports_of new) new.device port
+  going_well m asked_of _ is_ready calm how = by x.result.next refl
+    where
+      by : (n : Next) → x.result.next ≡ n → RunsWell (new.device.port port.0)
+      by (next.Running token) is = runs_well token is asked_of.plugged asked_of.device calm how
+      by (next.Restart token) is = boots_well token is is_ready calm
+      by next.Dead is =
+          let dead = state_new laws port replies old new k ready r looks kept ∙ ap state_of (next_dead laws port replies old new k ready r looks kept is) in
+          let z : DeadState ≡ ReadyState = sym dead ∙ is_ready in absurd cc
