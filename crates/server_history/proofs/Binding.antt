@@ -1,5 +1,5 @@
 -- A turn in which a command had failed does of its port what a call does of a port.
-use Rattle.std.proofs.Common.{◌≡◌, false, List, sym, ◌∙◌, ⊎_elim}
+use Rattle.std.proofs.Common.{◌≡◌, Bool, false, subst, List, sym, ◌∙◌, ⊎_elim}
 use Rattle.ata_types.specs.declared.Port.{Port}
 use Rattle.ata_types.specs.declared.PortState.TheVariants as shown
 use Rattle.ata_types.specs.declared.PortState.TheVariants.{Ready as ReadyState}
@@ -13,13 +13,15 @@ use Rattle.host_boot.specs.Taken.{found_of}
 use Rattle.port_boot.specs.States.{ShowsOwnDisk}
 use Rattle.port_look.specs.Looks.{IsLooking}
 use Rattle.server_history.specs.Below.{LawsBelow}
-use Rattle.server_history.specs.Recovered.{RecoversPort}
-use Rattle.server_history.specs.Server.{Server, IsKept, IsMachineOf, ports_of, state_of}
+use Rattle.server_history.specs.Recovered.{AreQueued, RecoversPort}
+use Rattle.server_history.specs.Server.{Server, IsKept, IsMachineOf, ports_of, slots_at, state_of}
 use Rattle.server_history.specs.Turns.{TiesTurn}
 use Rattle.server_history.proofs.Deciding.{DecidesTurn}
 use Rattle.server_history.proofs.Evident.{IsEvident}
 use Rattle.server_history.proofs.Faulting.{faulting}
 use Rattle.server_history.proofs.Finding.{finding}
+use Rattle.server_history.proofs.Following.{mid_kept, mid_ready}
+use Rattle.server_history.proofs.Halting.{HaltsAsTaken, works_plainly}
 use Rattle.server_history.proofs.Minding.{serves_ready}
 use Rattle.server_history.proofs.Lasting.{lasting}
 use Rattle.server_history.proofs.Looking.{looking_kept}
@@ -30,7 +32,7 @@ use Rattle.server_history.proofs.Welling.{going_well}
 
 module _ (laws : LawsBelow) (port : Port) (replies : List Reply) (old new : Server) (k : IsKept old) (ready : state_of (found_of old.ports port.0) ≡ ReadyState) (r : RecoversPort port replies old new)
     (looks : IsFollowed (IsLooking port) AnyUse old.device r.settled.recovered.seen) (kept : IsKept r.mid) (evident : IsEvident port replies old new r)
-    (plainly : r.settled.recovered.queued ≡ false → WorksPlainly (r.settled.mid.device.port port.0)) (m : Machine) (reached : IsReached m) (is : IsMachineOf old m)
+    (halts : r.settled.recovered.queued ≡ false → HaltsAsTaken (r.settled.mid.device.port port.0)) (m : Machine) (reached : IsReached m) (is : IsMachineOf old m)
     (d : DecidesTurn port replies old new r (evidence_of port r.settled.failed r.settled.prospect r.settled.recovered.result.next) m) where
   -- where the port showed a device when it was looked at, a disk was in
   own : ShowsOwnDisk (r.settled.recovered.seen.port port.0)
@@ -45,6 +47,11 @@ module _ (laws : LawsBelow) (port : Port) (replies : List Reply) (old new : Serv
       (λ foreign. let z : ReadyState ≡ shown.Foreign = sym ready ∙ foreign in absurd cc)
       (λ unfit. let z : ReadyState ≡ shown.Unfit unfit.0 = sym ready ∙ unfit.1 in absurd cc)
       bad
+
+  -- with plain commands outstanding, it has worked on plain ones alone
+  plainly : r.settled.recovered.queued ≡ false → WorksPlainly (r.settled.mid.device.port port.0)
+  plainly plain = works_plainly laws r.settled.mid (mid_kept laws port r.later old r.mid k ready r.settled looks) port (mid_ready laws port r.later old r.mid k ready r.settled looks)
+      (subst (λ (queued : Bool). AreQueued queued (slots_at r.settled.mid.slots port.0)) plain r.settled.recovered.alike) (halts plain)
 
   pub ties_recovered : TiesTurn port replies evident.accesses old new m (evidence_of port r.settled.failed r.settled.prospect r.settled.recovered.result.next) d.steps
   ties_recovered asked = record {

@@ -1,5 +1,6 @@
 pub mod Told
 pub mod Finding
+pub mod Halting
 pub mod Tying
 pub mod Welling
 pub mod Lasting
