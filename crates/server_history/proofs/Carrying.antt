@@ -1,7 +1,7 @@
 -- What a service has done of a port so far it has done still when another port has had its turn.
 use Rattle.std.proofs.Common.{ℕ, ◌≡◌, ◌≢◌, ◌⊎◌, ◌<◌, ◌≤◌, true, false, List, [], ◌∷◌, ◌++◌, length, refl, sym, ap, ◌∙◌, subst, inl, inr, ⊎_elim, arith, append_assoc}
-use Rattle.std.specs.List.{All, Contains, count_by, list_any}
-use Rattle.std.proofs.lemmas.Bool.{or_left, or_right}
+use Rattle.std.specs.List.{Contains, count_by, list_any}
+use Rattle.std.proofs.lemmas.Bool.{or_right}
 use Rattle.std.proofs.lemmas.List.Elements.{All-nil, All-weaker, Contains-append_cases, Contains-append_right}
 use Rattle.ata_types.specs.declared.Port.{Port}
 use Rattle.ata_types.specs.declared.PortState.{PortState}
@@ -14,11 +14,10 @@ use Rattle.hba_regs.specs.declared.reg.PortReg.TheVariants.{Ci, Sact}
 use Rattle.adapter.specs.Access.{Access}
 use Rattle.adapter.specs.Access.Access.{Reading}
 use Rattle.adapter.specs.Device.{Device}
-use Rattle.adapter.specs.Rules.{IsOn}
 use Rattle.agreement.specs.Agrees.{port_at}
 use Rattle.agreement.specs.Driven.{IsOf}
 use Rattle.agreement.specs.Links.{SparesRegister}
-use Rattle.block_machine.specs.Events.{AreTold, IsLeftAlone, Moment, Served, Service, ServesReady, ShowsDisk, changes_disk, issues_it, tells_fault}
+use Rattle.block_machine.specs.Events.{AreTold, IsLeftAlone, Moment, Served, ServesReady, ShowsDisk, changes_disk, issues_it, tells_fault}
 use Rattle.block_machine.specs.Histories.{Instant, IsReached}
 use Rattle.block_machine.specs.Left.{after}
 use Rattle.block_machine.specs.Ports.{Evidence, IsInterrupted, Ports, SamePort}

@@ -9,7 +9,7 @@ use Rattle.ata_types.specs.declared.Port.{Port}
 use Rattle.ata_types.specs.declared.PortState.{PortState}
 use Rattle.ata_types.specs.declared.PortState.TheVariants.{Dead, Ready as ReadyState}
 use Rattle.ata_types.specs.declared.request.Outcome.{Outcome}
-use Rattle.ata_types.specs.declared.request.Outcome.TheVariants.{Ok, Unplugged}
+use Rattle.ata_types.specs.declared.request.Outcome.TheVariants.{Unplugged}
 use Rattle.ata_types.specs.declared.request.Reply.{Reply}
 use Rattle.hba_regs.specs.declared.reg.PortReg.TheVariants.{Cmd, Sctl}
 use Rattle.adapter.specs.Access.{Access, DoesAll}
@@ -18,10 +18,10 @@ use Rattle.adapter.specs.Device.{Device}
 use Rattle.adapter.specs.Rules.{IsOn}
 use Rattle.adapter.specs.declared.access.DeviceStep.{DeviceStep}
 use Rattle.agreement.specs.Driver.{IsBacked}
-use Rattle.block_machine.specs.Events.{AllGrounded, AllLawful, AnswersEnded, Belong, HadDisk, IsToldBefore, Moment, Served, Service, UnplugsAll, answers_of, reply_of}
+use Rattle.block_machine.specs.Events.{AllGrounded, AllLawful, Belong, HadDisk, IsToldBefore, Moment, Served, Service, UnplugsAll, answers_of, reply_of}
 use Rattle.block_machine.specs.Histories.{Instant, IsReached}
 use Rattle.block_machine.specs.Left.{after}
-use Rattle.block_machine.specs.Ports.{Evidence, Fault, IsInterrupted, IsServiced, Ports, SameDisk, SamePort}
+use Rattle.block_machine.specs.Ports.{Evidence, Fault, IsServiced, Ports, SameDisk, SamePort}
 use Rattle.block_machine.specs.State.{Pending}
 use Rattle.block_machine.specs.Steps.{Step, Answer}
 use Rattle.host_boot.specs.Taken.{found_of}
@@ -245,12 +245,3 @@ module _ (laws : LawsBelow) (s : Server) (start : IsSettled s) (old : Moment) (r
   -- who was answered is of a port that was ready
   pub answered_was : (n : ℕ) (c : Server) (replies : List Reply) → (p : Progress n c replies) → (e : Pending) (o : Outcome) → Contains p.steps (Answer e o) → state_at e.request.port.0 ≡ ReadyState
   answered_was n c replies p e o here = (answered_of (HadTurn n) p.steps p.of e o here).1
-
-  -- a port that wasn't ready is what it was, and nothing interrupts it
-  pub unready_same : (n : ℕ) (c : Server) (replies : List Reply) → (p : Progress n c replies) → (q : Port) → state_at q.0 ≢ ReadyState → SamePort (ports_of s) (ports_of c) q
-  unready_same n c replies p q unready = same_at s c q (p.found q (λ served. unready served.1)) (p.remembered q (λ served. unready served.1)) (p.modes q (λ served. unready served.1))
-
-  pub unready_spared : (n : ℕ) (c : Server) (replies : List Reply) → (p : Progress n c replies) → (q : Port) → state_at q.0 ≢ ReadyState → IsInterrupted p.evidence q → ⊥
-  unready_spared n c replies p q unready i =
-      let un = unnamed n q (λ served. unready served.1) p.evidence p.names in
-      ⊎_elim un.4 un.5 i

@@ -1,30 +1,26 @@
 -- A service adds an event to a history.
-use Rattle.std.proofs.Common.{eqb-true, ◌==◌, false, ◌⊎◌, ℕ, ◌≡◌, ◌≢◌, ◌+◌, true, List, [], ◌∷◌, refl, sym, ap, ◌∙◌, subst, inl, inr, ⊎_elim, arith}
-use Rattle.std.specs.List.{All, Contains, list_any}
-use Rattle.std.proofs.lemmas.Bool.{cases_Bool, cases_lt, false≢true, or_from}
-use Rattle.std.proofs.lemmas.List.Elements.{All-contains_itself, All-head, Contains-append_right}
+use Rattle.std.proofs.Common.{◌⊎◌, ℕ, ◌≡◌, ◌≢◌, ◌+◌, List, [], ◌∷◌, refl, sym, ap, ◌∙◌, subst, ⊎_elim, arith}
+use Rattle.std.specs.List.{All, Contains}
+use Rattle.std.proofs.lemmas.Bool.{cases_lt}
 use Rattle.ata_types.specs.declared.Port.{Port}
-use Rattle.ata_types.specs.declared.PortState.TheVariants.{Absent, Dead, Foreign, Ready as ReadyState, Unfit}
+use Rattle.ata_types.specs.declared.PortState.TheVariants.{Dead, Ready as ReadyState}
 use Rattle.ata_types.specs.declared.request.Outcome.{Outcome}
-use Rattle.ata_types.specs.declared.request.Outcome.TheVariants.{DeviceError, Ok}
 use Rattle.ata_types.specs.declared.request.Reply.{Reply}
 use Rattle.adapter.specs.Device.{Device}
 use Rattle.adapter.specs.declared.access.DeviceStep.{DeviceStep}
-use Rattle.agreement.specs.Agrees.{port_at}
-use Rattle.block_machine.specs.Events.{AnswersService, KeepsDisks, Moment, Served, ServesReady, Service, tells_fault}
+use Rattle.block_machine.specs.Events.{AnswersService, KeepsDisks, Moment, Served, Service}
 use Rattle.block_machine.specs.Histories.{Instant, Happening, IsReached, now}
 use Rattle.block_machine.specs.Left.{after}
-use Rattle.block_machine.specs.Ports.{IsInterrupted, Ports, SamePort}
+use Rattle.block_machine.specs.Ports.{Ports}
 use Rattle.block_machine.specs.State.{Pending}
-use Rattle.block_machine.specs.Steps.{Step, Answer}
-use Rattle.block_machine.proofs.Calm.{counts_none}
+use Rattle.block_machine.specs.Steps.{Answer}
 use Rattle.block_machine.proofs.HistoryLemmas.{history_reaches}
 use Rattle.host_boot.specs.Taken.{found_of}
 use Rattle.host_boot.specs.declared.Found.{Found}
 use Rattle.host_boot.specs.declared.Found.TheVariants.{Unserved, Ready, Unready}
 use Rattle.driver_history.specs.Evidence.{IsEvidenced}
 use Rattle.driver_history.specs.Guard.{IsAskedOf}
-use Rattle.driver_history.specs.Histories.{Begins, HasBadDisk, TendsPort, Ties, TiesPort}
+use Rattle.driver_history.specs.Histories.{Begins, TendsPort, Ties, TiesPort}
 use Rattle.request_queue.specs.Machine.{IsEntry}
 use Rattle.driver_history.specs.Trace.{IsServing}
 use Rattle.server_history.specs.Histories.{Adds, Leads}
@@ -34,12 +30,9 @@ use Rattle.server_history.specs.Server.{Server, IsKept, IsMachineOf, IsSettled, 
 use Rattle.server_history.proofs.Asks.{none_due}
 use Rattle.server_history.proofs.Beginning.{kept_fit}
 use Rattle.server_history.proofs.Going.{happening_with, lead_with, with_device}
-use Rattle.server_history.proofs.Standing.{not_running}
-use Rattle.server_history.proofs.Told.{fatal_shows, loss_shows, no_fatal, no_loss}
 use Rattle.server_history.proofs.Slots.{of_ready}
 use Rattle.server_history.proofs.Zips.{at_right}
-use Rattle.server_history.proofs.Joined.{ready_or_not}
-use Rattle.server_history.proofs.Progress.{IsDone, Progress, answered_was, begun, idle_done, unready_same, unready_spared}
+use Rattle.server_history.proofs.Progress.{IsDone, Progress, answered_was, begun, idle_done}
 use Rattle.server_history.proofs.Services.{Whole, go}
 
 module _ (laws : LawsBelow) (s new : Server) (replies : List Reply) (start : IsSettled s) (serves : ServePorts 0 s.ports replies s new) (first : Instant Device) (past : List (Happening Device DeviceStep)) (leads : Leads first past s) where

@@ -10,11 +10,9 @@ use Rattle.ata_types.specs.declared.Port.{Port}
 use Rattle.ata_types.specs.declared.PortState.{PortState}
 use Rattle.ata_types.specs.declared.PortState.TheVariants.{Absent, Dead, Ready as ReadyState}
 use Rattle.ata_types.specs.declared.request.Outcome.{Outcome}
-use Rattle.ata_types.specs.declared.request.Outcome.TheVariants.{Ok}
 use Rattle.ata_types.specs.declared.request.Reply.{Reply}
 use Rattle.ata_types.specs.declared.request.RequestId.{RequestId}
-use Rattle.hba_regs.specs.declared.reg.Reg.TheVariants.{Ghc, Px}
-use Rattle.hba_regs.specs.declared.reg.PortReg.TheVariants.{Ci, Cmd, Sact, Sctl}
+use Rattle.hba_regs.specs.declared.reg.Reg.TheVariants.{Px}
 use Rattle.adapter.specs.Access.{Access}
 use Rattle.adapter.specs.Access.Access.{Loading, Reading, Storing, Writing}
 use Rattle.adapter.specs.Commands.{Meaning, is_queued}
@@ -25,10 +23,7 @@ use Rattle.adapter.specs.Rules.{IsOn}
 use Rattle.adapter.proofs.Calls.{does_append}
 use Rattle.agreement.specs.Agrees.{port_at}
 use Rattle.agreement.specs.Driven.{IsDrivenBy, IsOf}
-use Rattle.agreement.specs.Facts.{Undisturbed}
-use Rattle.agreement.specs.Links.{SparesRegister}
 use Rattle.agreement.specs.Slots.{IsMove, ServesRequest}
-use Rattle.agreement.proofs.Controlled.{tape_over}
 use Rattle.block_machine.specs.Events.{AllGrounded, AllLawful, IsIssuedIn, IsToldBefore, Moment, Served, ShowsDisk, Service, WasIssued, answers_of, changes_disk, issues_it, reply_of}
 use Rattle.block_machine.specs.Histories.{Instant, IsReached}
 use Rattle.block_machine.specs.Left.{after}
@@ -36,7 +31,7 @@ use Rattle.block_machine.specs.Ports.{Evidence, Fault, Ports, SameDisk, SamePort
 use Rattle.block_machine.specs.Due.{of_port}
 use Rattle.block_machine.specs.State.{Pending, Machine, unanswered}
 use Rattle.block_machine.specs.declared.due.Unanswered.{Unanswered}
-use Rattle.block_machine.specs.Steps.{Step, Answer}
+use Rattle.block_machine.specs.Steps.{Step}
 use Rattle.block_machine.proofs.EventLemmas.{after-append}
 use Rattle.block_machine.proofs.HistoryLemmas.{reached_more}
 use Rattle.block_machine.proofs.Members.{map_in}
@@ -45,9 +40,9 @@ use Rattle.host_boot.specs.Taken.{found_of}
 use Rattle.host_boot.specs.declared.Found.{Found}
 use Rattle.host_boot.specs.declared.Found.TheVariants.{Unserved, Ready, Unready}
 use Rattle.identify.specs.declared.DiskInfo.{DiskInfo}
-use Rattle.driver_history.specs.Evidence.{FailsPlain, FailsQueued, IsEvidencedOf, StaysHealthy}
+use Rattle.driver_history.specs.Evidence.{FailsPlain, FailsQueued, IsEvidencedOf}
 use Rattle.error_recovery.specs.Evidence.{BringsLog, HasFailed}
-use Rattle.driver_history.specs.Histories.{FindsDone, IssuesDue, TendsPort}
+use Rattle.driver_history.specs.Histories.{IssuesDue, TendsPort}
 use Rattle.driver_history.specs.Parts.{HasTurnIn, IsOfOther, NamesAlike}
 use Rattle.driver_history.specs.Trace.{IsDriversOwn, IsServing}
 use Rattle.server_history.specs.Below.{LawsBelow}
@@ -61,7 +56,6 @@ use Rattle.slots.specs.declared.Use.{Use as SlotUse}
 use Rattle.slots.specs.Uses.{Uses as PortSlots, use_at}
 use Rattle.block_machine.specs.declared.due.Mode.{Mode}
 use Rattle.server_history.proofs.Turns.{AreTurns, all_of_ports, answered_of, belong_join, belong_on, grounded_join, grounded_on, lawful_join, lawful_on, present_before, turn_on, unplugs_join}
-use Rattle.port_look.proofs.Serving.{calm_parts}
 use Rattle.server_history.proofs.Carrying.{ties_still}
 use Rattle.server_history.proofs.Lifting.{ties_whole}
 use Rattle.server_history.proofs.Progress.{none_evidenced, skipped}
