@@ -1,6 +1,7 @@
 -- While ST is one, a queued command that has halted a port is taken still.
-use Rattle.std.proofs.Common.{ℕ, ◌≡◌, ◌≢◌, Bool, true, false, List, [], ◌∷◌, length, Option, Some, refl, sym, ◌∙◌, ap, subst}
+use Rattle.std.proofs.Common.{ℕ, ◌≡◌, ◌≢◌, Bool, true, false, List, [], ◌∷◌, length, Option, Some, None, refl, sym, ◌∙◌, ap, subst}
 use Rattle.std.proofs.lemmas.Bool.{false≢true}
+use Rattle.std.specs.Prelude.{All}
 use Rattle.ata_types.specs.declared.Port.{Port}
 use Rattle.hba_regs.specs.declared.reg.PortReg.{PortReg}
 use Rattle.hba_regs.specs.declared.reg.PortReg.TheVariants.{Cmd}
@@ -17,7 +18,10 @@ use Rattle.block_machine.specs.Histories.{IsReached}
 use Rattle.block_machine.specs.Left as left
 use Rattle.block_machine.specs.State.{Machine}
 use Rattle.block_machine.proofs.HistoryLemmas.{reached_more}
+use Rattle.agreement.specs.Acts.{Act, AreDone, accesses_of}
+use Rattle.agreement.specs.Acts.{Leads as ActLeads}
 use Rattle.agreement.specs.Agrees.{Agrees}
+use Rattle.agreement.specs.Driver.{Known, Knows}
 use Rattle.agreement.specs.Follows.{Follows}
 use Rattle.agreement.specs.Halting.{HaltsAsTaken, IsHaltedAsTaken}
 use Rattle.agreement.specs.Links.{SparesRegister}
@@ -27,6 +31,7 @@ use Rattle.agreement.proofs.Crossing.{access_steps, effect_keeps}
 use Rattle.agreement.proofs.Following.{step_follows}
 use Rattle.agreement.proofs.Healthy.{at_port}
 use Rattle.agreement.proofs.Linking.{spared}
+use Rattle.agreement.proofs.Parts.{IsOfKind, acts_of_kind, done_keeps}
 use Rattle.agreement.proofs.Taking.{never_refused}
 
 -- ---- halts
@@ -137,3 +142,19 @@ access_halts uses m port access old new r a spares x h =
     effect_keeps IsHaltedAsTaken port (λ p q v y st. same_halts p _ refl refl (y st)) (λ p y st. same_halts p _ refl refl (y st)) access old new x
     (λ q v mid is steps y. written_halts q v (length mid.tape) (mid.port port.0) (spared port q Cmd access v spares is) y)
     (leads_halts uses m port.0 s.1.steps old s.0 r a s.1.lead h)
+
+-- ---- acts
+
+module _ (port : Port) where
+  abbrev Holds : Known → Type 0
+  Holds z = IsHaltedAsTaken (z.device.port port.0)
+
+  pub acts_halts : (acts : List Act) (k later : Known) (m : Machine) → IsReached m → Knows m k → AreDone acts k m later → All (SparesRegister (Px port Cmd)) (accesses_of acts) → IsHaltedAsTaken (k.device.port port.0)
+      → IsHaltedAsTaken (later.device.port port.0)
+  acts_halts acts k later m reached x done all h = done_keeps Holds (λ act. IsOfKind (SparesRegister (Px port Cmd)) act.access)
+      (λ z n act r knows is spares. over z n act r knows act.access is.leads spares) acts k later m reached x (acts_of_kind (SparesRegister (Px port Cmd)) acts all) done h
+    where
+      over : (z : Known) (n : Machine) (act : Act) → IsReached n → Knows n z → (access : Option Access) → ActLeads access z.device act.later.device → IsOfKind (SparesRegister (Px port Cmd)) access
+          → Holds z → Holds act.later
+      over z n act r knows None same spares here = subst (λ (d : Device). IsHaltedAsTaken (d.port port.0)) (sym same) here
+      over z n act r knows (Some access) does spares here = access_halts z.uses n port access z.device act.later.device r knows.agrees spares does here

@@ -1,5 +1,5 @@
 // Laws of how a port runs well again without COMRESET: the clause is the theorem. Nothing that runs calls these functions.
-ghost use Rattle.std.specs.Prelude.{ℕ, true, false, ◌≡◌, ◌≢◌, ◌≤◌};
+ghost use Rattle.std.specs.Prelude.{ℕ, List, All, true, false, ◌≡◌, ◌≢◌, ◌≤◌};
 ghost use Rattle.ata_types.specs.declared.Port.{Port};
 ghost use Rattle.hba_regs.specs.Bits.{bit};
 ghost use Rattle.hba_regs.specs.declared.reg.Reg.TheVariants.{Px};
@@ -12,7 +12,8 @@ ghost use Rattle.adapter.specs.declared.command.Operation.{Operation};
 ghost use Rattle.block_machine.specs.Histories.{IsReached};
 ghost use Rattle.block_machine.specs.State.{Machine};
 ghost use Rattle.agreement.specs.Agrees.{Agrees};
-ghost use Rattle.agreement.specs.Driver.{IsOwnPrepared};
+ghost use Rattle.agreement.specs.Acts.{Act, AreDone, accesses_of};
+ghost use Rattle.agreement.specs.Driver.{IsOwnPrepared, Known, Knows};
 ghost use Rattle.agreement.specs.Errors.{NoneFatal};
 ghost use Rattle.agreement.specs.Facts.{RunsWell, TellsNoTrouble, IsQuiet};
 ghost use Rattle.agreement.specs.Links.{SparesRegister, PlugsNone};
@@ -50,7 +51,7 @@ pub fn faults_are_plain()
 {}
 
 /// While ST is one, a queued command that has halted a port is taken still, and READ LOG EXT isn't awaited: so it stays where the machine agrees
-/// with the device, whatever the device does, and over each access but a write of PxCMD. So it is without a halt, and of a port that works on
+/// with the device, whatever the device does, over each access but a write of PxCMD, and over acts without one. So it is without a halt, and of a port that works on
 /// plain commands alone.
 pub fn halts_are_of_taken_commands()
     ensures steps { (uses : Uses) (m : Machine) (port : ℕ) (old new : Device) → IsReached m → Agrees uses m old → Steps old new
@@ -58,6 +59,9 @@ pub fn halts_are_of_taken_commands()
     ensures access { (uses : Uses) (m : Machine) (port : Port) (access : Access) (old new : Device) → IsReached m → Agrees uses m old
         → SparesRegister (Px port Cmd) access → Does access old new → IsHaltedAsTaken (old.port port.0)
         → IsHaltedAsTaken (new.port port.0) }
+    ensures acts { (port : Port) (acts : List Act) (k later : Known) (m : Machine) → IsReached m → Knows m k → AreDone acts k m later
+        → All (SparesRegister (Px port Cmd)) (accesses_of acts) → IsHaltedAsTaken (k.device.port port.0)
+        → IsHaltedAsTaken (later.device.port port.0) }
     ensures calm { (p : PortState) → p.halt ≡ NotHalted → HaltsAsTaken p }
     ensures plain { (p : PortState) → WorksPlainly p → HaltsAsTaken p }
 {}
