@@ -84,6 +84,7 @@ pub mod Unmoving
 pub mod Sustaining
 mod Linked
 mod Plainly
+mod HaltsTaken
 mod EndingHalt
 mod FailingOpenly
 mod GivingUp

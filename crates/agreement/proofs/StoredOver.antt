@@ -1,10 +1,9 @@
 -- What is stored for a slot stays so over acts that leave it.
-use Rattle.std.proofs.Common.{ℕ, ◌≡◌, List, Option, None, Some, refl, sym, subst}
+use Rattle.std.proofs.Common.{ℕ, List, Option, None, Some, refl, sym, subst}
 use Rattle.std.specs.Prelude.{All}
 use Rattle.ata_types.specs.declared.Port.{Port}
 use Rattle.hba_regs.specs.declared.reg.Reg.TheVariants.{Ghc}
 use Rattle.adapter.specs.Access.{Access}
-use Rattle.adapter.specs.Access.Access.{Writing}
 use Rattle.adapter.specs.Commands.{Meaning}
 use Rattle.adapter.specs.Device.{Device}
 use Rattle.adapter.specs.Rules.{IsOn}

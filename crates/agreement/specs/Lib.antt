@@ -18,6 +18,7 @@ pub mod Booted
 pub mod Acts
 pub mod Driven
 pub mod Recovering
+pub mod Halting
 pub mod GivingUp
 pub mod Readying
 pub mod Vacant

@@ -1,5 +1,5 @@
 // Laws of how a port runs well again without COMRESET: the clause is the theorem. Nothing that runs calls these functions.
-ghost use Rattle.std.specs.Prelude.{ℕ, true, false, ◌≡◌, ◌≢◌, ◌≤◌};
+ghost use Rattle.std.specs.Prelude.{ℕ, List, All, true, false, ◌≡◌, ◌≢◌, ◌≤◌};
 ghost use Rattle.ata_types.specs.declared.Port.{Port};
 ghost use Rattle.hba_regs.specs.Bits.{bit};
 ghost use Rattle.hba_regs.specs.declared.reg.Reg.TheVariants.{Px};
@@ -12,12 +12,14 @@ ghost use Rattle.adapter.specs.declared.command.Operation.{Operation};
 ghost use Rattle.block_machine.specs.Histories.{IsReached};
 ghost use Rattle.block_machine.specs.State.{Machine};
 ghost use Rattle.agreement.specs.Agrees.{Agrees};
-ghost use Rattle.agreement.specs.Driver.{IsOwnPrepared};
+ghost use Rattle.agreement.specs.Acts.{Act, AreDone, accesses_of};
+ghost use Rattle.agreement.specs.Driver.{IsOwnPrepared, Known, Knows};
 ghost use Rattle.agreement.specs.Errors.{NoneFatal};
 ghost use Rattle.agreement.specs.Facts.{RunsWell, TellsNoTrouble, IsQuiet};
 ghost use Rattle.agreement.specs.Links.{SparesRegister, PlugsNone};
 ghost use Rattle.agreement.specs.Slots.{Use, Uses, Free, Own, put};
 ghost use Rattle.agreement.specs.Started.{IsUp, IsStarted, ClearsNoStart};
+ghost use Rattle.agreement.specs.Halting.{HaltsAsTaken, IsHaltedAsTaken};
 ghost use Rattle.agreement.specs.Recovering.{IsLinked, WorksPlainly, RunsLinked, EndsHalt, FailsOpenly};
 
 /// While no reset is pending, a link that is up stays so where the tape tells of no disk that goes or comes, whatever else
@@ -46,6 +48,22 @@ pub fn faults_are_plain()
     ensures found { (port : Port) (v causes : ℕ) (old mid new : Device) → old.hr ≡ false → (old.port port.0).st ≡ false
         → (old.port port.0).cr ≡ false → bit v 0 ≡ true → IsLinked (old.port port.0) → WorksPlainly (old.port port.0)
         → Writes (Px port Cmd) v old mid → Reads (Px port Is) causes mid new → TellsNoTrouble causes → RunsWell (new.port port.0) }
+{}
+
+/// While ST is one, a queued command that has halted a port is taken still, and READ LOG EXT isn't awaited: so it stays where the machine agrees
+/// with the device, whatever the device does, over each access but a write of PxCMD, and over acts without one. So it is without a halt, and of a port that works on
+/// plain commands alone.
+pub fn halts_are_of_taken_commands()
+    ensures steps { (uses : Uses) (m : Machine) (port : ℕ) (old new : Device) → IsReached m → Agrees uses m old → Steps old new
+        → IsHaltedAsTaken (old.port port) → IsHaltedAsTaken (new.port port) }
+    ensures access { (uses : Uses) (m : Machine) (port : Port) (access : Access) (old new : Device) → IsReached m → Agrees uses m old
+        → SparesRegister (Px port Cmd) access → Does access old new → IsHaltedAsTaken (old.port port.0)
+        → IsHaltedAsTaken (new.port port.0) }
+    ensures acts { (port : Port) (acts : List Act) (k later : Known) (m : Machine) → IsReached m → Knows m k → AreDone acts k m later
+        → All (SparesRegister (Px port Cmd)) (accesses_of acts) → IsHaltedAsTaken (k.device.port port.0)
+        → IsHaltedAsTaken (later.device.port port.0) }
+    ensures calm { (p : PortState) → p.halt ≡ NotHalted → HaltsAsTaken p }
+    ensures plain { (p : PortState) → WorksPlainly p → HaltsAsTaken p }
 {}
 
 /// ST is set while the engine stands and the link is up: the port runs, though a queued fault may halt it still. It runs on where

@@ -1,26 +1,31 @@
 -- A port that is recovered with plain commands outstanding has worked on plain commands alone, where a halt is of a command that is taken still.
-use Rattle.std.proofs.Common.{ℕ, ◌≡◌, ◌≢◌, ◌&&◌, Bool, true, false, List, Some, None, refl, sym, ap, ◌∙◌, subst, inl, inr, ⊎_elim}
+use Rattle.std.proofs.Common.{ℕ, ◌≡◌, ◌&&◌, Bool, true, false, List, Some, None, refl, sym, ap, ◌∙◌, subst, inl, inr, ⊎_elim}
+use Rattle.std.specs.List.{All}
 use Rattle.std.proofs.lemmas.Bool.{false≢true}
+use Rattle.std.proofs.lemmas.List.Elements.{All-weaker}
 use Rattle.ata_types.specs.declared.Port.{Port}
 use Rattle.ata_types.specs.declared.PortState.TheVariants.{Ready as ReadyState}
+use Rattle.hba_regs.specs.declared.reg.PortReg.TheVariants.{Cmd}
+use Rattle.hba_regs.specs.declared.reg.Reg.TheVariants.{Px}
 use Rattle.adapter.specs.Commands.{Meaning, is_queued}
-use Rattle.adapter.specs.Device.{Halt, PortState, Taken}
+use Rattle.adapter.specs.Access.{Access}
+use Rattle.adapter.specs.Device.{Device, Halt, PortState, Taken}
 use Rattle.adapter.specs.Device.Halt.{HaltedPlain, HaltedQueued, LogOnly, NotHalted}
 use Rattle.adapter.specs.Steps.{restarted}
+use Rattle.agreement.specs.Acts.{InSlots, at as at_slots}
+use Rattle.agreement.specs.Driven.{AnyUse, IsFollowed}
+use Rattle.agreement.specs.Halting.{HaltsAsTaken, IsHaltedAsTaken}
+use Rattle.agreement.specs.Links.{SparesRegister}
 use Rattle.agreement.specs.Recovering.{WorksPlainly}
 use Rattle.agreement.specs.Slots.{IsFree, IsServed, Stage, Use}
 use Rattle.block_machine.specs.State.{Pending}
+use Rattle.error_recovery.specs.Recovery.{RunsAgain}
 use Rattle.host_boot.specs.Taken.{found_of}
 use Rattle.server_history.specs.Below.{LawsBelow}
 use Rattle.server_history.specs.Recovered.{AreQueued}
 use Rattle.server_history.specs.Server.{Server, IsKept, slots_at, state_of, used_for}
 use Rattle.server_history.proofs.Slots.{IsServedBy, free_unused, served_request, serves_used, used_or_not}
 use Rattle.slots.specs.declared.Use.{Use as SlotUse}
-
--- A queued command that halted the port is taken still; and READ LOG EXT isn't awaited (so it is between turns while ST is one: AHCI 1.3.1, 6.2.2).
-pub record HaltsAsTaken (p : PortState) : Type 0 where
-  pub unlogged : p.halt ≢ LogOnly
-  pub queued : p.halt ≡ HaltedQueued → (slot : ℕ) × (t : Taken) × (p.taken slot ≡ Some t) × (is_queued t.meaning.operation ≡ true)
 
 and_false : (b : Bool) → b && false ≡ false
 and_false true = refl
@@ -64,3 +69,19 @@ module _ (laws : LawsBelow) (s : Server) (k : IsKept s) (port : Port) (ready : s
       by HaltedPlain is = ap restarted is
       by HaltedQueued is = let q = h.queued is in absurd (false≢true (sym ((each q.0).1 q.1 q.2) ∙ q.3))
       by LogOnly is = absurd (h.unlogged is)
+
+-- ---- where a halt is of a taken command
+
+-- so it stays over what was followed, without a write of PxCMD
+pub followed_halts : LawsBelow → (port : Port) (May : Access → Type 0) (s : Server) (k : IsKept s) (new : Device) → (f : IsFollowed May AnyUse s.device new) → ((access : Access) → May access → SparesRegister (Px port Cmd) access)
+    → IsHaltedAsTaken (s.device.port port.0) → IsHaltedAsTaken (new.port port.0)
+followed_halts laws port May s k new f spares h =
+    let slots : InSlots = record { uses = k.stands.uses; parked = k.stands.parked } in
+    let c = f.comes slots k.machine k.reached k.stands.knows tt in
+    laws.trouble.halts_acts port c.acts (at_slots slots s.device) (at_slots slots new) k.machine k.reached k.stands.knows c.done
+    (subst (All (SparesRegister (Px port Cmd))) (sym c.accesses_are) (All-weaker May (SparesRegister (Px port Cmd)) spares f.driven.accesses f.driven.only)) h
+
+-- and so it is once a port was recovered
+pub again_halts : LawsBelow → (queued : Bool) (port : ℕ) (old new : Device) → RunsAgain queued port old new → (queued ≡ false → WorksPlainly (old.port port)) → HaltsAsTaken (new.port port)
+again_halts laws true port old new again plainly = laws.trouble.halts_calm (new.port port) (again.ended refl)
+again_halts laws false port old new again plainly = laws.trouble.halts_plain (new.port port) (again.plain refl (plainly refl))

@@ -1,21 +1,25 @@
 -- What laws of the crates below say of a port that is recovered, and booted again, and of the others meanwhile.
-use Rattle.std.specs.Prelude.{ℕ, false, ◌≡◌, ◌≢◌, ◌<◌, ◌≤◌, ◌++◌, List, [], map}
+use Rattle.std.specs.Prelude.{ℕ, false, ◌≡◌, ◌≢◌, ◌<◌, ◌≤◌, ◌++◌, List, [], All, map}
 use Rattle.ata_types.specs.declared.Port.{Port}
 use Rattle.ata_types.specs.declared.PortState.{PortState}
 use Rattle.ata_types.specs.declared.request.RequestId.{RequestId}
-use Rattle.hba_regs.specs.declared.reg.PortReg.TheVariants.{Is, Sctl, Serr}
+use Rattle.hba_regs.specs.declared.reg.PortReg.TheVariants.{Cmd, Is, Sctl, Serr}
 use Rattle.hba_regs.specs.declared.reg.Reg.TheVariants.{Px}
 use Rattle.adapter.specs.Access.{Access, Does, DoesAll}
 use Rattle.adapter.specs.Device.{Device}
+use Rattle.adapter.specs.Device.{PortState as PortOf}
+use Rattle.adapter.specs.Device.Halt.{NotHalted}
 use Rattle.adapter.specs.Rules.{IsOn}
 use Rattle.adapter.specs.declared.tape.Entry.{Entry}
-use Rattle.agreement.specs.Acts.{Act, AreDone, steps_of}
+use Rattle.agreement.specs.Acts.{Act, AreDone, accesses_of, steps_of}
 use Rattle.agreement.specs.Agrees.{Agrees, HaveSlots}
 use Rattle.agreement.specs.Driven.{AnyAccess, IsDrivenBy, IsOf}
 use Rattle.agreement.specs.Driver.{Goes, Known, Knows}
 use Rattle.agreement.specs.Errors.{NoneFails, NoneFatal}
 use Rattle.agreement.specs.Facts.{IsRecorded, Undisturbed}
+use Rattle.agreement.specs.Halting.{HaltsAsTaken, IsHaltedAsTaken}
 use Rattle.agreement.specs.Links.{HasDeviceOrNone, LeavesDisk, LeavesLink, PlugsNone, SameAdapter, SparesRegister}
+use Rattle.agreement.specs.Recovering.{WorksPlainly}
 use Rattle.agreement.specs.Slots.{Serves, Use, Uses, put, serving_count}
 use Rattle.block_machine.specs.Due.{issued_count}
 use Rattle.block_machine.specs.Histories.{IsReached}
@@ -76,3 +80,8 @@ pub record TroubleLaws : Type 0 where
   -- its disk, and its link, stay
   pub disk_left : (port : ℕ) (access : Access) (old new : Device) → Does access old new → PlugsNone port old new → LeavesDisk (old.port port) (new.port port)
   pub link_left : (port : Port) (access : Access) (old new : Device) → old.hr ≡ false → SparesRegister (Px port Sctl) access → Does access old new → PlugsNone port.0 old new → LeavesLink (old.port port.0) (new.port port.0)
+  -- and a queued command that has halted it is taken still
+  pub halts_acts : (port : Port) (acts : List Act) (k later : Known) (m : Machine) → IsReached m → Knows m k → AreDone acts k m later → All (SparesRegister (Px port Cmd)) (accesses_of acts)
+      → IsHaltedAsTaken (k.device.port port.0) → IsHaltedAsTaken (later.device.port port.0)
+  pub halts_calm : (p : PortOf) → p.halt ≡ NotHalted → HaltsAsTaken p
+  pub halts_plain : (p : PortOf) → WorksPlainly p → HaltsAsTaken p

@@ -71,6 +71,7 @@ use agreement::laws::{
     slots_are_counted, waiting_has_no_slot,
 };
 use agreement::readying::{readied_stays, stored_stays_over_acts};
+use agreement::recovering::halts_are_of_taken_commands;
 use agreement::stretches::other_ports_are_left;
 use block_machine::laws::{
     due_in_turn, due_is_exact, limits_hold, living_was_accepted, one_id_is_one_request,
@@ -161,6 +162,7 @@ fn the_laws_below_hold()
     plugging_composes();
     disk_stays();
     link_stays();
+    halts_are_of_taken_commands();
 }
 
 /// A ready port of a new server runs well, if nothing went wrong on it since the adapter was idle.

@@ -89,6 +89,9 @@ returns c = record {
     calm_plugs = c.plugging_composes.ensures.calm;
     disk_left = c.disk_stays.ensures.access;
     link_left = c.link_stays.ensures.access;
+    halts_acts = c.halts_are_of_taken_commands.ensures.acts;
+    halts_calm = c.halts_are_of_taken_commands.ensures.calm;
+    halts_plain = c.halts_are_of_taken_commands.ensures.plain;
   };
   evidence = c.a_turns_evidence_is_the_calls.ensures.evidence;
   failed = c.a_turns_evidence_is_the_calls.ensures.failed;
