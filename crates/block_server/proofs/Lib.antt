@@ -11,3 +11,6 @@ mod Sending
 pub mod Healthy
 pub mod Keeping
 pub mod Settling
+pub mod Mending
+pub mod Lent
+pub mod Restoring

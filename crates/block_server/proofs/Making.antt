@@ -55,10 +55,10 @@ module _ (s : Server) (host : Host) (plan : PlanView) (is : IsPlan plan) (rows :
 
   pub new_fits : AllPairs DifferInName s.grants → length s.grants ≤ 64 → ((frame : Frame) → lent_to s.table frame ≡ None) → s.ports ≡ host.ports → length host.ports ≡ 4
       → length s.remembered ≡ 4 → ((port : ℕ) → remembered_at s.remembered port ≡ None)
-      → length s.kept ≡ 4 → ((port : ℕ) → kept_at s.kept port ≡ []) → length s.slots ≡ 4 → ((port : ℕ) → port < 4 → length (get_or s.slots port no_slots).places ≡ 32) → ((port : ℕ) → port < 4 → mode_at s.modes port ≡ mode_found s.device.cap (found_of s.ports port))
+      → length s.kept ≡ 4 → ((port : ℕ) → kept_at s.kept port ≡ []) → length s.slots ≡ 4 → length s.modes ≡ 4 → ((port : ℕ) → port < 4 → length (get_or s.slots port no_slots).places ≡ 32) → ((port : ℕ) → port < 4 → mode_at s.modes port ≡ mode_found s.device.cap (found_of s.ports port))
       → ((port : ℕ) → port < 4 → (get_or s.slots port no_slots).usable ≡ (mode_at s.modes port).usable)
       → ((port slot : ℕ) → used_for s.slots port slot ≡ None) → s.book ≡ [] → s.last ≡ 0 → IsNewServer host s
-  new_fits names few free ports four four_remembered forgotten four_kept unkept four_slots places modes usable unused book last = record {
+  new_fits names few free ports four four_remembered forgotten four_kept unkept four_slots four_modes places modes usable unused book last = record {
     ports = ports;
     four = four;
     four_remembered = four_remembered;
@@ -73,6 +73,7 @@ module _ (s : Server) (host : Host) (plan : PlanView) (is : IsPlan plan) (rows :
     room = let m = is.memory in omega (arith, m.0, room);
     lent = free;
     four_slots = four_slots;
+    four_modes = four_modes;
     places = places;
     modes = modes;
     usable = usable;

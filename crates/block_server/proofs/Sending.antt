@@ -1,5 +1,5 @@
 -- A due request of a port is issued: what is asked of the calls, and what the server then is.
-use Rattle.std.proofs.Common.{ℕ, ◌≡◌, ◌≢◌, ◌+◌, ◌/◌, ◌%◌, ◌^◌, ◌<◌, ◌≤◌, Bool, not, true, inl, inr, List, ◌∷◌, drop, length, map, get_or, set, Some, refl, sym, ◌∙◌, ap, subst, arith}
+use Rattle.std.proofs.Common.{ℕ, ◌≡◌, ◌≢◌, ◌+◌, ◌/◌, ◌%◌, ◌^◌, ◌<◌, ◌≤◌, Bool, not, true, inl, inr, List, [], ◌∷◌, drop, length, map, get_or, set, Some, refl, sym, ◌∙◌, ap, subst, arith}
 use Rattle.std.specs.List.{All, Contains}
 use Rattle.std.proofs.lemmas.List.{drop_more, get_or_default, get_or-set_same, set-get_or, set-set}
 use Rattle.std.proofs.lemmas.List.Elements.{All-contains}
@@ -18,7 +18,7 @@ use Rattle.block_machine.specs.Left.{IsRow}
 use Rattle.block_machine.specs.Rules.{IsCount, frames_for}
 use Rattle.block_machine.specs.declared.due.Mode.{Mode}
 use Rattle.block_machine.specs.declared.due.Unanswered.{Unanswered}
-use Rattle.block_server.specs.Ports.{Lends, MayGoIn, with_part}
+use Rattle.block_server.specs.Ports.{Lends, LendsFound, MayGoIn, with_part}
 use Rattle.dma_frames.specs.Table.{Table}
 use Rattle.adapter.specs.Rules.{IsOn, HasPort}
 use Rattle.agreement.specs.Driven.{AgreesWith}
@@ -27,9 +27,10 @@ use Rattle.driver_history.specs.Holds.{Runs}
 use Rattle.host_boot.specs.Taken.{found_of}
 use Rattle.host_boot.specs.declared.Found.{Found}
 use Rattle.host_boot.specs.declared.Found.TheVariants.{Unserved, Ready as FoundReady, Unready}
-use Rattle.request_queue.specs.Entries.{Held, IsAccepted, IsInOrder, asks, asks_of, at, issue}
+use Rattle.identify.specs.declared.DiskInfo.{DiskInfo}
+use Rattle.request_queue.specs.Entries.{Held, IsAccepted, IsInOrder, asks, asks_of, at, due_ids, issue}
 use Rattle.request_queue.specs.declared.Entry.{Entry}
-use Rattle.server_history.specs.Served.{IssuesOne, task_of, use_for}
+use Rattle.server_history.specs.Served.{IssuesAll, IssuesEach, IssuesOne, task_of, use_for}
 use Rattle.server_history.specs.Server.{Server, IsKept, is_served, mode_in, no_slots, slots_at, state_of, with_slot}
 use Rattle.slots.specs.Uses.{Uses as PortSlots, IsLowestFree, IsTaken, with_use}
 use Rattle.ncq.specs.Tasks.{HasBlockOf, IssuesTask, RunsItsList, addresses_of, meaning_of}
@@ -213,3 +214,29 @@ next_due book port mode ids place d low turns =
     let r = t.0 in
     let x = map_in (λ (e : Held). asks e.entry) book r.0 r.3.here in
     (x.0, x.1, ap (λ (u : Unanswered). u.id) (sym x.2) ∙ r.1, ap (λ (u : Unanswered). u.port) (sym x.2) ∙ r.2, subst (IsDue mode (asks_of book)) x.2 r.3)
+
+-- ---- a port that was found so
+
+module _ (s : Server) (device : Device) (book : List Held) (slots : PortSlots) (port : Port) (mode : Mode) (found : Found) (l : LendsFound s device book slots port mode found) where
+  -- a ready one lends what issuing asks
+  pub lends_ready : (info : DiskInfo) → found ≡ FoundReady info → Lends s device book slots port mode
+  lends_ready info is = record {
+    kept = l.kept;
+    ready = ap state_of (l.found_is ∙ is);
+    device_is = l.device_is;
+    book_is = l.book_is;
+    slots_are = l.slots_are;
+    mode_is = l.mode_is;
+  }
+
+-- on another nothing is due, and so nothing issued
+pub none_issued : ((s : Server) (port : Port) → IsKept s → ((info : DiskInfo) → found_of s.ports port.0 ≡ FoundReady info → ⊥) → due_ids (mode_in s port) port (asks_of s.book) ≡ [])
+    → (s : Server) (device : Device) (book : List Held) (slots : PortSlots) (port : Port) (mode : Mode) (found : Found) → LendsFound s device book slots port mode found → ((info : DiskInfo) → found ≡ FoundReady info → ⊥)
+    → IssuesAll port s (with_part s device book slots port)
+none_issued undue s device book slots port mode found l unready =
+    subst (λ (ids : List RequestId). IssuesEach port ids s (with_part s device book slots port)) (sym (undue s port l.kept (λ info is. unready info (sym l.found_is ∙ is)))) same
+  where
+    same : with_part s device book slots port ≡ s
+    same =
+        (λ i. record s { device = sym l.device_is i; slots = set s.slots port.0 (sym l.slots_are i); book = sym l.book_is i })
+        ∙ ap (λ (list : List PortSlots). record s { slots = list }) (set-get_or s.slots port.0 no_slots)

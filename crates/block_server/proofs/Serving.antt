@@ -19,7 +19,7 @@ pub ready_there : (s : Server) (port : Port) → IsKept s → state_of (found_of
 ready_there s port k ready = k.there port.0 (served_ready (found_of s.ports port.0) ready)
 
 -- a mask that has the taken slots
-mask_of : (slots : PortSlots) (mask : ℕ) → ((slot : ℕ) → slot < 32 → (bit_at mask slot ≡ 1) ↔ IsTaken slots slot) → IsMaskOf slots mask
+pub mask_of : (slots : PortSlots) (mask : ℕ) → ((slot : ℕ) → slot < 32 → (bit_at mask slot ≡ 1) ↔ IsTaken slots slot) → IsMaskOf slots mask
 mask_of slots mask exact slot small = by (use_at slots slot) refl
   where
     by : (used : Option SlotUse) → use_at slots slot ≡ used → bit mask slot ≡ is_used (use_at slots slot)

@@ -12,6 +12,7 @@ use Rattle.agreement.specs.Slots.{IsOver}
 use Rattle.block_machine.specs.declared.due.Mode.{Mode}
 use Rattle.dma_frames.specs.Table.{Table}
 use Rattle.host_boot.specs.Taken.{found_of}
+use Rattle.host_boot.specs.declared.Found.{Found}
 use Rattle.ncq.specs.Tasks.{IsFit}
 use Rattle.ncq.specs.declared.Task.{Task}
 use Rattle.request_queue.specs.Entries.{Held, IsEarlier}
@@ -23,6 +24,15 @@ use Rattle.slots.specs.Uses.{Uses as PortSlots}
 pub record Lends (s : Server) (device : Device) (book : List Held) (slots : PortSlots) (port : Port) (mode : Mode) : Type 0 where
   pub kept : IsKept s
   pub ready : state_of (found_of s.ports port.0) ≡ Ready
+  pub device_is : s.device ≡ device
+  pub book_is : s.book ≡ book
+  pub slots_are : slots_at s.slots port.0 ≡ slots
+  pub mode_is : mode_in s port ≡ mode
+
+-- the same of a port that was found so
+pub record LendsFound (s : Server) (device : Device) (book : List Held) (slots : PortSlots) (port : Port) (mode : Mode) (found : Found) : Type 0 where
+  pub kept : IsKept s
+  pub found_is : found_of s.ports port.0 ≡ found
   pub device_is : s.device ≡ device
   pub book_is : s.book ≡ book
   pub slots_are : slots_at s.slots port.0 ≡ slots

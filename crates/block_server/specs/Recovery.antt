@@ -32,11 +32,12 @@ pub record LendsFailed (s : Server) (device : Device) (table : Table) (book : Li
   pub book_is : s.book ≡ book
   pub slots_are : slots_at s.slots port.0 ≡ slots
 
--- What was done was answered by replies that came after others, and the port was recovered: so it came to these loans, this book and these slots, and to this
+-- What was done was answered by replies that came after others, and the port was recovered; the server keeps what it keeps until then. So it came to these loans, this book and these slots, and to this
 -- device; to the request whose command failed, and to what the port has to go through.
 pub record RecoversRest (port : Port) (before after : List Reply) (failed : Option Failed) (next : Next) (s : Server) (table : Table) (book : List Held)
     (slots : PortSlots) (new : Device) : Type 0 where
   pub mid : Server
+  pub kept : IsKept mid
   pub recovered : IsRecovered port s mid new
   pub followed : IsFollowed (IsLooking port) AnyUse s.device recovered.seen
   pub mid_is : mid ≡ with_answers (record s { device = recovered.found }) table book slots port

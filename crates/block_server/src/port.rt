@@ -4,7 +4,7 @@ ghost use Rattle.adapter.specs.Rules.{HasPort, IsOn};
 ghost use Rattle.agreement.specs.Driven.{AgreesWith};
 ghost use Rattle.agreement.specs.Readying.{IsStored};
 ghost use Rattle.block_machine.specs.Due.{IsDue, due_of};
-ghost use Rattle.block_server.specs.Ports.{Lends, MayGoIn, with_part};
+ghost use Rattle.block_server.specs.Ports.{Lends, LendsFound, MayGoIn, with_part};
 ghost use Rattle.command_table.specs.Written.{IsUnused};
 ghost use Rattle.ncq.specs.Tasks.{HasBlockOf, IssuesTask, RunsItsList, addresses_of, meaning_of};
 ghost use Rattle.request_queue.specs.Entries.{Held, asks, asks_of};
@@ -17,12 +17,15 @@ use ata_types::{DRIVER_BYTES, Frame, Op, Port, RequestId, Slot};
 use block_machine::laws::due_in_turn;
 use block_machine::{Mode, is_plain};
 use flush_trim::{issue_flush, issue_trim};
+use host_boot::Found;
 use ncq::{Task, issue};
 use request_queue::Book;
 use request_queue::laws::{
     an_id_is_one_request, operations_change_what_is_due, the_book_stays_in_order,
 };
-use server_history::laws::{a_due_request_may_issue, requests_keep};
+use server_history::laws::{
+    a_due_request_may_issue, a_recovered_port_goes_on, requests_keep,
+};
 use slots::Slots;
 
 /// Issues a task in a slot that it may go in: the slot's command then says the task.
@@ -98,5 +101,25 @@ pub(crate) fn issue_due<A: Adapter>(
     let due = book.issuable(mode, port);
     for place in 0..due.len() {
         issue_one(adapter, book, slots, port, mode, due[place]);
+    }
+}
+
+/// Issues the due requests of a port that was found so and takes commands in this mode, in order of acceptance. On one that isn't ready none is due.
+pub(crate) fn issue_where_ready<A: Adapter>(
+    adapter: &mut A,
+    book: &mut Book,
+    slots: &mut Slots,
+    port: Port,
+    mode: Mode,
+    found: &Found,
+)
+    requires lends { (s : Server) × LendsFound s (A.device adapter.old) book.old slots.old port mode found.now }
+    ensures issues { (s : Server) → LendsFound s (A.device adapter.old) book.old slots.old port mode found.now
+        → IssuesAll port s (with_part s (A.device adapter.new) book.new slots.new port) }
+    ensures as_many { length book.new ≡ length book.old }
+{
+    a_recovered_port_goes_on();
+    if let Found::Ready(_) = found {
+        issue_due(adapter, book, slots, port, mode);
     }
 }

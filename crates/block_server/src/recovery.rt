@@ -70,7 +70,8 @@ pub(crate) fn order_from(replies: &mut Replies, first: usize)
 
 /// Whether the commands of the used slots are queued, which all of them are, or none.
 pub(crate) fn are_queued(slots: &Slots) -> bool
-    requires { (slot : ℕ) (used : SlotUse) → use_at slots.now slot ≡ Some used → AreQueued used.queued slots.now }
+    requires alike { (slot : ℕ) (used : SlotUse) → use_at slots.now slot ≡ Some used → AreQueued used.queued slots.now }
+    requires places { length slots.now.places ≡ 32 }
     ensures { AreQueued result slots.now }
 {
     let Some(slot) = slots.earliest(u32::MAX) else {

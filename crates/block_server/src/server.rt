@@ -6,7 +6,7 @@ use crate::answering::answer_done;
 use crate::kept::{KeptLoans, end_all, give_all_back, none_kept};
 use crate::modes::{PLAIN, modes_of, unused_slots};
 use crate::fates::settle;
-use crate::port::issue_due;
+use crate::port::{issue_due, issue_where_ready};
 use crate::recovery::{find_after, order_from, prospect_of, recover_rest};
 use adapter::{Adapter, DeviceStep, Stepped};
 use ata_types::{
@@ -89,7 +89,7 @@ impl<A: Adapter> Server<A> {
     ghost use Rattle.server_history.specs.Served.{AnswersDone};
     ghost use Rattle.server_history.specs.Turns.{ServesPort};
     ghost use Rattle.block_server.specs.Recovery.{SeesFailure};
-    ghost use Rattle.server_history.specs.Server.{Server as HistoryServer};
+    ghost use Rattle.adapter.specs.Device.{Device};
     ghost use Rattle.server_history.specs.Server.{IsSettled, disk_of, mode_at, remembered_at, situation_of, state_of, sectors_of, trims_of};
     ghost use Rattle.hba_regs.specs.Bits.{bit};
     ghost use Rattle.agreement.specs.Slots.{IsOver};
@@ -320,10 +320,13 @@ impl<A: Adapter> Server<A> {
     /// acceptance, where their disk is there still.
     fn recover_port(&mut self, port: Port, was: DiskInfo, replies: &mut Replies)
         requires ready { found_of self.old.ports port.0 ≡ Found.Ready was }
-        requires sees { (s : HistoryServer) × SeesFailure s port (A.device self.old.adapter) × (server_of A.device self.old ≡ record s { device = A.device self.old.adapter }) × IsSettled s }
+        requires sees { (before : Device) × SeesFailure (record (server_of A.device self.old) { device = before }) port (A.device self.old.adapter)
+            × IsSettled (record (server_of A.device self.old) { device = before }) }
         requires room { length replies.old.items + length self.old.book ≤ 128 }
-        ensures serves { (s : HistoryServer) → SeesFailure s port (A.device self.old.adapter) → server_of A.device self.old ≡ record s { device = A.device self.old.adapter } → IsSettled s
-            → (its : List Reply) × (replies.new.items ≡ replies.old.items ++ its) × ServesPort port its s (server_of A.device self.new) }
+        ensures serves { (before : Device) → SeesFailure (record (server_of A.device self.old) { device = before }) port (A.device self.old.adapter)
+            → IsSettled (record (server_of A.device self.old) { device = before })
+            → (its : List Reply) × (replies.new.items ≡ replies.old.items ++ its)
+            × ServesPort port its (record (server_of A.device self.old) { device = before }) (server_of A.device self.new) }
         ensures settled { IsSettled (server_of A.device self.new) }
         ensures ports { (q : ℕ) → q ≢ port.0 → found_of self.new.ports q ≡ found_of self.old.ports q }
         ensures room { length replies.new.items + length self.new.book ≤ 128 }
@@ -334,11 +337,12 @@ impl<A: Adapter> Server<A> {
         let first = replies.len();
         let wanted = self.wanted[place];
         let mode = self.mode(port);
+        let slots = &mut self.slots[place];
         let (failed, next) = recover_rest(
             &mut self.adapter,
             &mut self.book,
             &mut self.table,
-            &mut self.slots[place],
+            slots,
             port,
             replies,
         );
@@ -351,21 +355,19 @@ impl<A: Adapter> Server<A> {
         let kept = &mut self.kept[place];
         settle(&mut self.book, &mut self.table, kept, port, &failed, prospect, replies);
         order_from(replies, first);
-        if let Found::Ready(_) = found {
-            let slots = &mut self.slots[place];
-            issue_due(&mut self.adapter, &mut self.book, slots, port, mode);
-        }
+        let slots = &mut self.slots[place];
+        issue_where_ready(&mut self.adapter, &mut self.book, slots, port, mode, &found);
     }
 
     /// Looks at a ready port. Where commands of what it has issued are done, those requests are answered, and then what is due is issued. Where
-    /// the look tells of anything, nobody is answered.
+    /// the look tells that a command failed, the port is recovered; where it tells of anything else, nobody is answered.
     fn serve_port(&mut self, port: Port, replies: &mut Replies)
         requires ready { state_of (found_of self.old.ports port.0) ≡ Ready }
         requires room { length replies.old.items + length self.old.book ≤ 128 }
         ensures serves { (its : List Reply) × (replies.new.items ≡ replies.old.items ++ its)
             × ServesPort port its (server_of A.device self.old) (server_of A.device self.new) }
         ensures settled { IsSettled (server_of A.device self.new) }
-        ensures ports { self.new.ports ≡ self.old.ports }
+        ensures ports { (q : ℕ) → q ≢ port.0 → found_of self.new.ports q ≡ found_of self.old.ports q }
         ensures room { length replies.new.items + length self.new.book ≤ 128 }
     {
         looks_keep();

@@ -126,7 +126,7 @@ in_loans (x ∷ held) e here = ⊎_elim
 -- ---- what is parked
 
 -- a list with nobody in it
-nobody : {X : Type 0} (xs : List X) → ((x : X) → Contains xs x → ⊥) → xs ≡ []
+pub nobody : {X : Type 0} (xs : List X) → ((x : X) → Contains xs x → ⊥) → xs ≡ []
 nobody [] none = refl
 nobody (x ∷ xs) none = absurd (none x (Contains-get_or (x ∷ xs) 0 x (omega arith)))
 

@@ -1,18 +1,24 @@
 -- A port's turn in which a command had failed is a part of a service, and leaves the server settled.
-use Rattle.std.proofs.Common.{ℕ, List, ◌≡◌, ◌≢◌, inr, sym, ap, ◌∙◌, subst}
+use Rattle.std.proofs.Common.{ℕ, List, [], map, ◌≡◌, ◌≢◌, inr, sym, ap, ◌∙◌, subst}
 use Rattle.ata_types.specs.declared.Port.{Port}
 use Rattle.ata_types.specs.declared.PortState.TheVariants.{Ready as ReadyState}
 use Rattle.ata_types.specs.declared.request.Reply.{Reply}
 use Rattle.agreement.specs.Driven.{AnyUse, IsFollowed}
-use Rattle.block_machine.specs.Due.{IsDue, NoneDue, of_port}
+use Rattle.block_machine.specs.declared.due.Unanswered.{Unanswered}
+use Rattle.block_machine.proofs.Members.{map_in}
+use Rattle.std.specs.List.{Contains}
+use Rattle.server_history.proofs.Meeting.{nobody}
+use Rattle.block_machine.specs.Due.{due_of, IsDue, NoneDue, of_port}
 use Rattle.block_machine.specs.Histories.{IsReached}
 use Rattle.block_machine.specs.State.{Machine}
 use Rattle.block_machine.specs.declared.due.Mode.{Mode}
 use Rattle.block_machine.proofs.HistoryLemmas.{reached_more}
 use Rattle.host_boot.specs.Taken.{found_of}
+use Rattle.host_boot.specs.declared.Found.TheVariants.{Ready}
+use Rattle.identify.specs.declared.DiskInfo.{DiskInfo}
 use Rattle.port_boot.specs.States.{ShowsOwnDisk}
 use Rattle.port_look.specs.Looks.{IsLooking}
-use Rattle.request_queue.specs.Entries.{asks_of, due_ids}
+use Rattle.request_queue.specs.Entries.{Held, asks, asks_of, due_ids}
 use Rattle.server_history.specs.Below.{LawsBelow}
 use Rattle.server_history.specs.Recovered.{IsSettledAfter, RecoversPort}
 use Rattle.server_history.specs.Server.{IsKept, IsMachineOf, IsSettled, Server, mode_in, state_of}
@@ -25,7 +31,7 @@ use Rattle.server_history.proofs.Following.{adds_fates}
 use Rattle.server_history.proofs.Looking.{looking_kept}
 use Rattle.server_history.proofs.Recovered.{recovered_kept}
 use Rattle.server_history.proofs.Rounds.{each_apart, each_settings, settled}
-use Rattle.server_history.proofs.Slots.{ready_found}
+use Rattle.server_history.proofs.Slots.{of_ready, ready_found}
 
 -- once its requests met their fates, the server keeps what it keeps
 pub goes_on : LawsBelow → (port : Port) (later : List Reply) (old new : Server) → IsKept old → state_of (found_of old.ports port.0) ≡ ReadyState → (a : IsSettledAfter port later old new)
@@ -33,6 +39,18 @@ pub goes_on : LawsBelow → (port : Port) (later : List Reply) (old new : Server
 goes_on laws port later old new k ready a looks =
     let f = adds_fates laws port later old new k ready a looks k.machine k.reached k.stands in
     recovered_kept laws port later old new k ready a looks _ (reached_more k.machine _ k.reached f.may) f.stands
+
+-- nothing is due on a port that isn't ready
+pub unready_undue : LawsBelow → (s : Server) → IsKept s → (port : Port) → ((info : DiskInfo) → found_of s.ports port.0 ≡ Ready info → ⊥) → due_ids (mode_in s port) port (asks_of s.book) ≡ []
+unready_undue laws s k port unready = ap (map (λ (r : Unanswered). r.id)) (nobody (due_of (mode_in s port) port (asks_of s.book)) none)
+  where
+    none : (r : Unanswered) → Contains (due_of (mode_in s port) port (asks_of s.book)) r → ⊥
+    none r here =
+        let own = laws.own (mode_in s port) port (asks_of s.book) r here in
+        let y = map_in (λ (x : Held). asks x.entry) s.book r ((laws.exact (mode_in s port) port (asks_of s.book) r own).0 here).here in
+        let ready = ap (λ (q : Port). state_of (found_of s.ports q.0)) (sym own ∙ ap (λ (u : Unanswered). u.port) y.2) ∙ of_ready s k y.0 y.1 in
+        let found = (ready_found s port.0 k ready).1 in
+        unready found.0 found.1
 
 module _ (laws : LawsBelow) (port : Port) (replies : List Reply) (old new : Server) (t : IsSettled old) (ready : state_of (found_of old.ports port.0) ≡ ReadyState)
     (r : RecoversPort port replies old new) (looks : IsFollowed (IsLooking port) AnyUse old.device r.settled.recovered.seen) where

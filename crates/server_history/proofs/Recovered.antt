@@ -152,6 +152,12 @@ module _ (laws : LawsBelow) (port : Port) (old mid : Server) (device : Device) (
   same : SameAdapter mid.device device
   same = same_over laws port mid.device device passed.1.driven
 
+  -- how the port takes commands, by what the adapter is capable of
+  pub mode_still : mode_in old port ≡ mode_found device.cap (found_of old.ports port.0)
+  mode_still =
+      sym (ap (λ (n : Server). mode_in n port) settings) ∙ mid_kept.modes port.0 low
+      ∙ ap (λ (cap : ℕ). mode_found cap (found_of mid.ports port.0)) (sym same.cap) ∙ ap (λ (ports : List Found). mode_found device.cap (found_of ports port.0)) ports_same
+
   -- a port that has to be booted may be
   pub bootable : (token : Stopped) → r.result.next ≡ next.Restart token → IsBootable port device × IsStopped (device.port port.0)
   bootable token is = (

@@ -29,11 +29,12 @@ ghost use Rattle.command_table.specs.Written.{IsUnused};
 ghost use Rattle.dma_frames.specs.Loan.{Lending};
 ghost use Rattle.dma_frames.specs.Table.{Table, LendsOnly, owner_of, lent_to};
 ghost use Rattle.host_boot.specs.Taken.{found_of, TakesOver};
-ghost use Rattle.host_boot.specs.declared.Found.TheVariants.{Unready};
+ghost use Rattle.host_boot.specs.declared.Found.TheVariants.{Ready, Unready};
+ghost use Rattle.identify.specs.declared.DiskInfo.{DiskInfo};
 ghost use Rattle.host_boot.specs.declared.Host.{Host};
 ghost use Rattle.hba_regs.specs.Bits.{bit};
 ghost use Rattle.ncq.specs.Masks.{ReadsDone, SeesClear};
-ghost use Rattle.request_queue.specs.Entries.{Held, asks, asks_of};
+ghost use Rattle.request_queue.specs.Entries.{Held, asks, asks_of, due_ids};
 ghost use Rattle.request_queue.specs.Fates.{Holdings, MeetFates, fate_of};
 ghost use Rattle.request_queue.specs.declared.fate.Failed.{Failed};
 ghost use Rattle.request_queue.specs.declared.fate.Prospect.{Prospect};
@@ -44,7 +45,7 @@ ghost use Rattle.server_history.specs.Below.{LawsBelow};
 ghost use Rattle.server_history.specs.Histories.{Adds, HasBegun, load_said, store_said};
 ghost use Rattle.server_history.specs.Served.{Accepts, AnswersDone, AnswersOne, HasNone, IsMaskOf, IssuesAll, IssuesOne, accepting};
 ghost use Rattle.server_history.specs.Turns.{ServePorts, ServesPort};
-ghost use Rattle.server_history.specs.Server.{AreOfTwo, Server, IsKept, IsLentOut, IsNewServer, IsSettled, kept_at, mode_in, ports_of, situation_of, slots_at, state_of, used_for};
+ghost use Rattle.server_history.specs.Server.{AreOfTwo, Server, mode_found, IsKept, IsLentOut, IsNewServer, IsSettled, kept_at, mode_in, ports_of, situation_of, slots_at, state_of, used_for};
 ghost use Rattle.slots.specs.Uses.{IsLowestFree, IsTaken};
 ghost use Rattle.slots.specs.declared.Use.{Use as SlotUse};
 ghost use Rattle.port_look.specs.Looks.{IsLooking, LooksAt};
@@ -345,16 +346,21 @@ pub fn a_failed_port_may_be_recovered()
     the_laws_below_hold();
 }
 
-/// What comes after a recovery. A port that has to be booted may be; there is a place for the loan of each request of the port that is issued; and once
-/// its requests met their fates, the server goes on.
+/// What comes after a recovery. A port that has to be booted may be; how it takes commands is what it was, by what the adapter is capable of; there is a
+/// place for the loan of each request of the port that is issued; once its requests met their fates, the server goes on; and nothing is due on a port
+/// that isn't ready.
 pub fn a_recovered_port_goes_on()
     ensures bootable { (s mid : Server) (device : Device) (port : Port) (token : Stopped) → IsKept s → state_of (found_of s.ports port.0) ≡ ReadyState
         → (r : IsRecovered port s mid device) → IsFollowed (IsLooking port) AnyUse s.device r.seen → r.result.next ≡ Restart token
         → IsBootable port device × IsStopped (device.port port.0) }
+    ensures mode { (s mid : Server) (device : Device) (port : Port) → IsKept s → state_of (found_of s.ports port.0) ≡ ReadyState
+        → (r : IsRecovered port s mid device) → IsFollowed (IsLooking port) AnyUse s.device r.seen → mode_in s port ≡ mode_found device.cap (found_of s.ports port.0) }
     ensures places { (s : Server) (port : Port) → IsKept s → state_of (found_of s.ports port.0) ≡ ReadyState
         → (kept_at s.kept port.0 ≡ []) × (count_by (λ (e : Held). e.entry.issued) (requests_of port s.book) ≤ 32) }
     ensures settled { (s new : Server) (port : Port) (later : List Reply) → IsKept s → state_of (found_of s.ports port.0) ≡ ReadyState
         → (a : IsSettledAfter port later s new) → IsFollowed (IsLooking port) AnyUse s.device a.recovered.seen → IsKept new }
+    ensures undue { (s : Server) (port : Port) → IsKept s → ((info : DiskInfo) → found_of s.ports port.0 ≡ Ready info → ⊥)
+        → due_ids (mode_in s port) port (asks_of s.book) ≡ [] }
 {
     the_laws_below_hold();
 }

@@ -1,6 +1,6 @@
-use Rattle.server_history.proofs.Mending.{goes_on}
+use Rattle.server_history.proofs.Mending.{goes_on, unready_undue}
 use Rattle.server_history.proofs.Counted.{places}
-use Rattle.server_history.proofs.Recovered.{bootable}
+use Rattle.server_history.proofs.Recovered.{bootable, mode_still}
 use Rattle.server_history.proofs.laws.a_recovered_port_goes_on.Goals as goal
 
 pub returns-clause-places : goal.returns-clause-places
@@ -11,3 +11,9 @@ returns-clause-bootable c = λ s mid device port token k ready r looks. bootable
 
 pub returns-clause-settled : goal.returns-clause-settled
 returns-clause-settled c = λ s new port later k ready a looks. goes_on c.the_laws_below_hold.ensures port later s new k ready a looks
+
+pub returns-clause-mode : goal.returns-clause-mode
+returns-clause-mode c = λ s mid device port k ready r looks. mode_still c.the_laws_below_hold.ensures port s mid device k ready r looks
+
+pub returns-clause-undue : goal.returns-clause-undue
+returns-clause-undue c = λ s port k unready. unready_undue c.the_laws_below_hold.ensures s k port unready

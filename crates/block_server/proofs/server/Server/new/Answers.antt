@@ -23,7 +23,7 @@ invariant_of-result g c =
     let room : 4096 * plan.frames ≤ s.device.size = let f = c.in-Ok.ensures.made.frames in let r = c.requires.ready.room c.in-Ok.ensures.sound in let z = c.take_over-host.ensures.taken.same.size in omega (arith, f, r, z) in
     (c.a_new_server_has_begun.ensures s c.take_over-host.result (device c.args.adapter) c.requires.ready.idle (g.met.A.Adapter.tells c.args.adapter) c.take_over-host.ensures.taken
     (new_fits s c.take_over-host.result plan c.in-Ok.ensures.fits (subst (λ (rows : List GrantRow). SameRows rows c.in-Ok-from_rows.grants) c.grants.ensures.grants c.in-Ok-from_rows.ensures.rows)
-    (rw c.owners.ensures.owners at c.in-Ok-boxed.ensures.only) room c.in-Ok-from_rows.ensures.names c.in-Ok-from_rows.ensures.few c.in-Ok-boxed.ensures.free refl c.take_over-host.ensures.four refl (none_remembered 4) (none_kept c.in-Ok-none_kept.kept c.in-Ok-none_kept.ensures).0 (none_kept c.in-Ok-none_kept.kept c.in-Ok-none_kept.ensures).1 (search rules) c.unused_slots.ensures.places
+    (rw c.owners.ensures.owners at c.in-Ok-boxed.ensures.only) room c.in-Ok-from_rows.ensures.names c.in-Ok-from_rows.ensures.few c.in-Ok-boxed.ensures.free refl c.take_over-host.ensures.four refl (none_remembered 4) (none_kept c.in-Ok-none_kept.kept c.in-Ok-none_kept.ensures).0 (none_kept c.in-Ok-none_kept.kept c.in-Ok-none_kept.ensures).1 (search rules) (search rules) c.unused_slots.ensures.places
     (λ port low. c.modes_of-modes.ensures.found s.device.cap port c.take_over-host.ensures.taken.slots c.take_over-host.ensures.taken.queued low) c.unused_slots.ensures.usable c.unused_slots.ensures.unused c.in-Ok-new.ensures refl)).0
 
 pub returns-clause-made : goal.returns-clause-made
@@ -35,7 +35,7 @@ returns-clause-made g c =
     let room : 4096 * plan.frames ≤ s.device.size = let f = c.in-Ok.ensures.made.frames in let r = c.requires.ready.room c.in-Ok.ensures.sound in let z = c.take_over-host.ensures.taken.same.size in omega (arith, f, r, z) in
     let begun = c.a_new_server_has_begun.ensures s c.take_over-host.result (device c.args.adapter) c.requires.ready.idle (g.met.A.Adapter.tells c.args.adapter) c.take_over-host.ensures.taken
     (new_fits s c.take_over-host.result plan c.in-Ok.ensures.fits rows
-    (rw c.owners.ensures.owners at c.in-Ok-boxed.ensures.only) room c.in-Ok-from_rows.ensures.names c.in-Ok-from_rows.ensures.few c.in-Ok-boxed.ensures.free refl c.take_over-host.ensures.four refl (none_remembered 4) (none_kept c.in-Ok-none_kept.kept c.in-Ok-none_kept.ensures).0 (none_kept c.in-Ok-none_kept.kept c.in-Ok-none_kept.ensures).1 (search rules) c.unused_slots.ensures.places
+    (rw c.owners.ensures.owners at c.in-Ok-boxed.ensures.only) room c.in-Ok-from_rows.ensures.names c.in-Ok-from_rows.ensures.few c.in-Ok-boxed.ensures.free refl c.take_over-host.ensures.four refl (none_remembered 4) (none_kept c.in-Ok-none_kept.kept c.in-Ok-none_kept.ensures).0 (none_kept c.in-Ok-none_kept.kept c.in-Ok-none_kept.ensures).1 (search rules) (search rules) c.unused_slots.ensures.places
     (λ port low. c.modes_of-modes.ensures.found s.device.cap port c.take_over-host.ensures.taken.slots c.take_over-host.ensures.taken.queued low) c.unused_slots.ensures.usable c.unused_slots.ensures.unused c.in-Ok-new.ensures refl) in
     record {
       plan = plan;

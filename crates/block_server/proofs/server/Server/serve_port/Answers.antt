@@ -1,4 +1,5 @@
-use Rattle.std.proofs.Common.{[], append-nil, arith, length, sym, ap, subst}
+use Rattle.std.proofs.Common.{[], append-nil, sym, ap, ◌∙◌, subst}
+use Rattle.host_boot.specs.Taken.{found_of}
 use Rattle.block_server.specs.Seen.{seen}
 use Rattle.block_server.specs.View.{ServerView, server_of}
 use Rattle.server_history.specs.Served.{IsMaskOf}
@@ -16,24 +17,52 @@ invariant_of-self g c =
     let seen_kept = c.looks_keep.ensures.looking s (device c.look_at.new.adapter) c.args.port c.self.invariant.kept ready c.look_at.ensures.followed in
     record { kept = seen_kept; issued = c.self.invariant.issued }
 
-pub returns-in_default : goal.returns-in_default
-returns-in_default g c =
+pub invariant_of-self-in_default-look_at : goal.invariant_of-self-in_default-look_at
+invariant_of-self-in_default-look_at g c =
     let device = g.A.Adapter.device in
     let s = server_of device (seen c.self.inside) in
     let ready = finishing.ready_before device (seen c.self.inside) c.args.self.now c.self.view_is c.self.invariant c.args.port c.requires.ready in
     let seen_kept = c.looks_keep.ensures.looking s (device c.look_at.new.adapter) c.args.port c.self.invariant.kept ready c.look_at.ensures.followed in
-    let same = ap (λ (v : ServerView g.row.A.Denot). length v.book) c.self.view_is in
-    let P : ServerView g.row.A.Denot → Type 0 = λ v. ServesPort c.args.port [] (server_of device v) (record s { device = device c.look_at.new.adapter }) in
-    record {
-      serves = (
-        [],
-        sym (append-nil c.args.replies.now.items),
-        subst P c.self.view_is (c.a_port_is_served.ensures.told s (device c.look_at.new.adapter) c.args.port c.look_at.result c.self.invariant ready c.look_at.ensures.looks c.look_at.ensures.followed c.in_default.not-Undisturbed),
-      );
-      settled = record { kept = seen_kept; issued = c.self.invariant.issued };
-      ports = ap (λ (v : ServerView g.row.A.Denot). v.ports) c.self.view_is;
-      room = let room = c.requires.room in omega (arith, room, same);
-    }
+    record { kept = seen_kept; issued = c.self.invariant.issued }
+
+pub returns-in_default-look_at-clause-serves : goal.returns-in_default-look_at-clause-serves
+returns-in_default-look_at-clause-serves g c =
+    let device = g.A.Adapter.device in
+    let s = server_of device (seen c.self.inside) in
+    let ready = finishing.ready_before device (seen c.self.inside) c.args.self.now c.self.view_is c.self.invariant c.args.port c.requires.ready in
+    let P : ServerView g.row.A.Denot → Type 0 = λ v. ServesPort c.args.port [] (server_of device v) (record s { device = device c.look_at.new.adapter }) in (
+      [],
+      sym (append-nil c.args.replies.now.items),
+      subst P c.self.view_is (c.a_port_is_served.ensures.told s (device c.look_at.new.adapter) c.args.port c.look_at.result c.self.invariant ready c.look_at.ensures.looks c.look_at.ensures.followed c.in_default-look_at.not-Undisturbed c.in_default-look_at.not-Failed),
+    )
+
+pub returns-in_default-look_at-clause-settled : goal.returns-in_default-look_at-clause-settled
+returns-in_default-look_at-clause-settled g c =
+    let device = g.A.Adapter.device in
+    let s = server_of device (seen c.self.inside) in
+    let ready = finishing.ready_before device (seen c.self.inside) c.args.self.now c.self.view_is c.self.invariant c.args.port c.requires.ready in
+    let seen_kept = c.looks_keep.ensures.looking s (device c.look_at.new.adapter) c.args.port c.self.invariant.kept ready c.look_at.ensures.followed in
+    record { kept = seen_kept; issued = c.self.invariant.issued }
+
+pub recover_port-requires-clause-sees : goal.recover_port-requires-clause-sees
+recover_port-requires-clause-sees g c =
+    let device = g.A.Adapter.device in
+    let s = server_of device (seen c.self.inside) in
+    let ready = finishing.ready_before device (seen c.self.inside) c.args.self.now c.self.view_is c.self.invariant c.args.port c.requires.ready in
+    (device c.self.inside.adapter, record { kept = c.self.invariant.kept; ready = ready; looks = c.in-Failed.ensures.looks; followed = c.look_at.ensures.followed }, c.self.invariant)
+
+pub returns-in-Failed-clause-serves : goal.returns-in-Failed-clause-serves
+returns-in-Failed-clause-serves g c =
+    let device = g.A.Adapter.device in
+    let s = server_of device (seen c.self.inside) in
+    let ready = finishing.ready_before device (seen c.self.inside) c.args.self.now c.self.view_is c.self.invariant c.args.port c.requires.ready in
+    let done = c.recover_port.ensures.serves (device c.self.inside.adapter) (record { kept = c.self.invariant.kept; ready = ready; looks = c.in-Failed.ensures.looks; followed = c.look_at.ensures.followed }) c.self.invariant in
+    let P : ServerView g.row.A.Denot → Type 0 = λ v. ServesPort c.args.port done.0 (server_of device v) (server_of device c.recover_port.new.self) in
+    (done.0, done.1, subst P c.self.view_is done.2)
+
+pub returns-in-Failed-clause-ports : goal.returns-in-Failed-clause-ports
+returns-in-Failed-clause-ports g c = λ q other.
+    c.recover_port.ensures.ports q other ∙ ap (λ (v : ServerView g.row.A.Denot). found_of v.ports q) c.self.view_is
 
 pub invariant_of-self-then-used-eq0 : goal.invariant_of-self-then-used-eq0
 invariant_of-self-then-used-eq0 g c =

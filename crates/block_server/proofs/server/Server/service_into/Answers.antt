@@ -1,6 +1,7 @@
 use Rattle.std.proofs.Common.{◌≡◌, ◌++◌, List, append_assoc, arith, length, sym, ap, ◌∙◌, subst, rules}
 use Rattle.ata_types.specs.declared.request.Reply.{Reply}
 use Rattle.block_server.specs.View.{ServerView, server_of}
+use Rattle.host_boot.specs.Taken.{found_of}
 use Rattle.host_boot.specs.declared.Found.{Found}
 use Rattle.server_history.specs.Turns.{ServePorts}
 use Rattle.server_history.specs.Server.{IsSettled}
@@ -22,7 +23,7 @@ loop-number-preserved g c =
           subst W (sym (ap (λ (told : List Reply). told ++ later) served.1 ∙ append_assoc c.loop-number.replies.items served.0 later))
           (so_far.rest (served.0 ++ later) new
           (one_served ports c.loop-number.number c.in-Ready.field-0 s mid new served.0 later (omega (arith, four, c.loop-number-test.true)) c.in-Ready.is c.serve_port.ensures.settled served.2 more));
-      ports = c.serve_port.ensures.ports ∙ so_far.ports;
+      ports = λ q more. c.serve_port.ensures.ports q (λ same. omega (arith, more, same)) ∙ so_far.ports q (omega (arith, more));
       room = c.serve_port.ensures.room;
     }
 
@@ -50,6 +51,6 @@ loop-number-init g c =
           let W : List Found → Type 0 = λ ports. ServePorts 0 ports later (server_of g.A.Adapter.device c.args.self.now) new in
           let T : List Reply → Type 0 = λ told. ServePorts 0 c.args.self.now.ports (told ++ later) (server_of g.A.Adapter.device c.args.self.now) new in
           subst T (sym c.clear.ensures) (subst W ports served);
-      ports = sym ports;
+      ports = λ q more. ap (λ (found : List Found). found_of found q) (sym ports);
       room = let all = c.the_book_stays_in_order.ensures.all c.self.inside.book c.self.invariant.kept.ordered in let none = ap length c.clear.ensures in omega (arith, all, none, same);
     }

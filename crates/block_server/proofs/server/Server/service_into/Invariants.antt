@@ -1,4 +1,5 @@
-use Rattle.std.proofs.Common.{◌≡◌, ◌+◌, ◌≤◌, ◌++◌, List, drop, length}
+use Rattle.std.proofs.Common.{ℕ, ◌≡◌, ◌+◌, ◌≤◌, ◌++◌, List, drop, length}
+use Rattle.host_boot.specs.Taken.{found_of}
 use Rattle.ata_types.specs.declared.request.Reply.{Reply}
 use Rattle.server_history.specs.Turns.{ServePorts}
 use Rattle.server_history.specs.Server.{Server}
@@ -9,6 +10,6 @@ abbrev pub invariant-loop-number : goal.invariant-loop-number
 invariant-loop-number g l = record {
   rest : (later : List Reply) (new : Server) → ServePorts l.number (drop l.number l.ports) later (server_of g.A.Adapter.device l.self) new
       → ServePorts 0 l.fn.self.ports (l.replies.items ++ later) (server_of g.A.Adapter.device l.fn.self) new;
-  ports : l.self.ports ≡ l.ports;
+  ports : (q : ℕ) → l.number ≤ q → found_of l.self.ports q ≡ found_of l.ports q;
   room : length l.replies.items + length l.self.book ≤ 128;
 }
