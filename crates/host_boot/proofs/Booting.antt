@@ -1,5 +1,5 @@
 -- A stopped port is booted, when its adapter is taken over or later.
-use Rattle.std.proofs.Common.{ℕ, ◌≡◌, ◌≢◌, length, sym, ◌∙◌, ap, arith}
+use Rattle.std.proofs.Common.{ℕ, ◌≡◌, ◌≢◌, length, sym, ◌∙◌, ap, arith, subst}
 use Rattle.ata_types.specs.declared.Port.{Port}
 use Rattle.hba_regs.specs.declared.reg.Reg.TheVariants.{Cap}
 use Rattle.adapter.specs.Access.{Reads}
@@ -16,7 +16,7 @@ use Rattle.port_boot.specs.States.{IsBootable, IsOfBoot}
 use Rattle.host_boot.specs.Again.{BootsStopped}
 use Rattle.host_boot.specs.Laws.{Laws}
 use Rattle.host_boot.specs.Laws.Stretch.{Surveying}
-use Rattle.host_boot.specs.Taken.{Boots, GoesThrough, IsSurvey, StandsBehind, WroteControl}
+use Rattle.host_boot.specs.Taken.{Boots, GoesThrough, HaltsFound, IsSurvey, StandsBehind, WroteControl}
 use Rattle.host_boot.specs.declared.Found.{Found}
 use Rattle.host_boot.specs.declared.Found.TheVariants.{Unserved, Ready, Unready}
 use Rattle.host_boot.proofs.Hosting.{cap_on}
@@ -35,6 +35,10 @@ stopped_on old new l is = record {
   };
   sact = λ slot. l.keeps.sact slot (is.sact slot);
 }
+
+-- what halts a port that is ready then
+pub found_halts : (wanted : Wanted) (port : Port) (old new : Device) (found : Found) → BootsStopped wanted port found old new → HaltsFound found port.0 new
+found_halts wanted port old new found b info is = (subst (λ (f : Found). BootsStopped wanted port f old new) is b).halts
 
 module _ (laws : Laws) where
   -- the accesses of a boot

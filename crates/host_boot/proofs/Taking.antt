@@ -2,11 +2,13 @@
 use Rattle.std.proofs.Common.{ℕ, true, ◌≡◌, ◌≢◌, ◌<◌, ◌≤◌, ◌+◌, ◌/◌, ◌%◌, ◌++◌, List, length, inl, inr, refl, sym, ◌∙◌, ap, subst, arith, le_trans}
 use Rattle.std.specs.Prelude.{slice_set}
 use Rattle.std.proofs.lemmas.Bool.{cases_eq}
+use Rattle.std.specs.List.{All}
+use Rattle.std.proofs.lemmas.List.Elements.{All-weaker}
 use Rattle.std.proofs.lemmas.List.{length-set, length-append, get_or-set_same, get_or-set_other}
 use Rattle.ata_types.specs.declared.Port.{Port}
 use Rattle.ata_types.specs.declared.PortState.{PortState}
 use Rattle.ata_types.specs.declared.PortState.TheVariants.{Absent, Ready as ReadyState, Foreign, Unfit, Dead}
-use Rattle.hba_regs.specs.declared.reg.PortReg.TheVariants.{Ci, Sact}
+use Rattle.hba_regs.specs.declared.reg.PortReg.TheVariants.{Ci, Cmd, Sact}
 use Rattle.hba_regs.specs.declared.reg.Reg.TheVariants.{Bohc, Cap, Cap2, Ghc, Is, Pi, Px, Vs}
 use Rattle.hba_regs.specs.Bits.{bit}
 use Rattle.hba_regs.specs.declared.reg.PortReg.{PortReg}
@@ -20,19 +22,21 @@ use Rattle.adapter.specs.declared.command.Operation.TheVariants.{Identify}
 use Rattle.agreement.specs.Agrees.{port_at}
 use Rattle.agreement.specs.Driven.{AnyUse, IsAgreed, IsDrivenBy, IsFollowed, IsFollowedTo, IsOf, IsToldTo, IsUse, LeavesPort, NoneWrites, SendsNone, AreDevices}
 use Rattle.agreement.specs.Driver.{AllFree}
-use Rattle.agreement.specs.Links.{SameAdapter}
+use Rattle.agreement.specs.Halting.{HaltsAsTaken, IsHaltedAsTaken}
+use Rattle.agreement.specs.Links.{SameAdapter, SparesRegister}
 use Rattle.agreement.specs.Slots.{Free, Own, Uses, put}
+use Rattle.identify.specs.declared.DiskInfo.{DiskInfo}
 use Rattle.identify.specs.declared.wanted.Wanted.{Wanted}
 use Rattle.identify.specs.declared.wanted.Wanted.TheVariants.{Nothing}
 use Rattle.port_control.specs.Engines.{StopsBoth}
 use Rattle.port_boot.specs.States.{IsBoot, IsBootTo, IsOfBoot}
-use Rattle.host_boot.specs.Taken.{Boots, GoesOver, IsLeft, IsOfHost, IsOfTaking, LeavesPorts, StandsBehind, TakesOver, TellsEngines, WroteControl, found_of, unused, wanted_of}
+use Rattle.host_boot.specs.Taken.{Boots, GoesOver, HaltsFound, IsLeft, IsOfHost, IsOfTaking, LeavesPorts, StandsBehind, TakesOver, TellsEngines, WroteControl, found_of, unused, wanted_of}
 use Rattle.host_boot.specs.declared.Host.{Host}
 use Rattle.host_boot.specs.declared.Found.{Found}
 use Rattle.host_boot.specs.declared.Found.TheVariants.{Unserved, Ready, Unready}
 use Rattle.host_boot.proofs.Stopping.{tells_then, tells_since}
 use Rattle.host_boot.proofs.Leaving.{idle_on, is_served, stands_on, reset_on}
-use Rattle.agreement.specs.Acts.{Comes, at}
+use Rattle.agreement.specs.Acts.{Comes, InSlots, at}
 use Rattle.host_boot.specs.Laws.{Laws, Fitting, uses_of}
 use Rattle.block_machine.specs.Steps.{May}
 use Rattle.agreement.specs.Tape.{Tells}
@@ -60,6 +64,7 @@ pub record IsUnderway (wanted : List Wanted) (ports : List Found) (n : ℕ) (sta
   pub agreed : IsAgreed uses d
   pub stands : (port : ℕ) → port < n → StandsBehind (wanted_of wanted port) (found_of ports port) port d
   pub reset : (port : ℕ) → port < n → WroteControl (found_of ports port) port (length start.tape) d
+  pub halts : (port : ℕ) → port < n → HaltsFound (found_of ports port) port d
   pub idle : (port : ℕ) → n ≤ port → IsIdlePort (d.port port)
 
 host_spares : (q : Port) (r : PortReg) → NoneWrites IsOfHost (Px q r)
@@ -76,6 +81,17 @@ host_spares q r (Writing Bohc v) is = absurd is
 host_spares q r (Writing (Px p x) v) is = absurd is
 
 module _ (laws : Laws) where
+  -- what halts a port is of a taken command still, over what was followed without a write of its PxCMD, where it was found ready
+  still_halts : (May : Access → Type 0) (Fits : Uses → Type 0) (next : Uses → Uses) (uses : Uses) (q : ℕ) (old new : Device) → NoneWrites May (Px (port_at q) Cmd) → Fits uses
+      → IsFollowedTo May Fits next old new → IsAgreed uses old → (wanted : Wanted) (found : Found) → StandsBehind wanted found q new → HaltsFound found q old → HaltsFound found q new
+  still_halts May Fits next uses q old new spares fits f a wanted found stands halts info is =
+      let slots : InSlots = record { uses = uses; parked = a.parked } in
+      let c = f.comes slots a.machine a.reached a.knows fits in
+      let then : IsHaltedAsTaken (new.port q) =
+      laws.halts_acts (port_at q) c.acts (at slots old) (at (record slots { uses = next uses }) new) a.machine a.reached a.knows c.done
+      (subst (All (SparesRegister (Px (port_at q) Cmd))) (sym c.accesses_are) (All-weaker May (SparesRegister (Px (port_at q) Cmd)) spares f.driven.accesses f.driven.only)) (λ _. halts info is) in
+      then (subst (λ (x : Found). StandsBehind wanted x q new) is stands).1.runs.st
+
   module _ (wanted : List Wanted) (first : Uses) where
     -- nothing is put to use
     pub goes_on : (old new : Device) → IsFollowed (IsOfTaking wanted) AnyUse old new → GoesTo (IsOfTaking wanted) first first old new
@@ -94,7 +110,7 @@ module _ (laws : Laws) where
 
   module _ (wanted : List Wanted) (ports : List Found) (port : Port) (below : port.0 < 4) (start old new : Device) (found : Found)
       (u : IsUnderway wanted ports port.0 start old) (on : IsOn new) (stands : StandsBehind (wanted_of wanted port.0) found port.0 new)
-      (reset : WroteControl found port.0 (length old.tape) new) where
+      (reset : WroteControl found port.0 (length old.tape) new) (halts : HaltsFound found port.0 new) where
     abbrev Later : Type 0
     Later = IsUnderway wanted (slice_set ports port.0 found) (port.0 + 1) start new
 
@@ -209,6 +225,21 @@ module _ (laws : Laws) where
     unused_here : AllFree u.uses port.0
     unused_here slot = u.free port.0 slot (omega arith)
 
+    -- what halts the ports
+    later_halts : (next : Uses → Uses) → IsFollowedTo (IsOfBoot port) (λ uses. AllFree uses port.0) next old new
+        → ((q : ℕ) → q < port.0 + 1 → StandsBehind (wanted_of wanted q) (found_of (slice_set ports port.0 found) q) q new)
+        → (q : ℕ) → q < port.0 + 1 → HaltsFound (found_of (slice_set ports port.0 found) q) q new
+    later_halts next f stand q less = elim (cases_eq q port.0) [
+      | inl e ↦
+          let P : ℕ → Type 0 = λ k. HaltsFound (found_of (slice_set ports port.0 found) k) k new in
+          let Q : Found → Type 0 = λ f. HaltsFound f port.0 new in
+          subst P (sym e) (subst Q (sym here_is) halts)
+      | inr other ↦
+          let Q : Found → Type 0 = λ f. HaltsFound f q old in
+          still_halts (IsOfBoot port) (λ uses. AllFree uses port.0) next u.uses q old new (λ access may. laws.of_spares port (port_at q) Cmd other access (laws.of_boot port access may)) unused_here f u.agreed
+          (wanted_of wanted q) (found_of (slice_set ports port.0 found) q) (stand q less) (subst Q (sym (other_is q other)) (u.halts q (omega (arith, less, other))))
+    ]
+
     pub booted : found ≢ Unserved → IsBoot (TellsEngines port found) port old new → Later
     booted served told =
         let f : IsFollowed (IsOfBoot port) (λ uses. AllFree uses port.0) old new = told.followed in
@@ -231,6 +262,7 @@ module _ (laws : Laws) where
               (told_wider laws (TellsEngines port found) (Booting port) (Taking wanted (PortUnused port)) (λ uses. uses) old new (taking f.driven quiet served) (λ uses free. free) told);
           agreed = laws.agreed (Booting port) (λ uses. uses) u.uses old new unused_here f u.agreed;
           stands = later_stands f.driven quiet;
+          halts = later_halts (λ uses. uses) f (later_stands f.driven quiet);
           reset = later_reset f.driven quiet;
           idle = later_idle f.driven quiet;
         }
@@ -276,6 +308,7 @@ module _ (laws : Laws) where
               (told_wider laws (TellsEngines port found) (Booting port) (Taking wanted (PortUnused port)) Asked old new (taking f.driven quiet served) (λ uses free. free) told);
           agreed = laws.agreed (Booting port) Asked u.uses old new unused_here f u.agreed;
           stands = later_stands f.driven quiet;
+          halts = later_halts Asked f (later_stands f.driven quiet);
           reset = later_reset f.driven quiet;
           idle = later_idle f.driven quiet;
         }
@@ -315,6 +348,15 @@ module _ (laws : Laws) where
             | inr other ↦
                 let Q : Found → Type 0 = λ f. WroteControl f q (length start.tape) old in
                 subst Q (sym (other_is q other)) (u.reset q (omega (arith, less, other)))
+          ];
+          halts = λ q less. elim (cases_eq q port.0) [
+            | inl e ↦
+                let R : ℕ → Type 0 = λ k. HaltsFound (found_of (slice_set ports port.0 found) k) k old in
+                let Q : Found → Type 0 = λ f. HaltsFound f port.0 old in
+                subst R (sym e) (subst Q (sym (here_is ∙ is)) (λ info ready. let z : Unserved ≡ Ready info = ready in absurd cc))
+            | inr other ↦
+                let Q : Found → Type 0 = λ f. HaltsFound f q old in
+                subst Q (sym (other_is q other)) (u.halts q (omega (arith, less, other)))
           ];
           idle = λ q more. u.idle q (omega (arith, more));
         })
@@ -363,6 +405,7 @@ module _ (laws : Laws) where
       agreed = laws.agreed Hosting (λ uses. uses) unused start d tt f agreed;
       stands = λ port less. absurd (omega (arith, less));
       reset = λ port less. absurd (omega (arith, less));
+      halts = λ port less. absurd (omega (arith, less));
       idle = λ port more. idle_on (start.port port) (d.port port) (leaves port) (idle.port port);
     }
 
@@ -395,6 +438,10 @@ module _ (laws : Laws) where
         reset = λ port less.
             let P : List Found → Type 0 = λ ps. WroteControl (found_of ps port) port (length start.tape) new in
             subst P (sym is) (reset_on port d new (leaves port) (found_of ports port) (length start.tape) (u.reset port less));
+        halts = λ port less.
+            let P : List Found → Type 0 = λ ps. HaltsFound (found_of ps port) port new in
+            subst P (sym is) (still_halts IsOfHost AnyUse (λ uses. uses) u.uses port d new (host_spares (port_at port) Cmd) tt f u.agreed (wanted_of wanted port) (found_of ports port)
+            (stands_on laws.found port d new (leaves port) (same_over laws IsOfHost d new f.driven) (wanted_of wanted port) (found_of ports port) (silent port) (u.stands port less)) (u.halts port less));
         way = let P : List Found → Type 0 = λ ps. GoesOver ps start new in subst P (sym is) way;
         uses = u.uses;
         left = λ port slot. let P : List Found → Type 0 = λ ps. IsLeft ps u.uses port slot in subst P (sym is) (u.left port slot);

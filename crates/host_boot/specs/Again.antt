@@ -6,6 +6,7 @@ use Rattle.ata_types.specs.declared.PortState.TheVariants.{Dead}
 use Rattle.hba_regs.specs.Bits.{bit}
 use Rattle.adapter.specs.Device.{Device}
 use Rattle.agreement.specs.Driven.{AnyUse, IsFollowed}
+use Rattle.agreement.specs.Halting.{HaltsAsTaken}
 use Rattle.identify.specs.Wanted.{serial_of}
 use Rattle.identify.specs.declared.DiskInfo.{DiskInfo}
 use Rattle.identify.specs.declared.wanted.Wanted.{Wanted}
@@ -17,13 +18,14 @@ use Rattle.host_boot.specs.declared.Found.{Found}
 use Rattle.host_boot.specs.declared.Found.TheVariants.{Unserved, Ready, Unready}
 
 -- A boot that leaves the port ready: what stands behind that; PxSCTL was written in it; what it is to a machine that agrees; and its way, with what
--- the port shows of trouble.
+-- the port shows of trouble; and what halts it is of a command that is taken.
 pub record EndsReady (wanted : Wanted) (port : Port) (info : DiskInfo) (old new : Device) : Type 0 where
   pub ready : IsReady (serial_of wanted) port.0 new info
   pub since : length old.tape ≤ (new.port port.0).notes.sctl_written_at
   pub boots : IsBoot (StopsReceiving port) port old new
   pub way : GetsReady port old new
   pub news : ShowsNews port.0 old new
+  pub halts : HaltsAsTaken (new.port port.0)
 
 -- one that leaves it in another state
 pub record EndsUnready (wanted : Wanted) (port : Port) (state : PortState) (old new : Device) : Type 0 where

@@ -3,7 +3,7 @@ use Rattle.std.specs.Prelude.{ℕ, true, false, ◌≡◌, ◌≢◌, ◌%◌, �
 use Rattle.ata_types.specs.declared.Port.{Port}
 use Rattle.ata_types.specs.declared.PortState.{PortState as ShownState}
 use Rattle.adapter.specs.Access.{Access, Does, DoesAll, Reads, Writes}
-use Rattle.agreement.specs.Driver.{AllFree, LeavesUses}
+use Rattle.agreement.specs.Driver.{AllFree, Known, Knows, LeavesUses}
 use Rattle.agreement.specs.Driven.{AnyAccess, AnyUse, Grows, IsAgreed, IsControl, IsDrivenBy, IsFollowedTo, IsOf, IsTold, IsToldTo, IsUse, LeavesPort, NoneWrites, SendsNone}
 use Rattle.hba_regs.specs.declared.reg.PortReg.TheVariants.{Ci, Cmd, Sact, Sctl, Ssts}
 use Rattle.ata_types.specs.declared.PortState.TheVariants.{Dead}
@@ -14,7 +14,11 @@ use Rattle.adapter.specs.declared.tape.Entry.{Entry}
 use Rattle.port_control.specs.Engines.{FailsToStop, Falls, Sticks, StopsBoth}
 use Rattle.agreement.specs.Slots.{Free, Own, Use, Uses, op_of, put}
 use Rattle.hba_regs.specs.declared.reg.Reg.TheVariants.{Ghc, Px}
+use Rattle.agreement.specs.Acts.{Act, AreDone, accesses_of}
+use Rattle.agreement.specs.Halting.{IsHaltedAsTaken}
 use Rattle.agreement.specs.Links.{HasDeviceOrNone, SameAdapter, SparesRegister}
+use Rattle.block_machine.specs.Histories.{IsReached}
+use Rattle.block_machine.specs.State.{Machine}
 use Rattle.adapter.specs.declared.command.Operation.TheVariants.{Identify}
 use Rattle.adapter.specs.Idle.{IsIdle, TellsDisks}
 use Rattle.host_boot.specs.Taken.{IsOfHost, IsOfTaking, IsSurvey}
@@ -118,6 +122,7 @@ pub record Laws : Type 0 where
   pub runs_over : (port : Port) (access : Access) (old new : Device) → IsOn old → SparesRegister (Px port Sctl) access → SparesRegister (Px port Cmd) access → Does access old new → RunsOn port.0 old new
   pub runs_on : (port : Port) (accesses : List Access) (old new : Device) → IsOn old → DoesAll accesses old new → All (SparesRegister Ghc) accesses → All (SparesRegister (Px port Sctl)) accesses → All (SparesRegister (Px port Cmd)) accesses → RunsOn port.0 old new
   pub well_on : (port : ℕ) (old new : Device) → RunsOn port old new → Undisturbed port old new → RunsWell (old.port port) → RunsWell (new.port port)
+  pub halts_acts : (port : Port) (acts : List Act) (k later : Known) (m : Machine) → IsReached m → Knows m k → AreDone acts k m later → All (SparesRegister (Px port Cmd)) (accesses_of acts) → IsHaltedAsTaken (k.device.port port.0) → IsHaltedAsTaken (later.device.port port.0)
   -- this crate's kinds of accesses
   pub reads : (kind : Stretch) (r : Reg) (v : ℕ) (old new : Device) → may_of kind (Reading r v) → Reads r v old new → IsTold (λ made. made ≡ Reading r v ∷ []) (may_of kind) (fits_of kind) old new
   pub writes : (kind : Stretch) (r : Reg) (v : ℕ) (old new : Device) → may_of kind (Writing r v) → Stays (MayWrite r v) old → ((uses : Uses) → fits_of kind uses → LeavesUses uses r v old) → Writes r v old new → IsTold (λ made. made ≡ Writing r v ∷ []) (may_of kind) (fits_of kind) old new

@@ -14,9 +14,11 @@ use Rattle.adapter.specs.Rules.{IsOn}
 use Rattle.adapter.specs.declared.command.Operation.TheVariants.{Identify}
 use Rattle.agreement.specs.Agrees.{port_at}
 use Rattle.agreement.specs.Driven.{IsAgreed, IsControl, IsDrivenBy, IsFollowedTo, IsUse, LeavesPort}
+use Rattle.agreement.specs.Halting.{HaltsAsTaken}
 use Rattle.agreement.specs.Links.{SameAdapter}
 use Rattle.agreement.specs.Slots.{Free, Own, Uses}
 use Rattle.identify.specs.Wanted.{serial_of}
+use Rattle.identify.specs.declared.DiskInfo.{DiskInfo}
 use Rattle.identify.specs.declared.wanted.Wanted.{Wanted}
 use Rattle.identify.specs.declared.wanted.Wanted.TheVariants.{Nothing}
 use Rattle.port_control.specs.Engines.{StopsBoth, Sticks}
@@ -69,6 +71,10 @@ abbrev pub WroteControl : Found → ℕ → ℕ → Device → Type 0
 WroteControl Unserved port since d = Unit {0}
 WroteControl (Unready Dead) port since d = Unit {0}
 WroteControl _ port since d = since ≤ (d.port port).notes.sctl_written_at
+
+-- what halts a port that was found ready is of a command that is taken
+abbrev pub HaltsFound : Found → ℕ → Device → Type 0
+HaltsFound found port d = (info : DiskInfo) → found ≡ Ready info → HaltsAsTaken (d.port port)
 
 -- What accesses tell of the engines of a port that was found to be this: both fell, as was read after each was cleared. Of a dead port 64
 -- readings in a row showed one that runs still; and one that isn't served wasn't stopped.
@@ -146,7 +152,7 @@ IsLeft ports uses port slot = (uses port slot ≡ Free)
     ⊎ ((slot ≡ 0) × (uses port 0 ≡ Own Identify) × (found_of ports port ≡ Unready Dead))
 
 -- An idle adapter was taken over: it is on, and may interrupt; what is told of it is so; each of its ports is as it was found, by a
--- COMRESET of this very call; and the machine followed, by steps of the device alone, over accesses that tell of each port's engines.
+-- COMRESET of this very call; what halts a ready one is of a command that is taken; and the machine followed, by steps of the device alone, over accesses that tell of each port's engines.
 pub record TakesOver (wanted : List Wanted) (host : Host) (old new : Device) : Type 0 where
   pub on : IsOn new
   pub interrupts : new.ie ≡ true
@@ -155,6 +161,7 @@ pub record TakesOver (wanted : List Wanted) (host : Host) (old new : Device) : T
   pub queued : host.queued ≡ bit new.cap 30
   pub stands : (port : ℕ) → port < 4 → StandsBehind (wanted_of wanted port) (found_of host.ports port) port new
   pub reset : (port : ℕ) → port < 4 → WroteControl (found_of host.ports port) port (length old.tape) new
+  pub halts : (port : ℕ) → port < 4 → HaltsFound (found_of host.ports port) port new
   pub way : GoesOver host.ports old new
   pub uses : Uses
   pub left : (port slot : ℕ) → IsLeft host.ports uses port slot

@@ -8,6 +8,7 @@ use agreement::kinds::{
     Kinds, accesses_are_followed, followed_stretches_give, stretches_are_followed,
 };
 use agreement::laws::putting_is_of_one_slot;
+use agreement::recovering::halts_are_of_taken_commands;
 use agreement::stretches::{agreeing_goes_on, other_ports_are_left, tapes_grow};
 use port_boot::laws::{
     a_boot_is_of_its_port, a_disk_is_in_where_one_shows, a_port_runs_on, boots_are_driven,
@@ -41,6 +42,7 @@ pub fn laws_hold()
     followed_stretches_give::<Boots>();
     stretches_are_followed::<Boots>();
     putting_is_of_one_slot();
+    halts_are_of_taken_commands();
     agreeing_goes_on();
     other_ports_are_left();
     tapes_grow();

@@ -15,7 +15,7 @@ ghost use Rattle.agreement.specs.Links.{SameAdapter};
 ghost use Rattle.port_boot.specs.States.{IsBootable};
 ghost use Rattle.port_control.specs.Ports.{IsStopped};
 ghost use Rattle.host_boot.specs.Again.{BootsAgain, BootsStopped};
-ghost use Rattle.host_boot.specs.Taken.{Boots, WroteControl, StandsBehind, GoesThrough, IsOfHost, IsSurvey, LeavesPorts, TakesOver};
+ghost use Rattle.host_boot.specs.Taken.{Boots, HaltsFound, WroteControl, StandsBehind, GoesThrough, IsOfHost, IsSurvey, LeavesPorts, TakesOver};
 
 use adapter::Adapter;
 use ata_types::{DRIVER_BYTES, Port, PortState};
@@ -116,6 +116,7 @@ fn boot_port<A: Adapter>(adapter: &mut A, port: Port, implemented: u32, wanted: 
     ensures on { IsOn (A.device adapter.new) }
     ensures stands { StandsBehind wanted.now result port.0 (A.device adapter.new) }
     ensures reset { WroteControl result port.0 (length (A.device adapter.old).tape) (A.device adapter.new) }
+    ensures halts { HaltsFound result port.0 (A.device adapter.new) }
     ensures boots { Boots port result (A.device adapter.old) (A.device adapter.new) }
     ensures way { GoesThrough port result (A.device adapter.old) (A.device adapter.new) }
 {

@@ -11,12 +11,14 @@ use Rattle.adapter.specs.Access.{Access, Writes, port_written}
 use Rattle.adapter.specs.Access.Access.{Writing}
 use Rattle.adapter.specs.Device.{Notes, Device}
 use Rattle.adapter.specs.Device as device
+use Rattle.adapter.specs.Device.Halt.{NotHalted}
 use Rattle.adapter.specs.Rules.{IsOn, HasPort, MayWrite, Stays}
 use Rattle.adapter.specs.declared.command.Operation.TheVariants.{Identify}
 use Rattle.adapter.specs.declared.tape.Entry.{Entry}
 use Rattle.adapter.specs.declared.tape.Entry.TheVariants as entry
 use Rattle.adapter.specs.Seen.{PutAt}
 use Rattle.agreement.specs.Driven.{AgreesWith, AnyUse, IsAgreed, IsControl, IsDrivenBy, IsFollowed, IsTold, IsToldTo, SendsNone}
+use Rattle.agreement.specs.Halting.{HaltsAsTaken}
 use Rattle.agreement.specs.Links.{SameAdapter}
 use Rattle.agreement.specs.Driver.{AllFree}
 use Rattle.agreement.specs.Slots.{Own, Uses, put as used, IsMove, IsOver}
@@ -267,6 +269,13 @@ module _ (laws : Laws) where
               fit = fit;
             };
           }
+
+      -- what halts the port then is of a command that is taken
+      pub enabled_halts : (AgreesWith (λ uses. AllFree uses port.0) old → (mid.port port.0).halt ≡ NotHalted) → (wanted : Option (List ℕ)) (info : DiskInfo) → v ≡ told_causes → IsFit wanted page info → HaltsAsTaken (new.port port.0)
+      enabled_halts calm wanted info told fit =
+          let a = identified.bootable.agreed in
+          laws.halts_access a.0 a.2.machine port (Writing (Px port Ie) v) mid new a.2.reached a.2.knows.agrees (λ (e : Px port Ie ≡ Px port Cmd). absurd cc) call
+          (λ _. laws.halts_calm (mid.port port.0) (calm up.bootable.agreed)) (enabled_ready wanted info told fit).runs.st
 
       pub enabled_boots : IsFollowed (IsOfBoot port) (λ uses. AllFree uses port.0) old new
       enabled_boots = followed_then laws (Booting PortUnused port) old mid new asked_boots

@@ -8,6 +8,11 @@ use Rattle.agreement.specs.Errors.{ChangesByDisks, ChangesByErrors, NoneComes, N
 use Rattle.hba_regs.specs.declared.reg.PortReg.TheVariants.{Ci, Cmd, Sctl}
 use Rattle.agreement.specs.Started.{ClearsNoStart, IsStarted, IsUp}
 use Rattle.adapter.specs.Device.{Device, PortState}
+use Rattle.adapter.specs.Device.Halt.{NotHalted}
+use Rattle.agreement.specs.Agrees.{Agrees}
+use Rattle.agreement.specs.Halting.{HaltsAsTaken, IsHaltedAsTaken}
+use Rattle.block_machine.specs.Histories.{IsReached}
+use Rattle.block_machine.specs.State.{Machine}
 use Rattle.adapter.specs.declared.tape.Entry.{Entry}
 use Rattle.port_control.specs.Engines.{FailsToStop, FailsToStopReceiving, Falls, Sticks}
 use Rattle.agreement.specs.Slots.{Free, IsOver, Own, Uses, put}
@@ -91,6 +96,8 @@ pub record Laws : Type 0 where
   pub access_stays_up : (port : Port) (access : Access) (old new : Device) → old.hr ≡ false → SparesRegister (Px port Sctl) access → Undisturbed port.0 old new → Does access old new → IsUp (old.port port.0) → IsUp (new.port port.0)
   pub access_started : (port : Port) (access : Access) (old new : Device) → old.hr ≡ false → ClearsNoStart port access → SparesRegister (Px port Sctl) access → Undisturbed port.0 old new → Does access old new → IsStarted (old.port port.0) → IsStarted (new.port port.0)
   pub access_recorded : (port : Port) (access : Access) (old new : Device) → SparesRegister (Px port Cmd) access → SparesRegister (Px port Sctl) access → Does access old new → IsRecorded old.tape (old.port port.0) port.0 → IsRecorded new.tape (new.port port.0) port.0
+  pub halts_access : (uses : Uses) (m : Machine) (port : Port) (access : Access) (old new : Device) → IsReached m → Agrees uses m old → SparesRegister (Px port Cmd) access → Does access old new → IsHaltedAsTaken (old.port port.0) → IsHaltedAsTaken (new.port port.0)
+  pub halts_calm : (p : PortState) → p.halt ≡ NotHalted → HaltsAsTaken p
   pub started_up : (p : PortState) → IsStarted p → p.sctl_det ≢ 1 → IsUp p
   pub well_of : (p : PortState) → IsStarted p → ShowsNoTrouble p → RunsWell p
   pub started_well : (p : PortState) → RunsWell p → IsStarted p

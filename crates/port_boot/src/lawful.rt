@@ -12,6 +12,7 @@ use agreement::kinds::{
     stretches_are_followed,
 };
 use agreement::laws::writing_is_permitted;
+use agreement::recovering::halts_are_of_taken_commands;
 use agreement::stretches::{other_ports_are_left, tapes_grow, unused_slots_are_silent};
 use disk_page::laws::asking_is_of_one_port;
 use port_control::laws::what_is_told_of_engines_stays;
@@ -54,6 +55,7 @@ pub fn laws_hold()
     followed_stretches_give::<Boots>();
     stretches_are_followed::<Boots>();
     writing_is_permitted();
+    halts_are_of_taken_commands();
     other_ports_are_left();
     tapes_grow();
     unused_slots_are_silent();

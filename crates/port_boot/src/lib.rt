@@ -7,6 +7,7 @@ ghost use Rattle.adapter.specs.Device.{Device};
 ghost use Rattle.adapter.specs.Rules.{IsOn, HasPort};
 ghost use Rattle.agreement.specs.Driven.{AgreesWith, AnyUse, IsControl, IsFollowed, IsTold};
 ghost use Rattle.agreement.specs.Driver.{AllFree};
+ghost use Rattle.agreement.specs.Halting.{HaltsAsTaken};
 ghost use Rattle.port_control.specs.Engines.{Stops, StopsReceiving};
 ghost use Rattle.port_control.specs.Ports.{IsStopped, HasStopped};
 ghost use Rattle.port_boot.specs.States.{told_causes, TellsFault, Fits, IsFit, Judges, EndsAs, IsReady, IsBooting, IsBoot, IsBootTo, IsBootable, IsOfBoot, IsBroughtUp, IsHaltedAs, GetsAsked, GetsReady, EndsEarly, EndsLate, IsEarly, IsLate, ShowsNews, RunsOn, StopsOnWay, StopsThen};
@@ -133,6 +134,7 @@ fn identify_disk<A: Adapter>(
     ensures boots { OnOk result (IsFollowed (IsOfBoot port) (λ uses. AllFree uses port.0) (A.device adapter.old) (A.device adapter.new)) }
     ensures boots_to { IfErr result (λ state. IsBootTo (Stops port) port state (A.device adapter.old) (A.device adapter.new)) }
     ensures asked { OnOk result (GetsAsked port (A.device adapter.old) (A.device adapter.new)) }
+    ensures halts { OnOk result (HaltsAsTaken ((A.device adapter.new).port port.0)) }
     ensures runs_on { OnOk result (RunsOn port.0 (A.device adapter.old) (A.device adapter.new)) }
     ensures stops { IfErr result (λ state. StopsThen port (A.device adapter.old) (A.device adapter.new)) }
     ensures late { IfErr result (λ state. IsEarly state → ⊥) }
@@ -152,7 +154,8 @@ fn identify_disk<A: Adapter>(
 
 /// Boots a stopped port, no slot of which is used: has it receive FISes, sends COMRESET, looks for an ATA disk that is idle, asks it
 /// for its page by IDENTIFY DEVICE, and, where the page is of a disk with the serial number that is named (20 characters, filled with
-/// spaces; any will do where none is), has the port tell of interrupts' causes, and leaves it running.
+/// spaces; any will do where none is), has the port tell of interrupts' causes, and leaves it running. What halts it then is of a command that is
+/// taken.
 ///
 /// Else the state: `Absent`, `Unfit(1)` to `Unfit(9)` or `Foreign`, and the port is stopped; or `Dead` where an engine is stuck.
 pub fn boot<A: Adapter>(
@@ -171,6 +174,7 @@ pub fn boot<A: Adapter>(
     ensures boots_to { IfErr result (λ state. IsBootTo (StopsOnWay stopped.port state) stopped.port state (A.device adapter.old) (A.device adapter.new)) }
     ensures way { OnOk result (GetsReady stopped.port (A.device adapter.old) (A.device adapter.new)) }
     ensures news { OnOk result (ShowsNews stopped.port.0 (A.device adapter.old) (A.device adapter.new)) }
+    ensures halts { OnOk result (HaltsAsTaken ((A.device adapter.new).port stopped.port.0)) }
     ensures early { IfErr result (λ state. IsEarly state → EndsEarly stopped.port state (A.device adapter.old) (A.device adapter.new)) }
     ensures late { IfErr result (λ state. IsLate state → EndsLate stopped.port (A.device adapter.old) (A.device adapter.new)) }
 {

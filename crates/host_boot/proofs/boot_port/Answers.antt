@@ -5,11 +5,11 @@ use Rattle.hba_regs.specs.Bits.{bit}
 use Rattle.identify.specs.declared.wanted.Wanted.TheVariants.{Nothing}
 use Rattle.port_boot.specs.States.{IsBootable, IsOfBoot}
 use Rattle.host_boot.specs.Again.{BootsStopped}
-use Rattle.host_boot.proofs.Booting.{found_boots, found_reset, found_stands, found_way}
+use Rattle.host_boot.proofs.Booting.{found_boots, found_halts, found_reset, found_stands, found_way}
 use Rattle.host_boot.proofs.Stopping.{bootable, still_there, stuck_boots}
 use Rattle.host_boot.proofs.Stretching.{by_none}
 use Rattle.host_boot.proofs.Taking.{boots_same}
-use Rattle.host_boot.specs.declared.Found.TheVariants.{Unready}
+use Rattle.host_boot.specs.declared.Found.TheVariants.{Ready, Unready}
 use Rattle.host_boot.proofs.boot_port.Goals as goal
 
 pub returns-in_default-clause-stands : goal.returns-in_default-clause-stands
@@ -41,6 +41,14 @@ pub returns-clause-reset : goal.returns-clause-reset
 returns-clause-reset g c =
     let B : Port → Type 0 = λ p. BootsStopped c.args.wanted.now p c.boot_stopped.result (g.A.Adapter.device c.stop.new.adapter) (g.A.Adapter.device c.boot_stopped.new.adapter) in
     found_reset c.laws_hold.ensures c.args.port _ _ c.in-Ok.ensures.halts.told _ _ c.boot_stopped.result (subst B c.in-Ok.ensures.names c.boot_stopped.ensures.boots)
+
+pub returns-in_default-clause-halts : goal.returns-in_default-clause-halts
+returns-in_default-clause-halts g c = λ info is. let z : Unready Dead ≡ Ready info = is in absurd cc
+
+pub returns-clause-halts : goal.returns-clause-halts
+returns-clause-halts g c =
+    let B : Port → Type 0 = λ p. BootsStopped c.args.wanted.now p c.boot_stopped.result (g.A.Adapter.device c.stop.new.adapter) (g.A.Adapter.device c.boot_stopped.new.adapter) in
+    found_halts c.args.wanted.now c.args.port _ _ c.boot_stopped.result (subst B c.in-Ok.ensures.names c.boot_stopped.ensures.boots)
 
 pub returns-clause-boots : goal.returns-clause-boots
 returns-clause-boots g c =

@@ -53,7 +53,7 @@ loop-number-preserved g c =
     boots_same c.laws_hold.ensures port _ _ c.boot_port.result c.boot_port.ensures.boots in
     record {
       underway = next c.laws_hold.ensures c.args.wanted.now c.loop-number.ports port c.loop-number-test.true _ _ _ c.boot_port.result c.loop-number.invariant.underway
-          c.boot_port.ensures.on c.boot_port.ensures.stands c.boot_port.ensures.reset c.boot_port.ensures.boots;
+          c.boot_port.ensures.on c.boot_port.ensures.stands c.boot_port.ensures.reset c.boot_port.ensures.halts c.boot_port.ensures.boots;
       way = way_more c.loop-number.ports c.loop-number.number c.boot_port.result _ _ _ c.loop-number.invariant.underway.long c.loop-number-test.true c.loop-number.invariant.way
           c.boot_port.ensures.way;
       there = c.loop-number.invariant.there ∙ sym same.pi;

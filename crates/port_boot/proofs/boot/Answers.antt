@@ -4,6 +4,7 @@ use Rattle.ata_types.specs.declared.Port.{Port}
 use Rattle.ata_types.specs.declared.PortState.TheVariants.{Dead}
 use Rattle.agreement.specs.Driven.{IsFollowed, IsControl}
 use Rattle.agreement.specs.Driver.{AllFree}
+use Rattle.agreement.specs.Halting.{HaltsAsTaken}
 use Rattle.port_control.specs.Engines.{Stops}
 use Rattle.port_boot.specs.States.{IsBooting, IsBootTo, IsOfBoot, GetsAsked, EndsLate, IsLate, RunsOn, StopsOnWay, StopsThen}
 use Rattle.port_boot.proofs.Identifying.{whole_ready, whole_ended}
@@ -34,6 +35,11 @@ returns-clause-news g c =
     let R : Port → Type 0 = λ p. OnOk c.identify_disk.result (RunsOn p.0 (g.A.Adapter.device c.bring_up.new.adapter) (g.A.Adapter.device c.identify_disk.new.adapter)) in
     let early = driven_grows c.laws_hold.ensures (IsControl IsBooting c.args.stopped.port) _ _ c.in_ok-running.ensures.boots.followed.driven in
     whole_news c.laws_hold.ensures c.args.stopped.port _ _ _ early c.identify_disk.result c.in_ok-running.ensures.up (subst P at c.identify_disk.ensures.boots) (subst R at c.identify_disk.ensures.runs_on)
+
+pub returns-clause-halts : goal.returns-clause-halts
+returns-clause-halts g c =
+    let H : Port → Type 0 = λ p. OnOk c.identify_disk.result (HaltsAsTaken ((g.A.Adapter.device c.identify_disk.new.adapter).port p.0)) in
+    subst H (c.port.ensures ∙ c.in_ok-running.ensures.names) c.identify_disk.ensures.halts
 
 pub returns-clause-late : goal.returns-clause-late
 returns-clause-late g c =

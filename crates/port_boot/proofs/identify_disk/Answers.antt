@@ -1,4 +1,4 @@
-use Rattle.port_boot.proofs.Identifying.{halt_driven, identified, unasked_there, unasked_agreed, unasked_boots, unasked_ends, enabling, enabled_on, enabled_since, enabled_ready, enabled_boots, halted_boots, halted_ends}
+use Rattle.port_boot.proofs.Identifying.{halt_driven, identified, unasked_there, unasked_agreed, unasked_boots, unasked_ends, enabling, enabled_on, enabled_since, enabled_ready, enabled_boots, enabled_halts, halted_boots, halted_ends}
 use Rattle.port_boot.proofs.Outcomes.{told_runs_on, stops_then}
 use Rattle.port_boot.proofs.identify_disk.Goals as goal
 
@@ -44,6 +44,11 @@ pub returns-in-Ok-clause-written : goal.returns-in-Ok-clause-written
 returns-in-Ok-clause-written g c =
     let e = c.in-Some.ensures in
     enabled_since c.laws_hold.ensures c.args.port _ _ _ c.in-Some.page c.requires.up.1 e.on e.leaves e.reads e.agrees _ _ c.write.ensures
+
+pub returns-in-Ok-clause-halts : goal.returns-in-Ok-clause-halts
+returns-in-Ok-clause-halts g c =
+    let e = c.in-Some.ensures in
+    enabled_halts c.laws_hold.ensures c.args.port _ _ _ c.in-Some.page c.requires.up.1 e.on e.leaves e.reads e.agrees _ _ c.write.ensures e.running c.args.wanted.now _ c.causes.ensures c.in-Ok.ensures.fit
 
 pub returns-in-Ok-clause-boots : goal.returns-in-Ok-clause-boots
 returns-in-Ok-clause-boots g c = let e = c.in-Some.ensures in enabled_boots c.laws_hold.ensures c.args.port _ _ _ c.in-Some.page c.requires.up.1 e.on e.leaves e.reads e.agrees _ _ c.write.ensures

@@ -42,6 +42,7 @@ returns c = record {
   runs_over = c.a_port_runs_on.ensures.over;
   runs_on = c.a_port_runs_on.ensures.runs;
   well_on = c.a_port_runs_on.ensures.well;
+  halts_acts = c.halts_are_of_taken_commands.ensures.acts;
   reads = c.accesses_are_followed.ensures.reads;
   writes = c.accesses_are_followed.ensures.writes;
   both = c.stretches_are_followed.ensures.both;
