@@ -64,8 +64,8 @@ use agreement::disks::none_comes_in;
 use agreement::giving_up::slots_are_given_up;
 use agreement::laws::{
     answering_agrees, backing_composes, disks_are_told, due_finds_free_slot, going_again_agrees,
-    going_composes, keeping_agrees, own_steps_are_backed, putting_is_of_one_slot, slots_are_counted,
-    waiting_has_no_slot,
+    going_composes, keeping_agrees, own_steps_are_backed, putting_is_of_one_slot,
+    slots_are_counted, waiting_has_no_slot,
 };
 use agreement::readying::{readied_stays, stored_stays_over_acts};
 use agreement::stretches::other_ports_are_left;
