@@ -37,7 +37,7 @@ cut_disk() {
 }
 
 cp fresh.img disk.img
-compare 'a read of an image that was cut' $'move 0 0 identify 0 00009000\nok 1\nmove 0 0 read 100 00028000\nmove 0 0 read 101 00028200\nmove 0 0 read 102 00028400\ndid\nno\nno\nquiet' \
+compare 'a read of an image that was cut' $'move 0 0 identify 0 00009000\nok 1\nmove 0 0 read 100 00028000\nmove 0 0 read 101 00028200\nmove 0 0 read 102 00028400\ndid\nno\nno\nmove 0 0 log 0 00009000\nreply 1 DeviceError 41 40' \
     "$(played_around '' 'read 1 0 100 8 40\ndev finish 0 0\ndev finish 0 0\ndev move 0 0\nservice\n' cut_disk)"
 compare 'it is as long as it was cut' $((512 * 103 + 10)) "$(stat -c %s disk.img)"
 cp fresh.img disk.img
@@ -55,7 +55,7 @@ cp fresh.img wanted.img
 for sector in 100 101; do
     clear_sector wanted.img $sector
 done
-compare 'a write that the system refuses fails, and halts the port' $'move 0 0 identify 0 00009000\nok 1\nmove 0 0 write 100 00028000\nmove 0 0 write 101 00028200\ndid\nno\nno\nquiet\nno\nno\nquiet' \
+compare 'a write that the system refuses fails, and its client is told' $'move 0 0 identify 0 00009000\nok 1\nmove 0 0 write 100 00028000\nmove 0 0 write 101 00028200\ndid\nno\nno\nmove 0 0 log 0 00009000\nreply 1 DeviceError 41 40\nno\nno\nquiet' \
     "$(limit=51
     played_around 'write 1 0 100 3 40\ndev finish 0 0\ndev finish 0 0\ndev move 0 0\nservice\ndev done 0 0\n' 'dev finish 0 0\nservice\n' lift_limit)"
 compare 'and the sector that was left is as it was' "$(bytes_of wanted.img)" "$(bytes_of disk.img)"

@@ -1,6 +1,6 @@
 #!/usr/bin/env bash
 # Proves and runs everything: `rt ci`, which keeps what this machine proved before of the same files; the edits that the prover must refuse;
-# the cases of the built program; a full book on four ports, which is run without a proof; and the edits that the compiler must refuse; and looks
+# the cases of the built program; a full book on four ports, and disks that fail, which are run without a proof; and the edits that the compiler must refuse; and looks
 # for the names in the documents. The last line is 'N passed, M failed', of all. What each part took is told on standard error.
 set -euo pipefail
 cd "$(dirname "$0")/.."
@@ -39,7 +39,8 @@ part "rt ci" rt ci
 scripts/toolchain.py stamp
 part "edits" scripts/edits.py
 part "examples" scripts/examples.sh
-part "four ports" scripts/four_ports.sh
+part "four ports" scripts/unproved.sh four_ports
+part "failing disks" scripts/unproved.sh failing_disks
 part "compile-fail" scripts/compile-fail.sh
 part "names" scripts/names.py
 scripts/borrowed.py >&2

@@ -1,5 +1,5 @@
 -- What is done on a port of which a look told that a command had failed is answered, and the port is recovered: what is asked of the calls, and what came of them.
-use Rattle.std.proofs.Common.{ℕ, Bool, true, false, ◌≡◌, ◌<◌, ◌↔◌, List, [], ◌∷◌, ◌++◌, map, length, Option, Some, None, refl, sym, ap, ◌∙◌, subst, arith}
+use Rattle.std.proofs.Common.{ℕ, Bool, true, false, ◌≡◌, ◌<◌, ◌↔◌, List, length, Option, Some, None, refl, sym, ap, ◌∙◌, subst, arith}
 use Rattle.std.specs.Int.{bit_at}
 use Rattle.std.proofs.lemmas.Bool.{false≢true}
 use Rattle.ata_types.specs.declared.Port.{Port}
@@ -14,7 +14,6 @@ use Rattle.agreement.specs.Slots.{IsOver}
 use Rattle.dma_frames.specs.Table.{Table}
 use Rattle.error_log.specs.declared.Failure.{Failure}
 use Rattle.error_recovery.specs.Recovery.{FitsFor, IsAloneIn, MayRecover, Recovers, Rests}
-use Rattle.error_recovery.specs.declared.Next.{Next}
 use Rattle.error_recovery.specs.declared.Recovered.{Recovered}
 use Rattle.host_boot.specs.Taken.{found_of}
 use Rattle.ncq.specs.Masks.{ReadsDone}

@@ -1,5 +1,5 @@
 -- A port on which a command failed is recovered: what is asked of the calls, and what came of them.
-use Rattle.std.proofs.Common.{ℕ, Bool, false, ◌≡◌, ◌≤◌, ◌<◌, ◌+◌, ◌-◌, ◌++◌, List, [], ◌∷◌, length, take, drop, get_or, Option, Some, None, refl, sym, ap, ◌∙◌, subst, arith, append-nil, ⊎_elim}
+use Rattle.std.proofs.Common.{ℕ, false, ◌≡◌, ◌≤◌, ◌<◌, ◌-◌, ◌++◌, List, length, take, drop, Some, None, sym, ap, ◌∙◌, subst, arith, append-nil, ⊎_elim}
 use Rattle.std.specs.Int.{bit_at}
 use Rattle.std.specs.List.{AllPairs}
 use Rattle.std.specs.List.Sorted.{IsNonDecreasingBy, IsPermutation}
@@ -10,7 +10,6 @@ use Rattle.std.proofs.lemmas.List.Sorted.{IsPermutation-sym, length_permutation}
 use Rattle.ata_types.specs.declared.request.Reply.{Reply}
 use Rattle.server_history.specs.Recovered.{AreQueued}
 use Rattle.slots.specs.Uses.{Uses as PortSlots, use_at}
-use Rattle.slots.specs.declared.Use.{Use as SlotUse}
 
 -- ---- slots
 

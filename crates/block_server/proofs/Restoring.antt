@@ -1,5 +1,5 @@
 -- A port was recovered, and its requests meet their fates: what is asked of the calls, and what the server then is.
-use Rattle.std.proofs.Common.{ℕ, Bool, true, ◌≡◌, ◌≢◌, ◌+◌, ◌<◌, ◌≤◌, ◌++◌, List, [], ◌∷◌, map, length, take, drop, filter, get_or, set, Option, Some, None, refl, sym, ap, ◌∙◌, subst, arith, append_assoc, ⊎_elim}
+use Rattle.std.proofs.Common.{ℕ, ◌≡◌, ◌<◌, ◌≤◌, ◌++◌, List, [], map, length, take, drop, filter, get_or, set, Option, Some, None, refl, sym, ap, ◌∙◌, subst, arith, append_assoc, ⊎_elim}
 use Rattle.std.specs.List.{AllPairs, count_by}
 use Rattle.std.specs.List.Sorted.{IsPermutation}
 use Rattle.std.proofs.lemmas.Bool.{cases_lt}
@@ -38,7 +38,6 @@ use Rattle.block_server.specs.Fates.{HavePlaces, IsSound, holding}
 use Rattle.block_server.specs.Ports.{LendsFound, with_answers, with_part}
 use Rattle.block_server.specs.Recovery.{LendsFailed, RecoversRest, SeesFailure}
 use Rattle.block_server.proofs.Sending.{served_ready, slots_said}
-use Rattle.block_server.proofs.Serving.{ready_there}
 
 -- what laws say of what comes after a recovery
 pub record RestoringLaws : Type 0 where

@@ -23,9 +23,7 @@ use request_queue::Book;
 use request_queue::laws::{
     an_id_is_one_request, operations_change_what_is_due, the_book_stays_in_order,
 };
-use server_history::laws::{
-    a_due_request_may_issue, a_recovered_port_goes_on, requests_keep,
-};
+use server_history::laws::{a_due_request_may_issue, a_recovered_port_goes_on, requests_keep};
 use slots::Slots;
 
 /// Issues a task in a slot that it may go in: the slot's command then says the task.

@@ -3,9 +3,9 @@ ghost use Rattle.std.specs.Prelude.{◌≡◌, ◌≢◌, false, ◌<◌, ◌≤
 
 use crate::ServerError;
 use crate::answering::answer_done;
+use crate::fates::settle;
 use crate::kept::{KeptLoans, end_all, give_all_back, none_kept};
 use crate::modes::{PLAIN, modes_of, unused_slots};
-use crate::fates::settle;
 use crate::port::{issue_due, issue_where_ready};
 use crate::recovery::{find_after, order_from, prospect_of, recover_rest};
 use adapter::{Adapter, DeviceStep, Stepped};
@@ -353,7 +353,15 @@ impl<A: Adapter> Server<A> {
         self.slots[place] = Slots::new(mode.usable);
         let prospect = prospect_of(&was, &found);
         let kept = &mut self.kept[place];
-        settle(&mut self.book, &mut self.table, kept, port, &failed, prospect, replies);
+        settle(
+            &mut self.book,
+            &mut self.table,
+            kept,
+            port,
+            &failed,
+            prospect,
+            replies,
+        );
         order_from(replies, first);
         let slots = &mut self.slots[place];
         issue_where_ready(&mut self.adapter, &mut self.book, slots, port, mode, &found);

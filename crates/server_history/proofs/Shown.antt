@@ -97,10 +97,14 @@ module _ (laws : LawsBelow) (port : Port) where
     unfolding StaysOut
     was_in own = ⊎_elim
         (λ (is : (old.port port.0).present ≡ true). inl is)
-        (λ (out : (old.port port.0).present ≡ false). inr (out_in.0.0, out_in.0.1, ⊎_elim
-        (λ found. found)
-        (λ none. absurd (false≢true (sym (out_in.1 (record { gained = out_in.0.0; tape = out_in.0.1; none = none }) out) ∙ own shows_device)))
-        (one_or_none port.0 out_in.0.0)))
+        (λ (out : (old.port port.0).present ≡ false). inr (
+          out_in.0.0,
+          out_in.0.1,
+          ⊎_elim
+              (λ found. found)
+              (λ none. absurd (false≢true (sym (out_in.1 (record { gained = out_in.0.0; tape = out_in.0.1; none = none }) out) ∙ own shows_device)))
+              (one_or_none port.0 out_in.0.0),
+        ))
         (cases_Bool ((old.port port.0).present))
 
 -- Steps that the device backs, from the beginning of the turn to any moment after the look: the machine had a disk in the port before them, or one of them takes
@@ -110,6 +114,6 @@ pub had_disk : (laws : LawsBelow) (port : Port) (s : Server) (seen new : Device)
 had_disk laws port s seen new m on l own is later steps backed = ⊎_elim
     (λ was. inl ((is.knows.agrees.disk port.0).present ∙ was))
     (λ came. inr (
-      let whole : backed.gained ≡ came.0 ++ later.0 = append_cancel_left s.device.tape backed.gained (came.0 ++ later.0) (sym backed.tape ∙ later.1 ∙ ap (λ (tape : List Entry). tape ++ later.0) came.1 ∙ append_assoc s.device.tape came.0 later.0) in
-      laws.disks_told port m backed.gained steps backed.tells came.2.0 (subst (λ (list : List Entry). Contains list came.2.0) (sym whole) (Contains-append_left came.0 later.0 came.2.0 came.2.1)) (coming_plugs port.0 came.2.0 came.2.2)))
+    let whole : backed.gained ≡ came.0 ++ later.0 = append_cancel_left s.device.tape backed.gained (came.0 ++ later.0) (sym backed.tape ∙ later.1 ∙ ap (λ (tape : List Entry). tape ++ later.0) came.1 ∙ append_assoc s.device.tape came.0 later.0) in
+    laws.disks_told port m backed.gained steps backed.tells came.2.0 (subst (λ (list : List Entry). Contains list came.2.0) (sym whole) (Contains-append_left came.0 later.0 came.2.0 came.2.1)) (coming_plugs port.0 came.2.0 came.2.2)))
     (was_in laws port s.device seen l on own)

@@ -217,15 +217,17 @@ module _ (laws : LawsBelow) (port : Port) (replies : List Reply) (old new : Serv
         let s : InSlots = record { uses = mid_kept.stands.uses; parked = mid_kept.stands.parked } in
         let p : Performs x.recovers.accesses AnySlots (given_up port.0) ByDeviceAlone a.mid.device a.device = subst (λ (n : Next). LeavesSlots port.0 n x.recovers.accesses a.mid.device a.device) is x.recovers.does.slots in
         let c = p.comes s m mid_kept.reached mid_kept.stands.knows tt in
-        let g = laws.acts_go c.acts (at_slots s a.mid.device) (at_slots (given_up port.0 s) a.device) m mid_kept.stands.knows c.done in
-        (record {
-          uses = changed s.uses port.0 (λ slot. Free);
-          parked = (given_up port.0 s).parked;
-          machine = after m (steps_of c.acts);
-          free = λ slot. ap (λ (f : ℕ → Use). f slot) (changed_same s.uses port.0 (λ slot. Free));
-          reached = reached_more m (steps_of c.acts) mid_kept.reached g.may;
-          knows = g.knows;
-        }, λ own. none_own (ap (λ (f : ℕ → Use). f 0) (sym (changed_other s.uses port.0 (λ slot. Free) q other)) ∙ own))
+        let g = laws.acts_go c.acts (at_slots s a.mid.device) (at_slots (given_up port.0 s) a.device) m mid_kept.stands.knows c.done in (
+          record {
+            uses = changed s.uses port.0 (λ slot. Free);
+            parked = (given_up port.0 s).parked;
+            machine = after m (steps_of c.acts);
+            free = λ slot. ap (λ (f : ℕ → Use). f slot) (changed_same s.uses port.0 (λ slot. Free));
+            reached = reached_more m (steps_of c.acts) mid_kept.reached g.may;
+            knows = g.knows;
+          },
+          λ own. none_own (ap (λ (f : ℕ → Use). f 0) (sym (changed_other s.uses port.0 (λ slot. Free) q other)) ∙ own),
+        )
 
     early_silent : SendsNone q ReadLog old.device a.mid.device
     early_silent = subst (SendsNone q ReadLog old.device) (sym mid_device)

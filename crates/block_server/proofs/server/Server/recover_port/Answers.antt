@@ -1,6 +1,6 @@
 use Rattle.std.proofs.Common.{rules, ℕ, ◌≡◌, ◌++◌, List, map, take, drop, length, Some, get_or, set, sym, ap, ◌∙◌, subst, arith}
 use Rattle.std.specs.List.Sorted.{IsPermutation}
-use Rattle.std.proofs.lemmas.List.{get_or-set_other, length-append}
+use Rattle.std.proofs.lemmas.List.{length-append}
 use Rattle.ata_types.specs.declared.request.Reply.{Reply}
 use Rattle.adapter.specs.Device.{Device}
 use Rattle.block_server.specs.Seen.{seen}
@@ -8,7 +8,7 @@ use Rattle.block_server.specs.View.{ServerView, server_of}
 use Rattle.block_server.specs.Recovery.{SeesFailure}
 use Rattle.block_server.specs.Fates.{holding}
 use Rattle.host_boot.specs.Taken.{found_of, wanted_of}
-use Rattle.host_boot.specs.declared.Found.TheVariants.{Ready, Unserved}
+use Rattle.host_boot.specs.declared.Found.TheVariants.{Ready}
 use Rattle.server_history.specs.Recovered.{IsFoundAfter, requests_of}
 use Rattle.server_history.specs.Served.{done_reply}
 use Rattle.server_history.specs.Server.{IsSettled, Server, mode_at}
@@ -259,8 +259,7 @@ served g c before sees_now settled_now =
     let moved = subst X c.len-first.ensures.value (sorted.1, sorted.2) in
     let L : Server → Type 0 = λ n. ServesPort port sorted.0 s n × IsSettled n in
     let done = restoring.served laws s port (device c.self.inside.adapter) sees c.args.was ready c.args.replies.now.items then.replies.items c.recover_rest-failed.result.0 c.recover_rest-failed.result.1 then.table then.book then.slots (device then.adapter) r two found found_is mode c.find_after-found.ensures.mode c.new.result c.new.ensures.usable (fresh_places g c) c.new.ensures.free c.prospect_of-prospect.result c.prospect_of-prospect.ensures now met.0 meets settled three book slots issued c.settle.new.replies.items sorted.0 c.order_from.new.replies.items met.1 moved.0 moved.1 sorted.3 in
-    let whole = subst L (sym (restoring.placed laws s port (device c.self.inside.adapter) sees c.args.was ready c.args.replies.now.items then.replies.items c.recover_rest-failed.result.0 c.recover_rest-failed.result.1 then.table then.book then.slots (device then.adapter) r two found found_is mode c.find_after-found.ensures.mode c.new.result c.new.ensures.usable (fresh_places g c) c.new.ensures.free c.prospect_of-prospect.result c.prospect_of-prospect.ensures now met.0 meets three book slots place place_is)) done in
-    (
+    let whole = subst L (sym (restoring.placed laws s port (device c.self.inside.adapter) sees c.args.was ready c.args.replies.now.items then.replies.items c.recover_rest-failed.result.0 c.recover_rest-failed.result.1 then.table then.book then.slots (device then.adapter) r two found found_is mode c.find_after-found.ensures.mode c.new.result c.new.ensures.usable (fresh_places g c) c.new.ensures.free c.prospect_of-prospect.result c.prospect_of-prospect.ensures now met.0 meets three book slots place place_is)) done in (
       sorted.0,
       restoring.replies_are laws s port (device c.self.inside.adapter) sees c.args.was ready c.args.replies.now.items then.replies.items c.recover_rest-failed.result.0 c.recover_rest-failed.result.1 then.table then.book then.slots (device then.adapter) r two found found_is mode c.find_after-found.ensures.mode c.new.result c.new.ensures.usable (fresh_places g c) c.new.ensures.free c.prospect_of-prospect.result c.prospect_of-prospect.ensures now met.0 meets settled three book slots issued c.settle.new.replies.items sorted.0 c.order_from.new.replies.items met.1 moved.0 moved.1 sorted.3,
       whole.0,
