@@ -132,7 +132,11 @@ module _ (laws : HistoryLaws) where
   all_sound wanted first [] history = none
   all_sound wanted first (h ∷ past) history =
       one_more (all_sound wanted first past history.0)
-      (record { moves = laws.moves wanted first past h history; served = λ port healthy. served_well wanted first past h port history healthy })
+      (record {
+        moves = laws.moves wanted first past h history;
+        served = λ port healthy. served_well wanted first past h port history healthy;
+        heeded = λ port asked. (history.2.accesses, history.2.came, history.2.port port asked);
+      })
 
   module _ {A : Type 0} (device : A → Device) (first : Instant Device) where
     -- the tape after a call, or after calls, is the tape before with more

@@ -1,9 +1,10 @@
--- Lists of calls, on ports where nothing goes wrong (this project's own).
+-- Lists of calls, on ports where nothing goes wrong, and on ports where commands fail (this project's own).
 use Rattle.std.specs.Prelude.{true, ◌≡◌, List, [], ◌∷◌, Contains}
 use Rattle.ata_types.specs.declared.Port.{Port}
 use Rattle.ata_types.specs.declared.PortState.TheVariants.{Ready}
 use Rattle.ata_types.specs.declared.request.Outcome.{Outcome}
 use Rattle.ata_types.specs.declared.request.Outcome.TheVariants as outcome
+use Rattle.adapter.specs.Access.{Access}
 use Rattle.adapter.specs.Device.{Device}
 use Rattle.adapter.specs.declared.access.DeviceStep.{DeviceStep}
 use Rattle.agreement.specs.Facts.{RunsWell}
@@ -14,7 +15,8 @@ use Rattle.block_machine.specs.State.{Pending}
 use Rattle.block_machine.specs.Steps.{Answer, AllTouched}
 use Rattle.driver_history.specs.Claims.{GoesWellFor, IsHealthyFor}
 use Rattle.driver_history.specs.Evidence.{StaysHealthy}
-use Rattle.driver_history.specs.Histories.{Issues}
+use Rattle.driver_history.specs.Guard.{IsAskedOf}
+use Rattle.driver_history.specs.Histories.{CameBy, Issues, TiesPort}
 use Rattle.driver_history.specs.Moves.{KeepsMoves}
 use Rattle.host_boot.specs.Taken.{found_of}
 use Rattle.server_history.specs.Histories.{Leads}
@@ -46,10 +48,18 @@ pub record ServesClientsOf (port : Port) (old : Moment) (call : Call DeviceStep)
 abbrev pub IsServedWell : Port → Instant Device → Happening Device DeviceStep → Type 0
 IsServedWell port old h = GoesWellFor old h port × ServesClientsOf port old.moment h.event
 
--- In a call after these ones, moves and clears keep to their places; and each port is served well that the call is healthy for.
+-- By the accesses that the call made it has done its part of the port (TiesPort of driver_history), whether or not a command failed there: a plain request's fault is told,
+-- at most one request is told a fault, no other that was issued keeps its issue, who goes again does so as it may, and a port that was recovered runs well.
+abbrev pub HeedsFaults : Port → Instant Device → Happening Device DeviceStep → Type 0
+HeedsFaults port old h =
+    (accesses : List Access) × CameBy old.moment h.event.ask h.event.said accesses old.device h.device × TiesPort old h accesses port
+
+-- In a call after these ones, moves and clears keep to their places; each port is served well that the call is healthy for; and on each that is ready and
+-- keeps its disk, with no fatal error, the commands that failed are heeded.
 pub record IsSound (first : Instant Device) (past : List (Happening Device DeviceStep)) (h : Happening Device DeviceStep) : Type 0 where
   pub moves : KeepsMoves first.moment.machine (steps_of (events_of past)) h.event.steps (now first past).device h.device
   pub served : (port : Port) → IsHealthyFor (now first past) h port → IsServedWell port (now first past) h
+  pub heeded : (port : Port) → IsAskedOf port (now first past) h.device → HeedsFaults port (now first past) h
 
 -- What a list of calls is that said this, after a history that leads to the server before them. Each call adds an event with what was asked and
 -- said, and what is so longer leads to the server after it. All calls together are a run of the block machine (so replies stand in the
