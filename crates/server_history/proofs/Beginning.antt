@@ -41,6 +41,7 @@ use Rattle.identify.specs.declared.wanted.Wanted.{Wanted}
 use Rattle.port_boot.specs.States.{EndsAs, IsUnfit, ShowsOwnDisk}
 use Rattle.driver_history.specs.Holds.{Runs}
 use Rattle.agreement.specs.Facts.{IsRecorded, RunsWell, Undisturbed}
+use Rattle.agreement.specs.Halting.{HaltsAsTaken}
 use Rattle.server_history.proofs.Slots.{its_mode, ready_found, stood_mode}
 use Rattle.identify.specs.declared.DiskInfo.{DiskInfo}
 use Rattle.server_history.proofs.Standing.{holds_with, slots}
@@ -257,6 +258,14 @@ module _ (laws : TakenLaws) (s : Server) (host : Host) (d : Device) (is : IsIdle
       not_ready : (state : PortState) → state ≡ ReadyState → StandsBehind (wanted_of s.wanted port) (Unready state) port s.device → ⊥
       not_ready state same stands = (subst (λ (t : PortState). StandsBehind (wanted_of s.wanted port) (Unready t) port s.device) same stands).1
 
+  halts_as : (port : ℕ) → port < 4 → (f : Found) → found_of s.ports port ≡ f → state_of f ≡ ReadyState → HaltsAsTaken (s.device.port port)
+  halts_as port below Unserved e ready = let z : Absent ≡ ReadyState = ready in absurd cc
+  halts_as port below (Ready info) e ready = taken.halts port below info (sym (found_is port) ∙ e)
+  halts_as port below (Unready state) e ready = absurd (not_ready state ready (subst (λ (f : Found). StandsBehind (wanted_of s.wanted port) f port s.device) e (behind port below)))
+    where
+      not_ready : (state : PortState) → state ≡ ReadyState → StandsBehind (wanted_of s.wanted port) (Unready state) port s.device → ⊥
+      not_ready state same stands = (subst (λ (t : PortState). StandsBehind (wanted_of s.wanted port) (Unready t) port s.device) same stands).1
+
   running : (port : ℕ) → port < 4 → state_of (found_of s.ports port) ≡ ReadyState → Runs port s.device × ((slot : ℕ) → (s.device.port port).sact slot ≡ false)
   running port below =
       ready_runs (wanted_of s.wanted port) (found_of s.ports port) port s.device (behind port below) (λ info found. laws.recorded s.wanted host port info d s.device is taken (sym (found_is port) ∙ found))
@@ -267,6 +276,7 @@ module _ (laws : TakenLaws) (s : Server) (host : Host) (d : Device) (is : IsIdle
     runs = λ ready. (running port below ready).0;
     shown = shown_as port (found_of s.ports port) refl;
     own = own_as port (found_of s.ports port) refl;
+    halts = halts_as port below (found_of s.ports port) refl;
   }
 
   uses_are : AreUsesOf s taken.uses

@@ -20,6 +20,7 @@ use Rattle.agreement.specs.Agrees.{port_at}
 use Rattle.agreement.specs.Driven.{AnyUse, IsControl, IsDrivenBy, IsFollowedTo, IsOf, SendsNone}
 use Rattle.agreement.specs.Driver.{AllFree, Goes, Knows}
 use Rattle.agreement.specs.GivingUp.{given_up}
+use Rattle.agreement.specs.Halting.{IsHaltedAsTaken}
 use Rattle.agreement.specs.Links.{SparesRegister}
 use Rattle.agreement.specs.Readying.{LeavesStored}
 use Rattle.agreement.specs.Slots.{Free, Own, Use, Uses, op_of, put}
@@ -87,7 +88,8 @@ module _ (laws : LawsBelow) where
 -- ---- what they leave
 
 -- Accesses of the port led from the server's device to this one, and some machine agrees with the slots used so. On other ports that aren't dead
--- no slot has a command of the driver's own, no page came, and the commands of used slots are stored.
+-- no slot has a command of the driver's own, no page came, and the commands of used slots are stored; and halts of other ports are of taken commands
+-- still.
 pub record Passes (s : Server) (port : Port) (slots : InSlots) (d : Device) : Type 0 where
   pub driven : IsDrivenBy (IsOf port) s.device d
   pub on : IsOn d
@@ -96,6 +98,7 @@ pub record Passes (s : Server) (port : Port) (slots : InSlots) (d : Device) : Ty
   pub knows : Knows machine (at_slots slots d)
   pub clients : (q : ℕ) (o : Operation) → q ≢ port.0 → found_of s.ports q ≢ Unready DeadState → slots.uses q 0 ≡ Own o → ⊥
   pub silent : (q : ℕ) (o : Operation) → op_of o ≡ None → q ≢ port.0 → found_of s.ports q ≢ Unready DeadState → SendsNone q o s.device d
+  pub halts : (q : ℕ) → q ≢ port.0 → IsHaltedAsTaken (s.device.port q) → IsHaltedAsTaken (d.port q)
   pub commands : (q slot : ℕ) (used : SlotUse) → q ≢ port.0 → used_for s.slots q slot ≡ Some used → HasCommand used.queued d q slot
 
 -- what the server's machine has in the slots
@@ -111,6 +114,7 @@ passes_none s port k = record {
   knows = k.stands.knows;
   clients = λ q o other alive. not_own (found_of s.ports q) (used_for s.slots q 0) (k.stands.uses q 0) o alive (k.stands.used q 0);
   silent = λ q o own other alive. silent_none q o s.device;
+  halts = λ q other h. h;
   commands = λ q slot used other is. k.commands q slot used is;
 }
 
@@ -129,6 +133,10 @@ module _ (laws : LawsBelow) (s : Server) (port : Port) (k : IsKept s) (low : por
       knows = goes.knows;
       clients = clients;
       silent = λ q o own other alive. silent_more q o s.device d new (p.silent q o own other alive) (silent q o own other alive);
+      halts = λ q other h.
+          laws.trouble.halts_acts (port_at q) c.acts (at_slots slots d) (at_slots then new) p.machine p.reached p.knows c.done
+          (subst (All (SparesRegister (Px (port_at q) Cmd))) (sym c.accesses_are)
+          (All-weaker (IsMild port) (SparesRegister (Px (port_at q) Cmd)) (λ access is. laws.of_spares port (port_at q) Cmd other access is.0) accesses only)) (p.halts q other h);
       commands = λ q slot used other is.
           let there = used_there s q slot used k is in
           let h = p.commands q slot used other is in

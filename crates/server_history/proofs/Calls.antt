@@ -21,7 +21,8 @@ use Rattle.adapter.proofs.Changed.{fun_ext}
 use Rattle.agreement.specs.Driven.{IsDrivenBy, SendsNone, known}
 use Rattle.agreement.specs.Driver.{EndsWith}
 use Rattle.agreement.specs.Links.{SameAdapter, SparesRegister}
-use Rattle.hba_regs.specs.declared.reg.Reg.TheVariants.{Ghc}
+use Rattle.hba_regs.specs.declared.reg.PortReg.TheVariants.{Cmd}
+use Rattle.hba_regs.specs.declared.reg.Reg.TheVariants.{Ghc, Px}
 use Rattle.agreement.specs.Spares.{SparesBook}
 use Rattle.agreement.proofs.Adding.{device_adds, nothing_backed}
 use Rattle.agreement.proofs.Clients.{client_loads, client_stores}
@@ -99,6 +100,12 @@ bytes_spare_host (Storing at bytes) its = tt
 bytes_spare_host (Reading r v) its = absurd its
 bytes_spare_host (Writing r v) its = absurd its
 
+bytes_spare_commands : (port : Port) (access : Access) → IsOfBytes access → SparesRegister (Px port Cmd) access
+bytes_spare_commands port (Loading at bytes) its = tt
+bytes_spare_commands port (Storing at bytes) its = tt
+bytes_spare_commands port (Reading r v) its = absurd its
+bytes_spare_commands port (Writing r v) its = absurd its
+
 bytes_clear_none : (port : Port) (access : Access) → IsOfBytes access → ClearsNone port access
 bytes_clear_none port (Loading at bytes) its = tt
 bytes_clear_none port (Storing at bytes) its = tt
@@ -134,7 +141,8 @@ module _ (laws : LawsBelow) where
 
     ports_on : (port : ℕ) → port < 4 → IsPortOf s.wanted s.ports port new
     ports_on port below =
-        port_on laws s.wanted s.ports port s.device new same k.on served (λ unready. bytes_leave access s.device new its k.on does port) (silent port) (k.behind port below)
+        port_on laws s.wanted s.ports port s.device new same k.on served (λ unready. bytes_leave access s.device new its k.on does port) (silent port)
+        (laws.trouble.halts_access k.stands.uses k.machine (port_at port) access s.device new k.reached k.stands.knows.agrees (bytes_spare_commands (port_at port) access its) does) (k.behind port below)
 
     -- what is stored for slots stays
     commands_on : (port slot : ℕ) (used : SlotUse) → used_for s.slots port slot ≡ Some used → HasCommand used.queued new port slot

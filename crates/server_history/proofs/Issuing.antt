@@ -1,11 +1,16 @@
 -- A due request is issued in the lowest free slot of its port.
 use Rattle.std.proofs.Common.{ℕ, ◌≡◌, ◌⊎◌, ⊎_elim, inl, inr, length, ◌<◌, ◌≤◌, ◌/◌, ◌%◌, false, true, not, Bool, List, ◌∷◌, map, Option, Some, None, nat_lt, ◌&&◌, ◌||◌, ◌≢◌, refl, sym, ap, ◌∙◌, subst, arith}
 use Rattle.std.proofs.lemmas.Bool.{and_parts, cases_eq, eq-eqb, false≢true}
+use Rattle.std.proofs.lemmas.List.Elements.{All-weaker}
 use Rattle.std.proofs.lemmas.List.Folds.{list_any_at}
 use Rattle.std.specs.List.{All, Contains, list_any}
 use Rattle.ata_types.specs.declared.Port.{Port}
 use Rattle.ata_types.specs.declared.PortState.TheVariants.{Dead, Ready as ReadyState}
 use Rattle.ata_types.specs.declared.request.RequestId.{RequestId}
+use Rattle.hba_regs.specs.declared.reg.PortReg.TheVariants.{Ci, Cmd, Sact}
+use Rattle.hba_regs.specs.declared.reg.Reg.TheVariants.{Px}
+use Rattle.adapter.specs.Access.{Access}
+use Rattle.adapter.specs.Access.Access.{Reading, Writing, Loading, Storing}
 use Rattle.adapter.specs.Device.{Device}
 use Rattle.adapter.specs.declared.command.Operation.{Operation}
 use Rattle.adapter.specs.declared.command.Operation.TheVariants.{Identify}
@@ -21,6 +26,7 @@ use Rattle.block_machine.proofs.HistoryLemmas.{reached_more}
 use Rattle.block_machine.proofs.Members.{into_map, map_in}
 use Rattle.agreement.specs.Driven.{known, IsDrivenBy, SendsNone}
 use Rattle.agreement.specs.Driver.{EndsWith, IsBacked, serving}
+use Rattle.agreement.specs.Links.{SparesRegister}
 use Rattle.agreement.specs.Slots.{Free, Serves, Use, op_of, put}
 use Rattle.agreement.specs.Spares.{SparesBook}
 use Rattle.agreement.proofs.Driven.{driven_as}
@@ -47,7 +53,7 @@ use Rattle.server_history.proofs.Placing.{its_or_other, placed_four, placed_has,
 use Rattle.server_history.proofs.Stored.{AreApart, issuing_leaves_stored}
 use Rattle.std.specs.Prelude.{if◌then◌else◌}
 use Rattle.adapter.specs.Commands.{is_queued}
-use Rattle.agreement.specs.Acts.{at as at_slots}
+use Rattle.agreement.specs.Acts.{InSlots, at as at_slots}
 use Rattle.agreement.specs.Agrees.{port_at}
 use Rattle.ata_types.specs.declared.request.Op.{Op}
 use Rattle.ata_types.specs.declared.request.Op.TheVariants.{Read, Write, Trim, Flush}
@@ -55,7 +61,7 @@ use Rattle.ncq.specs.Tasks.{operation_of}
 use Rattle.server_history.proofs.Slots.{free_unused, IsServedBy, its_mode, lowest_may, none_kept, not_dead, not_false, not_own, not_true, of_ready, ready_found, served_request, serves_used, usable_ready, used_or_not, used_there}
 use Rattle.server_history.proofs.Zips.{at_left}
 use Rattle.port_look.specs.Services.{IsService}
-use Rattle.ncq.specs.Tasks.{IsIssuing, IsTaskOf, IssuesTask, MayServe}
+use Rattle.ncq.specs.Tasks.{IsIssuing, IsTaskOf, IssuesTask, MayServe, with_serving}
 use Rattle.server_history.proofs.Plain.{issuing_serves}
 use Rattle.port_look.proofs.Apart.{apart}
 use Rattle.port_look.proofs.Serving.{services_on, services_same}
@@ -87,6 +93,16 @@ silent_issued laws s new port slot mode r frames p k issues its may q o own othe
     laws.issuing_silent port slot r frames mode p s.device new (record { uses = k.stands.uses; parked = k.stands.parked }) k.machine issues its k.reached k.stands.knows may q o own
     (not_own (found_of s.ports q) (used_for s.slots q 0) (k.stands.uses q 0) o other (k.stands.used q 0))
 
+-- it writes no PxCMD
+issuing_commands : (port : Port) (slot : ℕ) (q : Port) (access : Access) → IsIssuing port slot access → SparesRegister (Px q Cmd) access
+issuing_commands port slot q (Writing w v) is = ⊎_elim
+    (λ (its : w ≡ Px port Sact) (same : w ≡ Px q Cmd). let z : Px port Sact ≡ Px q Cmd = sym its ∙ same in absurd cc)
+    (λ (its : w ≡ Px port Ci) (same : w ≡ Px q Cmd). let z : Px port Ci ≡ Px q Cmd = sym its ∙ same in absurd cc)
+    is.0
+issuing_commands port slot q (Reading w v) is = tt
+issuing_commands port slot q (Loading at bytes) is = tt
+issuing_commands port slot q (Storing at bytes) is = tt
+
 -- on a ready port, that leaves what stands behind each
 behind_issued : LawsBelow → (s : Server) (new : Device) (port : Port) (slot : ℕ) (mode : Mode) (r : Task) (frames : List Frame) (p : Pending) (k : IsKept s) → state_of (found_of s.ports port.0) ≡ ReadyState
     → IssuesTask port slot r frames s.device new → IsTaskOf port slot r frames mode p
@@ -95,6 +111,12 @@ behind_issued laws s new port slot mode r frames p k ready issues its may =
     behind_served laws s new port k ready (issued_serves port slot s.device new issues.driven)
     (λ q low other. apart laws.looks port (IsIssuing port slot) (laws.issuing_of port slot) q other s.device new k.on issues.driven)
     (λ q other. silent_issued laws s new port slot mode r frames p k issues its may q Identify refl other)
+    (λ q.
+    let slots : InSlots = record { uses = k.stands.uses; parked = k.stands.parked } in
+    let c = issues.comes mode p its slots k.machine k.reached k.stands.knows may in
+    laws.trouble.halts_acts (port_at q) c.acts (at_slots slots s.device) (at_slots (with_serving port slot p.request.id slots) new) k.machine k.reached k.stands.knows c.done
+    (subst (All (SparesRegister (Px (port_at q) Cmd))) (sym c.accesses_are)
+    (All-weaker (IsIssuing port slot) (SparesRegister (Px (port_at q) Cmd)) (issuing_commands port slot (port_at q)) issues.driven.accesses issues.driven.only)))
 
 module _ (laws : LawsBelow) (s new : Server) (port : Port) (id : RequestId) (k : IsKept s) (one : IssuesOne port id s new) where
   abbrev e : Held

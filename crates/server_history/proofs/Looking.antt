@@ -5,7 +5,7 @@ use Rattle.ata_types.specs.declared.Port.{Port}
 use Rattle.ata_types.specs.declared.PortState.TheVariants.{Dead, Ready as ReadyState}
 use Rattle.hba_regs.specs.declared.reg.Reg.TheVariants.{Px}
 use Rattle.hba_regs.specs.declared.reg.PortReg.{PortReg}
-use Rattle.hba_regs.specs.declared.reg.PortReg.TheVariants.{Is, Sact, Ci}
+use Rattle.hba_regs.specs.declared.reg.PortReg.TheVariants.{Is, Cmd, Sact, Ci}
 use Rattle.adapter.specs.Access.{Access}
 use Rattle.adapter.specs.Access.Access.{Reading, Writing, Loading, Storing}
 use Rattle.adapter.specs.Device.{Device}
@@ -13,6 +13,7 @@ use Rattle.adapter.specs.declared.command.Operation.{Operation}
 use Rattle.adapter.specs.declared.command.Operation.TheVariants.{Identify}
 use Rattle.agreement.specs.Agrees.{port_at}
 use Rattle.agreement.specs.Driven.{AnyUse, IsDrivenBy, IsFollowed, LeavesPort, NoneWrites, SendsNone}
+use Rattle.agreement.specs.Halting.{IsHaltedAsTaken}
 use Rattle.agreement.specs.Slots.{IsOver, Uses, op_of}
 use Rattle.agreement.proofs.Driven.{along, driven_as, followed_adds, followed_silent}
 use Rattle.agreement.proofs.Finished.{access_over}
@@ -21,6 +22,7 @@ use Rattle.host_boot.specs.declared.Found.TheVariants.{Unready}
 use Rattle.server_history.specs.Served.{IsMaskOf}
 use Rattle.server_history.specs.Server.{Server, IsKept, IsPortOf, slots_at, state_of, used_for}
 use Rattle.server_history.proofs.Going.{machine_on, kept_on}
+use Rattle.server_history.proofs.Halting.{followed_halts}
 use Rattle.server_history.proofs.Ports.{port_on}
 use Rattle.server_history.proofs.Slots.{AreOver, busy_used, not_own, ready_found, serves_used, used_there}
 use Rattle.server_history.proofs.Stored.{service_leaves_stored}
@@ -38,14 +40,14 @@ use Rattle.port_look.proofs.Serving.{looking_service, services_on, services_same
 
 -- ---- what stands behind the ports
 
--- Accesses that serve a ready port leave what stands behind each, where the others are left to the device, and no page comes but on
--- dead ones.
+-- Accesses that serve a ready port leave what stands behind each, where the others are left to the device, no page comes but on
+-- dead ones, and halts are of taken commands still.
 pub behind_served : LawsBelow → (s : Server) (new : Device) (port : Port) → IsKept s → state_of (found_of s.ports port.0) ≡ ReadyState → IsDrivenBy IsService s.device new
     → ((q : ℕ) → q < 4 → q ≢ port.0 → LeavesPort (s.device.port q) (new.port q)) → ((q : ℕ) → found_of s.ports q ≢ Unready Dead → SendsNone q Identify s.device new)
-    → (q : ℕ) → q < 4 → IsPortOf s.wanted s.ports q new
-behind_served laws s new port k ready driven left silent q low =
+    → ((q : ℕ) → IsHaltedAsTaken (s.device.port q) → IsHaltedAsTaken (new.port q)) → (q : ℕ) → q < 4 → IsPortOf s.wanted s.ports q new
+behind_served laws s new port k ready driven left silent halts q low =
     port_on laws s.wanted s.ports q s.device new (services_same laws.looks s.device new driven) k.on driven
-    (λ unready. left q low (λ same. unready (ap (λ (n : ℕ). state_of (found_of s.ports n)) same ∙ ready))) (silent q) (k.behind q low)
+    (λ unready. left q low (λ same. unready (ap (λ (n : ℕ). state_of (found_of s.ports n)) same ∙ ready))) (silent q) (halts q) (k.behind q low)
 
 -- ---- the server
 
@@ -58,16 +60,17 @@ module _ (s : Server) (new : Device) (port : Port) (k : IsKept s) (ready : state
       (not_own (found_of s.ports q) (used_for s.slots q 0) (k.stands.uses q 0) o other (k.stands.used q 0))
 
   -- followed accesses that serve the port, and write no PxCI
-  kept_over : LawsBelow → (May : Access → Type 0) → ((access : Access) → May access → IsService access) → ((access : Access) (at : ℕ) (bytes : List ℕ) → May access → access ≡ Storing at bytes → ⊥) → ((q : Port) → NoneWrites May (Px q Ci) × NoneWrites May (Px q Sact))
+  kept_over : LawsBelow → (May : Access → Type 0) → ((access : Access) → May access → IsService access) → ((access : Access) (at : ℕ) (bytes : List ℕ) → May access → access ≡ Storing at bytes → ⊥) → ((q : Port) → NoneWrites May (Px q Ci) × NoneWrites May (Px q Sact)) → ((q : Port) → NoneWrites May (Px q Cmd))
       → ((q : ℕ) → q < 4 → q ≢ port.0 → LeavesPort (s.device.port q) (new.port q)) → IsFollowed May AnyUse s.device new → IsKept (record s { device = new })
-  kept_over below May service storeless none left followed =
+  kept_over below May service storeless none commandless left followed =
       let laws : Laws = below.looks in
       let uses : Uses = k.stands.uses in
       let driven : IsDrivenBy IsService s.device new = driven_as May IsService s.device new service followed.driven in
       let x = (followed_adds followed uses k.stands.parked tt).adds k.machine k.reached k.stands.knows in
       kept_on s new k (services_on laws s.device new k.on driven) (services_same laws s.device new driven)
       (behind_served below s new port k ready driven left
-      (λ q other. silent_over May none followed q Identify refl other))
+      (λ q other. silent_over May none followed q Identify refl other)
+      (λ q. followed_halts below (port_at q) May s k new followed (commandless (port_at q))))
       (λ q n used is.
       let t = used_there s q n used k is in
       let h = k.commands q n used is in
@@ -108,13 +111,13 @@ module _ (s : Server) (new : Device) (port : Port) (k : IsKept s) (ready : state
 
   pub looking_kept : LawsBelow → IsFollowed (IsLooking port) AnyUse s.device new → IsKept (record s { device = new })
   looking_kept laws followed =
-      kept_over laws (IsLooking port) (looking_service port) looking_stores (λ q. (looking_spares q Ci (λ e. absurd cc), looking_spares q Sact (λ e. absurd cc))) (λ q low other. apart laws.looks port (IsLooking port) (looking_of port) q other s.device new k.on followed.driven) followed
+      kept_over laws (IsLooking port) (looking_service port) looking_stores (λ q. (looking_spares q Ci (λ e. absurd cc), looking_spares q Sact (λ e. absurd cc))) (λ q. looking_spares q Cmd (λ e. absurd cc)) (λ q low other. apart laws.looks port (IsLooking port) (looking_of port) q other s.device new k.on followed.driven) followed
 
   module _ (laws : LawsBelow) (mask done : ℕ) (finds : ReadsDone port mask done s.device new) where
     pub finding_kept : IsKept (record s { device = new })
     finding_kept =
         let followed = laws.finding_followed port mask done s.device new finds in
-        kept_over laws (IsFinding port) (finding_serves port) finding_stores (λ q. (finding_spares q Ci, finding_spares q Sact))
+        kept_over laws (IsFinding port) (finding_serves port) finding_stores (λ q. (finding_spares q Ci, finding_spares q Sact)) (λ q. finding_spares q Cmd)
         (λ q low other. apart laws.looks port (IsFinding port) (laws.finding_of port) q other s.device new k.on followed.driven) followed
 
     pub finding_silent : (q : ℕ) (o : Operation) → op_of o ≡ None → found_of s.ports q ≢ Unready Dead → SendsNone q o s.device new

@@ -9,6 +9,7 @@ use Rattle.adapter.specs.Rules.{IsOn}
 use Rattle.adapter.specs.declared.command.Operation.TheVariants.{Identify}
 use Rattle.agreement.specs.Agrees.{port_at}
 use Rattle.agreement.specs.Driven.{IsDrivenBy, IsOf, LeavesPort, SendsNone}
+use Rattle.agreement.specs.Halting.{IsHaltedAsTaken}
 use Rattle.agreement.specs.Links.{SameAdapter}
 use Rattle.agreement.proofs.Controlled.{other_left}
 use Rattle.agreement.proofs.Driven.{by_one}
@@ -51,16 +52,17 @@ bytes_leave access old new is on does port =
 
 -- ---- what stands behind a port
 
--- over accesses that serve ports, where the port is left to the device, unless it is ready
+-- over accesses that serve ports, where the port is left to the device, unless it is ready, and a halt is of a taken command still
 pub port_on : LawsBelow → (wanted : List Wanted) (found : List Found) (port : ℕ) (old new : Device) → SameAdapter old new → IsOn old → IsDrivenBy IsService old new
     → (state_of (found_of found port) ≢ ReadyState → LeavesPort (old.port port) (new.port port))
-    → (found_of found port ≢ Unready Dead → SendsNone port Identify old new) → IsPortOf wanted found port old → IsPortOf wanted found port new
-port_on laws wanted found port old new same on by left silent is =
+    → (found_of found port ≢ Unready Dead → SendsNone port Identify old new) → (IsHaltedAsTaken (old.port port) → IsHaltedAsTaken (new.port port)) → IsPortOf wanted found port old → IsPortOf wanted found port new
+port_on laws wanted found port old new same on by left silent halts is =
     record {
       behind = behind (found_of found port) left silent is.behind;
       runs = λ ready. runs_on laws.looks (port_at port) old new on by (is.runs ready);
       shown = λ bad. shown_on laws.looks (port_at port) old new on by (is.shown bad);
       own = λ ready. laws.recovery.own_on port by.accesses old new by.all (is.own ready);
+      halts = λ ready. halts (λ _. is.halts ready) (runs_on laws.looks (port_at port) old new on by (is.runs ready)).st;
     }
   where
     behind : (f : Found) → (state_of f ≢ ReadyState → LeavesPort (old.port port) (new.port port)) → (f ≢ Unready Dead → SendsNone port Identify old new)

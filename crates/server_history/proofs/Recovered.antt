@@ -19,6 +19,7 @@ use Rattle.adapter.specs.declared.command.Operation.TheVariants.{Identify}
 use Rattle.agreement.specs.Driven.{AnyAccess, AnyUse, IsDrivenBy, IsFollowed, IsOf, LeavesPort, SendsNone}
 use Rattle.agreement.specs.Acts.{InSlots}
 use Rattle.agreement.specs.Driver.{AllFree}
+use Rattle.agreement.specs.Halting.{HaltsAsTaken, IsHaltedAsTaken}
 use Rattle.agreement.specs.Links.{HasDeviceOrNone, SameAdapter}
 use Rattle.agreement.specs.Agrees.{port_at}
 use Rattle.agreement.proofs.Driven.{driven_as}
@@ -51,9 +52,10 @@ use Rattle.request_queue.specs.declared.fate.Prospect.TheVariants.{SameDisk, Oth
 use Rattle.slots.specs.Uses.{Uses as PortSlots, use_at}
 use Rattle.slots.specs.declared.Use.{Use as SlotUse}
 use Rattle.server_history.specs.Below.{LawsBelow}
-use Rattle.server_history.specs.Recovered.{IsFoundAfter, IsProspect, IsRecovered, IsSettledAfter, holdings_of, requests_of, with_port}
+use Rattle.server_history.specs.Recovered.{AreQueued, IsFoundAfter, IsProspect, IsRecovered, IsSettledAfter, holdings_of, requests_of, with_port}
 use Rattle.server_history.specs.Server.{HasSlots, Server, IsKept, IsMachineOf, IsPortOf, is_served, mode_at, mode_found, mode_in, no_slots, plain_mode, slots_at, state_of, usable_of, used_for}
 use Rattle.server_history.proofs.Behind.{left_on, ready_on}
+use Rattle.server_history.proofs.Halting.{again_halts, works_plainly}
 use Rattle.server_history.proofs.Remaining.{IsLeft, WasIn, ends_of, fated}
 use Rattle.server_history.proofs.Looking.{finding_kept, found_over, looking_kept}
 use Rattle.server_history.proofs.Beside.{Passes, PassesTo, again_passes, recovery_passes}
@@ -68,14 +70,15 @@ pub record StandsAt (wanted : Wanted) (found : Found) (port : ℕ) (d : Device) 
   pub runs : state_of found ≡ ReadyState → Runs port d
   pub shown : FoundBadDisk (state_of found) → HasDeviceOrNone (d.port port)
   pub own : state_of found ≡ ReadyState → ShowsOwnDisk (d.port port)
+  pub halts : state_of found ≡ ReadyState → HaltsAsTaken (d.port port)
 
 its_port : (wanted : List Wanted) (found : List Found) (port : ℕ) (d : Device) → StandsAt (wanted_of wanted port) (found_of found port) port d → IsPortOf wanted found port d
-its_port wanted found port d s = record { behind = s.behind; runs = s.runs; shown = s.shown; own = s.own }
+its_port wanted found port d s = record { behind = s.behind; runs = s.runs; shown = s.shown; own = s.own; halts = s.halts }
 
 -- another port is left to the device
 other_stands : LawsBelow → (port : Port) (wanted : Wanted) (found : Found) (q : ℕ) (old new : Device) → q ≢ port.0 → IsOn old → IsDrivenBy (IsOf port) old new → SameAdapter old new
-    → (found ≢ Unready DeadState → SendsNone q Identify old new) → StandsAt wanted found q old → StandsAt wanted found q new
-other_stands laws port wanted found q old new other on driven same silent s = record {
+    → (found ≢ Unready DeadState → SendsNone q Identify old new) → (IsHaltedAsTaken (old.port q) → IsHaltedAsTaken (new.port q)) → StandsAt wanted found q old → StandsAt wanted found q new
+other_stands laws port wanted found q old new other on driven same silent halts s = record {
   behind = left_on wanted found q old new same left silent s.behind;
   runs = λ ready.
       let r = s.runs ready in
@@ -90,6 +93,7 @@ other_stands laws port wanted found q old new other on driven same silent s = re
       };
   shown = λ bad. laws.recovery.of_shown (port_at q) port old new other on driven (s.shown bad);
   own = λ ready. laws.recovery.own_on q driven.accesses old new driven.all (s.own ready);
+  halts = λ ready. halts (λ _. s.halts ready) (left.controls.st ∙ (s.runs ready).st);
 }
   where
     left : LeavesPort (old.port q) (new.port q)
@@ -257,6 +261,8 @@ module _ (laws : LawsBelow) (port : Port) (later : List Reply) (old new : Server
         runs = λ _. record { st = g.runs.st; cr = g.runs.cr; fre = g.runs.fre; bases = g.runs.bases; saw = g.count ∙ was.saw; recorded = g.recorded };
         shown = λ bad. absurd bad;
         own = λ _. owns a.device done.1.driven;
+        halts = λ _. again_halts laws r.queued port.0 mid.device a.device g
+            (λ plain. works_plainly laws mid m port its_ready (subst (λ (queued : Bool). AreQueued queued (slots_at mid.slots port.0)) plain r.alike) ((m.behind port.0 small).halts its_ready));
       }
 
   -- its engine was awaited in vain
@@ -266,6 +272,7 @@ module _ (laws : LawsBelow) (port : Port) (later : List Reply) (old new : Server
     runs = λ is. let z : DeadState ≡ ReadyState = is in absurd cc;
     shown = λ bad. absurd bad;
     own = λ is. let z : DeadState ≡ ReadyState = is in absurd cc;
+    halts = λ is. let z : DeadState ≡ ReadyState = is in absurd cc;
   }
 
   -- it was booted
@@ -282,6 +289,11 @@ module _ (laws : LawsBelow) (port : Port) (later : List Reply) (old new : Server
     }
     runs_as (Unready state) e is = absurd (subst (λ (s : PortState). EndsAs (serial_of wanted) s port.0 new.device) is e.ended)
 
+    halts_as : (f : Found) → BootsStopped wanted port f b.asked new.device → state_of f ≡ ReadyState → HaltsAsTaken (new.device.port port.0)
+    halts_as Unserved none is = absurd none
+    halts_as (Ready info) e is = e.halts
+    halts_as (Unready state) e is = absurd (subst (λ (s : PortState). EndsAs (serial_of wanted) s port.0 new.device) is e.ended)
+
     shown_as : (f : Found) → booted.found ≡ f → FoundBadDisk (state_of f) → HasDeviceOrNone (new.device.port port.0)
     shown_as Unserved is bad = absurd bad
     shown_as (Ready info) is bad = absurd bad
@@ -293,6 +305,7 @@ module _ (laws : LawsBelow) (port : Port) (later : List Reply) (old new : Server
       runs = runs_as booted.found b.boots;
       shown = shown_as booted.found refl;
       own = λ _. owns new.device whole.1.driven;
+      halts = halts_as booted.found b.boots;
     }
 
   stands_then : (after_it : Next) → EndsIn r.queued port after_it mid.device a.device → IsFoundAfter wanted port a.was after_it a.device new.device a.found → Stands a.found new.device
@@ -346,8 +359,8 @@ module _ (laws : LawsBelow) (port : Port) (later : List Reply) (old new : Server
       (λ (other : q ≢ port.0).
       let was = m.behind q low in
       subst (λ (f : Found). StandsAt (wanted_of mid.wanted q) f q new.device) (sym (found_other q other))
-      (other_stands laws port (wanted_of mid.wanted q) (found_of mid.ports q) q mid.device new.device other m.on whole.1.driven alike (λ alive. whole.1.silent q Identify refl other alive)
-      (record { behind = was.behind; runs = was.runs; shown = was.shown; own = was.own })))
+      (other_stands laws port (wanted_of mid.wanted q) (found_of mid.ports q) q mid.device new.device other m.on whole.1.driven alike (λ alive. whole.1.silent q Identify refl other alive) (whole.1.halts q other)
+      (record { behind = was.behind; runs = was.runs; shown = was.shown; own = was.own; halts = was.halts })))
       (cases_eq q port.0))
 
   there_is : (q : ℕ) → is_served (found_of then_is.ports q) ≡ true → HasPort new.device q

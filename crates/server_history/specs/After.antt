@@ -83,5 +83,7 @@ pub record TroubleLaws : Type 0 where
   -- and a queued command that has halted it is taken still
   pub halts_acts : (port : Port) (acts : List Act) (k later : Known) (m : Machine) → IsReached m → Knows m k → AreDone acts k m later → All (SparesRegister (Px port Cmd)) (accesses_of acts)
       → IsHaltedAsTaken (k.device.port port.0) → IsHaltedAsTaken (later.device.port port.0)
+  pub halts_access : (uses : Uses) (m : Machine) (port : Port) (access : Access) (old new : Device) → IsReached m → Agrees uses m old → SparesRegister (Px port Cmd) access → Does access old new
+      → IsHaltedAsTaken (old.port port.0) → IsHaltedAsTaken (new.port port.0)
   pub halts_calm : (p : PortOf) → p.halt ≡ NotHalted → HaltsAsTaken p
   pub halts_plain : (p : PortOf) → WorksPlainly p → HaltsAsTaken p

@@ -13,6 +13,7 @@ use Rattle.adapter.specs.Device.{Device}
 use Rattle.adapter.specs.Rules.{IsOn, HasPort}
 use Rattle.agreement.specs.Driven.{known}
 use Rattle.agreement.specs.Driver.{Knows}
+use Rattle.agreement.specs.Halting.{HaltsAsTaken}
 use Rattle.agreement.specs.Links.{HasDeviceOrNone}
 use Rattle.agreement.specs.Readying.{IsStored}
 use Rattle.agreement.specs.Slots.{Free, Serves, Use, Uses}
@@ -216,13 +217,14 @@ abbrev pub OwnsClientFrames : Table → ℕ → Type 0
 OwnsClientFrames table size = (frame : Frame) (client : ClientId) → owner_of table frame ≡ Some client
     → (DRIVER_FRAMES ≤ frame.0) × (FRAME_BYTES * frame.0 + FRAME_BYTES ≤ size)
 
--- What stands behind each port, as it was found; a ready one runs, and has a disk in if it shows one; and one with a disk that isn't served shows a device,
--- or has none in.
+-- What stands behind each port, as it was found; a ready one runs, and has a disk in if it shows one, and what halts it is of a command that is taken still;
+-- and one with a disk that isn't served shows a device, or has none in.
 pub record IsPortOf (wanted : List Wanted) (found : List Found) (port : ℕ) (d : Device) : Type 0 where
   pub behind : StillStandsBehind (wanted_of wanted port) (found_of found port) port d
   pub runs : state_of (found_of found port) ≡ ReadyState → Runs port d
   pub shown : FoundBadDisk (state_of (found_of found port)) → HasDeviceOrNone (d.port port)
   pub own : state_of (found_of found port) ≡ ReadyState → ShowsOwnDisk (d.port port)
+  pub halts : state_of (found_of found port) ≡ ReadyState → HaltsAsTaken (d.port port)
 
 -- how many slots of a port may be used: those of its mode, if it is ready
 abbrev pub usable_of : Found → Mode → ℕ

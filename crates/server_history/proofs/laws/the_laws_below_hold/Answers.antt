@@ -90,6 +90,7 @@ returns c = record {
     disk_left = c.disk_stays.ensures.access;
     link_left = c.link_stays.ensures.access;
     halts_acts = c.halts_are_of_taken_commands.ensures.acts;
+    halts_access = c.halts_are_of_taken_commands.ensures.access;
     halts_calm = c.halts_are_of_taken_commands.ensures.calm;
     halts_plain = c.halts_are_of_taken_commands.ensures.plain;
   };
