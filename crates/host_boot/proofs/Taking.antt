@@ -22,10 +22,9 @@ use Rattle.adapter.specs.declared.command.Operation.TheVariants.{Identify}
 use Rattle.agreement.specs.Agrees.{port_at}
 use Rattle.agreement.specs.Driven.{AnyUse, IsAgreed, IsDrivenBy, IsFollowed, IsFollowedTo, IsOf, IsToldTo, IsUse, LeavesPort, NoneWrites, SendsNone, AreDevices}
 use Rattle.agreement.specs.Driver.{AllFree}
-use Rattle.agreement.specs.Halting.{HaltsAsTaken, IsHaltedAsTaken}
+use Rattle.agreement.specs.Halting.{IsHaltedAsTaken}
 use Rattle.agreement.specs.Links.{SameAdapter, SparesRegister}
 use Rattle.agreement.specs.Slots.{Free, Own, Uses, put}
-use Rattle.identify.specs.declared.DiskInfo.{DiskInfo}
 use Rattle.identify.specs.declared.wanted.Wanted.{Wanted}
 use Rattle.identify.specs.declared.wanted.Wanted.TheVariants.{Nothing}
 use Rattle.port_control.specs.Engines.{StopsBoth}

@@ -4,21 +4,12 @@ use Rattle.ata_types.specs.declared.Port.{Port}
 use Rattle.ata_types.specs.declared.PortState.TheVariants as shown
 use Rattle.ata_types.specs.declared.PortState.TheVariants.{Ready as ReadyState}
 use Rattle.ata_types.specs.declared.request.Reply.{Reply}
-use Rattle.hba_regs.specs.declared.reg.PortReg.TheVariants.{Cmd, Is}
-use Rattle.hba_regs.specs.declared.reg.Reg.TheVariants as reg
-use Rattle.hba_regs.specs.declared.reg.Reg.TheVariants.{Px}
-use Rattle.adapter.specs.Access.{Access}
-use Rattle.adapter.specs.Access.Access.{Loading, Reading, Storing, Writing}
-use Rattle.adapter.specs.Device.{Device}
 use Rattle.agreement.specs.Driven.{AnyUse, IsFollowed}
-use Rattle.agreement.specs.Halting.{HaltsAsTaken, IsHaltedAsTaken}
-use Rattle.agreement.specs.Links.{SparesRegister}
 use Rattle.agreement.specs.Recovering.{WorksPlainly}
 use Rattle.block_machine.specs.Histories.{IsReached}
 use Rattle.block_machine.specs.State.{Machine}
 use Rattle.driver_history.specs.Histories.{HasBadDisk}
 use Rattle.host_boot.specs.Taken.{found_of}
-use Rattle.ncq.specs.Masks.{IsFinding}
 use Rattle.port_boot.specs.States.{ShowsOwnDisk}
 use Rattle.port_look.specs.Looks.{IsLooking}
 use Rattle.server_history.specs.Below.{LawsBelow}
@@ -30,19 +21,18 @@ use Rattle.server_history.proofs.Evident.{IsEvident}
 use Rattle.server_history.proofs.Faulting.{faulting}
 use Rattle.server_history.proofs.Finding.{finding}
 use Rattle.server_history.proofs.Following.{mid_kept, mid_ready}
-use Rattle.server_history.proofs.Halting.{followed_halts, works_plainly}
+use Rattle.server_history.proofs.Halting.{works_plainly}
 use Rattle.server_history.proofs.Minding.{serves_ready}
 use Rattle.server_history.proofs.Lasting.{lasting}
 use Rattle.server_history.proofs.Looking.{looking_kept}
 use Rattle.server_history.proofs.Reboots.{reboots}
 use Rattle.server_history.proofs.Recovery.{evidence_of}
 use Rattle.server_history.proofs.Slots.{ready_found}
-use Rattle.server_history.proofs.Stretching.{mid_device}
 use Rattle.server_history.proofs.Welling.{going_well}
 
 module _ (laws : LawsBelow) (port : Port) (replies : List Reply) (old new : Server) (k : IsKept old) (ready : state_of (found_of old.ports port.0) ≡ ReadyState) (r : RecoversPort port replies old new)
     (looks : IsFollowed (IsLooking port) AnyUse old.device r.settled.recovered.seen) (kept : IsKept r.mid) (evident : IsEvident port replies old new r)
-    (halts : HaltsAsTaken (old.device.port port.0)) (m : Machine) (reached : IsReached m) (is : IsMachineOf old m)
+    (m : Machine) (reached : IsReached m) (is : IsMachineOf old m)
     (d : DecidesTurn port replies old new r (evidence_of port r.settled.failed r.settled.prospect r.settled.recovered.result.next) m) where
   -- where the port showed a device when it was looked at, a disk was in
   own : ShowsOwnDisk (r.settled.recovered.seen.port port.0)
@@ -58,39 +48,15 @@ module _ (laws : LawsBelow) (port : Port) (replies : List Reply) (old new : Serv
       (λ unfit. let z : ReadyState ≡ shown.Unfit unfit.0 = sym ready ∙ unfit.1 in absurd cc)
       bad
 
-  -- a halt is of a taken command when the port is recovered, too
-  looking_spares : (access : Access) → IsLooking port access → SparesRegister (Px port Cmd) access
-  looking_spares (Reading w v) x = tt
-  looking_spares (Writing w v) x = ⊎_elim
-      (λ (is : w ≡ Px port Is) (same : w ≡ Px port Cmd). let z : Px port Is ≡ Px port Cmd = sym is ∙ same in cc)
-      (λ its (same : w ≡ Px port Cmd). let z : reg.Is ≡ Px port Cmd = sym its.0 ∙ same in cc)
-      x
-  looking_spares (Loading at bytes) x = absurd x
-  looking_spares (Storing at bytes) x = absurd x
-
-  finding_spares : (access : Access) → IsFinding port access → SparesRegister (Px port Cmd) access
-  finding_spares (Reading w v) x = tt
-  finding_spares (Writing w v) x = absurd x
-  finding_spares (Loading at bytes) x = absurd x
-  finding_spares (Storing at bytes) x = absurd x
-
   then_kept : IsKept r.settled.mid
   then_kept = mid_kept laws port r.later old r.mid k ready r.settled looks
 
   then_ready : state_of (found_of r.settled.mid.ports port.0) ≡ ReadyState
   then_ready = mid_ready laws port r.later old r.mid k ready r.settled looks
 
-  then_halts : HaltsAsTaken (r.settled.mid.device.port port.0)
-  then_halts =
-      let x = r.settled.recovered in
-      let seen = followed_halts laws port (IsLooking port) old k x.seen looks looking_spares (λ _. halts) in
-      let found = followed_halts laws port (IsFinding port) (record old { device = x.seen }) (looking_kept old x.seen port k ready laws looks) x.found (laws.finding_followed port x.mask x.done x.seen x.found x.reads) finding_spares seen in
-      subst (λ (d : Device). IsHaltedAsTaken (d.port port.0)) (sym (mid_device laws port replies old new k ready r looks kept)) found
-      ((then_kept.behind port.0 (ready_found old port.0 k ready).0).runs then_ready).st
-
   -- with plain commands outstanding, it has worked on plain ones alone
   plainly : r.settled.recovered.queued ≡ false → WorksPlainly (r.settled.mid.device.port port.0)
-  plainly plain = works_plainly laws r.settled.mid then_kept port then_ready (subst (λ (queued : Bool). AreQueued queued (slots_at r.settled.mid.slots port.0)) plain r.settled.recovered.alike) then_halts
+  plainly plain = works_plainly laws r.settled.mid then_kept port then_ready (subst (λ (queued : Bool). AreQueued queued (slots_at r.settled.mid.slots port.0)) plain r.settled.recovered.alike) ((then_kept.behind port.0 (ready_found old port.0 k ready).0).halts then_ready)
 
   pub ties_recovered : TiesTurn port replies evident.accesses old new m (evidence_of port r.settled.failed r.settled.prospect r.settled.recovered.result.next) d.steps
   ties_recovered asked = record {

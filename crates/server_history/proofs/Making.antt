@@ -29,11 +29,10 @@ use Rattle.block_machine.specs.declared.due.Mode.{Mode}
 use Rattle.driver_history.specs.Histories.{IssuesDue}
 use Rattle.host_boot.specs.Taken.{found_of}
 use Rattle.port_look.specs.declared.Look.TheVariants.{Undisturbed as Calm}
-use Rattle.port_look.proofs.Seeing.{look_driven}
 use Rattle.request_queue.specs.Entries.{Held, IsEarlier}
 use Rattle.slots.specs.declared.Use.{Use as SlotUse}
 use Rattle.server_history.specs.Below.{LawsBelow}
-use Rattle.server_history.specs.Served.{AnswersBy, AnswersTurn, HasEnded, HasTurn, IsAnsweredIn, IssuesOnly, SameSettings, answers_in, is_used}
+use Rattle.server_history.specs.Served.{AnswersBy, AnswersTurn, HasEnded, HasTurn, IsAnsweredIn, IssuesOnly, SameSettings, answers_in}
 use Rattle.server_history.specs.Server.{Server, IsMachineOf, IsSettled, mode_in, ports_of, remembered_at, slots_at, state_of, used_for}
 use Rattle.server_history.specs.Turns.{ServesPort, IsOfTurn, LeavesOthers, MakesTurn, NamesOnly, moment_of}
 use Rattle.server_history.proofs.Answered.{answered_in, ended_stood, issuing_answers, may_parts, no_answer, no_answer_issuing, told_so, with_ok}

@@ -91,7 +91,7 @@ module _ (laws : LawsBelow) (port : Port) (replies : List Reply) (old new : Serv
         evidenced = e.evidenced m;
         faults = e.faults;
         finds = λ _ x issued. found_by_masks laws port replies old new k ready r looks kept e m reached is d;
-        ties = ties_recovered laws port replies old new k ready r looks kept e ((k.behind port.0 (ready_found old port.0 k ready).0).halts ready) m reached is d;
+        ties = ties_recovered laws port replies old new k ready r looks kept e m reached is d;
       }
 
   pub recovered : ServesPort port replies old new
