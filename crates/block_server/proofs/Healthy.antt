@@ -19,6 +19,7 @@ use Rattle.block_machine.specs.State.{Pending}
 use Rattle.block_machine.specs.Steps.{Answer}
 use Rattle.driver_history.specs.Claims.{AnswerRests, GoesWellFor, IsHealthyFor}
 use Rattle.driver_history.specs.Evidence.{StaysHealthy}
+use Rattle.driver_history.specs.Guard.{IsAskedOf}
 use Rattle.driver_history.specs.Histories.{IsHistory}
 use Rattle.driver_history.specs.Moves.{KeepsMoves}
 use Rattle.configuration.specs.declared.Config.{Config}
@@ -41,6 +42,8 @@ use Rattle.block_server.proofs.Running.{run_adds}
 
 -- What the laws of histories say, each of every history.
 pub record HistoryLaws : Type 0 where
+  pub asked : (port : Port) (old : Instant Device) (new : Device) → old.moment.ports.state port ≡ Ready → StaysHealthy port.0 old.device new
+      → IsAskedOf port old new
   pub well : (wanted : List Wanted) (first : Instant Device) (past : List (Happening Device DeviceStep)) (h : Happening Device DeviceStep) (port : Port)
       → IsHistory wanted first (h ∷ past) → IsHealthyFor (now first past) h port → GoesWellFor (now first past) h port
   pub rest : (wanted : List Wanted) (first : Instant Device) (past : List (Happening Device DeviceStep)) (h : Happening Device DeviceStep)
@@ -114,7 +117,7 @@ module _ (laws : HistoryLaws) where
   served_well wanted first past h port history healthy =
       let goes = laws.well wanted first past h port history healthy in
       let old = now first past in
-      let heeds = (history.2.port port healthy.healthy).heeds in (
+      let heeds = (history.2.port port (laws.asked port old h.device healthy.ready healthy.healthy)).heeds in (
         goes,
         record {
           same = goes.spared.same;
