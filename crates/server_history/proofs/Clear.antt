@@ -51,7 +51,7 @@ pub unused_clear : LawsBelow → (c : Server) (m : Machine) (n : ℕ) → IsMach
 unused_clear laws c m n stands ready seen read looks mask done k slot small unused =
     let masks = both_read (port_at n) mask done seen read k in
     let free : IsFree (c.device.port n) slot =
-        subst (λ (u : Use). IsServed m c.device.memory c.device.tape (c.device.port n) n slot u) (free_unused c m n stands ready slot unused) (stands.knows.agrees.slot n slot) in (
+    subst (λ (u : Use). IsServed m c.device.memory c.device.tape (c.device.port n) n slot u) (free_unused c m n stands ready slot unused) (stands.knows.agrees.slot n slot) in (
       issued_clear (port_at n) slot k.issued seen masks.0 small masks.1 (looks_over (port_at n) slot c.device seen looks (record { issued = free.issued; free = free.free })),
       active_clear (port_at n) slot k.active masks.0 read small masks.2
           (reads_clear n slot (Px (port_at n) Ci) k.issued seen masks.0 masks.1 (looks_inactive laws.looks (port_at n) n slot c.device seen looks free.unarmed)),

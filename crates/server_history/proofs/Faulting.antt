@@ -198,7 +198,7 @@ module _ (laws : LawsBelow) (port : Port) (replies : List Reply) (old new : Serv
               let there = answers_there d.fates.fates w.0 (Contains-permutation d.fates.tells.answers (answers_of d.fates.fates) w.0 d.fates.tells.same w.1) in
               let o_is : w.0.1 ≡ o = ap (λ (y : Reply). y.outcome) (sym w.2) in
               let in_steps : Contains d.steps (Answer w.0.0 o) = subst (λ (y : Outcome). Contains d.steps (Answer w.0.0 y)) o_is (subst (λ (steps : List Step). Contains steps (Answer w.0.0 w.0.1)) (sym d.steps_are)
-                  (Contains-append_right d.issuing.steps (until_issues d.fates) (Answer w.0.0 w.0.1) (Contains-append_left d.fates.fates _ (Answer w.0.0 w.0.1) there))) in
+              (Contains-append_right d.issuing.steps (until_issues d.fates) (Answer w.0.0 w.0.1) (Contains-append_left d.fates.fates _ (Answer w.0.0 w.0.1) there))) in
               let its_id : w.0.0.request.id ≡ e.request.id = ap (λ (y : Reply). y.id) (sym w.2) ∙ request.id_is ∙ id_is in
               (w.0.0, its_failure.status, its_failure.error, answered e here w.0.0 o in_steps its_id, in_steps)
 

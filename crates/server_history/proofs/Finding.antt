@@ -93,8 +93,8 @@ module _ (laws : LawsBelow) (port : Port) (low : port.0 < 4) (done : ℕ) where
       let places = (k.slots port.0 low).places in
       let small = one.small in
       let still : used_for mid.slots port.0 slot ≡ Some used =
-          ap (λ (n : Server). used_for n.slots port.0 slot) one.server
-          ∙ placed_other old.slots port.0 one.slot None (omega (arith, four, low)) (omega (arith, places, small)) port.0 slot (λ _ same. other same) ∙ is in
+      ap (λ (n : Server). used_for n.slots port.0 slot) one.server
+      ∙ placed_other old.slots port.0 one.slot None (omega (arith, four, low)) (omega (arith, places, small)) port.0 slot (λ _ same. other same) ∙ is in
       let x = was_told requests mid new (answer_kept laws old mid port e k ready one (over one.slot one.small its)) (ready_on laws port done e old mid one ready) (over_on laws port done e old mid one over) more slot used still unused in
       (x.0, contains_there e requests x.0 x.1, x.2))
       (cases_eq slot one.slot)

@@ -57,7 +57,7 @@ module _ (laws : LawsBelow) (s : Server) (k : IsKept s) (port : Port) (ready : s
       (ap (λ (y : Meaning). is_queued y.operation) one ∙ c.kind ∙ alike slot u.0 u.1))
       (λ none.
       let f : IsFree (s.device.port port.0) slot = subst (λ (u : Use). IsServed k.machine s.device.memory s.device.tape (s.device.port port.0) port.0 slot u)
-          (free_unused s k.machine port.0 k.stands ready slot none) (k.stands.knows.agrees.slot port.0 slot) in
+      (free_unused s k.machine port.0 k.stands ready slot none) (k.stands.knows.agrees.slot port.0 slot) in
       (f.unarmed, λ t is. let z : None ≡ Some t = sym f.free ∙ is in absurd cc))
       (used_or_not (used_for s.slots port.0 slot))
 

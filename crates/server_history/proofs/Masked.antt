@@ -78,7 +78,7 @@ module _ (laws : LawsBelow) (c : Server) (k : IsKept c) (m : Machine) (reached :
         let h = slot_of e own in
         let asked : bit mask h.slot ≡ true = its h.slot h.small ∙ ap is_used h.used_is in
         let tells : bit done h.slot ≡ (not (bit r.issued h.slot) && not (bit r.active h.slot)) =
-            r.tells h.slot h.small ∙ ap (λ (y : Bool). y && not (bit r.issued h.slot) && not (bit r.active h.slot)) asked in
+        r.tells h.slot h.small ∙ ap (λ (y : Bool). y && not (bit r.issued h.slot) && not (bit r.active h.slot)) asked in
         let found = exact h.slot h.used e h.small h.used_is own (sym h.id_is) in (
           (λ ok. let both = and_parts (not (bit r.issued h.slot)) (not (bit r.active h.slot)) (sym tells ∙ found.0 ok) in (not_true (bit r.issued h.slot) both.0, not_true (bit r.active h.slot) both.1)),
           (λ clear. found.1 (tells ∙ and_from (not (bit r.issued h.slot)) (not (bit r.active h.slot)) (ap not clear.0) (ap not clear.1))),

@@ -65,10 +65,10 @@ issued_before mode port m (Issue its x ∷ steps) only e here issued =
     (λ miss.
     let same : e ≡ w.0 = w.2 ∙ miss.1 in
     ⊎_elim
-        (λ (before : IsIssuedIn w.0.request.id steps).
-        inl (by (x.request.id.0 == e.request.id.0) (subst (λ (y : Pending). IsIssuedIn y.request.id steps) (sym same) before)))
-        (λ was. inr (was.0, was.1, was.2 ∙ ap (λ (y : Pending). y.request) (sym same), was.3))
-        (issued_before mode port m steps only.2 w.0 w.1 (ap (λ (y : Pending). y.issued) (sym same) ∙ issued)))
+    (λ (before : IsIssuedIn w.0.request.id steps).
+    inl (by (x.request.id.0 == e.request.id.0) (subst (λ (y : Pending). IsIssuedIn y.request.id steps) (sym same) before)))
+    (λ was. inr (was.0, was.1, was.2 ∙ ap (λ (y : Pending). y.request) (sym same), was.3))
+    (issued_before mode port m steps only.2 w.0 w.1 (ap (λ (y : Pending). y.issued) (sym same) ∙ issued)))
     (at_cases x.request.id issue w.0)
   where
     by : (b : Bool) → list_any (issues_it e.request.id) steps ≡ true → (b || list_any (issues_it e.request.id) steps) ≡ true
@@ -99,7 +99,7 @@ none_told port [] none = refl
 none_told port (Answer e o ∷ steps) none =
     let later = none_told port steps (λ y p there. none y p (contains_there (Answer e o) steps (Answer y p) there)) in
     let c : count_by (tells_fault port) (Answer e o ∷ steps) ≡ 0 + count_by (tells_fault port) steps =
-        count_cons (tells_fault port) (Answer e o) steps ∙ ap (λ (b : Bool). cond b 1 0 + count_by (tells_fault port) steps) (none e o (contains_here (Answer e o) steps (Answer e o) refl)) in
+    count_cons (tells_fault port) (Answer e o) steps ∙ ap (λ (b : Bool). cond b 1 0 + count_by (tells_fault port) steps) (none e o (contains_here (Answer e o) steps (Answer e o) refl)) in
     omega (arith, later, c)
 none_told port (step ∷ steps) none =
     let later = none_told port steps (λ y p there. none y p (contains_there step steps (Answer y p) there)) in
@@ -135,9 +135,9 @@ one_told port id (Answer e o ∷ steps) differ its =
     by : count_by (tells_fault port) steps ≤ 1 → (tells_fault port (Answer e o) ≡ true) ⊎ (tells_fault port (Answer e o) ≡ false) → count_by (tells_fault port) (Answer e o ∷ steps) ≤ 1
     by rest (inl tells) =
         let none = none_told port steps (λ y p there. ⊎_elim
-            (λ (too : tells_fault port (Answer y p) ≡ true). absurd (apart y p there (its y p (contains_there (Answer e o) steps (Answer y p) there) too ∙ sym (its e o (contains_here (Answer e o) steps (Answer e o) refl) tells))))
-            (λ other. other)
-            (cases_Bool (tells_fault port (Answer y p)))) in
+        (λ (too : tells_fault port (Answer y p) ≡ true). absurd (apart y p there (its y p (contains_there (Answer e o) steps (Answer y p) there) too ∙ sym (its e o (contains_here (Answer e o) steps (Answer e o) refl) tells))))
+        (λ other. other)
+        (cases_Bool (tells_fault port (Answer y p)))) in
         let c : count_by (tells_fault port) (Answer e o ∷ steps) ≡ 1 + count_by (tells_fault port) steps = counted ∙ ap (λ (b : Bool). cond b 1 0 + count_by (tells_fault port) steps) tells in
         omega (arith, none, c)
     by rest (inr other) =

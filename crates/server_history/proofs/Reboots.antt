@@ -119,8 +119,8 @@ module _ (laws : LawsBelow) (port : Port) (replies : List Reply) (old new : Serv
   pub reboots : (m : Machine) → BootsAnew Service (Served replies) evident.accesses (instant_of old m) (ports_of new) new.device port
   reboots m = (
     (λ is_ready trouble. absurd (⊎_elim
-      (λ fatal. contains_none port ((evident.evidenced m).fatal_all is_ready fatal))
-      (λ loss. contains_none port ((evident.evidenced m).gone_all is_ready loss))
-      trouble)),
+        (λ fatal. contains_none port ((evident.evidenced m).fatal_all is_ready fatal))
+        (λ loss. contains_none port ((evident.evidenced m).gone_all is_ready loss))
+        trouble)),
     ends,
   )

@@ -163,8 +163,8 @@ module _ (laws : LawsBelow) (port : Port) (replies : List Reply) (old new : Serv
         let one = laws.looks.calm_parts port.0 old.device a.mid.device new.device early_grows.0 rest.0 early_grows.1 rest.1 calm in
         let two = laws.looks.calm_parts port.0 a.mid.device a.device new.device part_grows.0 late_grows.0 part_grows.1 late_grows.1 one.1 in
         let fresh : (old.device.port port.0).fresh ≡ true = ⊎_elim
-            (λ reset. absurd (never_reset port (t.early.accesses ++ (x.recovers.accesses ++ t.late.accesses)) unreset (subst (ResetsLink port) evident.accesses_are reset)))
-            (λ is. is) how in
+        (λ reset. absurd (never_reset port (t.early.accesses ++ (x.recovers.accesses ++ t.late.accesses)) unreset (subst (ResetsLink port) evident.accesses_are reset)))
+        (λ is. is) how in
         let well = (again laws port replies old new k ready r looks kept t token is).well (laws.trouble.calm_plugs port.0 a.mid.device a.device two.0) (laws.trouble.calm_fatal port.0 a.mid.device a.device two.0) (linked none det fresh) plainly in
         well_over laws port a.device new.device (recovered_on laws port replies old new k ready r looks kept t) (then_issuing laws port replies old new k ready r looks kept t token is) two.1 well
 
@@ -179,7 +179,7 @@ module _ (laws : LawsBelow) (port : Port) (replies : List Reply) (old new : Serv
         let ready_then = ends_ready laws port replies old new k ready r looks kept t token is is_ready in
         let issued = issuing laws port replies old new k ready r looks kept t in
         let first = laws.looks.grows_more old.device a.device then_asked (laws.looks.grows_more old.device a.mid.device a.device early_grows part_grows)
-            (let asks = (again_booted laws port replies old new k ready r looks kept t token is is_ready).2.asks.driven in grows_over laws port asks.accesses a.device then_asked asks.all) in
+        (let asks = (again_booted laws port replies old new k ready r looks kept t token is is_ready).2.asks.driven in grows_over laws port asks.accesses a.device then_asked asks.all) in
         let booted = (let b = ready_then.boots.followed.driven in grows_over laws port b.accesses then_asked r.mid.device b.all) in
         let last = grows_over laws port issued.accesses r.mid.device new.device issued.all in
         let rest = laws.looks.grows_more then_asked r.mid.device new.device booted last in

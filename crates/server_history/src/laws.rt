@@ -62,7 +62,7 @@ use adapter::laws::saying_is_one;
 use agreement::acts::acts_give;
 use agreement::disks::none_comes_in;
 use agreement::facts::{
-    disk_stays, errors_are_shown, faults_compose, fatal_errors_compose, link_stays,
+    disk_stays, errors_are_shown, fatal_errors_compose, faults_compose, link_stays,
     plugging_composes, plugging_is_found,
 };
 use agreement::giving_up::{fault_is_outstanding, slots_are_given_up};
