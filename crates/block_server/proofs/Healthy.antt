@@ -17,7 +17,7 @@ use Rattle.block_machine.specs.Histories.{Happening, Instant, events_of, now}
 use Rattle.block_machine.specs.Ports.{AreFit, Ports}
 use Rattle.block_machine.specs.State.{Pending}
 use Rattle.block_machine.specs.Steps.{Answer}
-use Rattle.driver_history.specs.Claims.{AnswerRests, GoesWellFor, IsHealthyFor}
+use Rattle.driver_history.specs.Claims.{AnswerRests, GoesWellFor, HeedsFault, IsHealthyFor}
 use Rattle.driver_history.specs.Evidence.{StaysHealthy}
 use Rattle.driver_history.specs.Guard.{IsAskedOf}
 use Rattle.driver_history.specs.Histories.{IsHistory}
@@ -44,6 +44,9 @@ use Rattle.block_server.proofs.Running.{run_adds}
 pub record HistoryLaws : Type 0 where
   pub asked : (port : Port) (old : Instant Device) (new : Device) → old.moment.ports.state port ≡ Ready → StaysHealthy port.0 old.device new
       → IsAskedOf port old new
+  pub heeded : (wanted : List Wanted) (first : Instant Device) (past : List (Happening Device DeviceStep)) (h : Happening Device DeviceStep) (port : Port)
+      → IsHistory wanted first (h ∷ past) → h.event.ask ≡ AskService → IsAskedOf port (now first past) h.device
+      → ((now first past).device.port port.0).is 30 ≡ true → HeedsFault port (now first past) h
   pub well : (wanted : List Wanted) (first : Instant Device) (past : List (Happening Device DeviceStep)) (h : Happening Device DeviceStep) (port : Port)
       → IsHistory wanted first (h ∷ past) → IsHealthyFor (now first past) h port → GoesWellFor (now first past) h port
   pub rest : (wanted : List Wanted) (first : Instant Device) (past : List (Happening Device DeviceStep)) (h : Happening Device DeviceStep)
@@ -138,7 +141,8 @@ module _ (laws : HistoryLaws) where
       (record {
         moves = laws.moves wanted first past h history;
         served = λ port healthy. served_well wanted first past h port history healthy;
-        heeded = λ port asked. (history.2.accesses, history.2.came, history.2.port port asked);
+        part = λ port asked. (history.2.accesses, history.2.came, history.2.port port asked);
+        heeded = λ port asks asked fault. laws.heeded wanted first past h port history asks asked fault;
       })
 
   module _ {A : Type 0} (device : A → Device) (first : Instant Device) where

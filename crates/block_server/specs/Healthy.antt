@@ -13,7 +13,7 @@ use Rattle.block_machine.specs.Histories.{Happening, Instant, events_of, now}
 use Rattle.block_machine.specs.Ports.{SamePort}
 use Rattle.block_machine.specs.State.{Pending}
 use Rattle.block_machine.specs.Steps.{Answer, AllTouched}
-use Rattle.driver_history.specs.Claims.{GoesWellFor, IsHealthyFor}
+use Rattle.driver_history.specs.Claims.{GoesWellFor, HeedsFault, IsHealthyFor}
 use Rattle.driver_history.specs.Evidence.{StaysHealthy}
 use Rattle.driver_history.specs.Guard.{IsAskedOf}
 use Rattle.driver_history.specs.Histories.{CameBy, Issues, TiesPort}
@@ -48,18 +48,20 @@ pub record ServesClientsOf (port : Port) (old : Moment) (call : Call DeviceStep)
 abbrev pub IsServedWell : Port → Instant Device → Happening Device DeviceStep → Type 0
 IsServedWell port old h = GoesWellFor old h port × ServesClientsOf port old.moment h.event
 
--- By the accesses that the call made it has done its part of the port (TiesPort of driver_history), whether or not a command failed there: a plain request's fault is told,
--- at most one request is told a fault, no other that was issued keeps its issue, who goes again does so as it may, and a port that was recovered runs well.
-abbrev pub HeedsFaults : Port → Instant Device → Happening Device DeviceStep → Type 0
-HeedsFaults port old h =
+-- By the accesses that the call made it has done of the port what a call owes (TiesPort of driver_history).
+abbrev pub DoesItsPart : Port → Instant Device → Happening Device DeviceStep → Type 0
+DoesItsPart port old h =
     (accesses : List Access) × CameBy old.moment h.event.ask h.event.said accesses old.device h.device × TiesPort old h accesses port
 
--- In a call after these ones, moves and clears keep to their places; each port is served well that the call is healthy for; and on each that is ready and
--- keeps its disk, with no fatal error, the commands that failed are heeded.
+-- In a call after these ones, moves and clears keep to their places; and each port is served well that the call is healthy for. On each port that is ready when the
+-- call begins, and keeps its disk in it with no fatal error (IsAskedOf), the call does its part, whether or not commands fail; and a service heeds the fault that such a port
+-- showed when it began.
 pub record IsSound (first : Instant Device) (past : List (Happening Device DeviceStep)) (h : Happening Device DeviceStep) : Type 0 where
   pub moves : KeepsMoves first.moment.machine (steps_of (events_of past)) h.event.steps (now first past).device h.device
   pub served : (port : Port) → IsHealthyFor (now first past) h port → IsServedWell port (now first past) h
-  pub heeded : (port : Port) → IsAskedOf port (now first past) h.device → HeedsFaults port (now first past) h
+  pub part : (port : Port) → IsAskedOf port (now first past) h.device → DoesItsPart port (now first past) h
+  pub heeded : (port : Port) → h.event.ask ≡ Service → IsAskedOf port (now first past) h.device → ((now first past).device.port port.0).is 30 ≡ true
+      → HeedsFault port (now first past) h
 
 -- What a list of calls is that said this, after a history that leads to the server before them. Each call adds an event with what was asked and
 -- said, and what is so longer leads to the server after it. All calls together are a run of the block machine (so replies stand in the

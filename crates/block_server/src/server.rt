@@ -316,8 +316,8 @@ impl<A: Adapter> Server<A> {
     }
 
     /// Recovers a ready port of which a look told that a command had failed. What is done is answered; then it is found out which command failed, and the
-    /// port is had to run again, by a boot where that is needed. The request whose command failed is told so, and the others go again, in order of
-    /// acceptance, where their disk is there still.
+    /// port is had to run again, by a boot where that is needed. The request whose command failed is told so. The others wait again where their disk is there
+    /// still, and are `Aborted` after the fourth issue; where it isn't they are `Unplugged`, and where the port is dead `PortDead`. Then what is due is issued.
     fn recover_port(&mut self, port: Port, was: DiskInfo, replies: &mut Replies)
         requires ready { found_of self.old.ports port.0 ≡ Found.Ready was }
         requires sees { (before : Device) × SeesFailure (record (server_of A.device self.old) { device = before }) port (A.device self.old.adapter)
@@ -399,7 +399,11 @@ impl<A: Adapter> Server<A> {
     }
 
     /// Serves each ready port, in rising number: requests that are done are answered, in order of acceptance, their frames are given back, and
-    /// what is due then is issued. Where the look at a port tells of something, nobody is answered there.
+    /// what is due then is issued. A port of which the look tells that a command had failed is recovered (AHCI 1.3.1, 6.2.2): what is done is answered; the request
+    /// whose command failed is told `DeviceError`, with the disk's status and error; each other one that had been issued goes again, or is `Aborted` after the fourth issue.
+    /// Where the port has to be booted for that and its disk isn't the same then, they are `Unplugged`, and where its engine gets stuck `PortDead`. Where the
+    /// look tells of a lost disk, or of an error of the link or the adapter, nobody is answered there. A recovery waits for the disk at most so often as
+    /// its parts tell, and meanwhile for all ports.
     pub fn service(&mut self) -> Replies
         ensures services { Services A.device self.old self.new result.items }
         ensures adds { Adds (server_of A.device self.old) (server_of A.device self.new) Service (Served result.items) }

@@ -1,5 +1,5 @@
 // Laws of what a call owes a port on which a command fails, for callers: the clause is the theorem. These functions do nothing.
-ghost use Rattle.std.specs.Prelude.{ℕ, true, false, ◌≡◌, ◌≤◌, List, All, length};
+ghost use Rattle.std.specs.Prelude.{ℕ, true, false, ◌≡◌, ◌≤◌, List, ◌∷◌, All, length};
 ghost use Rattle.ata_types.specs.declared.Port.{Port};
 ghost use Rattle.ata_types.specs.declared.PortState.TheVariants.{Ready};
 ghost use Rattle.hba_regs.specs.declared.reg.Reg.TheVariants.{Ghc};
@@ -7,15 +7,18 @@ ghost use Rattle.adapter.specs.Access.{Access, DoesAll};
 ghost use Rattle.adapter.specs.Device.{Device};
 ghost use Rattle.adapter.specs.Rules.{IsOn};
 ghost use Rattle.adapter.specs.Steps.{Steps};
+ghost use Rattle.adapter.specs.declared.access.DeviceStep.{DeviceStep};
 ghost use Rattle.agreement.specs.Links.{SparesRegister};
 ghost use Rattle.block_machine.specs.Events.{Moment, Said, Service};
-ghost use Rattle.block_machine.specs.Histories.{Instant};
+ghost use Rattle.block_machine.specs.Histories.{Happening, Instant, now};
 ghost use Rattle.block_machine.specs.Ports.{Evidence, IsInterrupted, Ports, SamePort};
+ghost use Rattle.driver_history.specs.Claims.{HeedsFault};
 ghost use Rattle.driver_history.specs.Evidence.{StaysHealthy};
 ghost use Rattle.driver_history.specs.Guard.{IsAskedOf};
-ghost use Rattle.driver_history.specs.Histories.{BootsAnew, LosesNoTrouble, RunsWellAnew};
+ghost use Rattle.driver_history.specs.Histories.{BootsAnew, IsHistory, LosesNoTrouble, RunsWellAnew};
 ghost use Rattle.driver_history.specs.Parts.{HasTurnIn, NamesAlike, all_of};
 ghost use Rattle.driver_history.specs.Trace.{ClearsNone};
+ghost use Rattle.identify.specs.declared.wanted.Wanted.{Wanted};
 ghost use Rattle.port_control.specs.Engines.{Stops};
 
 use super::lawful::laws_hold;
@@ -24,6 +27,15 @@ use super::lawful::laws_hold;
 pub fn healthy_ports_are_asked_of()
     ensures { (port : Port) (old : Instant Device) (new : Device) → old.moment.ports.state port ≡ Ready → StaysHealthy port.0 old.device new
         → IsAskedOf port old new }
+{}
+
+/// A service heeds the fault that a ready port showed when it began, where the port has a device, and shows no change of its link and no fatal error,
+/// and none comes in the call, nor a disk, nor goes one: what had ended is answered, the port was stopped, who waits keeps no issue, one request is told a fault
+/// at most, and a plain one always.
+pub fn shown_faults_are_heeded()
+    ensures { (wanted : List Wanted) (first : Instant Device) (past : List (Happening Device DeviceStep)) (h : Happening Device DeviceStep)
+        (port : Port) → IsHistory wanted first (h ∷ past) → h.event.ask ≡ Service → IsAskedOf port (now first past) h.device
+        → ((now first past).device.port port.0).is 30 ≡ true → HeedsFault port (now first past) h }
 {}
 
 /// Accesses that leave the adapter on, and clear no bit that tells of a port's trouble, lose none of it; nor does the device by itself: of a port of

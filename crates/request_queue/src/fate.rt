@@ -64,7 +64,7 @@ impl Entry {
         }
     }
 
-    /// Whether the request's frames stay lent when it is answered so: its command may still move where it was issued and the port's engine didn't stop.
+    /// Whether the request's frames stay lent when it is answered so: its command may still move where it was issued and the port is dead.
     pub fn keeps_loan(&self, outcome: Outcome) -> bool
         ensures { result ≡ keeps_loan outcome self.now }
     {

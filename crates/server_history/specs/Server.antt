@@ -41,7 +41,7 @@ use Rattle.slots.specs.declared.Use.{Use as SlotUse}
 use Rattle.driver_history.specs.Holds.{Runs, mode_of}
 
 -- The device behind the adapter; the grants; by frame its owner and the request that it is lent to; by port the disk that is wanted,
--- what it was found to be, which disk it was ready with before that, how it takes commands, what its slots are used for, and what is still lent
+-- what it was found to be, which disk it was ready with when it was last recovered, how it takes commands, what its slots are used for, and what is still lent
 -- to requests of it that were answered; the unanswered requests in order of acceptance, with what is lent to them; and the id that was handed out
 -- last, or 0.
 pub record Server : Type 0 where
@@ -217,7 +217,7 @@ abbrev pub OwnsClientFrames : Table → ℕ → Type 0
 OwnsClientFrames table size = (frame : Frame) (client : ClientId) → owner_of table frame ≡ Some client
     → (DRIVER_FRAMES ≤ frame.0) × (FRAME_BYTES * frame.0 + FRAME_BYTES ≤ size)
 
--- What stands behind each port, as it was found; a ready one runs, and has a disk in if it shows one, and what halts it is of a command that is taken still;
+-- What stands behind each port, as it was found; a ready one runs, has a disk in if it shows one, and doesn't wait for READ LOG EXT, and where a queued command halted it a queued one is taken;
 -- and one with a disk that isn't served shows a device, or has none in.
 pub record IsPortOf (wanted : List Wanted) (found : List Found) (port : ℕ) (d : Device) : Type 0 where
   pub behind : StillStandsBehind (wanted_of wanted port) (found_of found port) port d

@@ -73,8 +73,8 @@ IsOfCommand true port accesses old new slot told =
     ((fault : tape_fault.Fault) × HasFailed port accesses old new fault)
     × ((page : List ℕ) × BringsLog port old new page × TellsError page slot told.status told.error)
 
--- The fault that is told is of a request that had a slot of the port when the turn began. (One that the log's page told leaves the port with its
--- engine running, or stopped.)
+-- The fault that is told is of a request that had a slot of the port when the turn began. (Where the log's page told it, the port
+-- doesn't end dead.)
 pub record TellsFault (port : Port) (accesses : List Access) (old new : Server) (told : Fault) : Type 0 where
   pub slot : ℕ
   pub used : SlotUse
@@ -175,7 +175,7 @@ pub record HasPart (port : Port) (replies : List Reply) (old new : Server) : Typ
   pub silent : (q : ℕ) → q ≢ port.0 → state_of (found_of old.ports q) ≢ Dead → SendsNone q ReadLog old.device new.device
   pub makes : (m : Machine) → IsReached m → IsMachineOf old m → MakesTurn port replies accesses old new m
 
--- The port was recovered, where a look told that a command had failed; else those of its requests were answered that were found done.
+-- The port was recovered, where a look told that a command had failed; where it told of something else nobody was answered; else those of its requests were that were found done.
 abbrev pub DoesTurn : Port → List Reply → Server → Server → Type 0
 DoesTurn port replies old new =
     ((turn : HasTurn port (slots_at old.slots port.0) replies old.device new.device) × AnswersTurn port replies old new turn)

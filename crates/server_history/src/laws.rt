@@ -304,9 +304,8 @@ pub fn looks_keep()
     the_laws_below_hold();
 }
 
-/// How a ready port is served: it is looked at, and that is all where it told of something, or uses no slot; else the slots that it uses are
-/// checked; those that are found done are answered, and what is due then is issued. Where the look told that a command had failed, the port is
-/// recovered.
+/// How a ready port is served: it is looked at. Where the look told that a command had failed, the port is recovered; where it told of something
+/// else, or the port uses no slot, that is all; else the slots that it uses are checked, those that are found done are answered, and what is due then is issued.
 pub fn a_port_is_served()
     ensures told { (s : Server) (seen : Device) (port : Port) (look : Look) → IsSettled s → state_of (found_of s.ports port.0) ≡ ReadyState
         → LooksAt port look s.device seen → IsFollowed (IsLooking port) AnyUse s.device seen → look ≢ Calm → look ≢ Fails
