@@ -57,9 +57,9 @@ module _ (laws : Laws) (port : Port) where
   write_shows : (v : ℕ) (old new : Device) → old.hr ≡ false → bit v 30 ≡ false → Writes (Px port register.Is) v old new → ShowsFaults old new
   write_shows v old new on leaves x clear =
       let flag : (new.port port.0).is 30 ≡ ((x.mid.port port.0).is 30 && not (bit v 30)) =
-          ap (λ (d : Device). (d.port port.0).is 30) x.effect ∙ ap (λ (p : PortState). p.is 30) (changed_same x.mid.port port.0 _) in
+      ap (λ (d : Device). (d.port port.0).is 30) x.effect ∙ ap (λ (p : PortState). p.is 30) (changed_same x.mid.port port.0 _) in
       let was : (x.mid.port port.0).is 30 ≡ false =
-          sym (and_true ((x.mid.port port.0).is 30)) ∙ sym (ap (λ (b : Bool). (x.mid.port port.0).is 30 && not b) leaves) ∙ sym flag ∙ clear in
+      sym (and_true ((x.mid.port port.0).is 30)) ∙ sym (ap (λ (b : Bool). (x.mid.port port.0).is 30 && not b) leaves) ∙ sym flag ∙ clear in
       let y = laws.shown_steps port.0 old x.mid on x.steps was in
       (y.0, record { gained = y.1.gained; tape = ap (λ (d : Device). d.tape) x.effect ∙ y.1.tape; none = y.1.none })
 

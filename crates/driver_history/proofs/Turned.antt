@@ -249,7 +249,7 @@ module _ (laws : Laws) (port : Port) where
             let a = laws.calm_parts port.0 old.device t.start new first.grows.0 since.0 first.grows.1 since.1 calm in
             let b = laws.calm_parts port.0 t.start t.end new middle.0 last.grows.0 middle.1 last.grows.1 a.1 in
             let fresh : ResetsLink port t.turn ⊎ ((t.start.port port.0).fresh ≡ true) =
-                ⊎_elim (λ r. inl (reset_in_turn r)) (λ f. inr (first.fresh undue plug_parts.0 ∙ f)) reset in
+            ⊎_elim (λ r. inl (reset_in_turn r)) (λ f. inr (first.fresh undue plug_parts.0 ∙ f)) reset in
             laws.well port.0 t.end new
             (laws.runs port t.later t.end new on_then t.last
             (All-weaker (IsOfOther port) (SparesRegister Ghc) (λ access x. laws.spares_host x.0 access x.2) t.later t.others_later)

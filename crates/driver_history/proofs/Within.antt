@@ -121,7 +121,7 @@ module _ (laws : Laws) (port : Port) where
   stays_set v old new on runs set x =
       let k = laws.steps old x.mid x.steps in
       let here : (new.port port.0).notes.st_set_at ≡ (port_written Cmd v (length x.mid.tape) (x.mid.port port.0)).notes.st_set_at =
-          ap (λ (d : Device). (d.port port.0).notes.st_set_at) x.effect ∙ ap (λ (p : PortState). p.notes.st_set_at) (changed_same x.mid.port port.0 _) in
+      ap (λ (d : Device). (d.port port.0).notes.st_set_at) x.effect ∙ ap (λ (p : PortState). p.notes.st_set_at) (changed_same x.mid.port port.0 _) in
       here ∙ ap (λ (p : PortState). p.notes.st_set_at) (left (bit v 0) (length x.mid.tape) (x.mid.port port.0) set (((k.on on).controls port.0).st ∙ runs)) ∙ ap (λ n. n.st_set_at) (k.notes port.0)
     where
       left : (b : Bool) (tape : ℕ) (p : PortState) → b ≡ true → p.st ≡ true → with_st b tape p ≡ p
