@@ -71,10 +71,10 @@ survey_mild port access is = (by access is, λ at bytes e. absurd (subst IsSurve
 
 module _ (laws : LawsBelow) where
   recovering_mild : (port : Port) (access : Access) → IsRecovering port access → IsMild port access
-  recovering_mild port access is = (laws.recovery.recovering_of port access is, λ at bytes e. stored_in IsRecovered port at bytes (subst (IsRecovering port) e is))
+  recovering_mild port access is = (laws.recovering_of port access is, λ at bytes e. stored_in IsRecovered port at bytes (subst (IsRecovering port) e is))
 
   booting_mild : (port : Port) (access : Access) → IsOfBoot port access → IsMild port access
-  booting_mild port access is = (laws.recovery.booting_of port access is, λ at bytes e. stored_in IsBooting port at bytes (subst (IsOfBoot port) e is))
+  booting_mild port access is = (laws.booting_of port access is, λ at bytes e. stored_in IsBooting port at bytes (subst (IsOfBoot port) e is))
 
   mild_leaves : (port q : Port) (slot : ℕ) → q.0 ≢ port.0 → port.0 < 4 → q.0 < 4 → slot < 32 → (access : Access) → IsMild port access → LeavesStored q slot access
   mild_leaves port q slot other low small few access is = record {
@@ -155,7 +155,7 @@ module _ (laws : LawsBelow) (s : Server) (port : Port) (k : IsKept s) (low : por
         its = record { accesses = accesses; all = all; only = All-weaker (IsMild port) (IsOf port) (λ access is. is.0) accesses only }
 
         goes : Goes (at_slots slots d) p.machine (steps_of c.acts) (at_slots then new)
-        goes = laws.recovery.acts_go c.acts (at_slots slots d) (at_slots then new) p.machine p.knows c.done
+        goes = laws.acts_go c.acts (at_slots slots d) (at_slots then new) p.machine p.knows c.done
 
   -- ---- a stretch that is followed
 

@@ -25,7 +25,7 @@ use Rattle.block_machine.specs.Ports.{Fault, IsServiced}
 use Rattle.block_machine.specs.State.{Machine}
 use Rattle.block_machine.specs.Steps.{Step}
 use Rattle.block_machine.proofs.Members.{contains_cases, contains_here, contains_none}
-use Rattle.driver_history.specs.Evidence.{HasErrors, IsEvidencedOf, StaysHealthy}
+use Rattle.driver_history.specs.Evidence.{HasErrors, IsEvidencedOf}
 use Rattle.driver_history.specs.Trace.{IsDriversOwn}
 use Rattle.error_recovery.specs.Evidence.{HasFailed}
 use Rattle.error_recovery.specs.Recovery.{EndsIn, Rests, TellsEngine}
@@ -45,7 +45,7 @@ use Rattle.server_history.specs.Below.{LawsBelow}
 use Rattle.server_history.specs.Recovered.{IsFailed, IsFoundAfter, IsProspect, IsRecovered, IsSettledAfter, RecoversPort}
 use Rattle.server_history.specs.Served.{AnswersEach}
 use Rattle.server_history.specs.Server.{Server, IsKept, IsMachineOf, ports_of, slots_at, state_of, used_for}
-use Rattle.server_history.specs.Turns.{IsCalmTurn, IsOfCommand, LeavesOthers, NamesOnly, TellsFault, instant_of, moment_of}
+use Rattle.server_history.specs.Turns.{IsOfCommand, LeavesOthers, NamesOnly, TellsFault, instant_of, moment_of}
 use Rattle.server_history.proofs.Answering.{answer_kept}
 use Rattle.server_history.proofs.Apart.{leaves_others}
 use Rattle.server_history.proofs.Becoming.{becomes, dead_found, dead_prospect, disk_same, interrupted, its, lost_is, names, ready_info, state_new, stuck_is}
@@ -92,8 +92,7 @@ slots_were laws port low done (e ∷ requests) old new k ready over (mid, one, i
 
 -- ---- the whole
 
--- What stands behind the turn, but for its steps: its accesses, what it leaves of the other ports, and its evidence. (A port that a fault has halted didn't
--- stay healthy. And where a disk is in when the look shows a device, the machine had one in the port, or one went or came.)
+-- What stands behind the turn, but for its steps: its accesses, what it leaves of the other ports, and its evidence. (Where a disk is in when the look shows a device, the machine had one in the port, or one went or came.)
 pub record IsEvident (port : Port) (replies : List Reply) (old new : Server) (r : RecoversPort port replies old new) : Type 0 where
   pub parts : TurnParts port replies old new r
   pub accesses : List Access
@@ -107,8 +106,6 @@ pub record IsEvident (port : Port) (replies : List Reply) (old new : Server) (r 
   pub becomes : IsServiced (ports_of old) (evidence_of port r.settled.failed r.settled.prospect r.settled.recovered.result.next) (ports_of new) port
   pub evidenced : (m : Machine) → IsEvidencedOf Service (Served replies) accesses (instant_of old m) (ports_of new) new.device (evidence_of port r.settled.failed r.settled.prospect r.settled.recovered.result.next) port
   pub faults : (told : Fault) → Contains (evidence_of port r.settled.failed r.settled.prospect r.settled.recovered.result.next).faults told → TellsFault port accesses old new told
-  pub calm : (steps : List Step) → StaysHealthy port.0 old.device new.device
-      → IsCalmTurn port replies accesses old new (evidence_of port r.settled.failed r.settled.prospect r.settled.recovered.result.next) steps
   pub had : ((r.settled.recovered.seen.port port.0).ssts_det ≡ 3 → (r.settled.recovered.seen.port port.0).present ≡ true) → (m : Machine) → IsMachineOf old m → (steps : List Step) → IsBacked old.device new.device m steps
       → HadDisk (moment_of old m) steps (moment_of new (after m steps)) port
 
@@ -279,6 +276,5 @@ module _ (laws : LawsBelow) (port : Port) (replies : List Reply) (old new : Serv
     becomes = becomes laws port replies old new k ready r looks kept;
     evidenced = evidenced;
     faults = faults;
-    calm = λ steps healthy. absurd (laws.never_failed port (instant_of old k.machine) new.device healthy (has_errors k.machine));
     had = λ own m is steps backed shows. had_disk laws port old x.seen new.device m k.on x.looks own is grown_seen steps backed;
   }

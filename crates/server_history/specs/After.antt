@@ -11,7 +11,7 @@ use Rattle.adapter.specs.Device.{PortState as PortOf}
 use Rattle.adapter.specs.Device.Halt.{NotHalted}
 use Rattle.adapter.specs.Rules.{IsOn}
 use Rattle.adapter.specs.declared.tape.Entry.{Entry}
-use Rattle.agreement.specs.Acts.{Act, AreDone, accesses_of, steps_of}
+use Rattle.agreement.specs.Acts.{Act, AreDone, accesses_of}
 use Rattle.agreement.specs.Agrees.{Agrees, HaveSlots}
 use Rattle.agreement.specs.Driven.{AnyAccess, IsDrivenBy, IsOf}
 use Rattle.agreement.specs.Driver.{Goes, Known, Knows}
@@ -26,25 +26,20 @@ use Rattle.block_machine.specs.Histories.{IsReached}
 use Rattle.block_machine.specs.Left.{after}
 use Rattle.block_machine.specs.State.{Machine, unanswered}
 use Rattle.block_machine.specs.Steps.{NoneKept, Step}
-use Rattle.error_recovery.specs.Recovery.{IsRecovering}
 use Rattle.host_boot.specs.Again.{BootsAgain}
 use Rattle.host_boot.specs.Taken.{FoundBadDisk, IsServed, StandsBehind}
 use Rattle.host_boot.specs.declared.Booted.{Booted}
 use Rattle.host_boot.specs.declared.Found.TheVariants.{Unready}
 use Rattle.identify.specs.declared.wanted.Wanted.{Wanted}
-use Rattle.port_boot.specs.States.{IsOfBoot, ShowsOwnDisk}
+use Rattle.port_boot.specs.States.{ShowsOwnDisk}
 
 pub record RecoveryLaws : Type 0 where
   -- where each issued request of a port has a slot, as many slots serve one
   pub counted : (uses : Uses) (m : Machine) (d : Device) → IsReached m → Agrees uses m d → (port : Port) → NoneKept m port → (n : ℕ) → HaveSlots uses m port.0 []
       → ((slot : ℕ) (id : RequestId) → uses port.0 slot ≡ Serves id → slot < n) → serving_count uses port.0 n ≡ issued_count (map unanswered m.book) port
   -- acts lead to a machine that is reached
-  pub acts_go : (acts : List Act) (k later : Known) (m : Machine) → Knows m k → AreDone acts k m later → Goes k m (steps_of acts) later
   pub gone_reached : (k later : Known) (m : Machine) (steps : List Step) → IsReached m → Goes k m steps later → IsReached (after m steps)
   pub put_other : (uses : Uses) (port slot : ℕ) (u : Use) (other_port other_slot : ℕ) → (other_port ≡ port → other_slot ≡ slot → ⊥) → put uses port slot u other_port other_slot ≡ uses other_port other_slot
-  -- whose accesses they are
-  pub recovering_of : (port : Port) (access : Access) → IsRecovering port access → IsOf port access
-  pub booting_of : (port : Port) (access : Access) → IsOfBoot port access → IsOf port access
   -- what accesses leave
   pub any_same : (old new : Device) → IsDrivenBy AnyAccess old new → SameAdapter old new
   pub own_on : (port : ℕ) (accesses : List Access) (old new : Device) → DoesAll accesses old new → ShowsOwnDisk (old.port port) → ShowsOwnDisk (new.port port)

@@ -51,7 +51,7 @@ use Rattle.block_machine.specs.Events.{changes_disk, Ask, IsDevices, Moment, Sai
 use Rattle.block_machine.specs.Left.{after}
 use Rattle.block_machine.specs.Histories.{Instant, IsReached}
 use Rattle.block_machine.specs.Ports.{Evidence, IsInterrupted, Ports, SamePort}
-use Rattle.driver_history.specs.Evidence.{HasErrors, HasFatalErrors, IsEvidencedOf, IsGone, StaysHealthy}
+use Rattle.driver_history.specs.Evidence.{IsEvidencedOf}
 use Rattle.error_recovery.specs.Evidence.{BringsLog, HasFailed}
 use Rattle.driver_history.specs.Guard.{IsAskedOf}
 use Rattle.driver_history.specs.Histories.{BootsAnew, LosesNoTrouble, RunsWellAnew}
@@ -177,11 +177,6 @@ pub record LawsBelow : Type 0 where
       → IsEvidencedOf ask said t.turn (record { device = t.start; moment = begun }) ended t.end turn port → IsEvidencedOf ask said (all_of t) old ports new call port
   pub failed : (port : Port) (old new : Device) (fault : Fault) → IsOn old → (t : HasTurnIn port old new) → HasFailed port t.turn t.start t.end fault → HasFailed port (all_of t) old new fault
   pub brings : (port : Port) (old new : Device) (page : List ℕ) → IsOn old → (t : HasTurnIn port old new) → SendsNone port.0 ReadLog t.end new → BringsLog port t.start t.end page → BringsLog port old new page
-  -- a port that stays healthy has no trouble
-  pub never_gone : (port : Port) (old : Instant Device) (new : Device) → StaysHealthy port.0 old.device new → IsGone port old new → ⊥
-  pub never_failed : (port : Port) (old : Instant Device) (new : Device) → StaysHealthy port.0 old.device new → HasErrors port old new → ⊥
-  pub never_fatal : (port : Port) (old : Instant Device) (new : Device) → StaysHealthy port.0 old.device new → HasFatalErrors port old new → ⊥
-  pub untroubled : (evidence : Evidence) (old : Instant Device) (ports : Ports) (new : Device) (port : Port) → StaysHealthy port.0 old.device new → LosesNoTrouble evidence old ports new port
   -- what a look tells of trouble
   pub looks_changed : (port : Port) (result : Look) (old new : Device) → IsOn old → LooksAt port result old new → ((old.port port.0).serr_n ≡ true) ⊎ ((old.port port.0).serr_x ≡ true) → result ≡ Lost
   pub looks_unlinked : (port : Port) (result : Look) (old new : Device) → IsOn old → LooksAt port result old new → (old.port port.0).ssts_det ≢ 3 → (old.port port.0).link_due ≡ false → NoneComes port.0 old new → result ≡ Lost

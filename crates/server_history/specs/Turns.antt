@@ -10,13 +10,13 @@ use Rattle.adapter.specs.declared.access.DeviceStep.{DeviceStep}
 use Rattle.adapter.specs.declared.command.Operation.TheVariants.{ReadLog}
 use Rattle.adapter.specs.declared.tape.Fault as tape_fault
 use Rattle.agreement.specs.Agrees.{port_at}
-use Rattle.agreement.specs.Driven.{IsDrivenBy, IsOf, SendsNone}
+use Rattle.agreement.specs.Driven.{IsOf, SendsNone}
 use Rattle.agreement.specs.Driver.{IsBacked}
 use Rattle.block_machine.specs.Events.{AllGrounded, AllLawful, AllMay, Belong, HadDisk, IsDevices, IssuesLast, Moment, Served, Service, Tells, UnplugsAll}
 use Rattle.block_machine.specs.Due.{of_port}
 use Rattle.block_machine.specs.Histories.{Happening, Instant, IsReached}
 use Rattle.block_machine.specs.Left.{after}
-use Rattle.block_machine.specs.Ports.{Evidence, Fault, IsInterrupted, IsServiced, SameDisk, SamePort}
+use Rattle.block_machine.specs.Ports.{Evidence, Fault, IsServiced, SameDisk, SamePort}
 use Rattle.block_machine.specs.State.{Machine, Pending}
 use Rattle.block_machine.specs.Steps.{Step, Again, Answer, Issue}
 use Rattle.driver_history.specs.Evidence.{IsEvidencedOf}
@@ -25,16 +25,14 @@ use Rattle.error_log.specs.Log.{TellsError}
 use Rattle.driver_history.specs.Guard.{IsAskedOf}
 use Rattle.driver_history.specs.Histories.{FindsDone, IsIssuedOn, IssuesDue, TiesPort}
 use Rattle.driver_history.specs.Holds.{NoneWaits}
-use Rattle.driver_history.specs.Trace.{IsDriversOwn, ReadsMasks}
+use Rattle.driver_history.specs.Trace.{IsDriversOwn}
 use Rattle.host_boot.specs.Taken.{found_of}
 use Rattle.host_boot.specs.declared.Found.{Found}
 use Rattle.host_boot.specs.declared.Found.TheVariants.{Ready}
-use Rattle.port_look.specs.Looks.{IsLooking}
 use Rattle.request_queue.specs.Entries.{asks_of}
 use Rattle.server_history.specs.Recovered.{RecoversPort}
-use Rattle.server_history.specs.Served.{AnswersBy, AnswersTurn, Checks, HasTurn, IsAnsweredIn, IsMaskOf}
+use Rattle.server_history.specs.Served.{AnswersTurn, HasTurn}
 use Rattle.server_history.specs.Server.{Server, IsMachineOf, IsSettled, mode_at, mode_in, ports_of, remembered_at, slots_at, state_of, used_for}
-use Rattle.slots.specs.Uses.{Uses as PortSlots}
 use Rattle.slots.specs.declared.Use.{Use as SlotUse}
 
 -- the moment and the instant at which a machine stands for the server
@@ -82,28 +80,6 @@ pub record TellsFault (port : Port) (accesses : List Access) (old new : Server) 
   pub id_is : used.id ≡ told.id
   pub its : IsOfCommand used.queued port accesses old.device new.device slot told
   pub lives : used.queued ≡ true → state_of (found_of new.ports port.0) ≢ Dead
-
--- ---- a port that stays healthy
-
--- The port was looked at, and then its used slots were checked, by readings of the masks that are among these accesses.
-pub record IsChecked (port : Port) (slots : PortSlots) (replies : List Reply) (accesses : List Access) (old new : Device) : Type 0 where
-  pub mask : ℕ
-  pub its : IsMaskOf slots mask
-  pub seen : Device
-  pub looks : IsDrivenBy (IsLooking port) old seen
-  pub checks : Checks port slots mask replies seen new
-  pub masks : ReadsMasks port checks.reads.issued checks.reads.active accesses
-
--- The port is what it was, and nothing interrupts it. The device's steps were followed by the answers of what had ended, and those by issues. Where a
--- slot is used, the used ones were checked; and who had a slot whose bits were clear when the turn began was answered.
-pub record IsCalmTurn (port : Port) (replies : List Reply) (accesses : List Access) (old new : Server) (evidence : Evidence) (steps : List Step) : Type 0 where
-  pub same : SamePort (ports_of old) (ports_of new) port
-  pub alone : IsInterrupted evidence port → ⊥
-  pub answers : AnswersBy (mode_in old port) port replies steps
-  pub checked : (slot : ℕ) (used : SlotUse) → slot < 32 → used_for old.slots port.0 slot ≡ Some used
-      → IsChecked port (slots_at old.slots port.0) replies accesses old.device new.device
-  pub answered : (slot : ℕ) (used : SlotUse) → slot < 32 → used_for old.slots port.0 slot ≡ Some used → (old.device.port port.0).ci slot ≡ false
-      → (old.device.port port.0).sact slot ≡ false → IsAnsweredIn used.id replies
 
 -- ---- a turn
 

@@ -78,7 +78,7 @@ use block_machine::laws::{
     due_in_turn, due_is_exact, limits_hold, living_was_accepted, one_id_is_one_request,
     other_ports_stay, own_requests_count,
 };
-use driver_history::laws::{a_turns_evidence_is_the_calls, healthy_ports_are_untroubled};
+use driver_history::laws::a_turns_evidence_is_the_calls;
 use driver_history::troubles::{
     a_port_that_was_stopped_was_set_since, a_turns_trouble_is_the_calls,
     ordinary_accesses_lose_no_trouble, what_is_asked_of_a_call_is_asked_of_a_turn,
@@ -140,7 +140,6 @@ fn the_laws_below_hold()
     what_was_booted_again_may_be_served();
     a_port_runs_on();
     a_turns_evidence_is_the_calls();
-    healthy_ports_are_untroubled();
     trouble_is_seen();
     answers_tell();
     a_fault_is_heeded();
