@@ -29,7 +29,7 @@ use Rattle.request_queue.specs.Entries.{Held, is_of}
 use Rattle.request_queue.specs.Fates.{Holdings, MeetFates, fate_of}
 use Rattle.request_queue.specs.declared.fate.Failed.{Failed}
 use Rattle.request_queue.specs.declared.fate.Prospect.{Prospect}
-use Rattle.server_history.specs.Recovered.{IsFailed, IsFoundAfter, IsProspect, IsRecovered, IsSettledAfter, RecoversPort, requests_of}
+use Rattle.server_history.specs.Recovered.{IsFailed, IsFoundAfter, IsProspect, IsRecovered, HasMetFates, RecoversPort, requests_of}
 use Rattle.server_history.specs.Served.{IssuesAll, done_reply}
 use Rattle.server_history.specs.Server.{Server, IsKept, IsSettled, kept_at, mode_at, mode_found, mode_in, no_slots, plain_mode, slots_at, state_of}
 use Rattle.server_history.specs.Turns.{ServesPort}
@@ -47,7 +47,7 @@ pub record RestoringLaws : Type 0 where
       → IsFollowed (IsLooking port) AnyUse s.device r.seen → mode_in s port ≡ mode_found device.cap (found_of s.ports port.0)
   pub places : (s : Server) (port : Port) → IsKept s → state_of (found_of s.ports port.0) ≡ ReadyState
       → (kept_at s.kept port.0 ≡ []) × (count_by (λ (e : Held). e.entry.issued) (requests_of port s.book) ≤ 32)
-  pub settled : (s new : Server) (port : Port) (later : List Reply) → IsKept s → state_of (found_of s.ports port.0) ≡ ReadyState → (a : IsSettledAfter port later s new)
+  pub settled : (s new : Server) (port : Port) (later : List Reply) → IsKept s → state_of (found_of s.ports port.0) ≡ ReadyState → (a : HasMetFates port later s new)
       → IsFollowed (IsLooking port) AnyUse s.device a.recovered.seen → IsKept new
   pub recovered : (s new : Server) (port : Port) (replies : List Reply) → IsSettled s → state_of (found_of s.ports port.0) ≡ ReadyState → (r : RecoversPort port replies s new)
       → IsFollowed (IsLooking port) AnyUse s.device r.settled.recovered.seen → ServesPort port replies s new × IsSettled new
@@ -119,7 +119,7 @@ module _ (laws : RestoringLaws) (s : Server) (port : Port) (first : Device) (see
     abbrev then : Server
     then = restored s port was two found mode fresh now
 
-    pub settled_after : IsSettledAfter port later s then
+    pub settled_after : HasMetFates port later s then
     settled_after = record {
       was = was;
       ready = is_ready;

@@ -22,7 +22,7 @@ use Rattle.request_queue.specs.declared.fate.Fate.{Fate}
 use Rattle.request_queue.specs.declared.fate.Fate.TheVariants.{Ends, GoesAgain, Waits}
 use Rattle.request_queue.specs.declared.fate.Failed.{Failed}
 use Rattle.request_queue.specs.declared.fate.Prospect.{Prospect}
-use Rattle.request_queue.specs.declared.fate.Prospect.TheVariants.{Dead, OtherDisk, SameDisk}
+use Rattle.request_queue.specs.declared.fate.Prospect.TheVariants.{Dead, DiskLost, SameDisk}
 use Rattle.block_server.specs.Fates.{HasPlaces, HavePlaces, IsSound, holding}
 
 -- a loan is kept of an issued request alone
@@ -41,7 +41,7 @@ again_on SameDisk e is = by e.issued (e.issues == 4) is
     by true true same = let z : Ends Aborted ≡ GoesAgain = same in absurd cc
     by true false same = (refl, refl)
     by false b same = let z : Waits ≡ GoesAgain = same in absurd cc
-again_on OtherDisk e is = let z : Ends Unplugged ≡ GoesAgain = is in absurd cc
+again_on DiskLost e is = let z : Ends Unplugged ≡ GoesAgain = is in absurd cc
 again_on Dead e is = let z : Ends PortDead ≡ GoesAgain = is in absurd cc
 
 again_of : (failed : Option Failed) (prospect : Prospect) (e : Entry) → fate_of failed prospect e ≡ GoesAgain → (e.issued ≡ true) × ((e.issues == 4) ≡ false)

@@ -143,6 +143,6 @@ pub(crate) fn prospect_of(was: &DiskInfo, found: &Found) -> Prospect
     match found {
         Found::Ready(info) if is_same_disk(was, info) => Prospect::SameDisk,
         Found::Unready(PortState::Dead) => Prospect::Dead,
-        _ => Prospect::OtherDisk,
+        _ => Prospect::DiskLost,
     }
 }

@@ -11,14 +11,14 @@ use Rattle.request_queue.specs.declared.fate.Failed.{Failed}
 use Rattle.request_queue.specs.declared.fate.Fate.{Fate}
 use Rattle.request_queue.specs.declared.fate.Fate.TheVariants.{Waits, GoesAgain, Ends}
 use Rattle.request_queue.specs.declared.fate.Prospect.{Prospect}
-use Rattle.request_queue.specs.declared.fate.Prospect.TheVariants.{SameDisk, OtherDisk, Dead}
+use Rattle.request_queue.specs.declared.fate.Prospect.TheVariants.{SameDisk, DiskLost, Dead}
 
 -- ---- the rule
 
 -- one that didn't fail goes again on the disk that it had, if it was issued fewer than four times; else it is told what its port is
 abbrev pub fate_on : Prospect → Entry → Fate
 fate_on SameDisk e = if e.issued then (if e.issues == 4 then Ends Aborted else GoesAgain) else Waits
-fate_on OtherDisk e = Ends Unplugged
+fate_on DiskLost e = Ends Unplugged
 fate_on Dead e = Ends PortDead
 
 -- and the one that failed is told so

@@ -24,7 +24,7 @@ pub enum Prospect {
     /// It is ready, with the disk that it had.
     SameDisk,
     /// It is ready with another disk, or it isn't ready, and isn't dead.
-    OtherDisk,
+    DiskLost,
     /// It is dead.
     Dead,
 }
@@ -56,7 +56,7 @@ impl Entry {
             }
         }
         match prospect {
-            Prospect::OtherDisk => Fate::Ends(Outcome::Unplugged),
+            Prospect::DiskLost => Fate::Ends(Outcome::Unplugged),
             Prospect::Dead => Fate::Ends(Outcome::PortDead),
             Prospect::SameDisk if !self.issued => Fate::Waits,
             Prospect::SameDisk if self.issues == MOST_ISSUES => Fate::Ends(Outcome::Aborted),

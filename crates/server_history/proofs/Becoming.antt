@@ -23,9 +23,9 @@ use Rattle.port_look.specs.Looks.{IsLooking}
 use Rattle.request_queue.specs.Entries.{asks_of, due_ids}
 use Rattle.request_queue.specs.declared.fate.Failed.{Failed}
 use Rattle.request_queue.specs.declared.fate.Prospect.{Prospect}
-use Rattle.request_queue.specs.declared.fate.Prospect.TheVariants.{Dead, OtherDisk, SameDisk as SameProspect}
+use Rattle.request_queue.specs.declared.fate.Prospect.TheVariants.{Dead, DiskLost, SameDisk as SameProspect}
 use Rattle.server_history.specs.Below.{LawsBelow}
-use Rattle.server_history.specs.Recovered.{IsFoundAfter, IsProspect, IsRecovered, IsSameDisk, IsSettledAfter, RecoversPort}
+use Rattle.server_history.specs.Recovered.{IsFoundAfter, IsProspect, IsRecovered, IsSameDisk, HasMetFates, RecoversPort}
 use Rattle.server_history.specs.Server.{Server, IsKept, disk_in, disk_of, is_served, mode_in, ports_of, remembered_at, sectors_of, serial_of, state_of}
 use Rattle.server_history.specs.Turns.{NamesOnly}
 use Rattle.server_history.proofs.Recovery.{evidence_of, lost_of, stopped_of, stuck_of}
@@ -49,7 +49,7 @@ disk_is (Unready state) was other = refl
 -- a dead port's requests may expect nothing else
 prospect_is : (was : DiskInfo) (found : Found) (prospect : Prospect) → IsProspect was found prospect → found ≡ Unready DeadState → prospect ≡ Dead
 prospect_is was found SameProspect is dead = let z : Ready is.0 ≡ Unready DeadState = sym is.1 ∙ dead in absurd cc
-prospect_is was found OtherDisk is dead = absurd (is.0 dead)
+prospect_is was found DiskLost is dead = absurd (is.0 dead)
 prospect_is was found Dead is dead = refl
 
 found_dead : (wanted : Wanted) (port : Port) (was : DiskInfo) (then : Next) (old new : Device) (found : Found) → IsFoundAfter wanted port was then old new found → then ≡ next.Dead → found ≡ Unready DeadState
@@ -76,12 +76,12 @@ interrupted_by port failed prospect next.Dead dies = inr (subst (λ (p : Prospec
 
 pub stuck_is : (port : Port) (prospect : Prospect) → Contains (stuck_of port prospect) port → prospect ≡ Dead
 stuck_is port SameProspect here = absurd (contains_none port here)
-stuck_is port OtherDisk here = absurd (contains_none port here)
+stuck_is port DiskLost here = absurd (contains_none port here)
 stuck_is port Dead here = refl
 
-pub lost_is : (port : Port) (prospect : Prospect) → Contains (lost_of port prospect) port → prospect ≡ OtherDisk
+pub lost_is : (port : Port) (prospect : Prospect) → Contains (lost_of port prospect) port → prospect ≡ DiskLost
 lost_is port SameProspect here = absurd (contains_none port here)
-lost_is port OtherDisk here = refl
+lost_is port DiskLost here = refl
 lost_is port Dead here = absurd (contains_none port here)
 
 pub names_only : (port : Port) (failed : Option Failed) (prospect : Prospect) (then : Next) → NamesOnly port (evidence_of port failed prospect then)
@@ -102,7 +102,7 @@ names_only port failed prospect then = record {
 
     lost : (p : Prospect) → All (λ q. q ≡ port) (lost_of port p)
     lost SameProspect = none
-    lost OtherDisk = one
+    lost DiskLost = one
     lost Dead = none
 
     stopped : (n : Next) → All (λ q. q ≡ port) (stopped_of port n)
@@ -112,14 +112,14 @@ names_only port failed prospect then = record {
 
     stuck : (p : Prospect) → All (λ q. q ≡ port) (stuck_of port p)
     stuck SameProspect = none
-    stuck OtherDisk = none
+    stuck DiskLost = none
     stuck Dead = one
 
 -- ---- the port
 
 module _ (laws : LawsBelow) (port : Port) (replies : List Reply) (old new : Server) (k : IsKept old) (ready : state_of (found_of old.ports port.0) ≡ ReadyState) (r : RecoversPort port replies old new)
     (looks : IsFollowed (IsLooking port) AnyUse old.device r.settled.recovered.seen) (kept : IsKept r.mid) where
-  abbrev a : IsSettledAfter port r.later old r.mid
+  abbrev a : HasMetFates port r.later old r.mid
   a = r.settled
 
   abbrev x : IsRecovered port old a.mid a.device

@@ -44,11 +44,11 @@ use Rattle.request_queue.specs.Machine.{IsEntry}
 use Rattle.request_queue.specs.declared.fate.Failed.{Failed}
 use Rattle.request_queue.specs.declared.fate.Fate.TheVariants.{Ends}
 use Rattle.request_queue.specs.declared.fate.Prospect.{Prospect}
-use Rattle.request_queue.specs.declared.fate.Prospect.TheVariants.{SameDisk as Same, OtherDisk, Dead as NoEnd}
+use Rattle.request_queue.specs.declared.fate.Prospect.TheVariants.{SameDisk as Same, DiskLost, Dead as NoEnd}
 use Rattle.slots.specs.Uses.{Uses as PortSlots, use_at}
 use Rattle.slots.specs.declared.Use.{Use as SlotUse}
 use Rattle.server_history.specs.Below.{LawsBelow}
-use Rattle.server_history.specs.Recovered.{IsFailed, IsProspect, IsSettledAfter, RecoversPort, holdings_of, requests_of}
+use Rattle.server_history.specs.Recovered.{IsFailed, IsProspect, HasMetFates, RecoversPort, holdings_of, requests_of}
 use Rattle.server_history.specs.Served.{HasEnded, answers_in, done_reply}
 use Rattle.server_history.specs.Server.{IsKept, IsMachineOf, Server, disk_in, disk_of, mode_in, ports_of, remembered_at, sectors_of, serial_of, slots_at, state_of}
 use Rattle.server_history.specs.Turns.{IsOfTurn, moment_of}
@@ -104,7 +104,7 @@ failed_used slots (Some its) failed x (used, at, names) is =
 
 module _ (laws : LawsBelow) (port : Port) (replies : List Reply) (old new : Server) (k : IsKept old) (ready : state_of (found_of old.ports port.0) ≡ ReadyState) (r : RecoversPort port replies old new)
     (looks : IsFollowed (IsLooking port) AnyUse old.device r.settled.recovered.seen) (k_mid : IsKept r.mid) where
-  abbrev a : IsSettledAfter port r.later old r.mid
+  abbrev a : HasMetFates port r.later old r.mid
   a = r.settled
 
   abbrev its : List Held
@@ -177,7 +177,7 @@ module _ (laws : LawsBelow) (port : Port) (replies : List Reply) (old new : Serv
     same_stopped = stopped_named port a.recovered.result.next (λ stuck. let z : Ready info.0 ≡ Unready Dead = sym info.1 ∙ (no_way stuck).0 in absurd cc)
 
   -- another one
-  module _ (is : a.prospect ≡ OtherDisk) where
+  module _ (is : a.prospect ≡ DiskLost) where
     other_stopped : Contains evidence.stopped port
     other_stopped = stopped_named port a.recovered.result.next (λ stuck. (subst (IsProspect a.was a.found) is a.expects).0 (no_way stuck).0)
 
@@ -425,13 +425,13 @@ module _ (laws : LawsBelow) (port : Port) (replies : List Reply) (old new : Serv
         (Contains-append_cases z.steps base (Answer e o) here)
 
     -- it is of the port, and has another disk for its reason
-    unplugged_why : (e : Pending) → Contains (z.steps ++ base) (Answer e outcome.Unplugged) → (a.prospect ≡ OtherDisk) × (e.request.port ≡ port)
+    unplugged_why : (e : Pending) → Contains (z.steps ++ base) (Answer e outcome.Unplugged) → (a.prospect ≡ DiskLost) × (e.request.port ≡ port)
     unplugged_why e here = (by (why a.failed a.prospect w.0.entry outcome.Unplugged w.3), w.2.port ∙ (of_its w.0 w.1).1)
       where
         w : (request : Held) × Contains its request × IsEntry request e × (fate_of a.failed a.prospect request.entry ≡ Ends outcome.Unplugged)
         w = f.answered e outcome.Unplugged (fated e outcome.Unplugged (λ x. let y : outcome.Unplugged ≡ outcome.Ok = x in cc) here)
 
-        by : Why a.failed a.prospect w.0.entry outcome.Unplugged → a.prospect ≡ OtherDisk
+        by : Why a.failed a.prospect w.0.entry outcome.Unplugged → a.prospect ≡ DiskLost
         by (inl x) = let y : outcome.Unplugged ≡ outcome.DeviceError x.0.status x.0.error = x.3 in absurd cc
         by (inr (inl x)) = let y : outcome.Unplugged ≡ outcome.Aborted = x.3 in absurd cc
         by (inr (inr (inl x))) = x.0
@@ -450,7 +450,7 @@ module _ (laws : LawsBelow) (port : Port) (replies : List Reply) (old new : Serv
         by (inr (inr (inr x))) = x.0
 
     -- with another disk, none of the port's requests is left
-    none_waits : a.prospect ≡ OtherDisk → NoneWaits (after m (z.steps ++ base)) port
+    none_waits : a.prospect ≡ DiskLost → NoneWaits (after m (z.steps ++ base)) port
     none_waits other e here own_port =
         let b = stood port (after m base) z.steps issuing_own e (subst (λ (n : Machine). Contains n.book e) all_is here) in
         let h = at_right IsEntry r.mid.book (after m base).book f.stands.book b.was b.here in
@@ -459,7 +459,7 @@ module _ (laws : LawsBelow) (port : Port) (replies : List Reply) (old new : Serv
     unplugs : UnplugsAll (z.steps ++ base) (after m (z.steps ++ base))
     unplugs = record {
       emptied = λ e other here there same. let w = unplugged_why e here in none_waits w.0 other there (same ∙ w.1);
-      alike = λ e other here there same. let y : OtherDisk ≡ NoEnd = sym (unplugged_why e here).0 ∙ dead_why other there in absurd cc;
+      alike = λ e other here there same. let y : DiskLost ≡ NoEnd = sym (unplugged_why e here).0 ∙ dead_why other there in absurd cc;
     }
 
     keeps : SameDisk (ports_of old) (ports_of new) port ⊎ NoneWaits (after m (z.steps ++ base)) port
@@ -467,7 +467,7 @@ module _ (laws : LawsBelow) (port : Port) (replies : List Reply) (old new : Serv
       where
         by : (p : Prospect) → a.prospect ≡ p → SameDisk (ports_of old) (ports_of new) port ⊎ NoneWaits (after m (z.steps ++ base)) port
         by Same x = inl (same_shown x)
-        by OtherDisk x = inr (none_waits x)
+        by DiskLost x = inr (none_waits x)
         by NoEnd x = inl (same_disk a.was (ap (λ (found : Found). disk_of found (Some a.was)) (subst (IsProspect a.was a.found) x a.expects)) refl refl)
 
     pub decides_turn : DecidesTurn port replies old new r evidence m

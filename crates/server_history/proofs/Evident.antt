@@ -38,11 +38,11 @@ use Rattle.port_control.specs.Engines.{Sticks, Stops}
 use Rattle.port_look.specs.Looks.{IsLooking}
 use Rattle.request_queue.specs.Entries.{Held}
 use Rattle.request_queue.specs.declared.fate.Failed.{Failed}
-use Rattle.request_queue.specs.declared.fate.Prospect.TheVariants.{OtherDisk}
+use Rattle.request_queue.specs.declared.fate.Prospect.TheVariants.{DiskLost}
 use Rattle.slots.specs.Uses.{use_at}
 use Rattle.slots.specs.declared.Use.{Use as SlotUse}
 use Rattle.server_history.specs.Below.{LawsBelow}
-use Rattle.server_history.specs.Recovered.{IsFailed, IsFoundAfter, IsProspect, IsRecovered, IsSettledAfter, RecoversPort}
+use Rattle.server_history.specs.Recovered.{IsFailed, IsFoundAfter, IsProspect, IsRecovered, HasMetFates, RecoversPort}
 use Rattle.server_history.specs.Served.{AnswersEach}
 use Rattle.server_history.specs.Server.{Server, IsKept, IsMachineOf, ports_of, slots_at, state_of, used_for}
 use Rattle.server_history.specs.Turns.{IsOfCommand, LeavesOthers, NamesOnly, TellsFault, instant_of, moment_of}
@@ -111,7 +111,7 @@ pub record IsEvident (port : Port) (replies : List Reply) (old new : Server) (r 
 
 module _ (laws : LawsBelow) (port : Port) (replies : List Reply) (old new : Server) (k : IsKept old) (ready : state_of (found_of old.ports port.0) ≡ ReadyState) (r : RecoversPort port replies old new)
     (looks : IsFollowed (IsLooking port) AnyUse old.device r.settled.recovered.seen) (kept : IsKept r.mid) where
-  abbrev a : IsSettledAfter port r.later old r.mid
+  abbrev a : HasMetFates port r.later old r.mid
   a = r.settled
 
   abbrev x : IsRecovered port old a.mid a.device
@@ -169,7 +169,7 @@ module _ (laws : LawsBelow) (port : Port) (replies : List Reply) (old new : Serv
   evidenced m = record {
     lost = λ here.
         let other = lost_is port a.prospect here in
-        let e : IsProspect a.was a.found OtherDisk = subst (IsProspect a.was a.found) other a.expects in
+        let e : IsProspect a.was a.found DiskLost = subst (IsProspect a.was a.found) other a.expects in
         inr (inr (inr (
           (λ dead. e.0 (dead_found laws port replies old new k ready r looks kept dead)),
           (λ is same. let i = ready_info laws port replies old new k ready r looks kept is in e.1 i.0 i.1 (disk_same laws port replies old new k ready r looks kept i.0 i.1 same)),

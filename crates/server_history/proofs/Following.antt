@@ -43,11 +43,11 @@ use Rattle.request_queue.specs.declared.fate.Failed.{Failed}
 use Rattle.request_queue.specs.declared.fate.Fate.{Fate}
 use Rattle.request_queue.specs.declared.fate.Fate.TheVariants.{Ends, GoesAgain, Waits}
 use Rattle.request_queue.specs.declared.fate.Prospect.{Prospect}
-use Rattle.request_queue.specs.declared.fate.Prospect.TheVariants.{SameDisk, OtherDisk, Dead as NoEnd}
+use Rattle.request_queue.specs.declared.fate.Prospect.TheVariants.{SameDisk, DiskLost, Dead as NoEnd}
 use Rattle.slots.specs.Uses.{Uses as PortSlots, use_at}
 use Rattle.server_history.specs.Below.{LawsBelow}
 use Rattle.server_history.specs.Fates.{DecidesOn, MayMeet, MeetsInMachine, keeps_fate, loan_of, loans_of}
-use Rattle.server_history.specs.Recovered.{AreUnused, IsFailed, IsFoundAfter, IsProspect, IsSettledAfter, holdings_of, requests_of, with_port}
+use Rattle.server_history.specs.Recovered.{AreUnused, IsFailed, IsFoundAfter, IsProspect, HasMetFates, holdings_of, requests_of, with_port}
 use Rattle.server_history.specs.Served.{answers_in}
 use Rattle.server_history.specs.Server.{AreKept, AreOfTwo, AreUsesOf, IsKept, IsMachineOf, IsUsedAs, Server, kept_at, no_slots, slots_at, state_of, use_of, used_for}
 use Rattle.server_history.proofs.Going.{book_on, still_kept}
@@ -116,7 +116,7 @@ fates_owners fate (request ∷ requests) replies old new (mid, its, later, split
 -- a dead port has no other prospect
 pub dead_end : (was : DiskInfo) (found : Found) (prospect : Prospect) → IsProspect was found prospect → found ≡ Unready Dead → prospect ≡ NoEnd
 dead_end was found SameDisk (info, is, same) dead = let z : Ready info ≡ Unready Dead = sym is ∙ dead in absurd cc
-dead_end was found OtherDisk x dead = absurd (x.0 dead)
+dead_end was found DiskLost x dead = absurd (x.0 dead)
 dead_end was found NoEnd x dead = refl
 
 module _ (laws : LawsBelow) (port : Port) (mid : Server) (k : IsKept mid) (ready : state_of (found_of mid.ports port.0) ≡ ReadyState) (n : Machine) (reached : IsReached n) (is : IsMachineOf mid n)
@@ -226,7 +226,7 @@ module _ (laws : LawsBelow) (port : Port) (mid : Server) (k : IsKept mid) (ready
 
         by : (p : Prospect) → prospect ≡ p → found ≡ Unready Dead
         by SameDisk same = absurd (lives (λ dead. let y : SameDisk ≡ NoEnd = sym same ∙ dead in absurd cc))
-        by OtherDisk same = absurd (lives (λ dead. let y : OtherDisk ≡ NoEnd = sym same ∙ dead in absurd cc))
+        by DiskLost same = absurd (lives (λ dead. let y : DiskLost ≡ NoEnd = sym same ∙ dead in absurd cc))
         by NoEnd same = subst (IsProspect was found) same expects
 
     -- on another port nothing is decided
@@ -343,7 +343,7 @@ module _ (laws : LawsBelow) (port : Port) (mid : Server) (k : IsKept mid) (ready
 
 -- ---- the whole
 
-module _ (laws : LawsBelow) (port : Port) (later : List Reply) (old new : Server) (k : IsKept old) (ready : state_of (found_of old.ports port.0) ≡ ReadyState) (a : IsSettledAfter port later old new)
+module _ (laws : LawsBelow) (port : Port) (later : List Reply) (old new : Server) (k : IsKept old) (ready : state_of (found_of old.ports port.0) ≡ ReadyState) (a : HasMetFates port later old new)
     (looks : IsFollowed (IsLooking port) AnyUse old.device a.recovered.seen) where
   abbrev from : Server
   from = record old { device = a.recovered.found }

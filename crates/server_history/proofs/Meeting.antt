@@ -31,7 +31,7 @@ use Rattle.request_queue.specs.declared.fate.Failed.{Failed}
 use Rattle.request_queue.specs.declared.fate.Fate.{Fate}
 use Rattle.request_queue.specs.declared.fate.Fate.TheVariants.{Ends, GoesAgain, Waits}
 use Rattle.request_queue.specs.declared.fate.Prospect.{Prospect}
-use Rattle.request_queue.specs.declared.fate.Prospect.TheVariants.{Dead, OtherDisk, SameDisk}
+use Rattle.request_queue.specs.declared.fate.Prospect.TheVariants.{Dead, DiskLost, SameDisk}
 use Rattle.server_history.specs.Below.{LawsBelow}
 use Rattle.server_history.specs.Fates.{DecidesOn, KeepsNone, MayMeet, MeetsInMachine, keeps_fate, loan_of, loans_of}
 use Rattle.server_history.specs.Server.{AreOfTwo}
@@ -83,7 +83,7 @@ tame_on SameDisk e = by e.issued (e.issues == 4) refl refl
           waits = λ z. x;
           again = λ z. let w : Waits ≡ GoesAgain = sym is ∙ z in absurd cc;
         }
-tame_on OtherDisk e = ends_tame OtherDisk (fate_on OtherDisk) e outcome.Unplugged (λ lives. refl) refl
+tame_on DiskLost e = ends_tame DiskLost (fate_on DiskLost) e outcome.Unplugged (λ lives. refl) refl
 tame_on Dead e = ends_tame Dead (fate_on Dead) e outcome.PortDead (λ lives. absurd (lives refl)) refl
 
 pub tame : (failed : Option Failed) (prospect : Prospect) (e : Entry) → Tame prospect (fate_of failed prospect) e

@@ -20,7 +20,7 @@ use Rattle.port_boot.specs.States.{ShowsOwnDisk}
 use Rattle.port_look.specs.Looks.{IsLooking}
 use Rattle.request_queue.specs.Entries.{Held, asks, asks_of, due_ids}
 use Rattle.server_history.specs.Below.{LawsBelow}
-use Rattle.server_history.specs.Recovered.{IsSettledAfter, RecoversPort}
+use Rattle.server_history.specs.Recovered.{HasMetFates, RecoversPort}
 use Rattle.server_history.specs.Server.{IsKept, IsMachineOf, IsSettled, Server, mode_in, state_of}
 use Rattle.server_history.specs.Turns.{MakesTurn, ServesPort}
 use Rattle.server_history.proofs.Binding.{ties_recovered}
@@ -34,7 +34,7 @@ use Rattle.server_history.proofs.Rounds.{each_apart, each_settings, settled}
 use Rattle.server_history.proofs.Slots.{of_ready, ready_found}
 
 -- once its requests met their fates, the server keeps what it keeps
-pub goes_on : LawsBelow → (port : Port) (later : List Reply) (old new : Server) → IsKept old → state_of (found_of old.ports port.0) ≡ ReadyState → (a : IsSettledAfter port later old new)
+pub goes_on : LawsBelow → (port : Port) (later : List Reply) (old new : Server) → IsKept old → state_of (found_of old.ports port.0) ≡ ReadyState → (a : HasMetFates port later old new)
     → IsFollowed (IsLooking port) AnyUse old.device a.recovered.seen → IsKept new
 goes_on laws port later old new k ready a looks =
     let f = adds_fates laws port later old new k ready a looks k.machine k.reached k.stands in

@@ -33,7 +33,7 @@ use Rattle.request_queue.specs.declared.fate.Failed.{Failed}
 use Rattle.request_queue.specs.declared.fate.Fate.TheVariants.{Ends}
 use Rattle.slots.specs.Uses.{Uses as PortSlots, use_at}
 use Rattle.server_history.specs.Below.{LawsBelow}
-use Rattle.server_history.specs.Recovered.{IsSettledAfter, RecoversPort, requests_of}
+use Rattle.server_history.specs.Recovered.{HasMetFates, RecoversPort, requests_of}
 use Rattle.server_history.specs.Served.{IssuesOnly, answers_in}
 use Rattle.server_history.specs.Server.{Server, IsKept, IsMachineOf, mode_in, no_slots, state_of, used_for}
 use Rattle.server_history.specs.Turns.{IsOfTurn, moment_of}
@@ -157,7 +157,7 @@ failed_id (Some failed) = failed.id.0
 module _ (laws : LawsBelow) (port : Port) (replies : List Reply) (old new : Server) (k : IsKept old) (ready : state_of (found_of old.ports port.0) ≡ ReadyState) (r : RecoversPort port replies old new)
     (looks : IsFollowed (IsLooking port) AnyUse old.device r.settled.recovered.seen) (kept : IsKept r.mid) (evident : IsEvident port replies old new r) (m : Machine) (reached : IsReached m) (is : IsMachineOf old m)
     (d : DecidesTurn port replies old new r (evidence_of port r.settled.failed r.settled.prospect r.settled.recovered.result.next) m) where
-  abbrev a : IsSettledAfter port r.later old r.mid
+  abbrev a : HasMetFates port r.later old r.mid
   a = r.settled
 
   abbrev base : List Step

@@ -23,7 +23,7 @@ use Rattle.request_queue.specs.declared.fate.Failed.{Failed}
 use Rattle.request_queue.specs.declared.fate.Fate.{Fate}
 use Rattle.request_queue.specs.declared.fate.Fate.TheVariants.{Ends, GoesAgain, Waits}
 use Rattle.request_queue.specs.declared.fate.Prospect.{Prospect}
-use Rattle.request_queue.specs.declared.fate.Prospect.TheVariants.{SameDisk, OtherDisk, Dead as NoEnd}
+use Rattle.request_queue.specs.declared.fate.Prospect.TheVariants.{SameDisk, DiskLost, Dead as NoEnd}
 use Rattle.server_history.specs.Below.{LawsBelow}
 use Rattle.server_history.specs.Fates.{DecidesOn}
 use Rattle.server_history.specs.Served.{AnswersEach, IssuesOnly}
@@ -38,7 +38,7 @@ abbrev pub Why : Option Failed → Prospect → Entry → Outcome → Type 0
 Why failed prospect e o =
     ((its : Failed) × (failed ≡ Some its) × (its.id.0 ≡ e.id.0) × (o ≡ outcome.DeviceError its.status its.error))
     ⊎ (((prospect ≡ SameDisk) × (e.issued ≡ true) × (e.issues ≡ 4) × (o ≡ outcome.Aborted))
-    ⊎ (((prospect ≡ OtherDisk) × (o ≡ outcome.Unplugged))
+    ⊎ (((prospect ≡ DiskLost) × (o ≡ outcome.Unplugged))
     ⊎ ((prospect ≡ NoEnd) × (o ≡ outcome.PortDead))))
 
 why_on : (failed : Option Failed) (prospect : Prospect) (e : Entry) (o : Outcome) → fate_on prospect e ≡ Ends o → Why failed prospect e o
@@ -53,7 +53,7 @@ why_on failed SameDisk e o is = by e.issued (e.issues == 4) refl refl
         let w : GoesAgain ≡ Ends o = sym (λ i. if x i then (if y i then Ends outcome.Aborted else GoesAgain) else Waits) ∙ is in absurd cc
     by false b x y =
         let w : Waits ≡ Ends o = sym (λ i. if x i then (if e.issues == 4 then Ends outcome.Aborted else GoesAgain) else Waits) ∙ is in absurd cc
-why_on failed OtherDisk e o is = let w : Ends outcome.Unplugged ≡ Ends o = is in let told : o ≡ outcome.Unplugged = cc in inr (inr (inl (refl, told)))
+why_on failed DiskLost e o is = let w : Ends outcome.Unplugged ≡ Ends o = is in let told : o ≡ outcome.Unplugged = cc in inr (inr (inl (refl, told)))
 why_on failed NoEnd e o is = let w : Ends outcome.PortDead ≡ Ends o = is in let told : o ≡ outcome.PortDead = cc in inr (inr (inr (refl, told)))
 
 pub why : (failed : Option Failed) (prospect : Prospect) (e : Entry) (o : Outcome) → fate_of failed prospect e ≡ Ends o → Why failed prospect e o
@@ -70,7 +70,7 @@ why (Some its) prospect e o is = by (its.id.0 == e.id.0) refl
 -- one goes again only on the disk that it had
 again_on : (prospect : Prospect) (e : Entry) → fate_on prospect e ≡ GoesAgain → prospect ≡ SameDisk
 again_on SameDisk e is = refl
-again_on OtherDisk e is = let w : Ends outcome.Unplugged ≡ GoesAgain = is in absurd cc
+again_on DiskLost e is = let w : Ends outcome.Unplugged ≡ GoesAgain = is in absurd cc
 again_on NoEnd e is = let w : Ends outcome.PortDead ≡ GoesAgain = is in absurd cc
 
 pub why_again : (failed : Option Failed) (prospect : Prospect) (e : Entry) → fate_of failed prospect e ≡ GoesAgain → prospect ≡ SameDisk
@@ -83,13 +83,13 @@ why_again (Some its) prospect e is = by (its.id.0 == e.id.0) refl
     by false x = again_on prospect e (sym (λ i. if x i then Ends (outcome.DeviceError its.status its.error) else fate_on prospect e) ∙ is)
 
 -- with another disk each ends
-pub other_ends : (failed : Option Failed) (e : Entry) → (o : Outcome) × (fate_of failed OtherDisk e ≡ Ends o)
+pub other_ends : (failed : Option Failed) (e : Entry) → (o : Outcome) × (fate_of failed DiskLost e ≡ Ends o)
 other_ends None e = (outcome.Unplugged, refl)
 other_ends (Some its) e = by (its.id.0 == e.id.0) refl
   where
-    by : (b : Bool) → (its.id.0 == e.id.0) ≡ b → (o : Outcome) × (fate_of (Some its) OtherDisk e ≡ Ends o)
-    by true x = (outcome.DeviceError its.status its.error, λ i. if x i then Ends (outcome.DeviceError its.status its.error) else fate_on OtherDisk e)
-    by false x = (outcome.Unplugged, λ i. if x i then Ends (outcome.DeviceError its.status its.error) else fate_on OtherDisk e)
+    by : (b : Bool) → (its.id.0 == e.id.0) ≡ b → (o : Outcome) × (fate_of (Some its) DiskLost e ≡ Ends o)
+    by true x = (outcome.DeviceError its.status its.error, λ i. if x i then Ends (outcome.DeviceError its.status its.error) else fate_on DiskLost e)
+    by false x = (outcome.Unplugged, λ i. if x i then Ends (outcome.DeviceError its.status its.error) else fate_on DiskLost e)
 
 -- ---- what is left of the book
 

@@ -48,11 +48,11 @@ use Rattle.port_look.specs.Looks.{IsLooking}
 use Rattle.request_queue.specs.Entries.{Held, IsEarlier, is_of}
 use Rattle.request_queue.specs.Fates.{fate_of}
 use Rattle.request_queue.specs.declared.fate.Prospect.{Prospect}
-use Rattle.request_queue.specs.declared.fate.Prospect.TheVariants.{SameDisk, OtherDisk, Dead}
+use Rattle.request_queue.specs.declared.fate.Prospect.TheVariants.{SameDisk, DiskLost, Dead}
 use Rattle.slots.specs.Uses.{Uses as PortSlots, use_at}
 use Rattle.slots.specs.declared.Use.{Use as SlotUse}
 use Rattle.server_history.specs.Below.{LawsBelow}
-use Rattle.server_history.specs.Recovered.{AreQueued, IsFoundAfter, IsProspect, IsRecovered, IsSettledAfter, holdings_of, requests_of, with_port}
+use Rattle.server_history.specs.Recovered.{AreQueued, IsFoundAfter, IsProspect, IsRecovered, HasMetFates, holdings_of, requests_of, with_port}
 use Rattle.server_history.specs.Server.{HasSlots, Server, IsKept, IsMachineOf, IsPortOf, is_served, mode_at, mode_found, mode_in, no_slots, plain_mode, slots_at, state_of, usable_of, used_for}
 use Rattle.server_history.proofs.Behind.{left_on, ready_on}
 use Rattle.server_history.proofs.Halting.{again_halts, works_plainly}
@@ -176,7 +176,7 @@ module _ (laws : LawsBelow) (port : Port) (old mid : Server) (device : Device) (
 
 -- ---- what it is then
 
-module _ (laws : LawsBelow) (port : Port) (later : List Reply) (old new : Server) (k : IsKept old) (ready : state_of (found_of old.ports port.0) ≡ ReadyState) (a : IsSettledAfter port later old new)
+module _ (laws : LawsBelow) (port : Port) (later : List Reply) (old new : Server) (k : IsKept old) (ready : state_of (found_of old.ports port.0) ≡ ReadyState) (a : HasMetFates port later old new)
     (looks : IsFollowed (IsLooking port) AnyUse old.device a.recovered.seen) where
   abbrev r : IsRecovered port old a.mid a.device
   r = a.recovered
@@ -426,7 +426,7 @@ module _ (laws : LawsBelow) (port : Port) (later : List Reply) (old new : Server
 
       by : (p : Prospect) → a.prospect ≡ p → IsProspect a.was a.found p → state_of a.found ≡ ReadyState
       by SameDisk is x = ap state_of x.1
-      by OtherDisk is x = absurd (none (λ same. let z : OtherDisk ≡ SameDisk = sym is ∙ same in cc))
+      by DiskLost is x = absurd (none (λ same. let z : DiskLost ≡ SameDisk = sym is ∙ same in cc))
       by Dead is x = absurd (none (λ same. let z : Dead ≡ SameDisk = sym is ∙ same in cc))
 
   ready_one : (e : Held) → Contains a.now.book e → state_of (found_of then_is.ports e.entry.port.0) ≡ ReadyState

@@ -19,9 +19,9 @@ use Rattle.request_queue.specs.Machine.{IsEntry}
 use Rattle.request_queue.specs.declared.fate.Failed.{Failed}
 use Rattle.request_queue.specs.declared.fate.Fate.TheVariants.{Ends, GoesAgain}
 use Rattle.request_queue.specs.declared.fate.Prospect.{Prospect}
-use Rattle.request_queue.specs.declared.fate.Prospect.TheVariants.{SameDisk, OtherDisk, Dead}
+use Rattle.request_queue.specs.declared.fate.Prospect.TheVariants.{SameDisk, DiskLost, Dead}
 use Rattle.server_history.specs.Fates.{DecidesOn}
-use Rattle.server_history.specs.Recovered.{IsRecovered, IsSettledAfter, requests_of}
+use Rattle.server_history.specs.Recovered.{IsRecovered, HasMetFates, requests_of}
 use Rattle.server_history.specs.Served.{HasEnded, answers_in}
 use Rattle.server_history.specs.Server.{Server, IsMachineOf}
 
@@ -33,7 +33,7 @@ faults_of (Some failed) = record { id = failed.id; status = failed.status; error
 
 abbrev pub lost_of : Port → Prospect → List Port
 lost_of port SameDisk = []
-lost_of port OtherDisk = port ∷ []
+lost_of port DiskLost = port ∷ []
 lost_of port Dead = []
 
 abbrev pub stopped_of : Port → Next → List Port
@@ -43,7 +43,7 @@ stopped_of port next.Dead = []
 
 abbrev pub stuck_of : Port → Prospect → List Port
 stuck_of port SameDisk = []
-stuck_of port OtherDisk = []
+stuck_of port DiskLost = []
 stuck_of port Dead = port ∷ []
 
 abbrev pub evidence_of : Port → Option Failed → Prospect → Next → Evidence
@@ -71,7 +71,7 @@ pub record AddsFirst (port : Port) (old mid : Server) (new : Device) (r : IsReco
 
 -- From a machine that stands for the old server: the device's steps until the masks were read, the answers of what was done, the device's steps while the
 -- port was recovered and booted, and those that decide on its other requests. They lead to a machine that stands for the new one.
-pub record AddsFates (port : Port) (later : List Reply) (old new : Server) (a : IsSettledAfter port later old new) (m : Machine) : Type 0 where
+pub record AddsFates (port : Port) (later : List Reply) (old new : Server) (a : HasMetFates port later old new) (m : Machine) : Type 0 where
   pub first : List Step
   pub ended : List Pending
   pub middle : List Step
@@ -91,5 +91,5 @@ pub record AddsFates (port : Port) (later : List Reply) (old new : Server) (a : 
   pub tells : Tells fates later
 
 -- all those steps
-abbrev pub until_issues : {port : Port} {later : List Reply} {old new : Server} {a : IsSettledAfter port later old new} {m : Machine} → AddsFates port later old new a m → List Step
+abbrev pub until_issues : {port : Port} {later : List Reply} {old new : Server} {a : HasMetFates port later old new} {m : Machine} → AddsFates port later old new a m → List Step
 until_issues f = f.fates ++ (f.middle ++ (answers_in f.ended ++ f.first))

@@ -18,7 +18,7 @@ use Rattle.request_queue.specs.declared.fate.Failed.{Failed}
 use Rattle.request_queue.specs.declared.fate.Fate.{Fate}
 use Rattle.request_queue.specs.declared.fate.Fate.TheVariants.{Ends, GoesAgain, Waits}
 use Rattle.request_queue.specs.declared.fate.Prospect.{Prospect}
-use Rattle.request_queue.specs.declared.fate.Prospect.TheVariants.{Dead, OtherDisk, SameDisk}
+use Rattle.request_queue.specs.declared.fate.Prospect.TheVariants.{Dead, DiskLost, SameDisk}
 use Rattle.server_history.specs.Below.{LawsBelow}
 
 -- ---- fates
@@ -35,7 +35,7 @@ again_on SameDisk e again = by e.issued (e.issues == 4) refl refl
     by false b x y =
         let is : fate_on SameDisk e ≡ Waits = (λ i. if x i then (if e.issues == 4 then Ends outcome.Aborted else GoesAgain) else Waits) in
         let z : Waits ≡ GoesAgain = sym is ∙ again in absurd cc
-again_on OtherDisk e again = let z : Ends outcome.Unplugged ≡ GoesAgain = again in absurd cc
+again_on DiskLost e again = let z : Ends outcome.Unplugged ≡ GoesAgain = again in absurd cc
 again_on Dead e again = let z : Ends outcome.PortDead ≡ GoesAgain = again in absurd cc
 
 again_of : (failed : Option Failed) (prospect : Prospect) (e : Entry) → fate_of failed prospect e ≡ GoesAgain → (e.issued ≡ true) × ((e.issues == 4) ≡ false)
@@ -53,7 +53,7 @@ again_of (Some failed) prospect e again = by (failed.id.0 == e.id.0) refl
 -- where the disk isn't the same, each is answered
 ends_on : (prospect : Prospect) → prospect ≢ SameDisk → (e : Entry) → (o : Outcome) × (fate_on prospect e ≡ Ends o)
 ends_on SameDisk other e = absurd (other refl)
-ends_on OtherDisk other e = (outcome.Unplugged, refl)
+ends_on DiskLost other e = (outcome.Unplugged, refl)
 ends_on Dead other e = (outcome.PortDead, refl)
 
 pub ends_of : (failed : Option Failed) (prospect : Prospect) → prospect ≢ SameDisk → (e : Entry) → (o : Outcome) × (fate_of failed prospect e ≡ Ends o)

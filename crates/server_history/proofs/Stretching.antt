@@ -40,7 +40,7 @@ use Rattle.port_control.specs.declared.Stopped.{Stopped}
 use Rattle.port_look.specs.Looks.{IsLooking}
 use Rattle.request_queue.specs.Entries.{Held, asks, asks_of, due_ids}
 use Rattle.server_history.specs.Below.{LawsBelow}
-use Rattle.server_history.specs.Recovered.{IsRecovered, IsSettledAfter, RecoversPort}
+use Rattle.server_history.specs.Recovered.{IsRecovered, HasMetFates, RecoversPort}
 use Rattle.server_history.specs.Served.{IssuesEach, IssuesIn}
 use Rattle.server_history.specs.Server.{Server, IsKept, mode_in, state_of, used_for}
 use Rattle.server_history.proofs.Coming.{issuing_leaves, issuing_turns, look_does, look_list, look_turns, turn_leaves}
@@ -85,7 +85,7 @@ nobody (x ∷ xs) none = absurd (none x (contains_here x xs x refl))
 
 module _ (laws : LawsBelow) (port : Port) (replies : List Reply) (old new : Server) (k : IsKept old) (ready : state_of (found_of old.ports port.0) ≡ ReadyState) (r : RecoversPort port replies old new)
     (looks : IsFollowed (IsLooking port) AnyUse old.device r.settled.recovered.seen) (kept : IsKept r.mid) where
-  abbrev a : IsSettledAfter port r.later old r.mid
+  abbrev a : HasMetFates port r.later old r.mid
   a = r.settled
 
   abbrev x : IsRecovered port old a.mid a.device

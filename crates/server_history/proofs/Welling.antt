@@ -28,7 +28,7 @@ use Rattle.host_boot.specs.Taken.{StillStandsBehind, found_of, wanted_of}
 use Rattle.host_boot.specs.declared.Found.{Found}
 use Rattle.port_look.specs.Looks.{IsLooking}
 use Rattle.server_history.specs.Below.{LawsBelow}
-use Rattle.server_history.specs.Recovered.{IsRecovered, IsSettledAfter, RecoversPort}
+use Rattle.server_history.specs.Recovered.{IsRecovered, HasMetFates, RecoversPort}
 use Rattle.server_history.specs.Server.{Server, IsKept, ports_of, state_of}
 use Rattle.server_history.specs.Turns.{instant_of}
 use Rattle.server_history.proofs.Becoming.{next_dead, state_new}
@@ -92,7 +92,7 @@ never_reset port accesses all r = All-contains (SparesRegister (Px port Sctl)) a
 module _ (laws : LawsBelow) (port : Port) (replies : List Reply) (old new : Server) (k : IsKept old) (ready : state_of (found_of old.ports port.0) ≡ ReadyState) (r : RecoversPort port replies old new)
     (looks : IsFollowed (IsLooking port) AnyUse old.device r.settled.recovered.seen) (kept : IsKept r.mid) (evident : IsEvident port replies old new r)
     (plainly : r.settled.recovered.queued ≡ false → WorksPlainly (r.settled.mid.device.port port.0)) where
-  abbrev a : IsSettledAfter port r.later old r.mid
+  abbrev a : HasMetFates port r.later old r.mid
   a = r.settled
 
   abbrev x : IsRecovered port old a.mid a.device

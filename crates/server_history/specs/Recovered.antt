@@ -25,7 +25,7 @@ use Rattle.request_queue.specs.Entries.{Held, IsEarlier, is_of}
 use Rattle.request_queue.specs.Fates.{Holdings, MeetFates, fate_of}
 use Rattle.request_queue.specs.declared.fate.Failed.{Failed}
 use Rattle.request_queue.specs.declared.fate.Prospect.{Prospect}
-use Rattle.request_queue.specs.declared.fate.Prospect.TheVariants.{SameDisk, OtherDisk, Dead}
+use Rattle.request_queue.specs.declared.fate.Prospect.TheVariants.{SameDisk, DiskLost, Dead}
 use Rattle.slots.specs.Uses.{Uses as PortSlots, use_at}
 use Rattle.slots.specs.declared.Use.{Use as SlotUse}
 use Rattle.server_history.specs.Served.{AnswersEach, IsMaskOf, IssuesAll, done_reply}
@@ -73,7 +73,7 @@ IsSameDisk was info = (info.serial ≡ was.serial) × (info.sectors ≡ was.sect
 -- what its requests may expect
 abbrev pub IsProspect : DiskInfo → Found → Prospect → Type 0
 IsProspect was found SameDisk = (info : DiskInfo) × (found ≡ Ready info) × IsSameDisk was info
-IsProspect was found OtherDisk = (found ≢ Unready DeadState) × ((info : DiskInfo) → found ≡ Ready info → IsSameDisk was info → ⊥)
+IsProspect was found DiskLost = (found ≢ Unready DeadState) × ((info : DiskInfo) → found ≡ Ready info → IsSameDisk was info → ⊥)
 IsProspect was found Dead = found ≡ Unready DeadState
 
 -- ---- what becomes of its requests
@@ -113,7 +113,7 @@ with_port port device found was mode slots now s = record s {
 
 -- The port was recovered, and booted where it had to be; and its requests met their fates: the one that failed is told so, and the others what their port
 -- is then. So it came to this server, by these replies after those that tell what was done.
-pub record IsSettledAfter (port : Port) (later : List Reply) (old new : Server) : Type 0 where
+pub record HasMetFates (port : Port) (later : List Reply) (old new : Server) : Type 0 where
   pub was : DiskInfo
   pub ready : found_of old.ports port.0 ≡ Ready was
   pub mid : Server
@@ -140,7 +140,7 @@ pub record IsSettledAfter (port : Port) (later : List Reply) (old new : Server) 
 pub record RecoversPort (port : Port) (replies : List Reply) (old new : Server) : Type 0 where
   pub later : List Reply
   pub mid : Server
-  pub settled : IsSettledAfter port later old mid
+  pub settled : HasMetFates port later old mid
   pub issued : IssuesAll port mid new
   pub told : IsPermutation replies (map done_reply settled.recovered.requests ++ later)
   pub ordered : AllPairs (λ (a b : Reply). a.id.0 ≤ b.id.0) replies

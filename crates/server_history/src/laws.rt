@@ -56,7 +56,7 @@ ghost use Rattle.error_recovery.specs.declared.Next.TheVariants.{Restart};
 ghost use Rattle.port_boot.specs.States.{IsBootable};
 ghost use Rattle.port_control.specs.Ports.{IsStopped};
 ghost use Rattle.port_control.specs.declared.Stopped.{Stopped};
-ghost use Rattle.server_history.specs.Recovered.{AreQueued, IsRecovered, IsSettledAfter, RecoversPort, requests_of};
+ghost use Rattle.server_history.specs.Recovered.{AreQueued, IsRecovered, HasMetFates, RecoversPort, requests_of};
 
 use adapter::laws::saying_is_one;
 use agreement::acts::acts_give;
@@ -356,7 +356,7 @@ pub fn a_recovered_port_goes_on()
     ensures places { (s : Server) (port : Port) → IsKept s → state_of (found_of s.ports port.0) ≡ ReadyState
         → (kept_at s.kept port.0 ≡ []) × (count_by (λ (e : Held). e.entry.issued) (requests_of port s.book) ≤ 32) }
     ensures settled { (s new : Server) (port : Port) (later : List Reply) → IsKept s → state_of (found_of s.ports port.0) ≡ ReadyState
-        → (a : IsSettledAfter port later s new) → IsFollowed (IsLooking port) AnyUse s.device a.recovered.seen → IsKept new }
+        → (a : HasMetFates port later s new) → IsFollowed (IsLooking port) AnyUse s.device a.recovered.seen → IsKept new }
     ensures undue { (s : Server) (port : Port) → IsKept s → ((info : DiskInfo) → found_of s.ports port.0 ≡ Ready info → ⊥)
         → due_ids (mode_in s port) port (asks_of s.book) ≡ [] }
 {
