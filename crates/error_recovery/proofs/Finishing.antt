@@ -34,7 +34,7 @@ use Rattle.error_recovery.specs.Laws.Fitting.{AnyUses, PortUnused}
 use Rattle.error_recovery.specs.Laws.RegisterSet.{ButIssued, Commanding}
 use Rattle.error_recovery.specs.Laws.Stretch.{Asking, Controlling, Recovering}
 use Rattle.error_recovery.specs.Parts.{GetsStuck, GoesOn, HasRoom, MayGoOn, ReadsLog, Resumes}
-use Rattle.error_recovery.specs.Recovery.{EndsIn, IsRecovering, LeavesRecovery, LeavesSlots, MayRecover, NamesForeign, Parts, Recovers, Rests, WaitsAnew}
+use Rattle.error_recovery.specs.Recovery.{EndsIn, IsRecovering, LeavesRecovery, LeavesSlots, MayRecover, Mends, NamesForeign, Parts, Recovers, Rests, WaitsAnew}
 use Rattle.error_recovery.proofs.Going.{Asks, Goes, asks_over, goes_over}
 use Rattle.error_recovery.proofs.Quieting.{commands_silent, starting_silent}
 use Rattle.error_recovery.proofs.Resting.{IsTold, brings_log}
@@ -93,26 +93,18 @@ module _ (laws : Laws) where
 
   -- ---- the port wasn't even stopped
 
-  pub is_stuck : (port : Port) (outstanding : ℕ) (queued : Bool) (old new : Device) → IsOn old → MayRecover port.0 old → GetsStuck port old new →
-      Recovers port outstanding queued (record { failed = None; again = outstanding; next = Dead }) old new
-  is_stuck port outstanding queued old new on may g =
+  pub mends_stuck : (port : Port) (outstanding : ℕ) (queued : Bool) (old new : Device) → IsOn old → (old.port port.0).sctl_det ≡ 0 → GetsStuck port old new →
+      Mends port outstanding queued (record { failed = None; again = outstanding; next = Dead }) old new
+  mends_stuck port outstanding queued old new on det g =
       let made = g.told.followed.driven in
       let went : Goes port old new = goes_over laws port made.accesses old new on made.only made.all in
       record {
         accesses = made.accesses;
         does = record { only = made.only; slots = inl (laws.one (Recovering AnyUses port) (λ uses. uses) old new g.told.followed); engine = g.told.tells };
-        tells = record {
-          parts = all_go_again outstanding;
-          rests = tt;
-          named = λ token is run. absurd cc;
-          told = λ is set alive. absurd (alive refl);
-          dead = λ e. refl;
-          unnamed = λ token is run. absurd cc;
-          restarts = λ token run. absurd cc;
-        };
+        tells = record { parts = all_go_again outstanding; rests = tt; dead = λ e. refl; unnamed = λ token is run. absurd cc };
         leaves = record {
           ends = (g.st, g.stuck);
-          det = went.det ∙ may.det;
+          det = went.det ∙ det;
           written = went.written;
           enabled = went.enabled;
           silent = g.silent;
@@ -120,6 +112,13 @@ module _ (laws : Laws) where
               laws.silent (Recovering AnyUses port) (λ uses. uses) uses q o old new tt (spares_other laws port q Ci apart) (spares_other laws port q Sact apart) own none g.told.followed agreed;
         };
       }
+
+  pub is_stuck : (port : Port) (outstanding : ℕ) (queued : Bool) (old new : Device) → IsOn old → MayRecover port.0 old → GetsStuck port old new →
+      Recovers port outstanding queued (record { failed = None; again = outstanding; next = Dead }) old new
+  is_stuck port outstanding queued old new on may g = record {
+    mends = mends_stuck port outstanding queued old new on may.det g;
+    tells = record { named = λ token is run. absurd cc; told = λ is set alive. absurd (alive refl); restarts = λ token run. absurd cc };
+  }
 
   module _ (port : Port) (outstanding : ℕ) (queued : Bool) (before after : ℕ) (old d : Device) (r : Resumes port outstanding queued before after old d) where
     went : Goes port old d
@@ -138,25 +137,29 @@ module _ (laws : Laws) where
     is_busy failed again token names occupied parts rests named unnamed =
         let b = quieted laws port outstanding queued before after old d r in
         record {
-          accesses = total laws port outstanding queued before after old d r (λ uses. uses) d b;
-          does = record {
-            only = only laws port outstanding queued before after old d r (λ uses. uses) d b;
-            slots = performs laws port outstanding queued before after old d r (λ uses. uses) d b;
-            engine = stops laws port outstanding queued before after old d r (λ uses. uses) d b;
+          mends = record {
+            accesses = total laws port outstanding queued before after old d r (λ uses. uses) d b;
+            does = record {
+              only = only laws port outstanding queued before after old d r (λ uses. uses) d b;
+              slots = performs laws port outstanding queued before after old d r (λ uses. uses) d b;
+              engine = stops laws port outstanding queued before after old d r (λ uses. uses) d b;
+            };
+            tells = record {
+              parts = parts;
+              rests = rests;
+              dead = λ e. absurd cc;
+              unnamed = λ at is run. unnamed is;
+            };
+            leaves = leaves (Restart token) d went (names, r.quiets.receives.stopped) r.quiets.silent (silent_others laws port outstanding queued before after old d r (λ uses. uses) d b);
           };
           tells = record {
-            parts = parts;
-            rests = rests;
             named = λ at is run. absurd cc;
             told = λ is set alive. named is set;
-            dead = λ e. absurd cc;
-            unnamed = λ at is run. unnamed is;
             restarts = λ at run. inl (
               All-append (SparesRegister (Px port Ci)) r.quiets.stops.followed.driven.accesses b.driven.accesses r.quiets.stops.tells.2 (quieted_told laws port outstanding queued before after old d r).tells,
               λ idle. absurd (true≢false (sym occupied ∙ (ap (λ (v : ℕ). bit v 7 || bit v 3) (sym r.quiets.file) ∙ idle))),
             );
           };
-          leaves = leaves (Restart token) d went (names, r.quiets.receives.stopped) r.quiets.silent (silent_others laws port outstanding queued before after old d r (λ uses. uses) d b);
         }
 
     -- ---- it was started again
@@ -179,22 +182,26 @@ module _ (laws : Laws) where
           Rests queued port outstanding (total laws port outstanding queued before after old d r (λ uses. uses) start b_start) old start failed →
           (bit outstanding 0 ≡ true → failed ≢ None) → Recovers port outstanding queued (record { failed = failed; again = again; next = Running token }) old start
       goes_again failed again token names is parts rests named = record {
-        accesses = total laws port outstanding queued before after old d r (λ uses. uses) start b_start;
-        does = record {
-          only = only laws port outstanding queued before after old d r (λ uses. uses) start b_start;
-          slots = performs laws port outstanding queued before after old d r (λ uses. uses) start b_start;
-          engine = stops laws port outstanding queued before after old d r (λ uses. uses) start b_start;
+        mends = record {
+          accesses = total laws port outstanding queued before after old d r (λ uses. uses) start b_start;
+          does = record {
+            only = only laws port outstanding queued before after old d r (λ uses. uses) start b_start;
+            slots = performs laws port outstanding queued before after old d r (λ uses. uses) start b_start;
+            engine = stops laws port outstanding queued before after old d r (λ uses. uses) start b_start;
+          };
+          tells = record {
+            parts = parts;
+            rests = rests;
+            dead = λ e. absurd cc;
+            unnamed = λ at on run. absurd cc;
+          };
+          leaves = leaves (Running token) start goes_start (names, runs_plain laws port outstanding queued before after old d r went start s starting goes_start is) silent_start (silent_others laws port outstanding queued before after old d r (λ uses. uses) start b_start);
         };
         tells = record {
-          parts = parts;
-          rests = rests;
           named = λ at on run. absurd (true≢false (sym on ∙ is));
           told = λ off set alive. named set;
-          dead = λ e. absurd cc;
-          unnamed = λ at on run. absurd cc;
           restarts = λ at run. absurd cc;
         };
-        leaves = leaves (Running token) start goes_start (names, runs_plain laws port outstanding queued before after old d r went start s starting goes_start is) silent_start (silent_others laws port outstanding queued before after old d r (λ uses. uses) start b_start);
       }
 
       pub goes_again_told : IsTold port queued before (total laws port outstanding queued before after old d r (λ uses. uses) start b_start) old start
@@ -230,31 +237,35 @@ module _ (laws : Laws) where
             let came = brings_log port old start log log page goes_start.grows w.grows brings ([], sym (append-nil log.tape), All-nil (λ e. IsMove port.0 ReadLog e → ⊥)) in
             let Q : Bool → Type 0 = λ q. Rests q port outstanding (total laws port outstanding queued before after old d r (λ uses. uses) log b) old log (Some failed) in
             record {
-              accesses = total laws port outstanding queued before after old d r (λ uses. uses) log b;
-              does = record {
-                only = only laws port outstanding queued before after old d r (λ uses. uses) log b;
-                slots = performs laws port outstanding queued before after old d r (λ uses. uses) log b;
-                engine = stops laws port outstanding queued before after old d r (λ uses. uses) log b;
+              mends = record {
+                accesses = total laws port outstanding queued before after old d r (λ uses. uses) log b;
+                does = record {
+                  only = only laws port outstanding queued before after old d r (λ uses. uses) log b;
+                  slots = performs laws port outstanding queued before after old d r (λ uses. uses) log b;
+                  engine = stops laws port outstanding queued before after old d r (λ uses. uses) log b;
+                };
+                tells = record {
+                  parts = parts;
+                  rests = subst Q (sym on) (record {
+                    small = tag_is_small page failed.slot.0 failed.status failed.error tells;
+                    among = among;
+                    fault = t.fault;
+                    has_failed = t.has_failed;
+                    page = page;
+                    brings = came;
+                    tells = tells;
+                  });
+                  dead = λ e. absurd cc;
+                  unnamed = λ at is run. absurd cc;
+                };
+                leaves = leaves (Running token) log w
+                    (names, runs_queued laws port outstanding queued before after old d r went start log s starting l (asking (λ uses. uses) a) (recovers_asked (λ uses. uses) a) brings.clear.over running on) silent_now (silent_others laws port outstanding queued before after old d r (λ uses. uses) log b);
               };
               tells = record {
-                parts = parts;
-                rests = subst Q (sym on) (record {
-                  small = tag_is_small page failed.slot.0 failed.status failed.error tells;
-                  among = among;
-                  fault = t.fault;
-                  has_failed = t.has_failed;
-                  page = page;
-                  brings = came;
-                  tells = tells;
-                });
                 named = λ at is run e. absurd cc;
                 told = λ off. absurd (true≢false (sym on ∙ off));
-                dead = λ e. absurd cc;
-                unnamed = λ at is run. absurd cc;
                 restarts = λ at run. absurd cc;
               };
-              leaves = leaves (Running token) log w
-                  (names, runs_queued laws port outstanding queued before after old d r went start log s starting l (asking (λ uses. uses) a) (recovers_asked (λ uses. uses) a) brings.clear.over running on) silent_now (silent_others laws port outstanding queued before after old d r (λ uses. uses) log b);
             }
 
         -- ---- or none, and the port was to stop
@@ -299,22 +310,26 @@ module _ (laws : Laws) where
               (AgreesWith (λ uses. uses port.0 0 ≡ Own Identify → ⊥) old → SendsNone port.0 Identify old new) →
               Recovers port outstanding queued (record { failed = None; again = outstanding; next = Restart token }) old new
           stopped token names b halts why silent = record {
-            accesses = total laws port outstanding queued before after old d r (λ uses. uses) new b;
-            does = record {
-              only = only laws port outstanding queued before after old d r (λ uses. uses) new b;
-              slots = performs laws port outstanding queued before after old d r (λ uses. uses) new b;
-              engine = stops laws port outstanding queued before after old d r (λ uses. uses) new b;
+            mends = record {
+              accesses = total laws port outstanding queued before after old d r (λ uses. uses) new b;
+              does = record {
+                only = only laws port outstanding queued before after old d r (λ uses. uses) new b;
+                slots = performs laws port outstanding queued before after old d r (λ uses. uses) new b;
+                engine = stops laws port outstanding queued before after old d r (λ uses. uses) new b;
+              };
+              tells = record {
+                parts = all_go_again outstanding;
+                rests = tt;
+                dead = λ e. absurd cc;
+                unnamed = λ at is run. refl;
+              };
+              leaves = leaves (Restart token) new (goes laws port outstanding queued before after old d r (λ uses. uses) new b) (names, halts.stopped) silent (silent_others laws port outstanding queued before after old d r (λ uses. uses) new b);
             };
             tells = record {
-              parts = all_go_again outstanding;
-              rests = tt;
               named = λ at is run. absurd cc;
               told = λ off. absurd (true≢false (sym on ∙ off));
-              dead = λ e. absurd cc;
-              unnamed = λ at is run. refl;
               restarts = λ at run. inr (on, why);
             };
-            leaves = leaves (Restart token) new (goes laws port outstanding queued before after old d r (λ uses. uses) new b) (names, halts.stopped) silent (silent_others laws port outstanding queued before after old d r (λ uses. uses) new b);
           }
 
           pub restarts : (token : stopped_token.Stopped) → token.port ≡ port → Halts port log new → ReadsLog port outstanding None start log →
@@ -343,22 +358,26 @@ module _ (laws : Laws) where
                 (AgreesWith (λ uses. uses port.0 0 ≡ Own Identify → ⊥) old → SendsNone port.0 Identify old new) →
                 Recovers port outstanding queued (record { failed = None; again = outstanding; next = Dead }) old new
             stuck next t slots silent = record {
-              accesses = total laws port outstanding queued before after old d r next new t.followed;
-              does = record {
-                only = only laws port outstanding queued before after old d r next new t.followed;
-                slots = slots;
-                engine = laws.sticks_since r.quiets.stops.followed.driven.accesses t.followed.driven.accesses port t.tells;
+              mends = record {
+                accesses = total laws port outstanding queued before after old d r next new t.followed;
+                does = record {
+                  only = only laws port outstanding queued before after old d r next new t.followed;
+                  slots = slots;
+                  engine = laws.sticks_since r.quiets.stops.followed.driven.accesses t.followed.driven.accesses port t.tells;
+                };
+                tells = record {
+                  parts = all_go_again outstanding;
+                  rests = tt;
+                  dead = λ e. refl;
+                  unnamed = λ at is run. absurd cc;
+                };
+                leaves = leaves Dead new (goes laws port outstanding queued before after old d r next new t.followed) (has.st, fails.stuck) silent (silent_others laws port outstanding queued before after old d r next new t.followed);
               };
               tells = record {
-                parts = all_go_again outstanding;
-                rests = tt;
                 named = λ at is run. absurd cc;
                 told = λ off set alive. absurd (alive refl);
-                dead = λ e. refl;
-                unnamed = λ at is run. absurd cc;
                 restarts = λ at run. absurd cc;
               };
-              leaves = leaves Dead new (goes laws port outstanding queued before after old d r next new t.followed) (has.st, fails.stuck) silent (silent_others laws port outstanding queued before after old d r next new t.followed);
             }
 
             pub gets_stuck : ReadsLog port outstanding None start log → Recovers port outstanding queued (record { failed = None; again = outstanding; next = Dead }) old new

@@ -9,3 +9,4 @@ mod Running
 mod Finishing
 mod Witness
 mod Standing
+mod GivingUp

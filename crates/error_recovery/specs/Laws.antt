@@ -138,6 +138,7 @@ pub record Laws : Type 0 where
   pub control_of : (set : RegisterSet) (port : Port) (access : Access) → IsControl (registers_of set) port access → IsOf port access
   pub control_spares : (set : RegisterSet) (port : Port) (r : PortReg) → (registers_of set r → ⊥) → (access : Access) → IsControl (registers_of set) port access → SparesRegister (Px port r) access
   pub control_wider : (set more : RegisterSet) (port : Port) → ((r : PortReg) → registers_of set r → registers_of more r) → (access : Access) → IsControl (registers_of set) port access → IsControl (registers_of more) port access
+  pub none : (kind : Stretch) (d : Device) → IsTold (λ made. made ≡ []) (may_of kind) (fits_of kind) d d
   pub reads : (kind : Stretch) (r : Reg) (v : ℕ) (old new : Device) → may_of kind (Reading r v) → Reads r v old new → IsTold (λ made. made ≡ Reading r v ∷ []) (may_of kind) (fits_of kind) old new
   pub both : (kind then : Stretch) (first second : Uses → Uses) → ((access : Access) → may_of then access → may_of kind access) → ((uses : Uses) → fits_of kind uses → fits_of then (first uses)) → (old mid new : Device) → (a : IsFollowedTo (may_of kind) (fits_of kind) first old mid) → (b : IsFollowedTo (may_of then) (fits_of then) second mid new) → IsToldTo (λ made. made ≡ a.driven.accesses ++ b.driven.accesses) (may_of kind) (fits_of kind) (λ uses. second (first uses)) old new
   pub wider : (kind more : Stretch) (next : Uses → Uses) → ((access : Access) → may_of kind access → may_of more access) → ((uses : Uses) → fits_of more uses → fits_of kind uses) → (old new : Device) → (a : IsFollowedTo (may_of kind) (fits_of kind) next old new) → IsToldTo (λ made. made ≡ a.driven.accesses) (may_of more) (fits_of more) next old new

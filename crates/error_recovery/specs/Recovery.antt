@@ -183,15 +183,19 @@ pub record DoesRecovery (port : Port) (result : Recovered) (accesses : List Acce
   pub slots : LeavesSlots port.0 result.next accesses old new
   pub engine : TellsEngine port result.next accesses
 
--- What it tells: who failed, and on what that rests; who goes again; and why the port has to be booted. Where queued commands are outstanding,
--- it runs only with one of them named, and has to be booted only with none; an outstanding plain one is named unless the port is dead; and then nobody is.
-pub record TellsRecovery (port : Port) (outstanding : ℕ) (queued : Bool) (result : Recovered) (accesses : List Access) (old new : Device) : Type 0 where
+-- What is told of the commands that were outstanding: who failed, on what that rests, and who goes again. Where the port is dead nobody is named, and where
+-- queued commands are outstanding, nobody is named of a port that has to be booted.
+pub record TellsOutstanding (port : Port) (outstanding : ℕ) (queued : Bool) (result : Recovered) (accesses : List Access) (old new : Device) : Type 0 where
   pub parts : Parts outstanding result.failed result.again
   pub rests : Rests queued port outstanding accesses old new result.failed
-  pub named : (token : running_token.Running) → queued ≡ true → result.next ≡ Running token → result.failed ≢ None
-  pub told : queued ≡ false → bit outstanding 0 ≡ true → result.next ≢ Dead → result.failed ≢ None
   pub dead : result.next ≡ Dead → result.failed ≡ None
   pub unnamed : (token : stopped_token.Stopped) → queued ≡ true → result.next ≡ Restart token → result.failed ≡ None
+
+-- What a recovery tells besides: whom it names, and why the port has to be booted. Where queued commands are outstanding, it runs only with one of them
+-- named; an outstanding plain one is named unless the port is dead.
+pub record TellsRecovery (port : Port) (outstanding : ℕ) (queued : Bool) (result : Recovered) (accesses : List Access) (old new : Device) : Type 0 where
+  pub named : (token : running_token.Running) → queued ≡ true → result.next ≡ Running token → result.failed ≢ None
+  pub told : queued ≡ false → bit outstanding 0 ≡ true → result.next ≢ Dead → result.failed ≢ None
   pub restarts : (token : stopped_token.Stopped) → result.next ≡ Restart token → MayRestart queued port outstanding accesses old new
 
 -- What it leaves: the port as `next` says; DET of PxSCTL and when it was written, and PxIE, as they were. And where slot 0 had no IDENTIFY
@@ -204,12 +208,23 @@ pub record LeavesRecovery (port : Port) (queued : Bool) (next : Next) (old new :
   pub silent : AgreesWith (λ uses. uses port.0 0 ≡ Own Identify → ⊥) old → SendsNone port.0 Identify old new
   pub others : (q : Port) (o : Operation) → q.0 ≢ port.0 → op_of o ≡ None → AgreesWith (λ uses. uses q.0 0 ≡ Own o → ⊥) old → SendsNone q.0 o old new
 
--- All that recovery promises, of one list of accesses.
-pub record Recovers (port : Port) (outstanding : ℕ) (queued : Bool) (result : Recovered) (old new : Device) : Type 0 where
+-- What becomes of a port that had trouble: by one list of accesses it was stopped, and runs again, or has to be booted, or is dead.
+pub record Mends (port : Port) (outstanding : ℕ) (queued : Bool) (result : Recovered) (old new : Device) : Type 0 where
   pub accesses : List Access
   pub does : DoesRecovery port result accesses old new
-  pub tells : TellsRecovery port outstanding queued result accesses old new
+  pub tells : TellsOutstanding port outstanding queued result accesses old new
   pub leaves : LeavesRecovery port queued result.next old new
+
+-- All that recovery promises.
+pub record Recovers (port : Port) (outstanding : ℕ) (queued : Bool) (result : Recovered) (old new : Device) : Type 0 where
+  pub mends : Mends port outstanding queued result old new
+  pub tells : TellsRecovery port outstanding queued result mends.accesses old new
+
+-- All that is promised of a port that is given up: nobody is named, and it doesn't run.
+pub record GivesUp (port : Port) (outstanding : ℕ) (queued : Bool) (result : Recovered) (old new : Device) : Type 0 where
+  pub mends : Mends port outstanding queued result old new
+  pub nobody : result.failed ≡ None
+  pub halts : (token : running_token.Running) → result.next ≢ Running token
 
 -- There is a port with a plain command that failed, of which all is so that is asked.
 pub record MayBeAsked : Type 0 where

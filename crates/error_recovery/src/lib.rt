@@ -13,7 +13,7 @@ ghost use Rattle.agreement.specs.Driver.{AllFree};
 ghost use Rattle.agreement.specs.Slots.{Uses};
 ghost use Rattle.disk_page.specs.Asking.{AgreesAfter, LeavesRunning, MayAsk};
 ghost use Rattle.error_recovery.specs.Parts.{GetsStuck, GoesOn, HasRoom, MayGoOn, Quiets, ReadsLog, Resumes};
-ghost use Rattle.error_recovery.specs.Recovery.{FitsFor, IsAloneIn, IsNamed, MayRecover, Parts, Recovers};
+ghost use Rattle.error_recovery.specs.Recovery.{FitsFor, GivesUp, IsAloneIn, IsNamed, MayRecover, Parts, Recovers};
 
 mod lawful;
 pub mod laws;
@@ -245,5 +245,23 @@ pub fn recover<A: Adapter>(adapter: &mut A, port: Port, outstanding: u32, queued
         finish_queued(adapter, quieted, outstanding)
     } else {
         finish_plain(adapter, quieted, outstanding)
+    }
+}
+
+/// Stops a port that an error of its link or of the host's memory has broken, or whose device has gone, so that it can be booted with COMRESET (AHCI 1.3.1,
+/// 6.2.2 and 10.4.2). `outstanding` are the slots whose commands aren't done, bit k for slot k. Nobody is named. Where its engine is stuck for 64 readings of
+/// PxCMD, the port is dead.
+pub fn give_up<A: Adapter>(adapter: &mut A, port: Port, outstanding: u32) -> Recovered
+    requires on { IsOn (A.device adapter.old) }
+    requires there { HasPort (A.device adapter.old) port.0 }
+    requires agreed { AgreesWith AnyUse (A.device adapter.old) }
+    requires det { ((A.device adapter.old).port port.0).sctl_det ≡ 0 }
+    ensures on { IsOn (A.device adapter.new) }
+    ensures gives_up { (queued : Bool) → GivesUp port outstanding queued result (A.device adapter.old) (A.device adapter.new) }
+{
+    laws_hold();
+    match stop(adapter, port) {
+        Ok(stopped) => unnamed(outstanding, Next::Restart(stopped)),
+        Err(_) => unnamed(outstanding, Next::Dead),
     }
 }

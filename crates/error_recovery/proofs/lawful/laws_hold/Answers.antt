@@ -56,6 +56,7 @@ returns c = record {
   control_of = c.controls_are_of_a_port.ensures.of;
   control_spares = c.controls_are_of_a_port.ensures.spares;
   control_wider = c.controls_are_of_a_port.ensures.wider;
+  none = c.accesses_are_followed.ensures.none;
   reads = c.accesses_are_followed.ensures.reads;
   both = c.stretches_are_followed.ensures.both;
   wider = c.stretches_are_followed.ensures.wider;

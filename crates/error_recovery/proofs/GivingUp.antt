@@ -1,0 +1,75 @@
+-- A port is given up: it is stopped, and so it has to be booted, or it is dead.
+use Rattle.std.proofs.Common.{ℕ, Bool, ◌≡◌, ◌≢◌, ◌++◌, List, [], Option, None, inl, refl, sym, ◌∙◌, ap, append-nil, subst}
+use Rattle.std.proofs.lemmas.List.Elements.{All-append}
+use Rattle.ata_types.specs.declared.Port.{Port}
+use Rattle.hba_regs.specs.declared.reg.PortReg.TheVariants.{Ci, Sact}
+use Rattle.adapter.specs.Access.{Access}
+use Rattle.adapter.specs.Device.{Device}
+use Rattle.adapter.specs.Rules.{IsOn}
+use Rattle.agreement.specs.Driven.{AnyUse, IsControl, IsFollowed, IsTold}
+use Rattle.agreement.specs.Driver.{AllFree}
+use Rattle.port_control.specs.Engines.{FailsToStop, Sticks, Stops}
+use Rattle.port_control.specs.Ports.{FailsToHalt, Halts, HasStopped, WritesCommand}
+use Rattle.port_control.specs.declared.Stopped as stopped_token
+use Rattle.error_recovery.specs.declared.Next.TheVariants.{Dead, Restart}
+use Rattle.error_recovery.specs.Laws.{Laws}
+use Rattle.error_recovery.specs.Laws.Fitting.{AnyUses, PortUnused}
+use Rattle.error_recovery.specs.Laws.RegisterSet.{Commanding}
+use Rattle.error_recovery.specs.Laws.Stretch.{Controlling, Recovering}
+use Rattle.error_recovery.specs.Parts.{GetsStuck}
+use Rattle.error_recovery.specs.Recovery.{GivesUp, IsRecovering}
+use Rattle.error_recovery.proofs.Finishing.{all_go_again, mends_stuck}
+use Rattle.error_recovery.proofs.Going.{Goes, goes_over}
+use Rattle.error_recovery.proofs.Quieting.{commands_silent}
+use Rattle.error_recovery.proofs.Stretching.{told_commands, told_wider}
+use Rattle.error_recovery.proofs.Whole.{spares_other}
+
+module _ (laws : Laws) (port : Port) (outstanding : ℕ) (queued : Bool) (old new : Device) (on : IsOn old) (det : (old.port port.0).sctl_det ≡ 0) where
+  -- its engine is stuck
+  pub gives_up_stuck : HasStopped (old.port port.0) (new.port port.0) → FailsToHalt port old new → GivesUp port outstanding queued (record { failed = None; again = outstanding; next = Dead }) old new
+  gives_up_stuck has fails = record {
+    mends = mends_stuck laws port outstanding queued old new on det (record {
+      told = told_commands laws (Sticks port) AnyUses port old new
+          (told_wider laws (Sticks port) (Controlling Commanding AnyUses port) (Controlling Commanding AnyUses port) (λ uses. uses) old new (λ access is. is) (λ uses fits. fits)
+          (record { followed = fails.told.followed; tells = laws.failing_sticks port fails.told.followed.driven.accesses fails.told.tells }));
+      st = has.st;
+      stuck = fails.stuck;
+      silent = λ (uses, none, agreed). commands_silent laws port uses old new fails.told.followed agreed none;
+    });
+    nobody = refl;
+    halts = λ token run. absurd cc;
+  }
+
+  -- or it was stopped
+  pub gives_up_stopped : (token : stopped_token.Stopped) → token.port ≡ port → Halts port old new → GivesUp port outstanding queued (record { failed = None; again = outstanding; next = Restart token }) old new
+  gives_up_stopped token names halts = record {
+    mends = record {
+      accesses = t.followed.driven.accesses ++ rest.followed.driven.accesses;
+      does = record {
+        only = All-append (IsRecovering port) t.followed.driven.accesses rest.followed.driven.accesses t.followed.driven.only rest.followed.driven.only;
+        slots = laws.giving_up (Recovering AnyUses port) (Recovering PortUnused port) (λ uses. uses) port.0 old new new t.followed halts.stopped.halted (λ uses free. free) rest.followed;
+        engine = laws.falls_then t.followed.driven.accesses rest.followed.driven.accesses 0 15 port t.tells;
+      };
+      tells = record { parts = all_go_again outstanding; rests = tt; dead = λ e. absurd cc; unnamed = λ at is run. refl };
+      leaves = record {
+        ends = (names, halts.stopped);
+        det = went.det ∙ det;
+        written = went.written;
+        enabled = went.enabled;
+        silent = λ (uses, none, agreed). commands_silent laws port uses old new halts.told.followed agreed none;
+        others = λ q o apart own (uses, none, agreed).
+            laws.silent (Recovering AnyUses port) (λ uses. uses) uses q o old new tt (spares_other laws port q Ci apart) (spares_other laws port q Sact apart) own none t.followed agreed;
+      };
+    };
+    nobody = refl;
+    halts = λ at run. absurd cc;
+  }
+    where
+      t : IsTold (Stops port) (IsRecovering port) AnyUse old new
+      t = told_commands laws (Stops port) AnyUses port old new halts.told
+
+      rest : IsTold (λ made. made ≡ []) (IsRecovering port) (λ uses. AllFree uses port.0) new new
+      rest = laws.none (Recovering PortUnused port) new
+
+      went : Goes port old new
+      went = goes_over laws port t.followed.driven.accesses old new on t.followed.driven.only t.followed.driven.all
