@@ -117,7 +117,7 @@ module _ (laws : FailureLaws) (s : Server) (device : Device) (table : Table) (bo
         module _ (result : Recovered) (new : Device) (recovers : Recovers port outstanding queued result found new) where
           pub named : (its : Failure) → result.failed ≡ Some its → (used : SlotUse) × (use_at u its.slot.0 ≡ Some used)
           named its is =
-              let among = named_among queued port outstanding recovers.accesses found new its (subst (Rests queued port outstanding recovers.accesses found new) is recovers.tells.rests) in
+              let among = named_among queued port outstanding mends.accesses found new its (subst (Rests queued port outstanding mends.accesses found new) is mends.tells.rests) in
               its_use (use_at u its.slot.0) (sym (mask_of u outstanding left its.slot.0 among.0) ∙ among.1)
 
           pub recovers_rest : (failed : Option Failed) → IsFailed u result.failed failed → RecoversRest port before after failed result.next s t b u new

@@ -91,7 +91,7 @@ module _ (laws : RestoringLaws) (s : Server) (port : Port) (first : Device) (see
 
   -- the token is of the port
   pub token_of : (stopped : Stopped) → next ≡ Restart stopped → stopped.port ≡ port
-  token_of stopped is = (subst (λ (way : Next). EndsIn r.recovered.queued port way r.mid.device one) (r.next_is ∙ is) r.recovered.recovers.leaves.ends).0
+  token_of stopped is = (subst (λ (way : Next). EndsIn r.recovered.queued port way r.mid.device one) (r.next_is ∙ is) r.recovered.mends.leaves.ends).0
 
   pub bootable : (stopped : Stopped) → next ≡ Restart stopped → IsBootable stopped.port one × IsStopped (one.port stopped.port.0)
   bootable stopped is =

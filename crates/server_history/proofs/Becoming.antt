@@ -24,11 +24,13 @@ use Rattle.request_queue.specs.Entries.{asks_of, due_ids}
 use Rattle.request_queue.specs.declared.fate.Failed.{Failed}
 use Rattle.request_queue.specs.declared.fate.Prospect.{Prospect}
 use Rattle.request_queue.specs.declared.fate.Prospect.TheVariants.{Dead, DiskLost, SameDisk as SameProspect}
+use Rattle.port_look.specs.declared.Look.{Look}
+use Rattle.port_look.specs.declared.Look.TheVariants as look_is
 use Rattle.server_history.specs.Below.{LawsBelow}
 use Rattle.server_history.specs.Recovered.{IsFoundAfter, IsProspect, IsRecovered, IsSameDisk, HasMetFates, RecoversPort}
 use Rattle.server_history.specs.Server.{Server, IsKept, disk_in, disk_of, is_served, mode_in, ports_of, remembered_at, sectors_of, serial_of, state_of}
 use Rattle.server_history.specs.Turns.{NamesOnly}
-use Rattle.server_history.proofs.Recovery.{evidence_of, lost_of, stopped_of, stuck_of}
+use Rattle.server_history.proofs.Recovery.{evidence_by, evidence_of, fatal_of, lost_of, stopped_of, stuck_of}
 use Rattle.server_history.proofs.Rounds.{each_settings}
 use Rattle.server_history.proofs.Settling.{answers_settings}
 use Rattle.server_history.proofs.Slots.{ready_found}
@@ -69,10 +71,10 @@ found_served wanted port was next.Dead old new found is = ap is_served is.0
 
 -- ---- who is named
 
-interrupted_by : (port : Port) (failed : Option Failed) (prospect : Prospect) (then : Next) → (then ≡ next.Dead → prospect ≡ Dead) → IsInterrupted (evidence_of port failed prospect then) port
-interrupted_by port failed prospect (next.Running token) dies = inl (contains_here port [] port refl)
-interrupted_by port failed prospect (next.Restart token) dies = inl (contains_here port [] port refl)
-interrupted_by port failed prospect next.Dead dies = inr (subst (λ (p : Prospect). Contains (stuck_of port p) port) (sym (dies refl)) (contains_here port [] port refl))
+interrupted_by : (port : Port) (look : Look) (failed : Option Failed) (prospect : Prospect) (then : Next) → (then ≡ next.Dead → prospect ≡ Dead) → IsInterrupted (evidence_of port look failed prospect then) port
+interrupted_by port look failed prospect (next.Running token) dies = inl (contains_here port [] port refl)
+interrupted_by port look failed prospect (next.Restart token) dies = inl (contains_here port [] port refl)
+interrupted_by port look failed prospect next.Dead dies = inr (subst (λ (p : Prospect). Contains (stuck_of port p) port) (sym (dies refl)) (contains_here port [] port refl))
 
 pub stuck_is : (port : Port) (prospect : Prospect) → Contains (stuck_of port prospect) port → prospect ≡ Dead
 stuck_is port SameProspect here = absurd (contains_none port here)
@@ -84,12 +86,12 @@ lost_is port SameProspect here = absurd (contains_none port here)
 lost_is port DiskLost here = refl
 lost_is port Dead here = absurd (contains_none port here)
 
-pub names_only : (port : Port) (failed : Option Failed) (prospect : Prospect) (then : Next) → NamesOnly port (evidence_of port failed prospect then)
-names_only port failed prospect then = record {
+pub names_only : (port : Port) (look : Look) (failed : Option Failed) (prospect : Prospect) (then : Next) → NamesOnly port (evidence_of port look failed prospect then)
+names_only port look failed prospect then = record {
   lost = lost prospect;
   gone = none;
   failed = one;
-  fatal = none;
+  fatal = fatal look;
   stopped = stopped then;
   stuck = stuck prospect;
 }
@@ -99,6 +101,12 @@ names_only port failed prospect then = record {
 
     one : All (λ q. q ≡ port) (port ∷ [])
     one = All-cons (λ q. q ≡ port) port [] refl none
+
+    fatal : (l : Look) → All (λ q. q ≡ port) (fatal_of port l)
+    fatal look_is.Failed = none
+    fatal look_is.Broken = one
+    fatal look_is.Lost = none
+    fatal look_is.Undisturbed = none
 
     lost : (p : Prospect) → All (λ q. q ≡ port) (lost_of port p)
     lost SameProspect = none
@@ -126,7 +134,7 @@ module _ (laws : LawsBelow) (port : Port) (replies : List Reply) (old new : Serv
   x = a.recovered
 
   abbrev pub its : Evidence
-  its = evidence_of port a.failed a.prospect x.result.next
+  its = evidence_by a
 
   pub issued_as : new ≡ record r.mid { device = new.device; slots = new.slots; book = new.book }
   issued_as = each_settings laws port (due_ids (mode_in r.mid port) port (asks_of r.mid.book)) r.mid new r.issued
@@ -183,7 +191,7 @@ module _ (laws : LawsBelow) (port : Port) (replies : List Reply) (old new : Serv
   found_prospect dead = prospect_is a.was a.found a.prospect a.expects dead
 
   pub interrupted : IsInterrupted its port
-  interrupted = interrupted_by port a.failed a.prospect x.result.next (λ is. found_prospect (next_dead is))
+  interrupted = interrupted_by port x.look a.failed a.prospect x.result.next (λ is. found_prospect (next_dead is))
 
   pub becomes : IsServiced (ports_of old) its (ports_of new) port
   becomes = (
@@ -200,4 +208,4 @@ module _ (laws : LawsBelow) (port : Port) (replies : List Reply) (old new : Serv
   )
 
   pub names : NamesOnly port its
-  names = names_only port a.failed a.prospect x.result.next
+  names = names_only port x.look a.failed a.prospect x.result.next

@@ -30,7 +30,7 @@ use Rattle.block_machine.specs.Left.{after}
 use Rattle.block_machine.specs.State.{Machine}
 use Rattle.command_table.specs.Written.{IsTableStore}
 use Rattle.disk_page.specs.Asking.{IsAsking}
-use Rattle.error_recovery.specs.Recovery.{IsRecovered, IsRecovering, LeavesSlots, Recovers, with_own}
+use Rattle.error_recovery.specs.Recovery.{IsRecovered, IsRecovering, LeavesSlots, Mends, with_own}
 use Rattle.error_recovery.specs.declared.Next.{Next}
 use Rattle.error_recovery.specs.declared.Next.TheVariants as next
 use Rattle.error_recovery.specs.declared.Recovered.{Recovered}
@@ -177,7 +177,7 @@ module _ (laws : LawsBelow) (s : Server) (port : Port) (k : IsKept s) (low : por
   abbrev pub PassesTo : Next → Device → Type 0
   PassesTo after_it new = (then : InSlots) × Passes s port then new × (after_it ≢ next.Dead → AllFree then.uses port.0)
 
-  module _ (outstanding : ℕ) (queued : Bool) (result : Recovered) (new : Device) (r : Recovers port outstanding queued result s.device new) where
+  module _ (outstanding : ℕ) (queued : Bool) (result : Recovered) (new : Device) (r : Mends port outstanding queued result s.device new) where
     abbrev slots : InSlots
     slots = slots_of s k
 

@@ -1,39 +1,46 @@
 -- A turn in which a command had failed does of its port what a call does of a port.
-use Rattle.std.proofs.Common.{◌≡◌, Bool, false, subst, List, sym, ◌∙◌, ⊎_elim}
+use Rattle.std.proofs.Common.{◌≡◌, Bool, false, subst, List, [], refl, sym, ◌∙◌, ⊎_elim}
+use Rattle.std.specs.List.{Contains}
 use Rattle.ata_types.specs.declared.Port.{Port}
 use Rattle.ata_types.specs.declared.PortState.TheVariants as shown
 use Rattle.ata_types.specs.declared.PortState.TheVariants.{Ready as ReadyState}
 use Rattle.ata_types.specs.declared.request.Reply.{Reply}
 use Rattle.agreement.specs.Driven.{AnyUse, IsFollowed}
+use Rattle.agreement.specs.Errors.{IsFatalOf}
 use Rattle.agreement.specs.Recovering.{WorksPlainly}
 use Rattle.block_machine.specs.Histories.{IsReached}
 use Rattle.block_machine.specs.State.{Machine}
-use Rattle.driver_history.specs.Histories.{HasBadDisk}
+use Rattle.block_machine.proofs.Members.{contains_here}
+use Rattle.driver_history.specs.Histories.{HasBadDisk, HasFaultAlone}
 use Rattle.host_boot.specs.Taken.{found_of}
 use Rattle.port_boot.specs.States.{ShowsOwnDisk}
 use Rattle.port_look.specs.Looks.{IsLooking}
+use Rattle.port_look.specs.declared.Look.{Look}
+use Rattle.port_look.specs.declared.Look.TheVariants.{Failed}
 use Rattle.server_history.specs.Below.{LawsBelow}
 use Rattle.server_history.specs.Recovered.{AreQueued, RecoversPort}
 use Rattle.server_history.specs.Server.{Server, IsKept, IsMachineOf, ports_of, slots_at, state_of}
-use Rattle.server_history.specs.Turns.{TiesTurn}
+use Rattle.server_history.specs.Turns.{TiesTurn, instant_of}
 use Rattle.server_history.proofs.Deciding.{DecidesTurn}
 use Rattle.server_history.proofs.Evident.{IsEvident}
+use Rattle.server_history.proofs.Faulted.{leads}
 use Rattle.server_history.proofs.Faulting.{faulting}
 use Rattle.server_history.proofs.Finding.{finding}
 use Rattle.server_history.proofs.Following.{mid_kept, mid_ready}
 use Rattle.server_history.proofs.Halting.{works_plainly}
+use Rattle.server_history.proofs.Heeding.{gains_none}
 use Rattle.server_history.proofs.Minding.{serves_ready}
 use Rattle.server_history.proofs.Lasting.{lasting}
 use Rattle.server_history.proofs.Looking.{looking_kept}
 use Rattle.server_history.proofs.Reboots.{reboots}
-use Rattle.server_history.proofs.Recovery.{evidence_of}
+use Rattle.server_history.proofs.Recovery.{evidence_by, fatal_of}
 use Rattle.server_history.proofs.Slots.{ready_found}
 use Rattle.server_history.proofs.Welling.{going_well}
 
 module _ (laws : LawsBelow) (port : Port) (replies : List Reply) (old new : Server) (k : IsKept old) (ready : state_of (found_of old.ports port.0) ≡ ReadyState) (r : RecoversPort port replies old new)
     (looks : IsFollowed (IsLooking port) AnyUse old.device r.settled.recovered.seen) (kept : IsKept r.mid) (evident : IsEvident port replies old new r)
     (m : Machine) (reached : IsReached m) (is : IsMachineOf old m)
-    (d : DecidesTurn port replies old new r (evidence_of port r.settled.failed r.settled.prospect r.settled.recovered.result.next) m) where
+    (d : DecidesTurn port replies old new r (evidence_by r.settled) m) where
   -- where the port showed a device when it was looked at, a disk was in
   own : ShowsOwnDisk (r.settled.recovered.seen.port port.0)
   own = ((looking_kept old r.settled.recovered.seen port k ready laws looks).behind port.0 (ready_found old port.0 k ready).0).own ready
@@ -58,10 +65,19 @@ module _ (laws : LawsBelow) (port : Port) (replies : List Reply) (old new : Serv
   plainly : r.settled.recovered.queued ≡ false → WorksPlainly (r.settled.mid.device.port port.0)
   plainly plain = works_plainly laws r.settled.mid then_kept port then_ready (subst (λ (queued : Bool). AreQueued queued (slots_at r.settled.mid.slots port.0)) plain r.settled.recovered.alike) ((then_kept.behind port.0 (ready_found old port.0 k ready).0).halts then_ready)
 
-  pub ties_recovered : TiesTurn port replies evident.accesses old new m (evidence_of port r.settled.failed r.settled.prospect r.settled.recovered.result.next) d.steps
+  -- where TFES alone was shown, and no fatal error came, the look told that a command had failed
+  failing : HasFaultAlone port (instant_of old m) new.device → r.settled.recovered.look ≡ Failed
+  failing alone = ⊎_elim
+      (λ failed. failed)
+      (λ broken.
+      let here : Contains (fatal_of port r.settled.recovered.look) port = subst (λ (l : Look). Contains (fatal_of port l) port) (sym broken) (contains_here port [] port refl) in
+      absurd (⊎_elim alone.shows.fatal (gains_none (IsFatalOf port.0) old.device new.device alone.fatal.gained alone.fatal.tape alone.fatal.none) ((evident.evidenced m).fatal_only here).1))
+      (leads r.settled.recovered.look port r.settled.recovered.outstanding r.settled.recovered.queued r.settled.recovered.result r.settled.recovered.mends.accesses r.settled.mid.device r.settled.device r.settled.recovered.tells)
+
+  pub ties_recovered : TiesTurn port replies evident.accesses old new m (evidence_by r.settled) d.steps
   ties_recovered asked = record {
     finds = λ _ e issued. finding laws port replies old new k ready r looks kept evident m reached is d;
-    faults = λ _ e slot issued unended says plain. faulting laws port replies old new k ready r looks kept m reached is d e slot issued unended says plain;
+    faults = λ alone e slot issued unended says plain. faulting laws port replies old new k ready r looks kept m reached is d (failing alone) e slot issued unended says plain;
     tries = λ _ _. record {
       shown = λ absent. absurd (not_absent absent);
       absent = λ absent. absurd (not_absent absent);

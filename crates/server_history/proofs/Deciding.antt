@@ -60,7 +60,7 @@ use Rattle.server_history.proofs.Joined.{all_pairs_append, answers_append, answe
 use Rattle.server_history.proofs.Making.{answered_permuted, answers_all, device_grounded, device_own, devices_all, devices_answers, issues_all, none_last, told_ordered}
 use Rattle.server_history.proofs.Ordering.{AreDifferent, AreOfPort, answered_id, told_differ, told_in_order}
 use Rattle.server_history.proofs.Origins.{stood}
-use Rattle.server_history.proofs.Recovery.{AddsFates, evidence_of, faults_of, lost_of, stopped_of, until_issues}
+use Rattle.server_history.proofs.Recovery.{AddsFates, evidence_by, faults_of, lost_of, stopped_of, until_issues}
 use Rattle.server_history.proofs.Rounds.{AreIssued, any_append, devices_issue_none, dues, dues_carried, each_issued, each_settings, last_on, lawful_on, or_none}
 use Rattle.server_history.proofs.Serving.{answers_issue_none}
 use Rattle.server_history.proofs.Slots.{of_ready, ready_found, served_request, serves_used}
@@ -111,7 +111,7 @@ module _ (laws : LawsBelow) (port : Port) (replies : List Reply) (old new : Serv
   its = requests_of port a.mid.book
 
   abbrev evidence : Evidence
-  evidence = evidence_of port a.failed a.prospect a.recovered.result.next
+  evidence = evidence_by a
 
   abbrev ids : List RequestId
   ids = due_ids (mode_in r.mid port) port (asks_of r.mid.book)
@@ -495,6 +495,6 @@ module _ (laws : LawsBelow) (port : Port) (replies : List Reply) (old new : Serv
 -- So it is from each machine that stands for the server.
 pub recovered_decides : LawsBelow → (port : Port) (replies : List Reply) (old new : Server) → IsKept old → state_of (found_of old.ports port.0) ≡ ReadyState → (r : RecoversPort port replies old new)
     → IsFollowed (IsLooking port) AnyUse old.device r.settled.recovered.seen → IsKept r.mid → (m : Machine) → IsReached m → IsMachineOf old m
-    → DecidesTurn port replies old new r (evidence_of port r.settled.failed r.settled.prospect r.settled.recovered.result.next) m
+    → DecidesTurn port replies old new r (evidence_by r.settled) m
 recovered_decides laws port replies old new k ready r looks k_mid m reached is =
     decides_turn laws port replies old new k ready r looks k_mid m reached is (adds_fates laws port r.later old r.mid k ready r.settled looks m reached is)

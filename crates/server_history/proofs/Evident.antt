@@ -25,9 +25,9 @@ use Rattle.block_machine.specs.Ports.{Fault, IsServiced}
 use Rattle.block_machine.specs.State.{Machine}
 use Rattle.block_machine.specs.Steps.{Step}
 use Rattle.block_machine.proofs.Members.{contains_cases, contains_here, contains_none}
-use Rattle.driver_history.specs.Evidence.{HasErrors, IsEvidencedOf}
+use Rattle.driver_history.specs.Evidence.{HasErrors, HasFatalErrors, IsEvidencedOf}
 use Rattle.driver_history.specs.Trace.{IsDriversOwn}
-use Rattle.error_recovery.specs.Evidence.{HasFailed}
+use Rattle.error_recovery.specs.Evidence.{HasFailed, ShowsFatal}
 use Rattle.error_recovery.specs.Recovery.{EndsIn, Rests, TellsEngine}
 use Rattle.error_recovery.specs.declared.Next.{Next}
 use Rattle.error_recovery.specs.declared.Next.TheVariants as next
@@ -36,6 +36,7 @@ use Rattle.host_boot.specs.Taken.{found_of, wanted_of}
 use Rattle.host_boot.specs.declared.Found.TheVariants.{Ready, Unready}
 use Rattle.port_control.specs.Engines.{Sticks, Stops}
 use Rattle.port_look.specs.Looks.{IsLooking}
+use Rattle.port_look.specs.declared.Look.{Look}
 use Rattle.request_queue.specs.Entries.{Held}
 use Rattle.request_queue.specs.declared.fate.Failed.{Failed}
 use Rattle.request_queue.specs.declared.fate.Prospect.TheVariants.{DiskLost}
@@ -49,10 +50,10 @@ use Rattle.server_history.specs.Turns.{IsOfCommand, LeavesOthers, NamesOnly, Tel
 use Rattle.server_history.proofs.Answering.{answer_kept}
 use Rattle.server_history.proofs.Apart.{leaves_others}
 use Rattle.server_history.proofs.Becoming.{becomes, dead_found, dead_prospect, disk_same, interrupted, its, lost_is, names, ready_info, state_new, stuck_is}
-use Rattle.server_history.proofs.Faulted.{fault_shown, no_change, no_fatal, not_missing}
+use Rattle.server_history.proofs.Faulted.{LeadsToMending, errors_shown, fatal_shown, leads, no_change, no_fatal, not_missing}
 use Rattle.server_history.proofs.Placing.{freed_was}
 use Rattle.server_history.proofs.Recovering.{IsEarlyPart, IsPart}
-use Rattle.server_history.proofs.Recovery.{evidence_of, faults_of, stopped_of}
+use Rattle.server_history.proofs.Recovery.{evidence_by, fatal_of, faults_of, stopped_of}
 use Rattle.server_history.proofs.Settling.{over_on, ready_on}
 use Rattle.server_history.proofs.Shown.{had_disk}
 use Rattle.server_history.proofs.Slots.{AreOver, ready_found}
@@ -102,10 +103,10 @@ pub record IsEvident (port : Port) (replies : List Reply) (old new : Server) (r 
   pub own : All IsDriversOwn accesses
   pub others : LeavesOthers port old new
   pub silent : (q : ℕ) → q ≢ port.0 → state_of (found_of old.ports q) ≢ DeadState → SendsNone q ReadLog old.device new.device
-  pub names : NamesOnly port (evidence_of port r.settled.failed r.settled.prospect r.settled.recovered.result.next)
-  pub becomes : IsServiced (ports_of old) (evidence_of port r.settled.failed r.settled.prospect r.settled.recovered.result.next) (ports_of new) port
-  pub evidenced : (m : Machine) → IsEvidencedOf Service (Served replies) accesses (instant_of old m) (ports_of new) new.device (evidence_of port r.settled.failed r.settled.prospect r.settled.recovered.result.next) port
-  pub faults : (told : Fault) → Contains (evidence_of port r.settled.failed r.settled.prospect r.settled.recovered.result.next).faults told → TellsFault port accesses old new told
+  pub names : NamesOnly port (evidence_by r.settled)
+  pub becomes : IsServiced (ports_of old) (evidence_by r.settled) (ports_of new) port
+  pub evidenced : (m : Machine) → IsEvidencedOf Service (Served replies) accesses (instant_of old m) (ports_of new) new.device (evidence_by r.settled) port
+  pub faults : (told : Fault) → Contains (evidence_by r.settled).faults told → TellsFault port accesses old new told
   pub had : ((r.settled.recovered.seen.port port.0).ssts_det ≡ 3 → (r.settled.recovered.seen.port port.0).present ≡ true) → (m : Machine) → IsMachineOf old m → (steps : List Step) → IsBacked old.device new.device m steps
       → HadDisk (moment_of old m) steps (moment_of new (after m steps)) port
 
@@ -118,7 +119,7 @@ module _ (laws : LawsBelow) (port : Port) (replies : List Reply) (old new : Serv
   x = a.recovered
 
   abbrev part : List Access
-  part = x.recovers.accesses
+  part = x.mends.accesses
 
   low : port.0 < 4
   low = (ready_found old port.0 k ready).0
@@ -147,11 +148,26 @@ module _ (laws : LawsBelow) (port : Port) (replies : List Reply) (old new : Serv
 
   -- ---- ports
 
+  mending : LeadsToMending x.look
+  mending = leads x.look port x.outstanding x.queued x.result x.mends.accesses a.mid.device a.device x.tells
+
   undue : (old.device.port port.0).link_due ≡ false
   undue = ((k.behind port.0 low).runs ready).recorded.linked
 
   has_errors : (m : Machine) → HasErrors port (instant_of old m) new.device
-  has_errors m = (ready, ⊎_elim (λ is. inl (inr is)) (λ gained. inr (inl gained)) (fault_shown laws port old.device x.seen x.looks k.on new.device grown_read))
+  has_errors m = (ready, errors_shown laws port x.look old.device x.seen x.looks k.on mending new.device grown_read)
+
+  fatal_all : ShowsFatal (old.device.port port.0) → Contains (fatal_of port x.look) port
+  fatal_all fatal = ⊎_elim
+      (λ failed. absurd (no_fatal laws port x.look old.device x.seen x.looks k.on failed fatal))
+      (λ broken. subst (λ (l : Look). Contains (fatal_of port l) port) (sym broken) (contains_here port [] port refl))
+      mending
+
+  fatal_only : (m : Machine) → Contains (fatal_of port x.look) port → HasFatalErrors port (instant_of old m) new.device
+  fatal_only m here = ⊎_elim
+      (λ failed. absurd (contains_none port (subst (λ (l : Look). Contains (fatal_of port l) port) failed here)))
+      (λ broken. (ready, fatal_shown laws port x.look old.device x.seen x.looks k.on broken new.device grown_read))
+      mending
 
   -- a dead port's engine was awaited in vain, at last
   counted : a.found ≡ Unready DeadState → (new.device.port port.0).notes.engine_count ≡ 64
@@ -163,7 +179,7 @@ module _ (laws : LawsBelow) (port : Port) (replies : List Reply) (old new : Serv
       by next.Dead is =
           let still : IsFoundAfter (wanted_of old.wanted port.0) port a.was next.Dead a.device r.mid.device a.found = subst (λ (n : Next). IsFoundAfter (wanted_of old.wanted port.0) port a.was n a.device r.mid.device a.found) is a.is in
           ap (λ (s : Server). (s.device.port port.0).notes.engine_count) (t.unissued dead) ∙ ap (λ (d : Device). (d.port port.0).notes.engine_count) still.1
-          ∙ ends_stuck laws port [] [] [] x.queued x.result.next a.mid.device a.device x.recovers.leaves.ends is
+          ∙ ends_stuck laws port [] [] [] x.queued x.result.next a.mid.device a.device x.mends.leaves.ends is
 
   evidenced : (m : Machine) → IsEvidencedOf Service (Served replies) (accesses_in t) (instant_of old m) (ports_of new) new.device (its laws port replies old new k ready r looks kept) port
   evidenced m = record {
@@ -174,17 +190,17 @@ module _ (laws : LawsBelow) (port : Port) (replies : List Reply) (old new : Serv
           (λ dead. e.0 (dead_found laws port replies old new k ready r looks kept dead)),
           (λ is same. let i = ready_info laws port replies old new k ready r looks kept is in e.1 i.0 i.1 (disk_same laws port replies old new k ready r looks kept i.0 i.1 same)),
         )));
-    gone_all = λ _ loss. absurd (⊎_elim (no_change laws port old.device x.seen x.looks k.on) (λ missing. not_missing laws port old.device x.seen x.looks k.on new.device grown_seen undue missing.0 missing.1) loss);
+    gone_all = λ _ loss. absurd (⊎_elim (no_change laws port x.look old.device x.seen x.looks k.on mending) (λ missing. not_missing laws port x.look old.device x.seen x.looks k.on mending new.device grown_seen undue missing.0 missing.1) loss);
     gone_only = λ here. absurd (contains_none port here);
     failed_all = λ _ _. contains_here port [] port refl;
     failed_only = λ _. has_errors m;
-    fatal_all = λ _ fatal. absurd (no_fatal laws port old.device x.seen x.looks k.on fatal);
-    fatal_only = λ here. absurd (contains_none port here);
+    fatal_all = λ _ fatal. fatal_all fatal;
+    fatal_only = fatal_only m;
     stopped_all = inr (interrupted laws port replies old new k ready r looks kept);
-    stopped_only = λ here. inl (engine_stops laws port t.early.accesses part t.late.accesses x.result.next x.recovers.does.engine here);
+    stopped_only = λ here. inl (engine_stops laws port t.early.accesses part t.late.accesses x.result.next x.mends.does.engine here);
     stuck_only = λ here.
         let dead = dead_prospect laws port replies old new k ready r looks kept (stuck_is port a.prospect here) in
-        inl (engine_sticks laws port t.early.accesses part t.late.accesses x.result.next x.recovers.does.engine (t.sticks dead), counted dead);
+        inl (engine_sticks laws port t.early.accesses part t.late.accesses x.result.next x.mends.does.engine (t.sticks dead), counted dead);
   }
 
   -- ---- faults
@@ -199,8 +215,8 @@ module _ (laws : LawsBelow) (port : Port) (replies : List Reply) (old new : Serv
 
         by : (then : Next) → x.result.next ≡ then → (a.found ≡ Ready a.was) × (r.mid.device ≡ a.device)
         by (next.Running token) is = then_is (next.Running token) is
-        by (next.Restart token) is = let z : Some its_failure ≡ None = sym named ∙ x.recovers.tells.unnamed token queued is in absurd cc
-        by next.Dead is = let z : Some its_failure ≡ None = sym named ∙ x.recovers.tells.dead is in absurd cc
+        by (next.Restart token) is = let z : Some its_failure ≡ None = sym named ∙ x.mends.tells.unnamed token queued is in absurd cc
+        by next.Dead is = let z : Some its_failure ≡ None = sym named ∙ x.mends.tells.dead is in absurd cc
 
     lives_then : x.queued ≡ true → (ports_of new).state port ≢ DeadState
     lives_then queued dead = let z : ReadyState ≡ DeadState = sym (ap state_of (runs_then queued).0) ∙ sym (state_new laws port replies old new k ready r looks kept) ∙ dead in cc
@@ -234,7 +250,7 @@ module _ (laws : LawsBelow) (port : Port) (replies : List Reply) (old new : Serv
           served = slots_were laws port low x.done x.requests (record old { device = x.found }) a.mid (found_kept laws port replies old new k ready r looks kept) ready (done_over laws port replies old new k ready r looks kept) x.each its_failure.slot.0 used there;
           id_is = refl;
           its = subst (λ (queued : Bool). IsOfCommand queued port (accesses_in t) old.device new.device its_failure.slot.0 (record { id = used.id; status = its_failure.status; error = its_failure.error })) (sym alike)
-              (told_so x.queued refl (subst (Rests x.queued port x.outstanding part a.mid.device a.device) named x.recovers.tells.rests) used.id);
+              (told_so x.queued refl (subst (Rests x.queued port x.outstanding part a.mid.device a.device) named x.mends.tells.rests) used.id);
           lives = λ queued. lives_then (sym alike ∙ queued);
         }
 
@@ -276,5 +292,5 @@ module _ (laws : LawsBelow) (port : Port) (replies : List Reply) (old new : Serv
     becomes = becomes laws port replies old new k ready r looks kept;
     evidenced = evidenced;
     faults = faults;
-    had = λ own m is steps backed shows. had_disk laws port old x.seen new.device m k.on x.looks own is grown_seen steps backed;
+    had = λ own m is steps backed shows. had_disk laws port old x.seen new.device m k.on x.look x.looks mending own is grown_seen steps backed;
   }

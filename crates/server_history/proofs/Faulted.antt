@@ -1,5 +1,5 @@
--- What a look that tells of a command that failed says of the port when the turn began.
-use Rattle.std.proofs.Common.{ℕ, ◌≡◌, ◌≢◌, ◌⊎◌, ◌≤◌, ◌++◌, ◌||◌, true, false, List, [], ◌∷◌, append_assoc, inl, inr, refl, sym, ap, ◌∙◌, arith, ⊎_elim}
+-- What a look that tells of an error says of the port when the turn began.
+use Rattle.std.proofs.Common.{ℕ, Bool, ◌≡◌, ◌≢◌, ◌%◌, ◌⊎◌, ◌≤◌, ◌++◌, ◌||◌, true, false, List, [], ◌∷◌, append_assoc, inl, inr, refl, sym, ap, ◌∙◌, arith, ⊎_elim}
 use Rattle.std.specs.List.{All, Contains}
 use Rattle.std.proofs.lemmas.Bool.{cases_Bool, cases_eq, false≢true, or_cases}
 use Rattle.std.proofs.lemmas.List.Elements.{All-cons, All-nil, Contains-append_left}
@@ -8,23 +8,26 @@ use Rattle.hba_regs.specs.Bits.{bit}
 use Rattle.hba_regs.specs.declared.reg.PortReg.TheVariants.{Cmd, Is, Sctl, Ssts}
 use Rattle.hba_regs.specs.declared.reg.Reg.TheVariants as reg
 use Rattle.hba_regs.specs.declared.reg.Reg.TheVariants.{Ghc, Px}
-use Rattle.adapter.specs.Access.{is_cause, shown_interrupt}
+use Rattle.adapter.specs.Access.{Access, is_cause, shown_interrupt}
 use Rattle.adapter.specs.Access.Access.{Reading, Writing}
 use Rattle.adapter.specs.Device.{Device}
 use Rattle.adapter.specs.Rules.{IsOn}
 use Rattle.adapter.specs.declared.tape.Entry.{Entry}
 use Rattle.adapter.specs.declared.tape.Entry.TheVariants as entry
 use Rattle.agreement.specs.Driven.{Grows}
-use Rattle.agreement.specs.Errors.{NoneComes}
+use Rattle.agreement.specs.Errors.{IsFatalOf, NoneComes}
 use Rattle.agreement.specs.Facts.{IsFaultOf}
 use Rattle.agreement.specs.Links.{SparesRegister}
 use Rattle.block_machine.proofs.Members.{contains_here, contains_there}
-use Rattle.driver_history.specs.Evidence.{Gains, ShowsChange}
+use Rattle.driver_history.specs.Evidence.{Gains, ShowsChange, ShowsFailure}
 use Rattle.error_recovery.specs.Evidence.{ShowsFatal}
+use Rattle.error_recovery.specs.declared.Recovered.{Recovered}
 use Rattle.port_boot.specs.States.{RunsOn}
-use Rattle.port_look.specs.Looks.{LooksAt}
-use Rattle.port_look.specs.declared.Look.TheVariants.{Failed, Lost}
+use Rattle.port_look.specs.Looks.{LooksAt, look_of}
+use Rattle.port_look.specs.declared.Look.{Look}
+use Rattle.port_look.specs.declared.Look.TheVariants.{Broken, Failed, Lost, Undisturbed}
 use Rattle.server_history.specs.Below.{LawsBelow}
+use Rattle.server_history.specs.Recovered.{TellsMending}
 use Rattle.server_history.proofs.Told.{fatal_shows}
 
 -- ---- faults on the tape
@@ -38,15 +41,25 @@ is_fault port (entry.Clear x) = inr (λ is. is)
 is_fault port (entry.Done x) = inr (λ is. is)
 is_fault port (entry.Fatal x) = inr (λ is. is)
 
-one_or_none : (port : ℕ) (gained : List Entry) → ((e : Entry) × Contains gained e × IsFaultOf port e) ⊎ All (λ e. IsFaultOf port e → ⊥) gained
-one_or_none port [] = inr (All-nil (λ e. IsFaultOf port e → ⊥))
-one_or_none port (e ∷ gained) = ⊎_elim
-    (λ (is : IsFaultOf port e). inl (e, contains_here e gained e refl, is))
+is_fatal : (port : ℕ) (e : Entry) → IsFatalOf port e ⊎ (IsFatalOf port e → ⊥)
+is_fatal port (entry.Fatal at) = cases_eq at.0 port
+is_fatal port (entry.Fault x) = inr (λ is. is)
+is_fatal port (entry.Unplug at) = inr (λ is. is)
+is_fatal port (entry.Plug at name) = inr (λ is. is)
+is_fatal port (entry.Move x) = inr (λ is. is)
+is_fatal port (entry.Clear x) = inr (λ is. is)
+is_fatal port (entry.Done x) = inr (λ is. is)
+
+-- of a kind that is told from others, an entry is among these, or none is
+pub one_or_none : (Such : Entry → Type 0) → ((e : Entry) → Such e ⊎ (Such e → ⊥)) → (gained : List Entry) → ((e : Entry) × Contains gained e × Such e) ⊎ All (λ e. Such e → ⊥) gained
+one_or_none Such told [] = inr (All-nil (λ e. Such e → ⊥))
+one_or_none Such told (e ∷ gained) = ⊎_elim
+    (λ (is : Such e). inl (e, contains_here e gained e refl, is))
     (λ none. ⊎_elim
     (λ found. inl (found.0, contains_there e gained found.0 found.1, found.2))
-    (λ others. inr (All-cons (λ x. IsFaultOf port x → ⊥) e gained none others))
-    (one_or_none port gained))
-    (is_fault port e)
+    (λ others. inr (All-cons (λ x. Such x → ⊥) e gained none others))
+    (one_or_none Such told gained))
+    (told e)
 
 -- what the first of two stretches gained, both did
 gains_more : (Such : Entry → Type 0) (old mid new : Device) → Grows mid new → Gains Such old mid → Gains Such old new
@@ -60,10 +73,20 @@ gains_more Such old mid new grows g = record {
 
 -- ---- what the look saw
 
-module _ (laws : LawsBelow) (port : Port) (old seen : Device) (l : LooksAt port Failed old seen) (on : IsOn old) where
-  -- TFES, and no fatal error
-  told : (bit l.causes 30 ≡ true) × ((place : ℕ) → 27 ≤ place → place ≤ 29 → bit l.causes place ≡ false)
-  told = let t = laws.looks_failed l.causes l.status (sym l.tells) in (t.0, t.3)
+-- a look after which a port is mended: a command had failed, or its link or the host's memory had
+abbrev pub LeadsToMending : Look → Type 0
+LeadsToMending look = (look ≡ Failed) ⊎ (look ≡ Broken)
+
+pub leads : (look : Look) (port : Port) (outstanding : ℕ) (queued : Bool) (result : Recovered) (accesses : List Access) (old new : Device)
+    → TellsMending look port outstanding queued result accesses old new → LeadsToMending look
+leads Failed port outstanding queued result accesses old new t = inl refl
+leads Broken port outstanding queued result accesses old new t = inr refl
+leads Lost port outstanding queued result accesses old new t = absurd t
+leads Undisturbed port outstanding queued result accesses old new t = absurd t
+
+module _ (laws : LawsBelow) (port : Port) (look : Look) (old seen : Device) (l : LooksAt port look old seen) (on : IsOn old) where
+  its : (told : Look) → look ≡ told → look_of l.causes l.status ≡ told
+  its told is = sym l.tells ∙ is
 
   -- a bit that was set when the turn began
   set_then : (place : ℕ) → (old.port port.0).is place ≡ true → (l.seen.port port.0).is place ≡ true
@@ -72,46 +95,90 @@ module _ (laws : LawsBelow) (port : Port) (old seen : Device) (l : LooksAt port 
   shown_at : (place : ℕ) → is_cause place ≡ true → bit l.causes place ≡ shown_interrupt (l.seen.port port.0) place
   shown_at = laws.looks.shown_after port Is l.causes old l.seen on.no_reset l.reads
 
-  -- no fatal error was shown when the turn began
-  pub no_fatal : ShowsFatal (old.port port.0) → ⊥
-  no_fatal f = let p = old.port port.0 in ⊎_elim
-      (λ a. false≢true (sym (told.1 27 (omega arith) (omega arith)) ∙ shown_at 27 refl ∙ set_then 27 a))
-      (λ more. ⊎_elim
-      (λ a. false≢true (sym (told.1 28 (omega arith) (omega arith)) ∙ shown_at 28 refl ∙ set_then 28 a))
-      (λ a. false≢true (sym (told.1 29 (omega arith) (omega arith)) ∙ shown_at 29 refl ∙ set_then 29 a))
-      (or_cases (p.is 28) (p.is 29) more))
-      (or_cases (p.is 27) (p.is 28 || p.is 29) (fatal_shows p f))
+  looked : Grows old seen
+  looked =
+      laws.looks.grows_more old l.seen seen (laws.looks.access_grows (Reading (Px port Is) l.causes) old l.seen l.reads)
+      (laws.looks.grows_more l.seen l.cleared seen (laws.looks.access_grows (Writing (Px port Is) l.causes) l.seen l.cleared l.clears)
+      (laws.looks.grows_more l.cleared l.acknowledged seen (laws.looks.access_grows (Writing reg.Is l.own) l.cleared l.acknowledged l.acknowledges)
+      (laws.looks.access_grows (Reading (Px port Ssts) l.status) l.acknowledged seen l.shows)))
 
-  -- nor did the link tell of a change
-  pub no_change : ShowsChange (old.port port.0) → ⊥
-  no_change change = let z : Failed ≡ Lost = laws.looks_changed port Failed old seen on l change in cc
+  grows : Grows old l.seen
+  grows = laws.looks.access_grows (Reading (Px port Is) l.causes) old l.seen l.reads
 
-  -- nor was a device missing, unless a disk came
-  pub not_missing : (new : Device) → Grows seen new → (old.port port.0).link_due ≡ false → (old.port port.0).ssts_det ≢ 3 → NoneComes port.0 old new → ⊥
-  not_missing new later undue missing none =
-      let first : Grows old seen = looked in
-      let z : Failed ≡ Lost = laws.looks_unlinked port Failed old seen on l missing undue (laws.looks.comes_parts port.0 old seen new first.0 later.0 first.1 later.1 none).0 in cc
-    where
-      looked : Grows old seen
-      looked =
-          laws.looks.grows_more old l.seen seen (laws.looks.access_grows (Reading (Px port Is) l.causes) old l.seen l.reads)
-          (laws.looks.grows_more l.seen l.cleared seen (laws.looks.access_grows (Writing (Px port Is) l.causes) l.seen l.cleared l.clears)
-          (laws.looks.grows_more l.cleared l.acknowledged seen (laws.looks.access_grows (Writing reg.Is l.own) l.cleared l.acknowledged l.acknowledges)
-          (laws.looks.access_grows (Reading (Px port Ssts) l.status) l.acknowledged seen l.shows)))
+  goes : RunsOn port.0 old l.seen
+  goes = laws.runs_on port (Reading (Px port Is) l.causes ∷ []) old l.seen on (l.seen, l.reads, refl) (All-cons (SparesRegister Ghc) (Reading (Px port Is) l.causes) [] tt (All-nil (SparesRegister Ghc)))
+      (All-cons (SparesRegister (Px port Sctl)) (Reading (Px port Is) l.causes) [] tt (All-nil (SparesRegister (Px port Sctl)))) (All-cons (SparesRegister (Px port Cmd)) (Reading (Px port Is) l.causes) [] tt (All-nil (SparesRegister (Px port Cmd))))
 
-  -- TFES was shown then, or a fault came before PxIS was read
-  pub fault_shown : (new : Device) → Grows l.seen new → ((old.port port.0).is 30 ≡ true) ⊎ Gains (IsFaultOf port.0) old new
-  fault_shown new later = ⊎_elim
-      (λ (is : (old.port port.0).is 30 ≡ true). inl is)
-      (λ (clear : (old.port port.0).is 30 ≡ false). inr (⊎_elim
-      (λ found. gains_more (IsFaultOf port.0) old l.seen new later (record { gained = grows.0; tape = grows.1; entry = found.0; here = found.1; is = found.2 }))
-      (λ none. absurd (false≢true (sym (goes.goes.errors.fault (record { gained = grows.0; tape = grows.1; none = none }) clear) ∙ sym (shown_at 30 refl) ∙ told.0)))
-      (one_or_none port.0 grows.0)))
-      (cases_Bool ((old.port port.0).is 30))
-    where
-      grows : Grows old l.seen
-      grows = laws.looks.access_grows (Reading (Px port Is) l.causes) old l.seen l.reads
+  -- ---- a command had failed
 
-      goes : RunsOn port.0 old l.seen
-      goes = laws.runs_on port (Reading (Px port Is) l.causes ∷ []) old l.seen on (l.seen, l.reads, refl) (All-cons (SparesRegister Ghc) (Reading (Px port Is) l.causes) [] tt (All-nil (SparesRegister Ghc)))
-          (All-cons (SparesRegister (Px port Sctl)) (Reading (Px port Is) l.causes) [] tt (All-nil (SparesRegister (Px port Sctl)))) (All-cons (SparesRegister (Px port Cmd)) (Reading (Px port Is) l.causes) [] tt (All-nil (SparesRegister (Px port Cmd))))
+  module _ (failed : look ≡ Failed) where
+    -- TFES, and no fatal error
+    told : (bit l.causes 30 ≡ true) × ((place : ℕ) → 27 ≤ place → place ≤ 29 → bit l.causes place ≡ false)
+    told = let t = laws.looks_failed l.causes l.status (its Failed failed) in (t.0, t.3)
+
+    -- no fatal error was shown when the turn began
+    pub no_fatal : ShowsFatal (old.port port.0) → ⊥
+    no_fatal f = let p = old.port port.0 in ⊎_elim
+        (λ a. false≢true (sym (told.1 27 (omega arith) (omega arith)) ∙ shown_at 27 refl ∙ set_then 27 a))
+        (λ more. ⊎_elim
+        (λ a. false≢true (sym (told.1 28 (omega arith) (omega arith)) ∙ shown_at 28 refl ∙ set_then 28 a))
+        (λ a. false≢true (sym (told.1 29 (omega arith) (omega arith)) ∙ shown_at 29 refl ∙ set_then 29 a))
+        (or_cases (p.is 28) (p.is 29) more))
+        (or_cases (p.is 27) (p.is 28 || p.is 29) (fatal_shows p f))
+
+    -- TFES was shown then, or a fault came before PxIS was read
+    pub fault_shown : (new : Device) → Grows l.seen new → ((old.port port.0).is 30 ≡ true) ⊎ Gains (IsFaultOf port.0) old new
+    fault_shown new later = ⊎_elim
+        (λ (is : (old.port port.0).is 30 ≡ true). inl is)
+        (λ (clear : (old.port port.0).is 30 ≡ false). inr (⊎_elim
+        (λ found. gains_more (IsFaultOf port.0) old l.seen new later (record { gained = grows.0; tape = grows.1; entry = found.0; here = found.1; is = found.2 }))
+        (λ none. absurd (false≢true (sym (goes.goes.errors.fault (record { gained = grows.0; tape = grows.1; none = none }) clear) ∙ sym (shown_at 30 refl) ∙ told.0)))
+        (one_or_none (IsFaultOf port.0) (is_fault port.0) grows.0)))
+        (cases_Bool ((old.port port.0).is 30))
+
+  -- ---- the link or the host's memory had failed
+
+  module _ (broken : look ≡ Broken) where
+    -- one of those three was shown then, or a fatal error came before PxIS was read
+    pub fatal_shown : (new : Device) → Grows l.seen new → ShowsFatal (old.port port.0) ⊎ Gains (IsFatalOf port.0) old new
+    fatal_shown new later = ⊎_elim (at 28 (omega arith) (omega arith) refl refl) (λ more. ⊎_elim (at 29 (omega arith) (omega arith) refl refl) (at 27 (omega arith) (omega arith) refl refl) more)
+        (laws.looks_broken l.causes l.status (its Broken broken)).0
+      where
+        at : (place : ℕ) → 27 ≤ place → place ≤ 29 → is_cause place ≡ true → shown_interrupt (l.seen.port port.0) place ≡ (l.seen.port port.0).is place → bit l.causes place ≡ true
+            → ShowsFatal (old.port port.0) ⊎ Gains (IsFatalOf port.0) old new
+        at place from to cause plain set = ⊎_elim
+            (λ (is : (old.port port.0).is place ≡ true). inl (record { place = place; from = from; to = to; set = is }))
+            (λ (clear : (old.port port.0).is place ≡ false). inr (⊎_elim
+            (λ found. gains_more (IsFatalOf port.0) old l.seen new later (record { gained = grows.0; tape = grows.1; entry = found.0; here = found.1; is = found.2 }))
+            (λ none. absurd (false≢true (sym (goes.goes.errors.fatal (record { gained = grows.0; tape = grows.1; none = none }) place from to clear) ∙ sym plain ∙ sym (shown_at place cause) ∙ set)))
+            (one_or_none (IsFatalOf port.0) (is_fatal port.0) grows.0)))
+            (cases_Bool ((old.port port.0).is place))
+
+  -- ---- either
+
+  module _ (mends : LeadsToMending look) where
+    not_lost : look ≡ Lost → ⊥
+    not_lost lost = ⊎_elim
+        (λ failed. let z : Failed ≡ Lost = sym failed ∙ lost in absurd cc)
+        (λ broken. let z : Broken ≡ Lost = sym broken ∙ lost in absurd cc)
+        mends
+
+    -- a device showed
+    pub shows_link : l.status % 16 ≡ 3
+    shows_link = ⊎_elim (λ failed. (laws.looks_failed l.causes l.status (its Failed failed)).4) (λ broken. (laws.looks_broken l.causes l.status (its Broken broken)).3) mends
+
+    -- the link told of no change when the turn began
+    pub no_change : ShowsChange (old.port port.0) → ⊥
+    no_change change = not_lost (laws.looks_changed port look old seen on l change)
+
+    -- nor was a device missing, unless a disk came
+    pub not_missing : (new : Device) → Grows seen new → (old.port port.0).link_due ≡ false → (old.port port.0).ssts_det ≢ 3 → NoneComes port.0 old new → ⊥
+    not_missing new later undue missing none =
+        not_lost (laws.looks_unlinked port look old seen on l missing undue (laws.looks.comes_parts port.0 old seen new looked.0 later.0 looked.1 later.1 none).0)
+
+    -- a failure was shown then, or came
+    pub errors_shown : (new : Device) → Grows l.seen new → ShowsFailure (old.port port.0) ⊎ (Gains (IsFaultOf port.0) old new ⊎ Gains (IsFatalOf port.0) old new)
+    errors_shown new later = ⊎_elim
+        (λ failed. ⊎_elim (λ is. inl (inr is)) (λ came. inr (inl came)) (fault_shown failed new later))
+        (λ broken. ⊎_elim (λ is. inl (inl is)) (λ came. inr (inr came)) (fatal_shown broken new later))
+        mends

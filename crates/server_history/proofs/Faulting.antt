@@ -1,4 +1,4 @@
--- A turn in which a command had failed tells a plain request's fault, or leaves the port dead.
+-- A turn in which a command had failed, and nothing else, tells a plain request's fault, or leaves the port dead.
 use Rattle.std.proofs.Common.{ℕ, ◌≡◌, ◌≢◌, ◌<◌, if◌then◌else◌, Bool, true, false, eq-eqb, List, [], ◌∷◌, Option, Some, None, refl, sym, ap, ◌∙◌, subst, inl, inr, arith, ⊎_elim}
 use Rattle.std.specs.List.{All, Contains}
 use Rattle.std.specs.Prelude.{◌⊎◌, drop}
@@ -26,11 +26,13 @@ use Rattle.block_machine.proofs.Members.{contains_cases, contains_here, contains
 use Rattle.block_machine.proofs.Standing.{standing}
 use Rattle.driver_history.specs.Histories.{IsAnsweredFaulty, IsIssuedOn}
 use Rattle.error_log.specs.declared.Failure.{Failure}
-use Rattle.error_recovery.specs.Recovery.{MayRecover, Rests}
+use Rattle.error_recovery.specs.Recovery.{MayRecover, Rests, TellsRecovery}
 use Rattle.error_recovery.specs.declared.Next.{Next}
 use Rattle.error_recovery.specs.declared.Next.TheVariants as next
 use Rattle.host_boot.specs.Taken.{found_of}
-use Rattle.port_look.specs.Looks.{IsLooking}
+use Rattle.port_look.specs.Looks.{IsLooking, LooksAt}
+use Rattle.port_look.specs.declared.Look.{Look}
+use Rattle.port_look.specs.declared.Look.TheVariants.{Failed as Fails}
 use Rattle.request_queue.specs.Entries.{Held, is_of}
 use Rattle.request_queue.specs.Fates.{Holdings, MeetFates, MeetsFate, fate_of, fate_on, reply_to}
 use Rattle.request_queue.specs.declared.Entry.{Entry}
@@ -40,7 +42,7 @@ use Rattle.request_queue.specs.declared.fate.Fate.TheVariants.{Ends}
 use Rattle.request_queue.specs.declared.fate.Prospect.{Prospect}
 use Rattle.slots.specs.declared.Use.{Use as SlotUse}
 use Rattle.server_history.specs.Below.{LawsBelow}
-use Rattle.server_history.specs.Recovered.{IsFailed, IsRecovered, HasMetFates, RecoversPort, holdings_of, requests_of}
+use Rattle.server_history.specs.Recovered.{IsFailed, IsRecovered, HasMetFates, RecoversPort, holdings_of, requests_of, TellsMending}
 use Rattle.server_history.specs.Served.{AnswersEach, is_used}
 use Rattle.server_history.specs.Server.{Server, IsKept, IsMachineOf, ports_of, slots_at, state_of, used_for}
 use Rattle.server_history.specs.Turns.{IsOfTurn}
@@ -53,7 +55,7 @@ use Rattle.server_history.proofs.Following.{in_filter, mid_kept, mid_ready}
 use Rattle.server_history.proofs.Joined.{answers_there}
 use Rattle.server_history.proofs.Origins.{StandsIn, stood}
 use Rattle.server_history.proofs.Placing.{placed_other}
-use Rattle.server_history.proofs.Recovery.{evidence_of, until_issues}
+use Rattle.server_history.proofs.Recovery.{evidence_by, until_issues}
 use Rattle.server_history.proofs.Settling.{over_on, ready_on}
 use Rattle.server_history.proofs.Slots.{AreOver, HasSlot, IsServedBy, free_unused, issued_has, ready_found, served_request, serves_used}
 use Rattle.server_history.proofs.Stretching.{done_over, found_kept}
@@ -103,7 +105,7 @@ failed_fate its failed prospect e is same =
 
 module _ (laws : LawsBelow) (port : Port) (replies : List Reply) (old new : Server) (k : IsKept old) (ready : state_of (found_of old.ports port.0) ≡ ReadyState) (r : RecoversPort port replies old new)
     (looks : IsFollowed (IsLooking port) AnyUse old.device r.settled.recovered.seen) (kept : IsKept r.mid) (m : Machine) (reached : IsReached m) (is : IsMachineOf old m)
-    (d : DecidesTurn port replies old new r (evidence_of port r.settled.failed r.settled.prospect r.settled.recovered.result.next) m) where
+    (d : DecidesTurn port replies old new r (evidence_by r.settled) m) where
   abbrev a : HasMetFates port r.later old r.mid
   a = r.settled
 
@@ -133,12 +135,15 @@ module _ (laws : LawsBelow) (port : Port) (replies : List Reply) (old new : Serv
       sym w.request ∙ ap (λ (y : Pending). y.request) one
 
   -- the port's last fault was of a slot that is in use still
-  module _ (slot : ℕ) (used : SlotUse) (its : used_for old.slots port.0 slot ≡ Some used) (plain : used.queued ≡ false) where
+  module _ (failing : x.look ≡ Fails) (slot : ℕ) (used : SlotUse) (its : used_for old.slots port.0 slot ≡ Some used) (plain : used.queued ≡ false) where
+    healed : TellsRecovery port x.outstanding x.queued x.result x.mends.accesses a.mid.device a.device
+    healed = subst (λ (l : Look). TellsMending l port x.outstanding x.queued x.result x.mends.accesses a.mid.device a.device) failing x.tells
+
     is_zero : slot ≡ 0
     is_zero = (k.alone port.0 slot used its plain).0
 
     fault : ShowsFault (drop (x.found.port port.0).notes.st_set_at x.found.tape) (x.found.port port.0) port.0
-    fault = let may : MayRecover port.0 x.found = may_recover laws old x.seen x.found port x.mask x.done k ready x.looks looks x.reads in may.recorded.fault may.halted
+    fault = let may : MayRecover port.0 x.found = may_recover laws old x.seen x.found port x.mask x.done k ready (subst (λ (l : Look). LooksAt port l old.device x.seen) failing x.looks) looks x.reads in may.recorded.fault may.halted
 
     unused_free : (other : ℕ) → other ≢ 0 → IsFree (x.found.port port.0) other
     unused_free other ne = subst (λ (u : Use). IsServed from_kept.machine x.found.memory x.found.tape (x.found.port port.0) port.0 other u)
@@ -183,8 +188,8 @@ module _ (laws : LawsBelow) (port : Port) (replies : List Reply) (old new : Serv
       told its_failure named = by (subst (λ (f : Option Failure). IsFailed (slots_at a.mid.slots port.0) f a.failed) named a.names)
         where
           zero_named : its_failure.slot.0 ≡ 0
-          zero_named = (subst (λ (queued : Bool). Rests queued port x.outstanding x.recovers.accesses a.mid.device a.device (Some its_failure)) mid_queued
-              (subst (Rests x.queued port x.outstanding x.recovers.accesses a.mid.device a.device) named x.recovers.tells.rests)).slot_is
+          zero_named = (subst (λ (queued : Bool). Rests queued port x.outstanding x.mends.accesses a.mid.device a.device (Some its_failure)) mid_queued
+              (subst (Rests x.queued port x.outstanding x.mends.accesses a.mid.device a.device) named x.mends.tells.rests)).slot_is
 
           by : IsFailed (slots_at a.mid.slots port.0) (Some its_failure) a.failed → IsAnsweredFaulty e d.steps
           by (other, at, names) =
@@ -206,7 +211,7 @@ module _ (laws : LawsBelow) (port : Port) (replies : List Reply) (old new : Serv
       faulty = by x.result.next refl
         where
           by_failed : x.result.next ≢ next.Dead → (f : Option Failure) → x.result.failed ≡ f → IsAnsweredFaulty e d.steps
-          by_failed lives None none = absurd (x.recovers.tells.told mid_queued outstanding lives none)
+          by_failed lives None none = absurd (healed.told mid_queued outstanding lives none)
           by_failed lives (Some its_failure) named = told its_failure named
 
           by : (after_it : Next) → x.result.next ≡ after_it → IsAnsweredFaulty e d.steps ⊎ ((ports_of new).state port ≡ DeadState)
@@ -215,10 +220,10 @@ module _ (laws : LawsBelow) (port : Port) (replies : List Reply) (old new : Serv
           by next.Dead same = inr (state_new laws port replies old new k ready r looks kept ∙ ap state_of (next_dead laws port replies old new k ready r looks kept same))
 
   -- a plain request that is outstanding is told its fault
-  pub faulting : (e : Pending) (slot : ℕ) → IsIssuedOn port m e → e.ended ≡ false → (s : ServesRequest m old.device.memory (old.device.port port.0) port.0 slot e.request.id) → is_queued s.command.operation ≡ false
+  pub faulting : x.look ≡ Fails → (e : Pending) (slot : ℕ) → IsIssuedOn port m e → e.ended ≡ false → (s : ServesRequest m old.device.memory (old.device.port port.0) port.0 slot e.request.id) → is_queued s.command.operation ≡ false
       → IsAnsweredFaulty e d.steps ⊎ ((ports_of new).state port ≡ DeadState)
-  faulting e slot own unended says plain = ⊎_elim
-      (λ (same : slot ≡ h.slot). faulty h.slot h.used h.used_is (its_kind same) e own.here h.id_is)
+  faulting failing e slot own unended says plain = ⊎_elim
+      (λ (same : slot ≡ h.slot). faulty failing h.slot h.used h.used_is (its_kind same) e own.here h.id_is)
       (λ (apart : slot ≢ h.slot). absurd (false≢true (sym unended ∙ has_ended laws old k m reached is port.0 ready e own.here h.slot h.used h.used_is h.id_is slot apart says)))
       (cases_eq slot h.slot)
     where

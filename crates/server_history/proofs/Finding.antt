@@ -51,7 +51,7 @@ use Rattle.server_history.proofs.Evident.{IsEvident, slots_were}
 use Rattle.server_history.proofs.Placing.{placed_other}
 use Rattle.server_history.proofs.Plain.{both_read}
 use Rattle.server_history.proofs.Reasons.{Why, why}
-use Rattle.server_history.proofs.Recovery.{evidence_of, until_issues}
+use Rattle.server_history.proofs.Recovery.{evidence_by, until_issues}
 use Rattle.server_history.proofs.Settling.{over_on, ready_on}
 use Rattle.server_history.proofs.Slots.{AreOver, HasSlot, issued_has, ready_found, serves_used}
 use Rattle.server_history.proofs.Stretching.{done_over, found_kept}
@@ -103,7 +103,7 @@ module _ (laws : LawsBelow) (port : Port) (low : port.0 < 4) (done : ℕ) where
 
 module _ (laws : LawsBelow) (port : Port) (replies : List Reply) (old new : Server) (k : IsKept old) (ready : state_of (found_of old.ports port.0) ≡ ReadyState) (r : RecoversPort port replies old new)
     (looks : IsFollowed (IsLooking port) AnyUse old.device r.settled.recovered.seen) (kept : IsKept r.mid) (evident : IsEvident port replies old new r) (m : Machine) (reached : IsReached m) (is : IsMachineOf old m)
-    (d : DecidesTurn port replies old new r (evidence_of port r.settled.failed r.settled.prospect r.settled.recovered.result.next) m) where
+    (d : DecidesTurn port replies old new r (evidence_by r.settled) m) where
   abbrev a : HasMetFates port r.later old r.mid
   a = r.settled
 
@@ -219,7 +219,7 @@ module _ (laws : LawsBelow) (port : Port) (replies : List Reply) (old new : Serv
   there = evident.parts.masks
 
   abbrev rest : List Access
-  rest = x.recovers.accesses ++ evident.parts.late.accesses
+  rest = x.mends.accesses ++ evident.parts.late.accesses
 
   masks : ReadsMasks port x.reads.issued x.reads.active evident.accesses
   masks = record {

@@ -370,7 +370,7 @@ module _ (laws : LawsBelow) (port : Port) (later : List Reply) (old new : Server
   pub unnamed : a.recovered.result.next ≡ Stuck → (a.found ≡ Unready Dead) × (a.failed ≡ None)
   unnamed stuck = (
     (subst (λ (way : Next). IsFoundAfter (wanted_of old.wanted port.0) port a.was way a.device new.device a.found) stuck a.is).0,
-    subst (λ (its : Option _). IsFailed (slots_at a.mid.slots port.0) its a.failed) (a.recovered.recovers.tells.dead stuck) a.names,
+    subst (λ (its : Option _). IsFailed (slots_at a.mid.slots port.0) its a.failed) (a.recovered.mends.tells.dead stuck) a.names,
   )
 
   pub adds_fates : (m : Machine) → IsReached m → IsMachineOf old m → AddsFates port later old new a m
@@ -436,7 +436,7 @@ module _ (laws : LawsBelow) (port : Port) (later : List Reply) (old new : Server
       is_mid = subst (IsMachineOf a.mid) (sym (after-append m (answers_in y.ended) x.0)) y.stands
 
       p : IsPassed port.0 a.recovered.result.next a.found a.mid.device new.device (record { uses = is_mid.uses; parked = is_mid.parked }) n
-      p = passed laws (wanted_of old.wanted port.0) port a.was a.recovered.result.next a.recovered.recovers.accesses a.mid.device a.device new.device a.found a.recovered.recovers.does.slots a.is
+      p = passed laws (wanted_of old.wanted port.0) port a.was a.recovered.result.next a.recovered.mends.accesses a.mid.device a.device new.device a.found a.recovered.mends.does.slots a.is
           (record { uses = is_mid.uses; parked = is_mid.parked }) n n_reached is_mid.knows
 
       f : MeetsInMachine port (fate_of a.failed a.prospect) (requests_of port a.mid.book) later (holdings_of port a.mid) a.now (at_slots p.slots new.device) (after n p.passes.steps)

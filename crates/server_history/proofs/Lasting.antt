@@ -37,7 +37,7 @@ use Rattle.server_history.specs.Turns.{instant_of}
 use Rattle.server_history.proofs.Becoming.{interrupted, next_dead, ready_info, state_new}
 use Rattle.server_history.proofs.Evident.{grown}
 use Rattle.server_history.proofs.Recovering.{IsEarlyPart, IsPart, survey_part}
-use Rattle.server_history.proofs.Recovery.{evidence_of}
+use Rattle.server_history.proofs.Recovery.{evidence_by}
 use Rattle.server_history.proofs.Resetting.{up_driven}
 use Rattle.server_history.proofs.Rounds.{each_driven}
 use Rattle.server_history.proofs.Showing.{LeavesTrouble, shown_more, shown_since, shows_over}
@@ -104,7 +104,7 @@ module _ (laws : LawsBelow) (port : Port) (replies : List Reply) (old new : Serv
   -- the adapter is on when the port was recovered
   pub recovered_driven : IsDrivenBy (IsOf port) old.device a.device
   recovered_driven = by_then (driven_as (IsEarlyPart port) (IsOf port) old.device a.mid.device (λ access is. is.0.1) t.early)
-      (record { accesses = x.recovers.accesses; all = t.does; only = All-weaker (IsPart port) (IsOf port) (λ access is. is.1) x.recovers.accesses t.kinds })
+      (record { accesses = x.mends.accesses; all = t.does; only = All-weaker (IsPart port) (IsOf port) (λ access is. is.1) x.mends.accesses t.kinds })
 
   pub recovered_on : IsOn a.device
   recovered_on = laws.of_on port old.device a.device k.on recovered_driven
@@ -115,13 +115,13 @@ module _ (laws : LawsBelow) (port : Port) (replies : List Reply) (old new : Serv
     again_is = subst (λ (n : Next). IsFoundAfter (wanted_of old.wanted port.0) port a.was n a.device r.mid.device a.found) is a.is
 
     pub again : RunsAgain x.queued port.0 a.mid.device a.device
-    again = (subst (λ (n : Next). EndsIn x.queued port n a.mid.device a.device) is x.recovers.leaves.ends).1
+    again = (subst (λ (n : Next). EndsIn x.queued port n a.mid.device a.device) is x.mends.leaves.ends).1
 
     pub then_issuing : IsDrivenBy (LeavesTrouble port) a.device new.device
     then_issuing = subst (λ (d : Device). IsDrivenBy (LeavesTrouble port) d new.device) again_is.1 issuing
 
     runs_shows : ShowsTrouble port.0 old.device new.device
-    runs_shows = shown_more port.0 old.device a.mid.device a.device new.device again.shows (grown laws port replies old new k ready r looks kept x.recovers.accesses a.mid.device a.device t.does) again.since
+    runs_shows = shown_more port.0 old.device a.mid.device a.device new.device again.shows (grown laws port replies old new k ready r looks kept x.mends.accesses a.mid.device a.device t.does) again.since
         (shows_over laws port then_issuing.accesses a.device new.device recovered_on then_issuing.only then_issuing.all)
 
   -- one that was booted
@@ -168,7 +168,7 @@ module _ (laws : LawsBelow) (port : Port) (replies : List Reply) (old new : Serv
           let z : DeadState ≡ ReadyState = sym dead ∙ is_ready in absurd cc
 
   -- the port was interrupted
-  pub lasting : (m : Machine) → LosesNoTrouble (evidence_of port a.failed a.prospect x.result.next) (instant_of old m) (ports_of new) new.device port
+  pub lasting : (m : Machine) → LosesNoTrouble (evidence_by a) (instant_of old m) (ports_of new) new.device port
   lasting m = record {
     errors = λ _ _. inl (interrupted laws port replies old new k ready r looks kept);
     changes = λ _ _. inl (interrupted laws port replies old new k ready r looks kept);

@@ -25,7 +25,10 @@ use Rattle.block_machine.proofs.EventLemmas.{after-append}
 use Rattle.block_machine.proofs.Members.{at_cases, contains_cases, contains_here, contains_none, contains_there, map_in}
 use Rattle.host_boot.specs.Taken.{found_of}
 use Rattle.port_boot.specs.States.{ShowsOwnDisk}
+use Rattle.error_log.specs.declared.Failure.{Failure}
 use Rattle.port_look.specs.Looks.{IsLooking}
+use Rattle.port_look.specs.declared.Look.{Look}
+use Rattle.port_look.specs.declared.Look.TheVariants.{Broken}
 use Rattle.request_queue.specs.Entries.{Held}
 use Rattle.request_queue.specs.Fates.{fate_of}
 use Rattle.request_queue.specs.Machine.{IsEntry}
@@ -33,9 +36,9 @@ use Rattle.request_queue.specs.declared.fate.Failed.{Failed}
 use Rattle.request_queue.specs.declared.fate.Fate.TheVariants.{Ends}
 use Rattle.slots.specs.Uses.{Uses as PortSlots, use_at}
 use Rattle.server_history.specs.Below.{LawsBelow}
-use Rattle.server_history.specs.Recovered.{HasMetFates, RecoversPort, requests_of}
+use Rattle.server_history.specs.Recovered.{HasMetFates, IsFailed, RecoversPort, TellsMending, requests_of}
 use Rattle.server_history.specs.Served.{IssuesOnly, answers_in}
-use Rattle.server_history.specs.Server.{Server, IsKept, IsMachineOf, mode_in, no_slots, state_of, used_for}
+use Rattle.server_history.specs.Server.{Server, IsKept, IsMachineOf, mode_in, no_slots, slots_at, state_of, used_for}
 use Rattle.server_history.specs.Turns.{IsOfTurn, moment_of}
 use Rattle.server_history.proofs.Answered.{answered_in, no_answer, no_answer_issuing}
 use Rattle.server_history.proofs.Becoming.{interrupted}
@@ -46,7 +49,8 @@ use Rattle.server_history.proofs.Following.{mid_kept}
 use Rattle.server_history.proofs.Ordering.{AreDifferent, answered_id, still_differ, told_differ}
 use Rattle.server_history.proofs.Joined.{answers_there}
 use Rattle.server_history.proofs.Reasons.{Why, why}
-use Rattle.server_history.proofs.Recovery.{evidence_of, until_issues}
+use Rattle.server_history.proofs.Faulted.{leads}
+use Rattle.server_history.proofs.Recovery.{evidence_by, fatal_of, until_issues}
 use Rattle.server_history.proofs.Rounds.{issued_late}
 use Rattle.server_history.proofs.Slots.{HasSlot, issued_has, of_ready, ready_found}
 use Rattle.server_history.proofs.Zips.{at_right}
@@ -156,7 +160,7 @@ failed_id (Some failed) = failed.id.0
 
 module _ (laws : LawsBelow) (port : Port) (replies : List Reply) (old new : Server) (k : IsKept old) (ready : state_of (found_of old.ports port.0) ≡ ReadyState) (r : RecoversPort port replies old new)
     (looks : IsFollowed (IsLooking port) AnyUse old.device r.settled.recovered.seen) (kept : IsKept r.mid) (evident : IsEvident port replies old new r) (m : Machine) (reached : IsReached m) (is : IsMachineOf old m)
-    (d : DecidesTurn port replies old new r (evidence_of port r.settled.failed r.settled.prospect r.settled.recovered.result.next) m) where
+    (d : DecidesTurn port replies old new r (evidence_by r.settled) m) where
   abbrev a : HasMetFates port r.later old r.mid
   a = r.settled
 
@@ -220,12 +224,33 @@ module _ (laws : LawsBelow) (port : Port) (replies : List Reply) (old new : Serv
       by (inr (inr (inl y))) = absurd (no outcome.Unplugged y.1 refl)
       by (inr (inr (inr y))) = absurd (no outcome.PortDead y.1 refl)
 
+  -- and none where nobody is named
+  untold : a.failed ≡ None → count_by (tells_fault port) d.fates.fates ≡ 0
+  untold nobody = none_told port d.fates.fates (λ e o here. ⊎_elim
+      (λ (tells : tells_fault port (Answer e o) ≡ true). absurd (not_named e o here tells))
+      (λ other. other)
+      (cases_Bool (tells_fault port (Answer e o))))
+    where
+      not_named : (e : Pending) (o : Outcome) → Contains d.fates.fates (Answer e o) → tells_fault port (Answer e o) ≡ true → ⊥
+      not_named e o here tells = by (why a.failed a.prospect w.0.entry o w.3)
+        where
+          w : (request : Held) × Contains (requests_of port a.mid.book) request × IsEntry request e × (fate_of a.failed a.prospect request.entry ≡ Ends o)
+          w = d.fates.answered e o here
+
+          no : (other : Outcome) → o ≡ other → tells_fault port (Answer e other) ≡ false → ⊥
+          no other same none = false≢true (sym none ∙ ap (λ (y : Outcome). tells_fault port (Answer e y)) (sym same) ∙ tells)
+
+          by : Why a.failed a.prospect w.0.entry o → ⊥
+          by (inl y) = let z : None ≡ Some y.0 = sym nobody ∙ y.1 in cc
+          by (inr (inl y)) = no outcome.Aborted y.3 refl
+          by (inr (inr (inl y))) = no outcome.Unplugged y.1 refl
+          by (inr (inr (inr y))) = no outcome.PortDead y.1 refl
+
   silent : (steps : List Step) → ((e : Pending) (o : Outcome) → Contains steps (Answer e o) → o ≡ outcome.Ok) → count_by (tells_fault port) steps ≡ 0
   silent steps ok = none_told port steps (λ e o here. ap (λ (y : Outcome). tells_fault port (Answer e y)) (ok e o here))
 
-  single : count_by (tells_fault port) d.steps ≤ 1
-  single =
-      let one = one_told port (failed_id a.failed) d.fates.fates differ named in
+  counted : count_by (tells_fault port) d.steps ≡ count_by (tells_fault port) d.fates.fates
+  counted =
       let issuing = silent d.issuing.steps (λ e o here. absurd (no_answer_issuing (mode_in r.mid port) port d.issuing.steps d.issuing.only e o here)) in
       let middle = silent d.fates.middle (λ e o here. absurd (no_answer d.fates.middle d.fates.middle_only e o here)) in
       let ended = silent (answers_in d.fates.ended) (λ e o here. (answered_in d.fates.ended e o here).1) in
@@ -234,11 +259,25 @@ module _ (laws : LawsBelow) (port : Port) (replies : List Reply) (old new : Serv
       let c1 = count_append (tells_fault port) d.fates.fates (d.fates.middle ++ (answers_in d.fates.ended ++ d.fates.first)) in
       let c2 = count_append (tells_fault port) d.fates.middle (answers_in d.fates.ended ++ d.fates.first) in
       let c3 = count_append (tells_fault port) (answers_in d.fates.ended) d.fates.first in
-      omega (arith, one, issuing, middle, ended, first, c, c1, c2, c3)
+      omega (arith, issuing, middle, ended, first, c, c1, c2, c3)
+
+  single : count_by (tells_fault port) d.steps ≤ 1
+  single = let one = one_told port (failed_id a.failed) d.fates.fates differ named in let c = counted in omega (arith, one, c)
+
+  fatal : Contains (fatal_of port a.recovered.look) port → count_by (tells_fault port) d.steps ≡ 0
+  fatal here = ⊎_elim
+      (λ failed. absurd (contains_none port (subst (λ (l : Look). Contains (fatal_of port l) port) failed here)))
+      (λ broken. counted ∙ untold (nobody broken))
+      (leads a.recovered.look port a.recovered.outstanding a.recovered.queued a.recovered.result a.recovered.mends.accesses a.mid.device a.device a.recovered.tells)
+    where
+      nobody : a.recovered.look ≡ Broken → a.failed ≡ None
+      nobody broken =
+          let none = (subst (λ (l : Look). TellsMending l port a.recovered.outstanding a.recovered.queued a.recovered.result a.recovered.mends.accesses a.mid.device a.device) broken a.recovered.tells).0 in
+          subst (λ (f : Option Failure). IsFailed (slots_at a.mid.slots port.0) f a.failed) none a.names
 
   -- ---- all of it
 
-  pub serves_ready : ShowsOwnDisk (r.settled.recovered.seen.port port.0) → ServesReady (moment_of old m) (evidence_of port a.failed a.prospect a.recovered.result.next) d.steps (moment_of new (after m d.steps)) port
+  pub serves_ready : ShowsOwnDisk (r.settled.recovered.seen.port port.0) → ServesReady (moment_of old m) (evidence_by a) d.steps (moment_of new (after m d.steps)) port
   serves_ready own = record {
     ended = heeding laws port replies old new k ready r looks kept evident m reached is d;
     emptied = λ here. absurd (contains_none port here);
@@ -246,7 +285,7 @@ module _ (laws : LawsBelow) (port : Port) (replies : List Reply) (old new : Serv
     interrupts = λ _. interrupted laws port replies old new k ready r looks kept;
     anew = λ _. anew;
     single = single;
-    fatal = λ here. absurd (contains_none port here);
+    fatal = λ here. (contains_here port [] port refl, fatal here);
     disk = evident.had own m is d.steps d.backed;
     calm = inl (inl (contains_here port [] port refl));
   }

@@ -1,7 +1,8 @@
 -- A turn in which a command had failed leaves the port what it was, or dead, or has reset its link.
-use Rattle.std.proofs.Common.{◌≡◌, ◌≢◌, ◌<◌, ◌++◌, List, Some, refl, sym, ap, ◌∙◌, subst, inl, inr, arith, ⊎_elim}
+use Rattle.std.proofs.Common.{◌≡◌, ◌≢◌, ◌<◌, ◌++◌, List, [], Some, refl, sym, ap, ◌∙◌, subst, inl, inr, arith, ⊎_elim}
 use Rattle.std.specs.Prelude.{◌⊎◌}
 use Rattle.std.proofs.lemmas.List.{get_or-set_same}
+use Rattle.std.specs.List.{Contains}
 use Rattle.ata_types.specs.declared.Port.{Port}
 use Rattle.ata_types.specs.declared.PortState.TheVariants as shown
 use Rattle.ata_types.specs.declared.PortState.TheVariants.{Dead as DeadState, Ready as ReadyState}
@@ -22,14 +23,19 @@ use Rattle.error_recovery.specs.declared.Next.TheVariants as next
 use Rattle.host_boot.specs.Taken.{found_of, wanted_of}
 use Rattle.host_boot.specs.declared.Found.{Found}
 use Rattle.host_boot.specs.declared.Found.TheVariants.{Ready, Unready, Unserved}
+use Rattle.port_control.specs.declared.Running as running_token
 use Rattle.port_look.specs.Looks.{IsLooking}
+use Rattle.port_look.specs.declared.Look.{Look}
+use Rattle.port_look.specs.declared.Look.TheVariants.{Broken}
 use Rattle.server_history.specs.Below.{LawsBelow}
-use Rattle.server_history.specs.Recovered.{IsFoundAfter, IsRecovered, HasMetFates, RecoversPort}
+use Rattle.server_history.specs.Recovered.{IsFoundAfter, IsRecovered, HasMetFates, RecoversPort, TellsMending}
 use Rattle.server_history.specs.Server.{Server, IsKept, disk_in, disk_of, is_served, mode_found, mode_in, plain_mode, ports_of, sectors_of, serial_of, state_of, trims_of}
 use Rattle.server_history.specs.Turns.{instant_of}
 use Rattle.server_history.proofs.Becoming.{disk_new, disk_old, found_new, issued_as, next_dead, state_new}
 use Rattle.server_history.proofs.Evident.{IsEvident}
+use Rattle.server_history.proofs.Faulted.{leads}
 use Rattle.server_history.proofs.Following.{mid_kept}
+use Rattle.server_history.proofs.Recovery.{fatal_of}
 use Rattle.server_history.proofs.Resetting.{resets_since}
 use Rattle.server_history.proofs.Slots.{ready_found}
 use Rattle.server_history.proofs.Stretching.{TurnParts}
@@ -58,12 +64,12 @@ module _ (laws : LawsBelow) (port : Port) (replies : List Reply) (old new : Serv
       ∙ get_or-set_same a.mid.modes port.0 a.mode plain_mode (let small = low in omega (arith, small, four))
 
   abbrev until : List Access
-  until = t.early.accesses ++ x.recovers.accesses
+  until = t.early.accesses ++ x.mends.accesses
 
   adapter : SameAdapter old.device a.device
   adapter = laws.recovery.any_same old.device a.device (record {
     accesses = until;
-    all = does_append t.early.accesses x.recovers.accesses old.device a.mid.device a.device t.early.all t.does;
+    all = does_append t.early.accesses x.mends.accesses old.device a.mid.device a.device t.early.all t.does;
     only = λ i access small. tt;
   })
 
@@ -84,11 +90,11 @@ module _ (laws : LawsBelow) (port : Port) (replies : List Reply) (old new : Serv
 
   -- ---- one that was booted
 
-  abbrev Ends : Type 0
-  Ends = SamePort (ports_of old) (ports_of new) port ⊎ (((ports_of new).state port ≡ DeadState) ⊎ (((ports_of new).state port ≡ shown.Absent) ⊎ ResetsLink port evident.accesses))
+  abbrev Stopped : Type 0
+  Stopped = ((ports_of new).state port ≡ DeadState) ⊎ (((ports_of new).state port ≡ shown.Absent) ⊎ ResetsLink port evident.accesses)
 
   reset : ResetsLink port t.late.accesses → ResetsLink port evident.accesses
-  reset late = subst (ResetsLink port) (sym evident.accesses_are) (resets_since port t.early.accesses (x.recovers.accesses ++ t.late.accesses) (resets_since port x.recovers.accesses t.late.accesses late))
+  reset late = subst (ResetsLink port) (sym evident.accesses_are) (resets_since port t.early.accesses (x.mends.accesses ++ t.late.accesses) (resets_since port x.mends.accesses t.late.accesses late))
 
   dead_or_not : (f : Found) → (f ≡ Unready DeadState) ⊎ (f ≢ Unready DeadState)
   dead_or_not Unserved = inr (λ is. let z : Unserved ≡ Unready DeadState = is in cc)
@@ -102,25 +108,40 @@ module _ (laws : LawsBelow) (port : Port) (replies : List Reply) (old new : Serv
   dead : a.found ≡ Unready DeadState → (ports_of new).state port ≡ DeadState
   dead is = state_new laws port replies old new k ready r looks kept ∙ ap state_of is
 
-  ends : Ends
+  stops : (n : Next) → x.result.next ≡ n → ((token : running_token.Running) → n ≢ next.Running token) → Stopped
+  stops (next.Running token) is halts = absurd (halts token refl)
+  stops (next.Restart token) is halts = ⊎_elim
+      (λ (dies : a.found ≡ Unready DeadState). inl (dead dies))
+      (λ (lives : a.found ≢ Unready DeadState). inr (inr (reset (t.resets token is lives))))
+      (dead_or_not a.found)
+  stops next.Dead is halts = inl (dead (next_dead laws port replies old new k ready r looks kept is))
+
+  ends : SamePort (ports_of old) (ports_of new) port ⊎ Stopped
   ends = by x.result.next refl
     where
-      by : (n : Next) → x.result.next ≡ n → Ends
+      by : (n : Next) → x.result.next ≡ n → SamePort (ports_of old) (ports_of new) port ⊎ Stopped
       by (next.Running token) is =
           let then_is : IsFoundAfter (wanted_of old.wanted port.0) port a.was (next.Running token) a.device r.mid.device a.found = subst (λ (n : Next). IsFoundAfter (wanted_of old.wanted port.0) port a.was n a.device r.mid.device a.found) is a.is in
           inl (same then_is.0 then_is.1)
-      by (next.Restart token) is = ⊎_elim
-          (λ (dies : a.found ≡ Unready DeadState). inr (inl (dead dies)))
-          (λ (lives : a.found ≢ Unready DeadState). inr (inr (inr (reset (t.resets token is lives)))))
-          (dead_or_not a.found)
-      by next.Dead is = inr (inl (dead (next_dead laws port replies old new k ready r looks kept is)))
+      by (next.Restart token) is = inr (stops (next.Restart token) is (λ at e. let z : next.Restart token ≡ next.Running at = e in cc))
+      by next.Dead is = inr (stops next.Dead is (λ at e. let z : next.Dead ≡ next.Running at = e in cc))
 
-  -- The look told no loss and no fatal error.
+  -- after a fatal error it doesn't run on
+  broken_stops : Contains (fatal_of port x.look) port → Stopped
+  broken_stops here = ⊎_elim
+      (λ failed. absurd (contains_none port (subst (λ (l : Look). Contains (fatal_of port l) port) failed here)))
+      (λ broken.
+      let told : TellsMending Broken port x.outstanding x.queued x.result x.mends.accesses a.mid.device a.device =
+      subst (λ (l : Look). TellsMending l port x.outstanding x.queued x.result x.mends.accesses a.mid.device a.device) broken x.tells in
+      stops x.result.next refl told.1)
+      (leads x.look port x.outstanding x.queued x.result x.mends.accesses a.mid.device a.device x.tells)
+
+  -- The look told no loss.
   pub reboots : (m : Machine) → BootsAnew Service (Served replies) evident.accesses (instant_of old m) (ports_of new) new.device port
   reboots m = (
-    (λ is_ready trouble. absurd (⊎_elim
-        (λ fatal. contains_none port ((evident.evidenced m).fatal_all is_ready fatal))
-        (λ loss. contains_none port ((evident.evidenced m).gone_all is_ready loss))
-        trouble)),
+    (λ is_ready trouble. ⊎_elim
+        (λ fatal. broken_stops ((evident.evidenced m).fatal_all is_ready fatal))
+        (λ loss. absurd (contains_none port ((evident.evidenced m).gone_all is_ready loss)))
+        trouble),
     ends,
   )

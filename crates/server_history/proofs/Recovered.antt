@@ -151,7 +151,7 @@ module _ (laws : LawsBelow) (port : Port) (old mid : Server) (device : Device) (
 
   -- the recovery leaves the other ports to the device
   passed : PassesTo laws mid port mid_kept low r.result.next device
-  passed = recovery_passes laws mid port mid_kept low r.outstanding r.queued r.result device r.recovers
+  passed = recovery_passes laws mid port mid_kept low r.outstanding r.queued r.result device r.mends
 
   same : SameAdapter mid.device device
   same = same_over laws port mid.device device passed.1.driven
@@ -171,7 +171,7 @@ module _ (laws : LawsBelow) (port : Port) (old mid : Server) (device : Device) (
       room = let room = mid_kept.room in let size = same.size in omega (arith, room, size);
       agreed = (passed.0.uses, passed.2 (λ dead. let z : next.Restart token ≡ next.Dead = sym is ∙ dead in absurd cc), record { machine = passed.1.machine; parked = passed.0.parked; reached = passed.1.reached; knows = passed.1.knows });
     },
-    (subst (λ (n : Next). EndsIn r.queued port n mid.device device) is r.recovers.leaves.ends).1,
+    (subst (λ (n : Next). EndsIn r.queued port n mid.device device) is r.mends.leaves.ends).1,
   )
 
 -- ---- what it is then
@@ -207,7 +207,7 @@ module _ (laws : LawsBelow) (port : Port) (later : List Reply) (old new : Server
   is_after = subst (λ (list : List Wanted). IsFoundAfter (wanted_of list port.0) port a.was r.result.next a.device new.device a.found) (sym (wanted_same laws port old mid a.device k ready r looks)) a.is
 
   done : PassesTo laws mid port m small r.result.next a.device
-  done = recovery_passes laws mid port m small r.outstanding r.queued r.result a.device r.recovers
+  done = recovery_passes laws mid port m small r.outstanding r.queued r.result a.device r.mends
 
   -- ---- accesses
 
@@ -248,7 +248,7 @@ module _ (laws : LawsBelow) (port : Port) (later : List Reply) (old new : Server
   -- it runs again
   runs_then : (token : running_token.Running) → EndsIn r.queued port (next.Running token) mid.device a.device → Stands (Ready a.was) a.device
   runs_then token ends =
-      let l = r.recovers.leaves in
+      let l = r.mends.leaves in
       let g = ends.1 in
       let was = (m.behind port.0 small).runs its_ready in
       record {
@@ -316,7 +316,7 @@ module _ (laws : LawsBelow) (port : Port) (later : List Reply) (old new : Server
       subst (λ (f : Found). Stands f new.device) (sym found) (subst (λ (d : Device). Stands (Unready DeadState) d) (sym same) (dies_then ends))
 
   its_stands : Stands a.found new.device
-  its_stands = stands_then r.result.next r.recovers.leaves.ends is_after
+  its_stands = stands_then r.result.next r.mends.leaves.ends is_after
 
   -- ---- the four ports
 

@@ -13,6 +13,8 @@ use Rattle.block_machine.specs.State.{Machine, Pending}
 use Rattle.block_machine.specs.Steps.{Step, Again, Answer}
 use Rattle.error_recovery.specs.declared.Next.{Next}
 use Rattle.error_recovery.specs.declared.Next.TheVariants as next
+use Rattle.port_look.specs.declared.Look.{Look}
+use Rattle.port_look.specs.declared.Look.TheVariants.{Broken}
 use Rattle.request_queue.specs.Entries.{Held}
 use Rattle.request_queue.specs.Fates.{fate_of}
 use Rattle.request_queue.specs.Machine.{IsEntry}
@@ -46,16 +48,25 @@ stuck_of port SameDisk = []
 stuck_of port DiskLost = []
 stuck_of port Dead = port ∷ []
 
-abbrev pub evidence_of : Port → Option Failed → Prospect → Next → Evidence
-evidence_of port failed prospect next = record {
+-- the look told of a fatal error
+abbrev pub fatal_of : Port → Look → List Port
+fatal_of port Broken = port ∷ []
+fatal_of port _ = []
+
+abbrev pub evidence_of : Port → Look → Option Failed → Prospect → Next → Evidence
+evidence_of port look failed prospect next = record {
   faults = faults_of failed;
   lost = lost_of port prospect;
   gone = [];
   failed = port ∷ [];
-  fatal = [];
+  fatal = fatal_of port look;
   stopped = stopped_of port next;
   stuck = stuck_of port prospect;
 }
+
+-- that of such a turn
+abbrev pub evidence_by : {port : Port} {later : List Reply} {old new : Server} → HasMetFates port later old new → Evidence
+evidence_by {port} a = evidence_of port a.recovered.look a.failed a.prospect a.recovered.result.next
 
 -- ---- its steps, but for those that issue
 

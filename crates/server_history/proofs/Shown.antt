@@ -3,7 +3,7 @@ use Rattle.std.proofs.Common.{ℕ, ◌≡◌, ◌⊎◌, ◌++◌, true, false, 
 use Rattle.std.specs.List.{All, Contains, list_any}
 use Rattle.std.proofs.lemmas.Bool.{cases_Bool, cases_eq, false≢true}
 use Rattle.std.proofs.lemmas.List.{append_cancel_left}
-use Rattle.std.proofs.lemmas.List.Elements.{All-cons, All-nil, Contains-append_left}
+use Rattle.std.proofs.lemmas.List.Elements.{Contains-append_left}
 use Rattle.ata_types.specs.declared.Port.{Port}
 use Rattle.hba_regs.specs.declared.reg.PortReg.TheVariants.{Is, Ssts}
 use Rattle.hba_regs.specs.declared.reg.Reg.TheVariants as reg
@@ -22,11 +22,11 @@ use Rattle.agreement.proofs.Driven.{written_ghc}
 use Rattle.block_machine.specs.Events.{changes_disk}
 use Rattle.block_machine.specs.State.{Machine}
 use Rattle.block_machine.specs.Steps.{Step}
-use Rattle.block_machine.proofs.Members.{contains_here, contains_there}
 use Rattle.port_look.specs.Looks.{LooksAt}
-use Rattle.port_look.specs.declared.Look.TheVariants.{Failed}
+use Rattle.port_look.specs.declared.Look.{Look}
 use Rattle.server_history.specs.Below.{LawsBelow}
 use Rattle.server_history.specs.Server.{Server, IsMachineOf}
+use Rattle.server_history.proofs.Faulted.{LeadsToMending, one_or_none, shows_link}
 
 -- ---- disks that come
 
@@ -48,16 +48,6 @@ coming_plugs port (entry.Done x) is = absurd is
 coming_plugs port (entry.Fault x) is = absurd is
 coming_plugs port (entry.Fatal x) is = absurd is
 
-one_or_none : (port : ℕ) (gained : List Entry) → ((e : Entry) × Contains gained e × IsComing port e) ⊎ All (λ e. IsComing port e → ⊥) gained
-one_or_none port [] = inr (All-nil (λ e. IsComing port e → ⊥))
-one_or_none port (e ∷ gained) = ⊎_elim
-    (λ (is : IsComing port e). inl (e, contains_here e gained e refl, is))
-    (λ none. ⊎_elim
-    (λ found. inl (found.0, contains_there e gained found.0 found.1, found.2))
-    (λ others. inr (All-cons (λ x. IsComing port x → ⊥) e gained none others))
-    (one_or_none port gained))
-    (is_coming port e)
-
 -- where none comes, none is in then that wasn't before
 StaysOut : Port → Device → Device → Type 0
 StaysOut port old new = Grows old new × (NoneComes port.0 old new → (old.port port.0).present ≡ false → (new.port port.0).present ≡ false)
@@ -74,7 +64,7 @@ module _ (laws : LawsBelow) (port : Port) where
     λ none out. let parts = laws.looks.comes_parts port.0 a b c p.0.0 q.0.0 p.0.1 q.0.1 none in q.1 parts.1 (p.1 parts.0 out),
   )
 
-  module _ (old seen : Device) (l : LooksAt port Failed old seen) (on : IsOn old) where
+  module _ (old seen : Device) (look : Look) (l : LooksAt port look old seen) (on : IsOn old) (mends : LeadsToMending look) where
     out_in : StaysOut port old seen
     out_in =
         out_more old l.seen seen (out_over (Reading (Px port Is) l.causes) old l.seen l.reads)
@@ -90,7 +80,7 @@ module _ (laws : LawsBelow) (port : Port) where
         let read = on_over (Reading (Px port Is) l.causes) old l.seen tt l.reads on in
         let cleared = on_over (Writing (Px port Is) l.causes) l.seen l.cleared (λ e. absurd (let z : Px port Is ≡ Ghc = e in cc)) l.clears read in
         let acknowledged = on_over (Writing reg.Is l.own) l.cleared l.acknowledged (λ e. absurd (let z : reg.Is ≡ Ghc = e in cc)) l.acknowledges cleared in
-        sym (laws.looks.shown_after port Ssts l.status l.acknowledged seen acknowledged.no_reset l.shows) ∙ (laws.looks_failed l.causes l.status (sym l.tells)).4
+        sym (laws.looks.shown_after port Ssts l.status l.acknowledged seen acknowledged.no_reset l.shows) ∙ shows_link laws port look old seen l on mends
 
     -- where a disk is in as it shows, one was in before, or the tape tells that one came
     was_in : ((seen.port port.0).ssts_det ≡ 3 → (seen.port port.0).present ≡ true) → ((old.port port.0).present ≡ true) ⊎ ((gained : List Entry) × (seen.tape ≡ old.tape ++ gained) × ((e : Entry) × Contains gained e × IsComing port.0 e))
@@ -103,17 +93,17 @@ module _ (laws : LawsBelow) (port : Port) where
           ⊎_elim
               (λ found. found)
               (λ none. absurd (false≢true (sym (out_in.1 (record { gained = out_in.0.0; tape = out_in.0.1; none = none }) out) ∙ own shows_device)))
-              (one_or_none port.0 out_in.0.0),
+              (one_or_none (IsComing port.0) (is_coming port.0) out_in.0.0),
         ))
         (cases_Bool ((old.port port.0).present))
 
 -- Steps that the device backs, from the beginning of the turn to any moment after the look: the machine had a disk in the port before them, or one of them takes
 -- its disk out or puts one in.
-pub had_disk : (laws : LawsBelow) (port : Port) (s : Server) (seen new : Device) (m : Machine) → IsOn s.device → LooksAt port Failed s.device seen → ((seen.port port.0).ssts_det ≡ 3 → (seen.port port.0).present ≡ true)
+pub had_disk : (laws : LawsBelow) (port : Port) (s : Server) (seen new : Device) (m : Machine) → IsOn s.device → (look : Look) → LooksAt port look s.device seen → LeadsToMending look → ((seen.port port.0).ssts_det ≡ 3 → (seen.port port.0).present ≡ true)
     → IsMachineOf s m → Grows seen new → (steps : List Step) → IsBacked s.device new m steps → (m.present port ≡ true) ⊎ (list_any (changes_disk port) steps ≡ true)
-had_disk laws port s seen new m on l own is later steps backed = ⊎_elim
+had_disk laws port s seen new m on look l mends own is later steps backed = ⊎_elim
     (λ was. inl ((is.knows.agrees.disk port.0).present ∙ was))
     (λ came. inr (
     let whole : backed.gained ≡ came.0 ++ later.0 = append_cancel_left s.device.tape backed.gained (came.0 ++ later.0) (sym backed.tape ∙ later.1 ∙ ap (λ (tape : List Entry). tape ++ later.0) came.1 ∙ append_assoc s.device.tape came.0 later.0) in
     laws.disks_told port m backed.gained steps backed.tells came.2.0 (subst (λ (list : List Entry). Contains list came.2.0) (sym whole) (Contains-append_left came.0 later.0 came.2.0 came.2.1)) (coming_plugs port.0 came.2.0 came.2.2)))
-    (was_in laws port s.device seen l on own)
+    (was_in laws port s.device seen look l on mends own)

@@ -64,19 +64,19 @@ recovery_does port next.Dead accesses old new p = ⊎_elim (λ a. a.does) (λ b.
 pub record TurnParts (port : Port) (replies : List Reply) (old new : Server) (r : RecoversPort port replies old new) : Type 0 where
   pub early : IsDrivenBy (IsEarlyPart port) old.device r.settled.mid.device
   pub masks : ReadsMasks port r.settled.recovered.reads.issued r.settled.recovered.reads.active early.accesses
-  pub does : DoesAll r.settled.recovered.recovers.accesses r.settled.mid.device r.settled.device
-  pub kinds : All (IsPart port) r.settled.recovered.recovers.accesses
+  pub does : DoesAll r.settled.recovered.mends.accesses r.settled.mid.device r.settled.device
+  pub kinds : All (IsPart port) r.settled.recovered.mends.accesses
   pub late : IsDrivenBy (IsPart port) r.settled.device new.device
   pub sticks : r.settled.found ≡ Unready DeadState → r.settled.recovered.result.next ≢ next.Dead → Sticks port late.accesses
   pub stuck : r.settled.found ≡ Unready DeadState → r.settled.recovered.result.next ≢ next.Dead → (new.device.port port.0).notes.engine_count ≡ 64
   pub resets : (token : Stopped) → r.settled.recovered.result.next ≡ next.Restart token → r.settled.found ≢ Unready DeadState → ResetsLink port late.accesses
-  pub unreset : ((token : Stopped) → r.settled.recovered.result.next ≢ next.Restart token) → All (SparesRegister (Px port Sctl)) (early.accesses ++ (r.settled.recovered.recovers.accesses ++ late.accesses))
+  pub unreset : ((token : Stopped) → r.settled.recovered.result.next ≢ next.Restart token) → All (SparesRegister (Px port Sctl)) (early.accesses ++ (r.settled.recovered.mends.accesses ++ late.accesses))
   pub unissued : r.settled.found ≡ Unready DeadState → new ≡ r.mid
   pub silent : (q : ℕ) → q ≢ port.0 → state_of (found_of old.ports q) ≢ DeadState → SendsNone q ReadLog old.device new.device
   pub issuing_silent : state_of (found_of r.mid.ports port.0) ≢ DeadState → SendsNone port.0 ReadLog r.mid.device new.device
 
 abbrev pub accesses_in : {port : Port} {replies : List Reply} {old new : Server} {r : RecoversPort port replies old new} → TurnParts port replies old new r → List Access
-accesses_in {port} {replies} {old} {new} {r} t = t.early.accesses ++ (r.settled.recovered.recovers.accesses ++ t.late.accesses)
+accesses_in {port} {replies} {old} {new} {r} t = t.early.accesses ++ (r.settled.recovered.mends.accesses ++ t.late.accesses)
 
 -- a list with nobody in it
 nobody : {X : Type 0} (xs : List X) → ((x : X) → Contains xs x → ⊥) → xs ≡ []
@@ -215,7 +215,7 @@ module _ (laws : LawsBelow) (port : Port) (replies : List Reply) (old new : Serv
     given token is =
         let m = mid_kept.machine in
         let s : InSlots = record { uses = mid_kept.stands.uses; parked = mid_kept.stands.parked } in
-        let p : Performs x.recovers.accesses AnySlots (given_up port.0) ByDeviceAlone a.mid.device a.device = subst (λ (n : Next). LeavesSlots port.0 n x.recovers.accesses a.mid.device a.device) is x.recovers.does.slots in
+        let p : Performs x.mends.accesses AnySlots (given_up port.0) ByDeviceAlone a.mid.device a.device = subst (λ (n : Next). LeavesSlots port.0 n x.mends.accesses a.mid.device a.device) is x.mends.does.slots in
         let c = p.comes s m mid_kept.reached mid_kept.stands.knows tt in
         let g = laws.acts_go c.acts (at_slots s a.mid.device) (at_slots (given_up port.0 s) a.device) m mid_kept.stands.knows c.done in (
           record {
@@ -235,7 +235,7 @@ module _ (laws : LawsBelow) (port : Port) (replies : List Reply) (old new : Serv
         (finding_silent (record old { device = x.seen }) x.found port seen_kept ready laws x.mask x.done x.reads q ReadLog refl (λ dead. lives (ap state_of dead))))
 
     recovery_silent : SendsNone q ReadLog a.mid.device a.device
-    recovery_silent = x.recovers.leaves.others (port_at q) ReadLog other refl
+    recovery_silent = x.mends.leaves.others (port_at q) ReadLog other refl
         (mid_kept.stands.uses, none_own, record { machine = mid_kept.machine; parked = mid_kept.stands.parked; reached = mid_kept.reached; knows = mid_kept.stands.knows })
 
     later_found : found_of r.mid.ports q ≡ found_of old.ports q
@@ -276,15 +276,15 @@ module _ (laws : LawsBelow) (port : Port) (replies : List Reply) (old new : Serv
   turn_parts = record {
     early = early;
     masks = masks;
-    does = recovery_does port.0 x.result.next x.recovers.accesses a.mid.device a.device x.recovers.does.slots;
-    kinds = All-weaker (IsRecovering port) (IsPart port) (recovering_part laws port low) x.recovers.accesses x.recovers.does.only;
+    does = recovery_does port.0 x.result.next x.mends.accesses a.mid.device a.device x.mends.does.slots;
+    kinds = All-weaker (IsRecovering port) (IsPart port) (recovering_part laws port low) x.mends.accesses x.mends.does.only;
     late = late;
     sticks = late_sticks;
     stuck = λ dead lives. ap (λ (n : Server). (n.device.port port.0).notes.engine_count) (dead_unissued dead) ∙ afterwards.stuck dead lives;
     resets = late_resets;
-    unreset = λ never. All-append (SparesRegister (Px port Sctl)) early.accesses (x.recovers.accesses ++ late.accesses) early_spares
-        (All-append (SparesRegister (Px port Sctl)) x.recovers.accesses late.accesses
-        (All-weaker (IsRecovering port) (SparesRegister (Px port Sctl)) (recovering_spares port) x.recovers.accesses x.recovers.does.only) (late_spares never));
+    unreset = λ never. All-append (SparesRegister (Px port Sctl)) early.accesses (x.mends.accesses ++ late.accesses) early_spares
+        (All-append (SparesRegister (Px port Sctl)) x.mends.accesses late.accesses
+        (All-weaker (IsRecovering port) (SparesRegister (Px port Sctl)) (recovering_spares port) x.mends.accesses x.mends.does.only) (late_spares never));
     unissued = dead_unissued;
     silent = whole_silent;
     issuing_silent = λ lives. each_silent laws port (due_ids (mode_in r.mid port) port (asks_of r.mid.book)) r.mid new kept r.issued port.0 ReadLog refl (λ dead. lives (ap state_of dead));

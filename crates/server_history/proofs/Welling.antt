@@ -36,7 +36,7 @@ use Rattle.server_history.proofs.Evident.{IsEvident}
 use Rattle.server_history.proofs.Following.{mid_kept, mid_ready}
 use Rattle.server_history.proofs.Lasting.{again, again_booted, asked, ends_ready, issuing, recovered_on, then_issuing}
 use Rattle.server_history.proofs.Recovering.{IsEarlyPart}
-use Rattle.server_history.proofs.Recovery.{evidence_of}
+use Rattle.server_history.proofs.Recovery.{evidence_by}
 use Rattle.server_history.proofs.Showing.{LeavesTrouble, on_one}
 use Rattle.server_history.proofs.Slots.{ready_found}
 use Rattle.server_history.proofs.Stretching.{TurnParts}
@@ -114,7 +114,7 @@ module _ (laws : LawsBelow) (port : Port) (replies : List Reply) (old new : Serv
   early_grows = grows_over laws port t.early.accesses old.device a.mid.device t.early.all
 
   part_grows : Grows a.mid.device a.device
-  part_grows = grows_over laws port x.recovers.accesses a.mid.device a.device t.does
+  part_grows = grows_over laws port x.mends.accesses a.mid.device a.device t.does
 
   late_grows : Grows a.device new.device
   late_grows = grows_over laws port t.late.accesses a.device new.device t.late.all
@@ -122,13 +122,13 @@ module _ (laws : LawsBelow) (port : Port) (replies : List Reply) (old new : Serv
   -- ---- a port that runs again
 
   module _ (token : _) (is : x.result.next ≡ next.Running token) where
-    unreset : All (SparesRegister (Px port Sctl)) (t.early.accesses ++ (x.recovers.accesses ++ t.late.accesses))
+    unreset : All (SparesRegister (Px port Sctl)) (t.early.accesses ++ (x.mends.accesses ++ t.late.accesses))
     unreset = t.unreset (λ other same. let z : next.Running token ≡ next.Restart other = sym is ∙ same in absurd cc)
 
     early_leaves : All (LeavesLinked laws port) t.early.accesses
     early_leaves = All-weaker (λ access. Contains t.early.accesses access × IsEarlyPart port access) (LeavesLinked laws port)
         (λ access w. (
-          All-contains (SparesRegister (Px port Sctl)) (t.early.accesses ++ (x.recovers.accesses ++ t.late.accesses)) access unreset (Contains-append_left t.early.accesses (x.recovers.accesses ++ t.late.accesses) access w.0),
+          All-contains (SparesRegister (Px port Sctl)) (t.early.accesses ++ (x.mends.accesses ++ t.late.accesses)) access unreset (Contains-append_left t.early.accesses (x.mends.accesses ++ t.late.accesses) access w.0),
           laws.of_host port access w.1.0.1,
         ))
         t.early.accesses (λ i d small. (All-contains_itself t.early.accesses i d small, t.early.only i d small))
@@ -163,7 +163,7 @@ module _ (laws : LawsBelow) (port : Port) (replies : List Reply) (old new : Serv
         let one = laws.looks.calm_parts port.0 old.device a.mid.device new.device early_grows.0 rest.0 early_grows.1 rest.1 calm in
         let two = laws.looks.calm_parts port.0 a.mid.device a.device new.device part_grows.0 late_grows.0 part_grows.1 late_grows.1 one.1 in
         let fresh : (old.device.port port.0).fresh ≡ true = ⊎_elim
-        (λ reset. absurd (never_reset port (t.early.accesses ++ (x.recovers.accesses ++ t.late.accesses)) unreset (subst (ResetsLink port) evident.accesses_are reset)))
+        (λ reset. absurd (never_reset port (t.early.accesses ++ (x.mends.accesses ++ t.late.accesses)) unreset (subst (ResetsLink port) evident.accesses_are reset)))
         (λ is. is) how in
         let well = (again laws port replies old new k ready r looks kept t token is).well (laws.trouble.calm_plugs port.0 a.mid.device a.device two.0) (laws.trouble.calm_fatal port.0 a.mid.device a.device two.0) (linked none det fresh) plainly in
         well_over laws port a.device new.device (recovered_on laws port replies old new k ready r looks kept t) (then_issuing laws port replies old new k ready r looks kept t token is) two.1 well
@@ -187,7 +187,7 @@ module _ (laws : LawsBelow) (port : Port) (replies : List Reply) (old new : Serv
         let two = laws.looks.calm_parts port.0 then_asked r.mid.device new.device booted.0 last.0 booted.1 last.1 one.1 in
         well_over laws port r.mid.device new.device kept.on issued two.1 (ready_then.news.well two.0)
 
-  pub going_well : (m : Machine) → IsAskedOf port (instant_of old m) new.device → RunsWellAnew (evidence_of port a.failed a.prospect x.result.next) evident.accesses (instant_of old m) (ports_of new) new.device port
+  pub going_well : (m : Machine) → IsAskedOf port (instant_of old m) new.device → RunsWellAnew (evidence_by a) evident.accesses (instant_of old m) (ports_of new) new.device port
   going_well m asked_of _ is_ready calm how = by x.result.next refl
     where
       by : (n : Next) → x.result.next ≡ n → RunsWell (new.device.port port.0)

@@ -67,7 +67,7 @@ use Rattle.port_look.specs.Laws.{Laws}
 use Rattle.port_look.specs.Looks.{LooksAt, look_of}
 use Rattle.port_look.specs.Services.{IsOrdinary}
 use Rattle.port_look.specs.declared.Look.{Look}
-use Rattle.port_look.specs.declared.Look.TheVariants.{Failed, Lost, Undisturbed as Calm}
+use Rattle.port_look.specs.declared.Look.TheVariants.{Broken, Failed, Lost, Undisturbed as Calm}
 use Rattle.request_queue.specs.Entries.{Held, IsAccepted, IsEarlier, IsFresh, IsInOrder, IsWaiting, MayGoAgain, asks_of, at, issue, requeued as requeued_entry, unanswered_of, without}
 use Rattle.request_queue.specs.declared.Entry.{Entry}
 use Rattle.request_queue.specs.Machine.{IsBook, IsEntry}
@@ -182,6 +182,8 @@ pub record LawsBelow : Type 0 where
   pub looks_unlinked : (port : Port) (result : Look) (old new : Device) → IsOn old → LooksAt port result old new → (old.port port.0).ssts_det ≢ 3 → (old.port port.0).link_due ≡ false → NoneComes port.0 old new → result ≡ Lost
   pub looks_failed : (causes status : ℕ) → look_of causes status ≡ Failed
       → (bit causes 30 ≡ true) × (bit causes 6 ≡ false) × (bit causes 22 ≡ false) × ((place : ℕ) → 27 ≤ place → place ≤ 29 → bit causes place ≡ false) × (status % 16 ≡ 3)
+  pub looks_broken : (causes status : ℕ) → look_of causes status ≡ Broken
+      → ((bit causes 28 ≡ true) ⊎ (bit causes 29 ≡ true) ⊎ (bit causes 27 ≡ true)) × (bit causes 6 ≡ false) × (bit causes 22 ≡ false) × (status % 16 ≡ 3)
   pub looks_undisturbed : (causes status : ℕ) → look_of causes status ≡ Calm → TellsNoTrouble causes × (status % 16 ≡ 3)
   pub looks_calm : (port : Port) (result : Look) (old new : Device) → IsOn old → (l : LooksAt port result old new) → result ≡ Calm → ShowsNoTrouble (old.port port.0) × Undisturbed port.0 old l.seen
   -- a command that fails is heeded

@@ -4,10 +4,11 @@ use Rattle.ata_types.specs.declared.Port.{Port}
 use Rattle.ata_types.specs.declared.PortState.TheVariants.{Dead as DeadState}
 use Rattle.ata_types.specs.declared.request.Reply.{Reply}
 use Rattle.hba_regs.specs.Bits.{bit}
+use Rattle.adapter.specs.Access.{Access}
 use Rattle.adapter.specs.Device.{Device}
 use Rattle.block_machine.specs.declared.due.Mode.{Mode}
 use Rattle.error_log.specs.declared.Failure.{Failure}
-use Rattle.error_recovery.specs.Recovery.{Recovers}
+use Rattle.error_recovery.specs.Recovery.{Mends, TellsRecovery}
 use Rattle.error_recovery.specs.declared.Next.{Next}
 use Rattle.error_recovery.specs.declared.Next.TheVariants as next
 use Rattle.error_recovery.specs.declared.Recovered.{Recovered}
@@ -19,8 +20,10 @@ use Rattle.host_boot.specs.declared.Found.TheVariants.{Ready, Unready}
 use Rattle.identify.specs.declared.DiskInfo.{DiskInfo}
 use Rattle.identify.specs.declared.wanted.Wanted.{Wanted}
 use Rattle.ncq.specs.Masks.{ReadsDone}
+use Rattle.port_control.specs.declared.Running as running_token
 use Rattle.port_look.specs.Looks.{LooksAt}
-use Rattle.port_look.specs.declared.Look.TheVariants.{Failed as Fails}
+use Rattle.port_look.specs.declared.Look.{Look}
+use Rattle.port_look.specs.declared.Look.TheVariants as look
 use Rattle.request_queue.specs.Entries.{Held, IsEarlier, is_of}
 use Rattle.request_queue.specs.Fates.{Holdings, MeetFates, fate_of}
 use Rattle.request_queue.specs.declared.fate.Failed.{Failed}
@@ -31,17 +34,26 @@ use Rattle.slots.specs.declared.Use.{Use as SlotUse}
 use Rattle.server_history.specs.Served.{AnswersEach, IsMaskOf, IssuesAll, done_reply}
 use Rattle.server_history.specs.Server.{Server, kept_at, mode_found, slots_at, used_for}
 
--- ---- a port is recovered
+-- ---- a port is mended
+
+-- What is told after such a look. Where a command had failed, the port was recovered. Where its link or the host's memory had failed, the port was given up: nobody is named, and it
+-- doesn't run. Other looks lead to neither.
+abbrev pub TellsMending : Look → Port → ℕ → Bool → Recovered → List Access → Device → Device → Type 0
+TellsMending look.Failed port outstanding queued result accesses old new = TellsRecovery port outstanding queued result accesses old new
+TellsMending look.Broken port outstanding queued result accesses old new =
+    (result.failed ≡ None) × ((token : running_token.Running) → result.next ≢ next.Running token)
+TellsMending told port outstanding queued result accesses old new = ⊥
 
 -- each used slot has a queued command, or each has a plain one
 abbrev pub AreQueued : Bool → PortSlots → Type 0
 AreQueued queued slots = (slot : ℕ) (used : SlotUse) → use_at slots slot ≡ Some used → used.queued ≡ queued
 
--- A look told that a command had failed. The masks were read; what was done was answered, in order of acceptance, and no slot of it is in use any more;
--- and the port was recovered, with the commands of the other used slots outstanding. So it came to this server, and then to this device.
+-- A look told of trouble. The masks were read; what was done was answered, in order of acceptance, and no slot of it is in use any more;
+-- and the port was mended, with the commands of the other used slots outstanding. So it came to this server, and then to this device.
 pub record IsRecovered (port : Port) (old mid : Server) (new : Device) : Type 0 where
+  pub look : Look
   pub seen : Device
-  pub looks : LooksAt port Fails old.device seen
+  pub looks : LooksAt port look old.device seen
   pub mask : ℕ
   pub its : IsMaskOf (slots_at old.slots port.0) mask
   pub done : ℕ
@@ -56,7 +68,8 @@ pub record IsRecovered (port : Port) (old mid : Server) (new : Device) : Type 0 
   pub queued : Bool
   pub alike : AreQueued queued (slots_at mid.slots port.0)
   pub result : Recovered
-  pub recovers : Recovers port outstanding queued result mid.device new
+  pub mends : Mends port outstanding queued result mid.device new
+  pub tells : TellsMending look port outstanding queued result mends.accesses mid.device new
 
 -- ---- what it is then
 
@@ -111,7 +124,7 @@ with_port port device found was mode slots now s = record s {
   book = now.book;
 }
 
--- The port was recovered, and booted where it had to be; and its requests met their fates: the one that failed is told so, and the others what their port
+-- The port was mended, and booted where it had to be; and its requests met their fates: the one that failed is told so, and the others what their port
 -- is then. So it came to this server, by these replies after those that tell what was done.
 pub record HasMetFates (port : Port) (later : List Reply) (old new : Server) : Type 0 where
   pub was : DiskInfo
@@ -135,7 +148,7 @@ pub record HasMetFates (port : Port) (later : List Reply) (old new : Server) : T
 
 -- ---- the whole
 
--- A port's turn in which a command had failed: it was recovered, its requests met their fates, and then what is due on it was issued. The replies stand in
+-- A port's turn in which a look told of trouble: it was mended, its requests met their fates, and then what is due on it was issued. The replies stand in
 -- order of acceptance.
 pub record RecoversPort (port : Port) (replies : List Reply) (old new : Server) : Type 0 where
   pub later : List Reply

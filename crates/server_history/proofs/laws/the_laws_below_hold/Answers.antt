@@ -97,6 +97,7 @@ returns c = record {
   looks_changed = c.trouble_is_seen.ensures.changed;
   looks_unlinked = c.trouble_is_seen.ensures.unlinked;
   looks_failed = c.answers_tell.ensures.failed;
+  looks_broken = c.answers_tell.ensures.broken;
   looks_undisturbed = c.answers_tell.ensures.undisturbed;
   looks_calm = c.trouble_is_seen.ensures.calm;
   looks_heed = c.a_fault_is_heeded.ensures.look;
