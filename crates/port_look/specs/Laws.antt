@@ -24,7 +24,7 @@ use Rattle.agreement.specs.Noted.{LeavesNotes}
 use Rattle.agreement.specs.Slots.{Uses}
 use Rattle.agreement.specs.Started.{ClearsNoStart, IsStarted}
 use Rattle.port_look.specs.Looks.{IsLooking}
-use Rattle.port_look.specs.Services.{IsService}
+use Rattle.port_look.specs.Services.{IsService, ShowsDisks, ShowsFatals}
 
 -- a look at a port, whatever the slots are used for; or ports are served, whose slots are used so
 pub data Stretch : Type 0 where
@@ -90,6 +90,14 @@ pub record Laws : Type 0 where
   pub steps_unfailed : (port : ℕ) (old new : Device) → old.hr ≡ false → Steps old new → (new.port port).is 30 ≡ false → ((old.port port).is 30 ≡ false) × NoneFails port old new
   pub access_unfailed : (port : Port) (access : Access) (old new : Device) → old.hr ≡ false → SparesRegister (Px port Is) access → Does access old new → (new.port port.0).is 30 ≡ false
       → ((old.port port.0).is 30 ≡ false) × NoneFails port.0 old new
+  -- a fatal error, and a disk
+  pub steps_unbroken : (port : ℕ) (old new : Device) → old.hr ≡ false → Steps old new → ShowsFatals port old new
+  pub access_unbroken : (port : Port) (access : Access) (old new : Device) → old.hr ≡ false → SparesRegister (Px port Is) access → Does access old new → ShowsFatals port.0 old new
+  pub access_undisturbed : (port : Port) (access : Access) (old new : Device) → old.hr ≡ false → SparesRegister (Px port Serr) access → Does access old new → ShowsDisks port.0 old new
+  pub fatal_none : (port : ℕ) (d : Device) → NoneFatal port d d
+  pub fatal_more : (port : ℕ) (old mid new : Device) → NoneFatal port old mid → NoneFatal port mid new → NoneFatal port old new
+  pub plugs_none : (port : ℕ) (d : Device) → PlugsNone port d d
+  pub plugs_more : (port : ℕ) (old mid new : Device) → PlugsNone port old mid → PlugsNone port mid new → PlugsNone port old new
   pub fault_told : (port : Port) (v : ℕ) (old new : Device) → old.hr ≡ false → (old.port port.0).st ≡ true → IsRecorded old.tape (old.port port.0) port.0 → Reads (Px port Is) v old new → bit v 30 ≡ true → IsFaulted (new.port port.0).halt
   pub fault_reads : (port : ℕ) (r : Reg) (v : ℕ) (old new : Device) → old.hr ≡ false → (old.port port).st ≡ true → IsRecorded old.tape (old.port port) port → IsFaulted (old.port port).halt → Reads r v old new → IsFaulted (new.port port).halt
   pub fault_writes : (port : ℕ) (r : Reg) (v : ℕ) (old new : Device) → old.hr ≡ false → (old.port port).st ≡ true → IsRecorded old.tape (old.port port) port → IsFaulted (old.port port).halt → Writes r v old new → IsFaulted (new.port port).halt

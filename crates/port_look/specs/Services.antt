@@ -1,13 +1,14 @@
 -- Accesses by which ports are served (this project's own).
-use Rattle.std.specs.Prelude.{true, ◌≡◌, ◌⊎◌}
+use Rattle.std.specs.Prelude.{ℕ, true, false, ◌≡◌, ◌≢◌, ◌≤◌, ◌⊎◌}
 use Rattle.ata_types.specs.declared.Port.{Port}
 use Rattle.hba_regs.specs.declared.reg.Reg.TheVariants as reg
 use Rattle.hba_regs.specs.declared.reg.Reg.TheVariants.{Px}
 use Rattle.hba_regs.specs.declared.reg.PortReg.TheVariants.{Is, Ci, Sact}
 use Rattle.adapter.specs.Access.{Access}
 use Rattle.adapter.specs.Access.Access.{Writing}
-use Rattle.adapter.specs.Device.{PortState}
-use Rattle.agreement.specs.Links.{SparesRegister}
+use Rattle.adapter.specs.Device.{Device, PortState}
+use Rattle.agreement.specs.Errors.{NoneFails, NoneFatal}
+use Rattle.agreement.specs.Links.{PlugsNone, SparesRegister}
 
 -- Of registers it writes IS, or a port's PxIS, PxCI or PxSACT, if any.
 abbrev pub IsService : Access → Type 0
@@ -21,3 +22,23 @@ IsOrdinary port access = IsService access × SparesRegister (Px port Is) access
 -- N and X of PxSERR stay set where they are (AHCI 1.3.1, 3.3.12)
 abbrev pub KeepsChanges : PortState → PortState → Type 0
 KeepsChanges old new = (old.serr_n ≡ true → new.serr_n ≡ true) × (old.serr_x ≡ true → new.serr_x ≡ true)
+
+-- What isn't shown after a stretch wasn't shown before it, and hasn't come in it: a fault by TFES; a fatal error by IFS, HBDS and HBFS; a disk that went
+-- or came by N of PxSERR (AHCI 1.3.1, 3.3.5 and 3.3.12).
+abbrev pub ShowsFaults : ℕ → Device → Device → Type 0
+ShowsFaults port old new = (new.port port).is 30 ≡ false → ((old.port port).is 30 ≡ false) × NoneFails port old new
+
+-- none of the three is set
+abbrev pub ShowsNoFatal : PortState → Type 0
+ShowsNoFatal p = (place : ℕ) → 27 ≤ place → place ≤ 29 → p.is place ≡ false
+
+abbrev pub ShowsFatals : ℕ → Device → Device → Type 0
+ShowsFatals port old new = ShowsNoFatal (new.port port) → ShowsNoFatal (old.port port) × NoneFatal port old new
+
+abbrev pub ShowsDisks : ℕ → Device → Device → Type 0
+ShowsDisks port old new = (new.port port).serr_n ≡ false → ((old.port port).serr_n ≡ false) × PlugsNone port old new
+
+-- The port told of a change of its link before the stretch, or showed no device; or a disk went or came in the stretch.
+abbrev pub HasLoss : ℕ → Device → Device → Type 0
+HasLoss port old new =
+    (((old.port port).serr_n ≡ true) ⊎ ((old.port port).serr_x ≡ true)) ⊎ (((old.port port).ssts_det ≢ 3) ⊎ (PlugsNone port old new → ⊥))

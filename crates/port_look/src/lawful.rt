@@ -7,7 +7,8 @@ use agreement::facts::{
     adapter_stays, calm_composes, cleared_stays, coming_composes, controls_stay, errors_are_kept,
     errors_are_shown, errors_rise_by_disks, fatal_errors_compose, fault_is_found,
     faults_are_recorded, faults_compose, healthy_stays, link_stays, loads_and_stores_leave_ports,
-    notes_are_set, notes_stay, plugging_composes, running_well_is_found, trouble_is_shown,
+    notes_are_set, notes_stay, plugging_composes, plugging_is_found, running_well_is_found,
+    trouble_is_shown,
 };
 use agreement::kinds::{
     Kinds, accesses_are_followed, followed_stretches_give, stretches_are_followed,
@@ -52,6 +53,7 @@ pub fn laws_hold()
     notes_are_set();
     notes_stay();
     plugging_composes();
+    plugging_is_found();
     running_well_is_found();
     trouble_is_shown();
     accesses_are_followed::<Looks>();

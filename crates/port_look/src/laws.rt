@@ -9,12 +9,12 @@ ghost use Rattle.adapter.specs.Access.{Access, Reads};
 ghost use Rattle.adapter.specs.Device.{Device};
 ghost use Rattle.adapter.specs.Rules.{IsOn};
 ghost use Rattle.agreement.specs.Driven.{IsUse, IsAgreed, IsDrivenBy, IsFollowed, IsOf};
-ghost use Rattle.agreement.specs.Errors.{KeepsErrors, NoneComes, NoneFails, NoneFatal};
+ghost use Rattle.agreement.specs.Errors.{KeepsErrors, NoneComes};
 ghost use Rattle.agreement.specs.Facts.{IsFaulted, IsRecorded, RunsWell, ShowsNoTrouble, TellsNoTrouble, Undisturbed};
-ghost use Rattle.agreement.specs.Links.{PlugsNone, SameAdapter};
+ghost use Rattle.agreement.specs.Links.{SameAdapter};
 ghost use Rattle.agreement.specs.Slots.{Uses};
 ghost use Rattle.port_look.specs.Looks.{look_of, IsLooking, LooksAt};
-ghost use Rattle.port_look.specs.Services.{IsService, IsOrdinary, KeepsChanges};
+ghost use Rattle.port_look.specs.Services.{HasLoss, IsService, IsOrdinary, KeepsChanges, ShowsDisks, ShowsFatals, ShowsFaults};
 ghost use Rattle.port_look.specs.declared.Look.{Look};
 ghost use Rattle.port_look.specs.declared.Look.TheVariants as look;
 
@@ -112,18 +112,19 @@ pub fn failures_are_found()
     laws_hold();
 }
 
-/// A command that fails is heeded. Where a port showed neither a fatal error nor a change of its link, and a device, with no link due, and no
-/// fatal error of it came, and no disk went or came, a look tells that a command failed, or nothing. And a fault that wasn't read is shown: where
-/// TFES is clear after a look that hasn't read it, or after ordinary accesses, it was clear before, and no fault of the port came.
-pub fn a_fault_is_heeded()
-    ensures look { (port : Port) (result : Look) (old new : Device) → IsOn old → LooksAt port result old new
-        → (old.port port.0).link_due ≡ false → ((place : ℕ) → 27 ≤ place → place ≤ 29 → (old.port port.0).is place ≡ false)
-        → (old.port port.0).serr_n ≡ false → (old.port port.0).serr_x ≡ false → (old.port port.0).ssts_det ≡ 3
-        → NoneFatal port.0 old new → PlugsNone port.0 old new → (result ≡ look.Undisturbed) ⊎ (result ≡ look.Failed) }
-    ensures unread { (port : Port) (result : Look) (old new : Device) → IsOn old → (l : LooksAt port result old new)
-        → bit l.causes 30 ≡ false → (new.port port.0).is 30 ≡ false → ((old.port port.0).is 30 ≡ false) × NoneFails port.0 old new }
-    ensures ordinary { (port : Port) (old new : Device) → IsOn old → IsDrivenBy (IsOrdinary port) old new
-        → (new.port port.0).is 30 ≡ false → ((old.port port.0).is 30 ≡ false) × NoneFails port.0 old new }
+/// Trouble is heeded. What isn't shown after a look, of errors that the look hasn't read, wasn't shown before it and hasn't come: a fault, a fatal error, and a disk
+/// that went or came. So it is over ordinary accesses. And a look tells a loss only where the port had one to tell, or a disk went or came, if no link was due.
+pub fn trouble_is_heeded()
+    ensures fault { (port : Port) (result : Look) (old new : Device) → IsOn old → (l : LooksAt port result old new)
+        → bit l.causes 30 ≡ false → ShowsFaults port.0 old new }
+    ensures fatal { (port : Port) (result : Look) (old new : Device) → IsOn old → (l : LooksAt port result old new)
+        → ((place : ℕ) → 27 ≤ place → place ≤ 29 → bit l.causes place ≡ false) → ShowsFatals port.0 old new }
+    ensures disk { (port : Port) (result : Look) (old new : Device) → IsOn old → LooksAt port result old new → ShowsDisks port.0 old new }
+    ensures faults { (port : Port) (old new : Device) → IsOn old → IsDrivenBy (IsOrdinary port) old new → ShowsFaults port.0 old new }
+    ensures fatals { (port : Port) (old new : Device) → IsOn old → IsDrivenBy (IsOrdinary port) old new → ShowsFatals port.0 old new }
+    ensures disks { (port : Port) (old new : Device) → IsOn old → IsDrivenBy (IsOrdinary port) old new → ShowsDisks port.0 old new }
+    ensures loss { (port : Port) (old new : Device) → IsOn old → LooksAt port look.Lost old new → (old.port port.0).link_due ≡ false
+        → HasLoss port.0 old new }
 {
     laws_hold();
 }
