@@ -26,6 +26,12 @@ use Rattle.server_history.proofs.Looking.{finding_kept, looking_kept}
 use Rattle.server_history.proofs.Plain.{both_read}
 use Rattle.server_history.proofs.Slots.{busy_used, free_unused, ready_found, used_or_not}
 
+-- COMRESET isn't being sent
+pub released : (s : Server) (port : Port) → IsKept s → state_of (found_of s.ports port.0) ≡ ReadyState → (s.device.port port.0).sctl_det ≡ 0
+released s port k ready =
+    let r = ready_found s port.0 k ready in
+    (subst (λ (f : Found). StillStandsBehind (wanted_of s.wanted port.0) f port.0 s.device) r.1.1 (k.behind port.0 r.0).behind).1.det
+
 module _ (laws : LawsBelow) (s : Server) (seen found : Device) (port : Port) (mask done : ℕ) (k : IsKept s) (ready : state_of (found_of s.ports port.0) ≡ ReadyState)
     (l : LooksAt port Failed s.device seen) (looks : IsFollowed (IsLooking port) AnyUse s.device seen) (finds : ReadsDone port mask done seen found) where
   low : port.0 < 4
@@ -46,12 +52,6 @@ module _ (laws : LawsBelow) (s : Server) (seen found : Device) (port : Port) (ma
 
   runs : Runs port.0 found
   runs = (found_kept.behind port.0 low).runs ready
-
-  -- no COMRESET is being sent
-  det : (found.port port.0).sctl_det ≡ 0
-  det =
-      let r = ready_found s port.0 k ready in
-      (subst (λ (f : Found). StillStandsBehind (wanted_of s.wanted port.0) f port.0 found) r.1.1 (found_kept.behind port.0 low).behind).1.det
 
   first : IsFaulted (seen.port port.0).halt × ((seen.port port.0).notes.last_ssts % 16 ≡ 3)
   first = laws.fails_look port s.device seen k.on l was.st (λ _. was.recorded)
@@ -74,7 +74,7 @@ module _ (laws : LawsBelow) (s : Server) (seen found : Device) (port : Port) (ma
     cr = runs.cr;
     fre = runs.fre;
     bases = runs.bases;
-    det = det;
+    det = released (record s { device = found }) port found_kept ready;
     linked = halted.1;
     recorded = runs.recorded;
     halted = halted.0;

@@ -26,9 +26,10 @@ use Rattle.driver_history.specs.Histories.{LosesNoTrouble}
 use Rattle.error_recovery.specs.Evidence.{GainsRunning}
 use Rattle.ncq.specs.Masks.{IsFinding}
 use Rattle.ncq.specs.Tasks.{IsIssuing}
-use Rattle.port_look.specs.Looks.{IsLooking}
+use Rattle.port_look.specs.Looks.{IsLooking, LooksAt}
+use Rattle.port_look.specs.declared.Look.{Look}
 use Rattle.port_look.specs.Services.{IsOrdinary}
-use Rattle.port_look.specs.declared.Look.TheVariants.{Undisturbed as Calm}
+use Rattle.port_look.specs.declared.Look.TheVariants.{Lost, Undisturbed as Calm}
 use Rattle.port_look.proofs.Apart.{looking_of}
 use Rattle.port_look.proofs.Seeing.{look_driven}
 use Rattle.slots.specs.Uses.{Uses as PortSlots}
@@ -106,9 +107,9 @@ module _ (laws : LawsBelow) where
       -- where TFES is clear, no fault came
       pub fails_none : (new.port port.0).is 30 ≡ false → NoneFails port.0 old.device new
       fails_none clear =
-          let late = laws.ordinary_shows port turn.seen new seen_on (later_driven calm) clear in
+          let late = laws.ordinary_faults port turn.seen new seen_on (later_driven calm) clear in
           let told = laws.looks_undisturbed turn.looks.causes turn.looks.status (sym turn.looks.tells ∙ calm) in
-          laws.looks.fails_more port.0 old.device turn.seen new (laws.looks_unread port turn.look old.device turn.seen on turn.looks (told.0.quiet 30 (omega arith) (omega arith)) late.0).1 late.1
+          laws.looks.fails_more port.0 old.device turn.seen new (laws.looks_fault port turn.look old.device turn.seen on turn.looks (told.0.quiet 30 (omega arith) (omega arith)) late.0).1 late.1
 
       -- so a fault that came is shown
       fault_shown : Gains (IsFaultOf port.0) old.device new → (new.port port.0).is 30 ≡ true
@@ -137,18 +138,12 @@ module _ (laws : LawsBelow) where
 
     -- a look at such a port told nothing
     module _ (undue : (old.device.port port.0).link_due ≡ false) (asked : IsAskedOf port old new) where
-      whole : (place : ℕ) → 27 ≤ place → place ≤ 29 → (old.device.port port.0).is place ≡ false
-      whole place from to = clear_unless ((old.device.port port.0).is place) (λ set. asked.fatal (record { place = place; from = from; to = to; set = set }))
-
       pub told_nothing : turn.look ≡ Calm
       told_nothing = ⊎_elim
           (λ calm. calm)
-          (λ told.
-          let same = (turn.told told).1 in
-          ⊎_elim
-          (λ calm. calm)
-          (λ failed. absurd (turn.whole failed))
-          (laws.looks_heed port turn.look old.device turn.seen on turn.looks undue whole
-          (clear_unless (old.device.port port.0).serr_n (λ n. asked.change (inl n))) (clear_unless (old.device.port port.0).serr_x (λ x. asked.change (inr x))) asked.device
-          (subst (NoneFatal port.0 old.device) same asked.unbroken) (subst (PlugsNone port.0 old.device) same asked.plugged)))
-          (calm_or_not turn.look)
+          (λ lost.
+          let same : new ≡ turn.seen = (turn.told (λ calm. let z : Calm ≡ Lost = sym calm ∙ lost in cc)).1 in
+          absurd (⊎_elim asked.change
+          (λ more. ⊎_elim (λ out. out asked.device) (λ came. came (subst (PlugsNone port.0 old.device) same asked.plugged)) more)
+          (laws.looks_loss port old.device turn.seen on (subst (λ (l : Look). LooksAt port l old.device turn.seen) lost turn.looks) undue)))
+          turn.quiet

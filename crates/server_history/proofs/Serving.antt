@@ -34,7 +34,7 @@ use Rattle.port_look.specs.Looks.{IsLooking, LooksAt}
 use Rattle.port_look.specs.Laws.{Laws}
 use Rattle.port_look.specs.Services.{IsService}
 use Rattle.port_look.specs.declared.Look.{Look}
-use Rattle.port_look.specs.declared.Look.TheVariants.{Failed, Undisturbed as Calm}
+use Rattle.port_look.specs.declared.Look.TheVariants.{Lost, Undisturbed as Calm}
 use Rattle.port_look.proofs.Serving.{looking_service, looks_inactive}
 use Rattle.request_queue.specs.Entries.{Held, asks_of, due_ids}
 use Rattle.slots.specs.Uses.{Uses as PortSlots}
@@ -208,14 +208,14 @@ module _ (s : Server) (seen : Device) (port : Port) (t : IsSettled s) (ready : s
   seen_silent : (q : ℕ) → state_of (found_of s.ports q) ≢ Dead → SendsNone q ReadLog s.device seen
   seen_silent q lives = looking_silent s seen port k ready looks q ReadLog refl (λ dead. lives (ap state_of dead))
 
-  -- it was looked at, and that told of something
-  pub told_trouble : LawsBelow → (look : Look) → LooksAt port look s.device seen → look ≢ Calm → look ≢ Failed → ServesPort port [] s (record s { device = seen })
-  told_trouble laws look l told whole =
+  -- it was looked at, and its disk was lost
+  pub told_loss : LawsBelow → LooksAt port Lost s.device seen → ServesPort port [] s (record s { device = seen })
+  told_loss laws l =
       nobody_answered laws s seen port t ready
-      (record { look = look; seen = seen; looks = l; whole = whole; told = λ _. (refl, refl); calm = λ calm. absurd (told calm) })
+      (record { look = Lost; seen = seen; looks = l; quiet = inr refl; told = λ _. (refl, refl); calm = λ calm. absurd (let z : Lost ≡ Calm = calm in cc) })
       (looks_serve port s.device seen looks)
       seen_silent
-      (λ calm slot used small its ci sact. told calm)
+      (λ calm slot used small its ci sact. absurd (let z : Lost ≡ Calm = calm in cc))
 
   module _ (l : LooksAt port Calm s.device seen) where
     -- no slot is used
@@ -226,7 +226,7 @@ module _ (s : Server) (seen : Device) (port : Port) (t : IsSettled s) (ready : s
           look = Calm;
           seen = seen;
           looks = l;
-          whole = λ e. (let z : Calm ≡ Failed = e in cc);
+          quiet = inl refl;
           told = λ trouble. absurd (trouble refl);
           calm = λ _. record { mask = 0; its = its; idle = λ _. (refl, refl); checks = λ some. absurd (some (λ slot small. bit_zero slot)) };
         })
@@ -256,7 +256,7 @@ module _ (s : Server) (seen : Device) (port : Port) (t : IsSettled s) (ready : s
             look = Calm;
             seen = seen;
             looks = l;
-            whole = λ e. (let z : Calm ≡ Failed = e in cc);
+            quiet = inl refl;
             told = λ trouble. absurd (trouble refl);
             calm = λ _. record {
               mask = mask;
@@ -398,7 +398,7 @@ module _ (s : Server) (seen : Device) (port : Port) (t : IsSettled s) (ready : s
               look = Calm;
               seen = seen;
               looks = l;
-              whole = λ e. (let z : Calm ≡ Failed = e in cc);
+              quiet = inl refl;
               told = λ trouble. absurd (trouble refl);
               calm = λ _. record {
                 mask = mask;

@@ -65,7 +65,7 @@ use Rattle.ncq.specs.Tasks.{IsIssuing, IsTaskOf, IssuesTask, MayServe, with_serv
 use Rattle.ncq.specs.declared.Task.{Task}
 use Rattle.port_look.specs.Laws.{Laws}
 use Rattle.port_look.specs.Looks.{LooksAt, look_of}
-use Rattle.port_look.specs.Services.{IsOrdinary}
+use Rattle.port_look.specs.Services.{HasLoss, IsOrdinary, ShowsDisks, ShowsFatals, ShowsFaults}
 use Rattle.port_look.specs.declared.Look.{Look}
 use Rattle.port_look.specs.declared.Look.TheVariants.{Broken, Failed, Lost, Undisturbed as Calm}
 use Rattle.request_queue.specs.Entries.{Held, IsAccepted, IsEarlier, IsFresh, IsInOrder, IsWaiting, MayGoAgain, asks_of, at, issue, requeued as requeued_entry, unanswered_of, without}
@@ -186,13 +186,14 @@ pub record LawsBelow : Type 0 where
       → ((bit causes 28 ≡ true) ⊎ (bit causes 29 ≡ true) ⊎ (bit causes 27 ≡ true)) × (bit causes 6 ≡ false) × (bit causes 22 ≡ false) × (status % 16 ≡ 3)
   pub looks_undisturbed : (causes status : ℕ) → look_of causes status ≡ Calm → TellsNoTrouble causes × (status % 16 ≡ 3)
   pub looks_calm : (port : Port) (result : Look) (old new : Device) → IsOn old → (l : LooksAt port result old new) → result ≡ Calm → ShowsNoTrouble (old.port port.0) × Undisturbed port.0 old l.seen
-  -- a command that fails is heeded
-  pub looks_heed : (port : Port) (result : Look) (old new : Device) → IsOn old → LooksAt port result old new → (old.port port.0).link_due ≡ false
-      → ((place : ℕ) → 27 ≤ place → place ≤ 29 → (old.port port.0).is place ≡ false) → (old.port port.0).serr_n ≡ false → (old.port port.0).serr_x ≡ false → (old.port port.0).ssts_det ≡ 3
-      → NoneFatal port.0 old new → PlugsNone port.0 old new → (result ≡ Calm) ⊎ (result ≡ Failed)
-  pub looks_unread : (port : Port) (result : Look) (old new : Device) → IsOn old → (l : LooksAt port result old new) → bit l.causes 30 ≡ false → (new.port port.0).is 30 ≡ false
-      → ((old.port port.0).is 30 ≡ false) × NoneFails port.0 old new
-  pub ordinary_shows : (port : Port) (old new : Device) → IsOn old → IsDrivenBy (IsOrdinary port) old new → (new.port port.0).is 30 ≡ false → ((old.port port.0).is 30 ≡ false) × NoneFails port.0 old new
+  -- trouble is heeded
+  pub looks_fault : (port : Port) (result : Look) (old new : Device) → IsOn old → (l : LooksAt port result old new) → bit l.causes 30 ≡ false → ShowsFaults port.0 old new
+  pub looks_fatal : (port : Port) (result : Look) (old new : Device) → IsOn old → (l : LooksAt port result old new) → ((place : ℕ) → 27 ≤ place → place ≤ 29 → bit l.causes place ≡ false) → ShowsFatals port.0 old new
+  pub looks_disk : (port : Port) (result : Look) (old new : Device) → IsOn old → LooksAt port result old new → ShowsDisks port.0 old new
+  pub ordinary_faults : (port : Port) (old new : Device) → IsOn old → IsDrivenBy (IsOrdinary port) old new → ShowsFaults port.0 old new
+  pub ordinary_fatals : (port : Port) (old new : Device) → IsOn old → IsDrivenBy (IsOrdinary port) old new → ShowsFatals port.0 old new
+  pub ordinary_disks : (port : Port) (old new : Device) → IsOn old → IsDrivenBy (IsOrdinary port) old new → ShowsDisks port.0 old new
+  pub looks_loss : (port : Port) (old new : Device) → IsOn old → LooksAt port Lost old new → (old.port port.0).link_due ≡ false → HasLoss port.0 old new
   -- a port that is recovered, or booted anew
   pub recovering_of : (port : Port) (access : Access) → IsRecovering port access → IsOf port access
   pub recovering_loads : (port : Port) (at : ℕ) (bytes : List ℕ) → port.0 < 4 → IsRecovering port (Loading at bytes) → at + length bytes ≤ DRIVER_BYTES

@@ -49,8 +49,7 @@ ghost use Rattle.server_history.specs.Server.{AreOfTwo, Server, mode_found, IsKe
 ghost use Rattle.slots.specs.Uses.{IsLowestFree, IsTaken};
 ghost use Rattle.slots.specs.declared.Use.{Use as SlotUse};
 ghost use Rattle.port_look.specs.Looks.{IsLooking, LooksAt};
-ghost use Rattle.port_look.specs.declared.Look.{Look};
-ghost use Rattle.port_look.specs.declared.Look.TheVariants.{Failed as Fails, Undisturbed as Calm};
+ghost use Rattle.port_look.specs.declared.Look.TheVariants.{Failed as Fails, Lost, Undisturbed as Calm};
 ghost use Rattle.error_recovery.specs.Recovery.{FitsFor, IsAloneIn, MayRecover};
 ghost use Rattle.error_recovery.specs.declared.Next.TheVariants.{Restart};
 ghost use Rattle.port_boot.specs.States.{IsBootable};
@@ -89,7 +88,7 @@ use ncq::laws::{calls_are_of_one_port, finding_is_followed, issuing_performs};
 use port_boot::laws::{a_boot_is_of_its_port, a_disk_is_in_where_one_shows, a_port_runs_on};
 use port_control::laws::what_is_told_of_engines_stays;
 use port_look::lawful::laws_hold;
-use port_look::laws::{a_fault_is_heeded, answers_tell, failures_are_found, trouble_is_seen};
+use port_look::laws::{answers_tell, failures_are_found, trouble_is_heeded, trouble_is_seen};
 use request_queue::laws::{
     accepted_requests_stay, an_id_is_one_request, clients_have_as_many,
     operations_change_one_request, operations_change_what_is_due, steps_change_the_book,
@@ -142,7 +141,7 @@ fn the_laws_below_hold()
     a_turns_evidence_is_the_calls();
     trouble_is_seen();
     answers_tell();
-    a_fault_is_heeded();
+    trouble_is_heeded();
     recovery_is_of_its_port();
     a_boot_is_of_its_port();
     what_is_told_of_engines_stays();
@@ -303,12 +302,11 @@ pub fn looks_keep()
     the_laws_below_hold();
 }
 
-/// How a ready port is served: it is looked at. Where the look told that a command had failed, the port is recovered; where it told of something
-/// else, or the port uses no slot, that is all; else the slots that it uses are checked, those that are found done are answered, and what is due then is issued.
+/// How a ready port is served: it is looked at. Where the look told of an error, the port is mended; where it told that the disk was lost, or the port
+/// uses no slot, that is all; else the slots that it uses are checked, those that are found done are answered, and what is due then is issued.
 pub fn a_port_is_served()
-    ensures told { (s : Server) (seen : Device) (port : Port) (look : Look) → IsSettled s → state_of (found_of s.ports port.0) ≡ ReadyState
-        → LooksAt port look s.device seen → IsFollowed (IsLooking port) AnyUse s.device seen → look ≢ Calm → look ≢ Fails
-        → ServesPort port [] s (record s { device = seen }) }
+    ensures told { (s : Server) (seen : Device) (port : Port) → IsSettled s → state_of (found_of s.ports port.0) ≡ ReadyState
+        → LooksAt port Lost s.device seen → IsFollowed (IsLooking port) AnyUse s.device seen → ServesPort port [] s (record s { device = seen }) }
     ensures idle { (s : Server) (seen : Device) (port : Port) → IsSettled s → state_of (found_of s.ports port.0) ≡ ReadyState
         → LooksAt port Calm s.device seen → IsFollowed (IsLooking port) AnyUse s.device seen → IsMaskOf (slots_at s.slots port.0) 0
         → ServesPort port [] s (record s { device = seen }) }
@@ -328,12 +326,13 @@ pub fn a_port_is_served()
     the_laws_below_hold();
 }
 
-/// A ready port that a look tells a failure of may be recovered once its masks were read: a fault has halted it, and it shows a device. Of plain
-/// commands it has one alone, in slot 0.
+/// A ready port that a look tells a failure of may be recovered once its masks were read: a fault has halted it, and it shows a device. On no ready port is
+/// COMRESET being sent. Of plain commands a port has one alone, in slot 0.
 pub fn a_failed_port_may_be_recovered()
     ensures may { (s : Server) (seen found : Device) (port : Port) (mask done : ℕ) → IsKept s → state_of (found_of s.ports port.0) ≡ ReadyState
         → LooksAt port Fails s.device seen → IsFollowed (IsLooking port) AnyUse s.device seen → ReadsDone port mask done seen found
         → MayRecover port.0 found }
+    ensures released { (s : Server) (port : Port) → IsKept s → state_of (found_of s.ports port.0) ≡ ReadyState → (s.device.port port.0).sctl_det ≡ 0 }
     ensures agreed { (s : Server) (port : Port) (queued : Bool) → IsKept s → state_of (found_of s.ports port.0) ≡ ReadyState
         → AreQueued queued (slots_at s.slots port.0) → AgreesWith (FitsFor queued port.0) s.device }
     ensures alike { (s : Server) (port : Port) (slot : ℕ) (used : SlotUse) → IsKept s → used_for s.slots port.0 slot ≡ Some used
