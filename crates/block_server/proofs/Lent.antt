@@ -1,4 +1,4 @@
--- What is done on a port of which a look told that a command had failed is answered, and the port is recovered: what is asked of the calls, and what came of them.
+-- What is done on a port of which a look told an error is answered, and the port is mended: what is asked of the calls, and what came of them.
 use Rattle.std.proofs.Common.{ℕ, Bool, true, false, ◌≡◌, ◌<◌, ◌↔◌, List, length, Option, Some, None, refl, sym, ap, ◌∙◌, subst, arith}
 use Rattle.std.specs.Int.{bit_at}
 use Rattle.std.proofs.lemmas.Bool.{false≢true}
@@ -13,21 +13,22 @@ use Rattle.agreement.specs.Driven.{AgreesWith, AnyUse, IsFollowed}
 use Rattle.agreement.specs.Slots.{IsOver}
 use Rattle.dma_frames.specs.Table.{Table}
 use Rattle.error_log.specs.declared.Failure.{Failure}
-use Rattle.error_recovery.specs.Recovery.{FitsFor, IsAloneIn, MayRecover, Recovers, Rests}
+use Rattle.error_recovery.specs.Recovery.{FitsFor, IsAloneIn, MayRecover, Mends, Rests}
 use Rattle.error_recovery.specs.declared.Recovered.{Recovered}
 use Rattle.host_boot.specs.Taken.{found_of}
 use Rattle.ncq.specs.Masks.{ReadsDone}
 use Rattle.port_look.specs.Looks.{IsLooking, LooksAt}
+use Rattle.port_look.specs.declared.Look.{Look}
 use Rattle.port_look.specs.declared.Look.TheVariants.{Failed as Fails}
 use Rattle.request_queue.specs.Entries.{Held}
 use Rattle.request_queue.specs.declared.fate.Failed.{Failed}
-use Rattle.server_history.specs.Recovered.{AreQueued, IsFailed}
+use Rattle.server_history.specs.Recovered.{AreQueued, IsFailed, TellsMending}
 use Rattle.server_history.specs.Served.{IsMaskOf, is_used}
 use Rattle.server_history.specs.Server.{Server, IsKept, slots_at, state_of, used_for}
 use Rattle.slots.specs.Uses.{Uses as PortSlots, IsTaken, use_at}
 use Rattle.slots.specs.declared.Use.{Use as SlotUse}
 use Rattle.block_server.specs.Ports.{AnswersAll, LendsDone, with_answers}
-use Rattle.block_server.specs.Recovery.{LendsFailed, RecoversRest}
+use Rattle.block_server.specs.Recovery.{LendsTroubled, MendsRest}
 use Rattle.block_server.proofs.Serving.{mask_of, ready_there}
 
 -- what laws say of a server of which a port failed
@@ -38,6 +39,7 @@ pub record FailureLaws : Type 0 where
       → ReadsDone port mask done s.device new → bit done slot ≡ true → IsOver (new.port port.0) slot
   pub may : (s : Server) (seen found : Device) (port : Port) (mask done : ℕ) → IsKept s → state_of (found_of s.ports port.0) ≡ ReadyState → LooksAt port Fails s.device seen
       → IsFollowed (IsLooking port) AnyUse s.device seen → ReadsDone port mask done seen found → MayRecover port.0 found
+  pub released : (s : Server) (port : Port) → IsKept s → state_of (found_of s.ports port.0) ≡ ReadyState → (s.device.port port.0).sctl_det ≡ 0
   pub agreed : (s : Server) (port : Port) (queued : Bool) → IsKept s → state_of (found_of s.ports port.0) ≡ ReadyState → AreQueued queued (slots_at s.slots port.0) → AgreesWith (FitsFor queued port.0) s.device
   pub alike : (s : Server) (port : Port) (slot : ℕ) (used : SlotUse) → IsKept s → used_for s.slots port.0 slot ≡ Some used → AreQueued used.queued (slots_at s.slots port.0)
   pub alone : (s : Server) (port : Port) (queued : Bool) (outstanding : ℕ) → IsKept s → IsMaskOf (slots_at s.slots port.0) outstanding → AreQueued queued (slots_at s.slots port.0) → IsAloneIn queued outstanding
@@ -54,7 +56,7 @@ named_among false port outstanding accesses old new its rests =
     (subst (λ (n : ℕ). n < 32) (sym rests.slot_is) (omega arith), subst (λ (n : ℕ). bit outstanding n ≡ true) (sym rests.slot_is) rests.among)
 named_among true port outstanding accesses old new its rests = (rests.small, rests.among)
 
-module _ (laws : FailureLaws) (s : Server) (device : Device) (table : Table) (book : List Held) (slots : PortSlots) (port : Port) (l : LendsFailed s device table book slots port) where
+module _ (laws : FailureLaws) (s : Server) (device : Device) (table : Table) (book : List Held) (slots : PortSlots) (port : Port) (look : Look) (l : LendsTroubled s device table book slots port look) where
   abbrev seen : Server
   seen = record s { device = device }
 
@@ -81,8 +83,8 @@ module _ (laws : FailureLaws) (s : Server) (device : Device) (table : Table) (bo
       over = λ slot small its. laws.over seen found port mask done slot seen_kept l.sees.ready its_mask small finds its;
     }
 
-    pub may : MayRecover port.0 found
-    may = laws.may s device found port mask done l.sees.kept l.sees.ready l.sees.looks l.sees.followed finds
+    pub may : look ≡ Fails → MayRecover port.0 found
+    may fails = laws.may s device found port mask done l.sees.kept l.sees.ready (subst (λ (told : Look). LooksAt port told s.device device) fails l.sees.looks) l.sees.followed finds
 
     module _ (before after : List Reply) (t : Table) (b : List Held) (u : PortSlots) (answers : AnswersAll port done before after from (with_answers from t b u port))
         (lent : LendsDone (with_answers from t b u port) t b u port done) where
@@ -94,6 +96,9 @@ module _ (laws : FailureLaws) (s : Server) (device : Device) (table : Table) (bo
 
       pub mid_there : HasPort found port.0
       mid_there = ready_there mid port lent.kept lent.ready
+
+      pub released : (found.port port.0).sctl_det ≡ 0
+      released = laws.released mid port lent.kept lent.ready
 
       pub alike : (slot : ℕ) (used : SlotUse) → use_at u slot ≡ Some used → AreQueued used.queued u
       alike slot used taken = subst (AreQueued used.queued) lent.slots_are (laws.alike mid port slot used lent.kept (ap (λ (x : PortSlots). use_at x slot) lent.slots_are ∙ taken))
@@ -114,17 +119,21 @@ module _ (laws : FailureLaws) (s : Server) (device : Device) (table : Table) (bo
         pub alone : IsAloneIn queued outstanding
         alone = laws.alone mid port queued outstanding lent.kept mid_mask mid_kinds
 
-        module _ (result : Recovered) (new : Device) (recovers : Recovers port outstanding queued result found new) where
+        module _ (result : Recovered) (new : Device) (its_end : (m : Mends port outstanding queued result found new) × TellsMending look port outstanding queued result m.accesses found new) where
+          abbrev mends : Mends port outstanding queued result found new
+          mends = its_end.0
+
           pub named : (its : Failure) → result.failed ≡ Some its → (used : SlotUse) × (use_at u its.slot.0 ≡ Some used)
           named its is =
               let among = named_among queued port outstanding mends.accesses found new its (subst (Rests queued port outstanding mends.accesses found new) is mends.tells.rests) in
               its_use (use_at u its.slot.0) (sym (mask_of u outstanding left its.slot.0 among.0) ∙ among.1)
 
-          pub recovers_rest : (failed : Option Failed) → IsFailed u result.failed failed → RecoversRest port before after failed result.next s t b u new
-          recovers_rest failed names = record {
+          pub mends_rest : (failed : Option Failed) → IsFailed u result.failed failed → MendsRest port look before after failed result.next s t b u new
+          mends_rest failed names = record {
             mid = mid;
             kept = lent.kept;
             recovered = record {
+              look = look;
               seen = device;
               looks = l.sees.looks;
               mask = mask;
@@ -141,8 +150,10 @@ module _ (laws : FailureLaws) (s : Server) (device : Device) (table : Table) (bo
               queued = queued;
               alike = mid_kinds;
               result = result;
-              recovers = recovers;
+              mends = its_end.0;
+              tells = its_end.1;
             };
+            look_is = refl;
             followed = l.sees.followed;
             mid_is = refl;
             next_is = refl;

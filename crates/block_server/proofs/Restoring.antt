@@ -25,6 +25,7 @@ use Rattle.port_boot.specs.States.{IsBootable}
 use Rattle.port_control.specs.Ports.{IsStopped}
 use Rattle.port_control.specs.declared.Stopped.{Stopped}
 use Rattle.port_look.specs.Looks.{IsLooking}
+use Rattle.port_look.specs.declared.Look.{Look}
 use Rattle.request_queue.specs.Entries.{Held, is_of}
 use Rattle.request_queue.specs.Fates.{Holdings, MeetFates, fate_of}
 use Rattle.request_queue.specs.declared.fate.Failed.{Failed}
@@ -36,7 +37,7 @@ use Rattle.server_history.specs.Turns.{ServesPort}
 use Rattle.slots.specs.Uses.{Uses as PortSlots, use_at}
 use Rattle.block_server.specs.Fates.{HavePlaces, IsSound, holding}
 use Rattle.block_server.specs.Ports.{LendsFound, with_answers, with_part}
-use Rattle.block_server.specs.Recovery.{LendsFailed, RecoversRest, SeesFailure}
+use Rattle.block_server.specs.Recovery.{LendsTroubled, MendsRest, SeesTrouble}
 use Rattle.block_server.proofs.Sending.{served_ready, slots_said}
 
 -- what laws say of what comes after a recovery
@@ -53,9 +54,9 @@ pub record RestoringLaws : Type 0 where
       → IsFollowed (IsLooking port) AnyUse s.device r.settled.recovered.seen → ServesPort port replies s new × IsSettled new
 
 -- what is lent of a server whose port was seen to have failed
-pub lends_failed : (s : Server) (port : Port) (device : Device) → SeesFailure s port device → (table : Table) → table ≡ s.table → (number : ℕ) → number ≡ port.0 → (default : PortSlots)
-    → LendsFailed s device table s.book (get_or s.slots number default) port
-lends_failed s port device sees table same number is default = record {
+pub lends_troubled : (s : Server) (port : Port) (look : Look) (device : Device) → SeesTrouble s port look device → (table : Table) → table ≡ s.table → (number : ℕ) → number ≡ port.0 → (default : PortSlots)
+    → LendsTroubled s device table s.book (get_or s.slots number default) port look
+lends_troubled s port look device sees table same number is default = record {
   sees = sees;
   table_is = sym same;
   book_is = refl;
@@ -75,8 +76,8 @@ restored s port was device found mode slots now = record s {
   book = now.book;
 }
 
-module _ (laws : RestoringLaws) (s : Server) (port : Port) (first : Device) (sees : SeesFailure s port first) (was : DiskInfo) (is_ready : found_of s.ports port.0 ≡ Ready was)
-    (before told : List Reply) (failed : Option Failed) (next : Next) (t : Table) (b : List Held) (u : PortSlots) (one : Device) (r : RecoversRest port before told failed next s t b u one) where
+module _ (laws : RestoringLaws) (s : Server) (port : Port) (look : Look) (first : Device) (sees : SeesTrouble s port look first) (was : DiskInfo) (is_ready : found_of s.ports port.0 ≡ Ready was)
+    (before told : List Reply) (failed : Option Failed) (next : Next) (t : Table) (b : List Held) (u : PortSlots) (one : Device) (r : MendsRest port look before told failed next s t b u one) where
   low : port.0 < 4
   low = (sees.kept.there port.0 (served_ready (found_of s.ports port.0) sees.ready)).0
 

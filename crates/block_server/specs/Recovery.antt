@@ -1,4 +1,4 @@
--- A port's part of a server, as it is lent to what recovers the port (this project's own).
+-- A port's part of a server, as it is lent to what mends the port (this project's own).
 use Rattle.std.specs.Prelude.{◌≡◌, ◌++◌, List, Option, map}
 use Rattle.ata_types.specs.declared.Port.{Port}
 use Rattle.ata_types.specs.declared.PortState.TheVariants.{Ready}
@@ -9,36 +9,38 @@ use Rattle.dma_frames.specs.Table.{Table}
 use Rattle.error_recovery.specs.declared.Next.{Next}
 use Rattle.host_boot.specs.Taken.{found_of}
 use Rattle.port_look.specs.Looks.{IsLooking, LooksAt}
-use Rattle.port_look.specs.declared.Look.TheVariants.{Failed as Fails}
+use Rattle.port_look.specs.declared.Look.{Look}
 use Rattle.request_queue.specs.Entries.{Held}
 use Rattle.request_queue.specs.declared.fate.Failed.{Failed}
-use Rattle.server_history.specs.Recovered.{IsFailed, IsRecovered}
+use Rattle.server_history.specs.Recovered.{IsFailed, IsRecovered, LeadsToMending}
 use Rattle.server_history.specs.Served.{done_reply}
 use Rattle.server_history.specs.Server.{Server, IsKept, slots_at, state_of}
 use Rattle.slots.specs.Uses.{Uses as PortSlots}
 use Rattle.block_server.specs.Ports.{with_answers}
 
--- the server keeps what it keeps, and a look at its port, which is ready, told that a command had failed; so it came to this device
-pub record SeesFailure (s : Server) (port : Port) (device : Device) : Type 0 where
+-- the server keeps what it keeps, and a look at its port, which is ready, told this, which leads to mending; so it came to this device
+pub record SeesTrouble (s : Server) (port : Port) (look : Look) (device : Device) : Type 0 where
   pub kept : IsKept s
   pub ready : state_of (found_of s.ports port.0) ≡ Ready
-  pub looks : LooksAt port Fails s.device device
+  pub looks : LooksAt port look s.device device
+  pub mends : LeadsToMending look
   pub followed : IsFollowed (IsLooking port) AnyUse s.device device
 
 -- so it was, and it has these loans, this book, and these slots of the port
-pub record LendsFailed (s : Server) (device : Device) (table : Table) (book : List Held) (slots : PortSlots) (port : Port) : Type 0 where
-  pub sees : SeesFailure s port device
+pub record LendsTroubled (s : Server) (device : Device) (table : Table) (book : List Held) (slots : PortSlots) (port : Port) (look : Look) : Type 0 where
+  pub sees : SeesTrouble s port look device
   pub table_is : s.table ≡ table
   pub book_is : s.book ≡ book
   pub slots_are : slots_at s.slots port.0 ≡ slots
 
--- What was done was answered by replies that came after others, and the port was recovered; the server keeps what it keeps until then. So it came to these loans, this book and these slots, and to this
--- device; to the request whose command failed, and to what the port has to go through.
-pub record RecoversRest (port : Port) (before after : List Reply) (failed : Option Failed) (next : Next) (s : Server) (table : Table) (book : List Held)
+-- What was done was answered by replies that came after others, and the port was mended; the server keeps what it keeps until then. So it came to these loans, this book and these slots, and to
+-- this device; to the request whose command failed, and to what the port has to go through.
+pub record MendsRest (port : Port) (look : Look) (before after : List Reply) (failed : Option Failed) (next : Next) (s : Server) (table : Table) (book : List Held)
     (slots : PortSlots) (new : Device) : Type 0 where
   pub mid : Server
   pub kept : IsKept mid
   pub recovered : IsRecovered port s mid new
+  pub look_is : recovered.look ≡ look
   pub followed : IsFollowed (IsLooking port) AnyUse s.device recovered.seen
   pub mid_is : mid ≡ with_answers (record s { device = recovered.found }) table book slots port
   pub next_is : recovered.result.next ≡ next

@@ -1,17 +1,19 @@
-// A port on which a command failed is recovered, and booted anew where it has to be.
+// A port of which a look told an error is mended: recovered, where a command had failed, else given up; and booted anew where it has to be.
 ghost use Rattle.std.specs.Prelude.{ℕ, ◌≡◌, ◌≤◌, ◌+◌, ◌++◌, IsTrue, ◌↔◌, Some, List, AllPairs, IsPermutation, drop, length, take};
 ghost use Rattle.ata_types.specs.declared.request.Reply.{Reply};
-ghost use Rattle.block_server.specs.Recovery.{LendsFailed, RecoversRest};
+ghost use Rattle.block_server.specs.Recovery.{LendsTroubled, MendsRest};
 ghost use Rattle.server_history.specs.Server.{Server};
 ghost use Rattle.ata_types.specs.declared.Port.{Port};
 ghost use Rattle.adapter.specs.Device.{Device};
-ghost use Rattle.adapter.specs.Rules.{IsOn};
+ghost use Rattle.adapter.specs.Rules.{HasPort, IsOn};
+ghost use Rattle.agreement.specs.Driven.{AgreesWith};
 ghost use Rattle.error_log.specs.declared.Failure.{Failure};
+ghost use Rattle.error_recovery.specs.Recovery.{FitsFor, IsAloneIn, MayRecover, Mends};
 ghost use Rattle.host_boot.specs.declared.Found.TheVariants.{Ready};
 ghost use Rattle.port_boot.specs.States.{IsBootable};
 ghost use Rattle.port_control.specs.Ports.{IsStopped};
 ghost use Rattle.port_control.specs.declared.Stopped as stopped_token;
-ghost use Rattle.server_history.specs.Recovered.{AreQueued, IsFailed, IsFoundAfter, IsProspect, IsSameDisk};
+ghost use Rattle.server_history.specs.Recovered.{AreQueued, IsFailed, IsFoundAfter, IsProspect, IsSameDisk, LeadsToMending, TellsMending};
 ghost use Rattle.server_history.specs.Server.{mode_found};
 ghost use Rattle.slots.specs.Uses.{use_at};
 ghost use Rattle.slots.specs.declared.Use.{Use as SlotUse};
@@ -19,32 +21,61 @@ ghost use Rattle.slots.specs.declared.Use.{Use as SlotUse};
 use super::answering::answer_done;
 use super::modes::{PLAIN, mode_of};
 use adapter::Adapter;
-use ata_types::{Port, PortState, Replies};
+use ata_types::{DRIVER_BYTES, Port, PortState, Replies};
 use block_machine::Mode;
 use dma_frames::FrameTable;
-use error_recovery::{Failure, Next, recover};
+use error_recovery::{Failure, Next, Recovered, give_up, recover};
 use host_boot::{Found, boot_again};
 use identify::{DiskInfo, Wanted};
 use ncq::done;
+use port_look::Look;
 use request_queue::{Book, Failed, Prospect};
 use server_history::laws::{a_failed_port_may_be_recovered, looks_keep};
 use slots::Slots;
 
-/// Answers what is done on a ready port of which a look told that a command had failed, in order of acceptance, and recovers the port: the request whose
+/// Mends a port of which a look told an error, and of which the masks were read: recovers it where a command had failed (AHCI 1.3.1, 6.2.2), and stops it to be
+/// booted where its link or the host's memory had.
+fn mend<A: Adapter>(
+    adapter: &mut A,
+    port: Port,
+    look: Look,
+    outstanding: u32,
+    queued: bool,
+) -> Recovered
+    requires on { IsOn (A.device adapter.old) }
+    requires there { HasPort (A.device adapter.old) port.0 }
+    requires room { DRIVER_BYTES ≤ (A.device adapter.old).size }
+    requires agreed { AgreesWith (FitsFor queued port.0) (A.device adapter.old) }
+    requires released { ((A.device adapter.old).port port.0).sctl_det ≡ 0 }
+    requires alone { IsAloneIn queued outstanding }
+    requires leads { LeadsToMending look }
+    requires may { look ≡ Look.Failed → MayRecover port.0 (A.device adapter.old) }
+    ensures on { IsOn (A.device adapter.new) }
+    ensures mends { (m : Mends port outstanding queued result (A.device adapter.old) (A.device adapter.new))
+        × TellsMending look port outstanding queued result m.accesses (A.device adapter.old) (A.device adapter.new) }
+{
+    match look {
+        Look::Failed => recover(adapter, port, outstanding, queued),
+        _ => give_up(adapter, port, outstanding),
+    }
+}
+
+/// Answers what is done on a ready port of which a look told an error, in order of acceptance, and mends the port: the request whose
 /// command failed, where it is known, and what the port has to go through. The replies come after those that there are.
-pub(crate) fn recover_rest<A: Adapter>(
+pub(crate) fn mend_rest<A: Adapter>(
     adapter: &mut A,
     book: &mut Book,
     table: &mut FrameTable,
     slots: &mut Slots,
     port: Port,
+    look: Look,
     replies: &mut Replies,
 ) -> (Option<Failed>, Next)
-    requires lends { (s : Server) × LendsFailed s (A.device adapter.old) table.old book.old slots.old port }
+    requires lends { (s : Server) × LendsTroubled s (A.device adapter.old) table.old book.old slots.old port look }
     requires room { length replies.old.items + length book.old ≤ 128 }
     ensures on { IsOn (A.device adapter.new) }
-    ensures recovers { (s : Server) → LendsFailed s (A.device adapter.old) table.old book.old slots.old port
-        → RecoversRest port replies.old.items replies.new.items result.0 result.1 s table.new book.new slots.new (A.device adapter.new) }
+    ensures mends { (s : Server) → LendsTroubled s (A.device adapter.old) table.old book.old slots.old port look
+        → MendsRest port look replies.old.items replies.new.items result.0 result.1 s table.new book.new slots.new (A.device adapter.new) }
     ensures room { length replies.new.items + length book.new ≤ 128 }
 {
     looks_keep();
@@ -54,7 +85,7 @@ pub(crate) fn recover_rest<A: Adapter>(
     answer_done(book, table, slots, finished, replies);
     let outstanding = slots.taken();
     let queued = are_queued(slots);
-    let recovered = recover(adapter, port, outstanding, queued);
+    let recovered = mend(adapter, port, look, outstanding, queued);
     let failed = failed_in(slots, &recovered.failed);
     (failed, recovered.next)
 }

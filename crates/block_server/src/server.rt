@@ -7,7 +7,7 @@ use crate::fates::settle;
 use crate::kept::{KeptLoans, end_all, give_all_back, none_kept};
 use crate::modes::{PLAIN, modes_of, unused_slots};
 use crate::port::{issue_due, issue_where_ready};
-use crate::recovery::{find_after, order_from, prospect_of, recover_rest};
+use crate::recovery::{find_after, mend_rest, order_from, prospect_of};
 use adapter::{Adapter, DeviceStep, Stepped};
 use ata_types::{
     ClientId, FRAME_BYTES, Frame, MemFault, Op, Port, PortState, Range, Refusal, Replies, Request,
@@ -88,7 +88,7 @@ impl<A: Adapter> Server<A> {
     ghost use Rattle.ata_types.specs.declared.request.Reply.{Reply};
     ghost use Rattle.server_history.specs.Served.{AnswersDone};
     ghost use Rattle.server_history.specs.Turns.{ServesPort};
-    ghost use Rattle.block_server.specs.Recovery.{SeesFailure};
+    ghost use Rattle.block_server.specs.Recovery.{SeesTrouble};
     ghost use Rattle.adapter.specs.Device.{Device};
     ghost use Rattle.server_history.specs.Server.{IsSettled, disk_of, mode_at, remembered_at, situation_of, state_of, sectors_of, trims_of};
     ghost use Rattle.hba_regs.specs.Bits.{bit};
@@ -315,15 +315,16 @@ impl<A: Adapter> Server<A> {
         issue_due(&mut self.adapter, &mut self.book, slots, port, mode);
     }
 
-    /// Recovers a ready port of which a look told that a command had failed. What is done is answered; then it is found out which command failed, and the
-    /// port is had to run again, by a boot where that is needed. The request whose command failed is told so. The others wait again where their disk is there
-    /// still, and are `Aborted` after the fourth issue; where it isn't they are `Unplugged`, and where the port is dead `PortDead`. Then what is due is issued.
-    fn recover_port(&mut self, port: Port, was: DiskInfo, replies: &mut Replies)
+    /// Mends a ready port of which a look told an error. What is done is answered. Where a command had failed, it is found out which one, and the port is had to
+    /// run again, by a boot where that is needed; where its link or the host's memory had, it is booted anew. The request whose command failed is told so. The
+    /// others wait again where their disk is there still, and are `Aborted` after the fourth issue; where it isn't they are `Unplugged`, and where the port is
+    /// dead `PortDead`. Then what is due is issued.
+    fn mend_port(&mut self, port: Port, was: DiskInfo, look: Look, replies: &mut Replies)
         requires ready { found_of self.old.ports port.0 ≡ Found.Ready was }
-        requires sees { (before : Device) × SeesFailure (record (server_of A.device self.old) { device = before }) port (A.device self.old.adapter)
+        requires sees { (before : Device) × SeesTrouble (record (server_of A.device self.old) { device = before }) port look (A.device self.old.adapter)
             × IsSettled (record (server_of A.device self.old) { device = before }) }
         requires room { length replies.old.items + length self.old.book ≤ 128 }
-        ensures serves { (before : Device) → SeesFailure (record (server_of A.device self.old) { device = before }) port (A.device self.old.adapter)
+        ensures serves { (before : Device) → SeesTrouble (record (server_of A.device self.old) { device = before }) port look (A.device self.old.adapter)
             → IsSettled (record (server_of A.device self.old) { device = before })
             → (its : List Reply) × (replies.new.items ≡ replies.old.items ++ its)
             × ServesPort port its (record (server_of A.device self.old) { device = before }) (server_of A.device self.new) }
@@ -338,12 +339,13 @@ impl<A: Adapter> Server<A> {
         let wanted = self.wanted[place];
         let mode = self.mode(port);
         let slots = &mut self.slots[place];
-        let (failed, next) = recover_rest(
+        let (failed, next) = mend_rest(
             &mut self.adapter,
             &mut self.book,
             &mut self.table,
             slots,
             port,
+            look,
             replies,
         );
         let (found, mode) = find_after(&mut self.adapter, next, &was, mode, &wanted);
@@ -368,7 +370,7 @@ impl<A: Adapter> Server<A> {
     }
 
     /// Looks at a ready port. Where commands of what it has issued are done, those requests are answered, and then what is due is issued. Where
-    /// the look tells that a command failed, the port is recovered; where it tells of anything else, nobody is answered.
+    /// the look tells an error, the port is mended; where it tells that the disk was lost, nobody is answered.
     fn serve_port(&mut self, port: Port, replies: &mut Replies)
         requires ready { state_of (found_of self.old.ports port.0) ≡ Ready }
         requires room { length replies.old.items + length self.old.book ≤ 128 }
@@ -383,10 +385,11 @@ impl<A: Adapter> Server<A> {
         let Found::Ready(was) = self.found(port) else {
             unreachable!()
         };
-        match look_at(&mut self.adapter, port) {
+        let look = look_at(&mut self.adapter, port);
+        match look {
             Look::Undisturbed => {}
-            Look::Failed => return self.recover_port(port, was, replies),
-            _ => return,
+            Look::Lost => return,
+            Look::Broken | Look::Failed => return self.mend_port(port, was, look, replies),
         }
         let used = self.slots[usize::from(port.0)].taken();
         if used == 0 {

@@ -43,14 +43,14 @@ use Rattle.request_queue.specs.declared.fate.Prospect.TheVariants.{DiskLost}
 use Rattle.slots.specs.Uses.{use_at}
 use Rattle.slots.specs.declared.Use.{Use as SlotUse}
 use Rattle.server_history.specs.Below.{LawsBelow}
-use Rattle.server_history.specs.Recovered.{IsFailed, IsFoundAfter, IsProspect, IsRecovered, HasMetFates, RecoversPort}
+use Rattle.server_history.specs.Recovered.{IsFailed, IsFoundAfter, IsProspect, IsRecovered, HasMetFates, LeadsToMending, RecoversPort}
 use Rattle.server_history.specs.Served.{AnswersEach}
 use Rattle.server_history.specs.Server.{Server, IsKept, IsMachineOf, ports_of, slots_at, state_of, used_for}
 use Rattle.server_history.specs.Turns.{IsOfCommand, LeavesOthers, NamesOnly, TellsFault, instant_of, moment_of}
 use Rattle.server_history.proofs.Answering.{answer_kept}
 use Rattle.server_history.proofs.Apart.{leaves_others}
 use Rattle.server_history.proofs.Becoming.{becomes, dead_found, dead_prospect, disk_same, interrupted, its, lost_is, names, ready_info, state_new, stuck_is}
-use Rattle.server_history.proofs.Faulted.{LeadsToMending, errors_shown, fatal_shown, leads, no_change, no_fatal, not_missing}
+use Rattle.server_history.proofs.Faulted.{errors_shown, fatal_shown, leads, no_change, no_fatal, not_missing}
 use Rattle.server_history.proofs.Placing.{freed_was}
 use Rattle.server_history.proofs.Recovering.{IsEarlyPart, IsPart}
 use Rattle.server_history.proofs.Recovery.{evidence_by, fatal_of, faults_of, stopped_of}

@@ -27,7 +27,7 @@ use Rattle.port_look.specs.Looks.{LooksAt, look_of}
 use Rattle.port_look.specs.declared.Look.{Look}
 use Rattle.port_look.specs.declared.Look.TheVariants.{Broken, Failed, Lost, Undisturbed}
 use Rattle.server_history.specs.Below.{LawsBelow}
-use Rattle.server_history.specs.Recovered.{TellsMending}
+use Rattle.server_history.specs.Recovered.{LeadsToMending, TellsMending}
 use Rattle.server_history.proofs.Told.{fatal_shows}
 
 -- ---- faults on the tape
@@ -72,10 +72,6 @@ gains_more Such old mid new grows g = record {
 }
 
 -- ---- what the look saw
-
--- a look after which a port is mended: a command had failed, or its link or the host's memory had
-abbrev pub LeadsToMending : Look → Type 0
-LeadsToMending look = (look ≡ Failed) ⊎ (look ≡ Broken)
 
 pub leads : (look : Look) (port : Port) (outstanding : ℕ) (queued : Bool) (result : Recovered) (accesses : List Access) (old new : Device)
     → TellsMending look port outstanding queued result accesses old new → LeadsToMending look

@@ -25,8 +25,9 @@ use Rattle.block_machine.specs.Steps.{Step}
 use Rattle.port_look.specs.Looks.{LooksAt}
 use Rattle.port_look.specs.declared.Look.{Look}
 use Rattle.server_history.specs.Below.{LawsBelow}
+use Rattle.server_history.specs.Recovered.{LeadsToMending}
 use Rattle.server_history.specs.Server.{Server, IsMachineOf}
-use Rattle.server_history.proofs.Faulted.{LeadsToMending, one_or_none, shows_link}
+use Rattle.server_history.proofs.Faulted.{one_or_none, shows_link}
 
 -- ---- disks that come
 

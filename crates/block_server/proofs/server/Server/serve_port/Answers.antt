@@ -1,7 +1,10 @@
-use Rattle.std.proofs.Common.{[], append-nil, sym, ap, ◌∙◌, subst}
+use Rattle.std.proofs.Common.{[], append-nil, sym, ap, ◌∙◌, subst, ◌≡◌, ◌⊎◌, inl, inr}
 use Rattle.host_boot.specs.Taken.{found_of}
 use Rattle.block_server.specs.Seen.{seen}
 use Rattle.block_server.specs.View.{ServerView, server_of}
+use Rattle.port_look.specs.declared.Look.{Look}
+use Rattle.port_look.specs.declared.Look.TheVariants.{Broken, Failed}
+use Rattle.server_history.specs.Recovered.{LeadsToMending}
 use Rattle.server_history.specs.Served.{IsMaskOf}
 use Rattle.server_history.specs.Turns.{ServesPort}
 use Rattle.server_history.specs.Server.{slots_at}
@@ -9,67 +12,72 @@ use Rattle.block_server.proofs.Finishing as finishing
 use Rattle.block_server.proofs.Serving as serving
 use Rattle.block_server.proofs.server.Server.serve_port.Goals as goal
 
+-- a failed command comes after a broken link
+leads : {look : Look} → (look ≡ Broken) ⊎ (look ≡ Failed) → LeadsToMending look
+leads (inl broken) = inr broken
+leads (inr failed) = inl failed
+
 pub invariant_of-self : goal.invariant_of-self
 invariant_of-self g c =
     let device = g.A.Adapter.device in
     let s = server_of device (seen c.self.inside) in
     let ready = finishing.ready_before device (seen c.self.inside) c.args.self.now c.self.view_is c.self.invariant c.args.port c.requires.ready in
-    let seen_kept = c.looks_keep.ensures.looking s (device c.look_at.new.adapter) c.args.port c.self.invariant.kept ready c.look_at.ensures.followed in
+    let seen_kept = c.looks_keep.ensures.looking s (device c.look_at-look.new.adapter) c.args.port c.self.invariant.kept ready c.look_at-look.ensures.followed in
     record { kept = seen_kept; issued = c.self.invariant.issued }
 
-pub invariant_of-self-in_default-look_at : goal.invariant_of-self-in_default-look_at
-invariant_of-self-in_default-look_at g c =
+pub invariant_of-self-in-Broken : goal.invariant_of-self-in-Broken
+invariant_of-self-in-Broken g c =
     let device = g.A.Adapter.device in
     let s = server_of device (seen c.self.inside) in
     let ready = finishing.ready_before device (seen c.self.inside) c.args.self.now c.self.view_is c.self.invariant c.args.port c.requires.ready in
-    let seen_kept = c.looks_keep.ensures.looking s (device c.look_at.new.adapter) c.args.port c.self.invariant.kept ready c.look_at.ensures.followed in
+    let seen_kept = c.looks_keep.ensures.looking s (device c.look_at-look.new.adapter) c.args.port c.self.invariant.kept ready c.look_at-look.ensures.followed in
     record { kept = seen_kept; issued = c.self.invariant.issued }
 
-pub returns-in_default-look_at-clause-serves : goal.returns-in_default-look_at-clause-serves
-returns-in_default-look_at-clause-serves g c =
+pub returns-in-Lost-clause-serves : goal.returns-in-Lost-clause-serves
+returns-in-Lost-clause-serves g c =
     let device = g.A.Adapter.device in
     let s = server_of device (seen c.self.inside) in
     let ready = finishing.ready_before device (seen c.self.inside) c.args.self.now c.self.view_is c.self.invariant c.args.port c.requires.ready in
-    let P : ServerView g.row.A.Denot → Type 0 = λ v. ServesPort c.args.port [] (server_of device v) (record s { device = device c.look_at.new.adapter }) in (
+    let P : ServerView g.row.A.Denot → Type 0 = λ v. ServesPort c.args.port [] (server_of device v) (record s { device = device c.look_at-look.new.adapter }) in (
       [],
       sym (append-nil c.args.replies.now.items),
-      subst P c.self.view_is (c.a_port_is_served.ensures.told s (device c.look_at.new.adapter) c.args.port c.look_at.result c.self.invariant ready c.look_at.ensures.looks c.look_at.ensures.followed c.in_default-look_at.not-Undisturbed c.in_default-look_at.not-Failed),
+      subst P c.self.view_is (c.a_port_is_served.ensures.told s (device c.look_at-look.new.adapter) c.args.port c.self.invariant ready c.in-Lost.ensures.looks c.look_at-look.ensures.followed),
     )
 
-pub returns-in_default-look_at-clause-settled : goal.returns-in_default-look_at-clause-settled
-returns-in_default-look_at-clause-settled g c =
+pub returns-in-Lost-clause-settled : goal.returns-in-Lost-clause-settled
+returns-in-Lost-clause-settled g c =
     let device = g.A.Adapter.device in
     let s = server_of device (seen c.self.inside) in
     let ready = finishing.ready_before device (seen c.self.inside) c.args.self.now c.self.view_is c.self.invariant c.args.port c.requires.ready in
-    let seen_kept = c.looks_keep.ensures.looking s (device c.look_at.new.adapter) c.args.port c.self.invariant.kept ready c.look_at.ensures.followed in
+    let seen_kept = c.looks_keep.ensures.looking s (device c.look_at-look.new.adapter) c.args.port c.self.invariant.kept ready c.look_at-look.ensures.followed in
     record { kept = seen_kept; issued = c.self.invariant.issued }
 
-pub recover_port-requires-clause-sees : goal.recover_port-requires-clause-sees
-recover_port-requires-clause-sees g c =
+pub mend_port-requires-clause-sees : goal.mend_port-requires-clause-sees
+mend_port-requires-clause-sees g c =
     let device = g.A.Adapter.device in
     let s = server_of device (seen c.self.inside) in
     let ready = finishing.ready_before device (seen c.self.inside) c.args.self.now c.self.view_is c.self.invariant c.args.port c.requires.ready in
-    (device c.self.inside.adapter, record { kept = c.self.invariant.kept; ready = ready; looks = c.in-Failed.ensures.looks; followed = c.look_at.ensures.followed }, c.self.invariant)
+    (device c.self.inside.adapter, record { kept = c.self.invariant.kept; ready = ready; looks = c.look_at-look.ensures.looks; followed = c.look_at-look.ensures.followed; mends = leads c.in-Broken.is }, c.self.invariant)
 
-pub returns-in-Failed-clause-serves : goal.returns-in-Failed-clause-serves
-returns-in-Failed-clause-serves g c =
+pub returns-in-Broken-clause-serves : goal.returns-in-Broken-clause-serves
+returns-in-Broken-clause-serves g c =
     let device = g.A.Adapter.device in
     let s = server_of device (seen c.self.inside) in
     let ready = finishing.ready_before device (seen c.self.inside) c.args.self.now c.self.view_is c.self.invariant c.args.port c.requires.ready in
-    let done = c.recover_port.ensures.serves (device c.self.inside.adapter) (record { kept = c.self.invariant.kept; ready = ready; looks = c.in-Failed.ensures.looks; followed = c.look_at.ensures.followed }) c.self.invariant in
-    let P : ServerView g.row.A.Denot → Type 0 = λ v. ServesPort c.args.port done.0 (server_of device v) (server_of device c.recover_port.new.self) in
+    let done = c.mend_port.ensures.serves (device c.self.inside.adapter) (record { kept = c.self.invariant.kept; ready = ready; looks = c.look_at-look.ensures.looks; followed = c.look_at-look.ensures.followed; mends = leads c.in-Broken.is }) c.self.invariant in
+    let P : ServerView g.row.A.Denot → Type 0 = λ v. ServesPort c.args.port done.0 (server_of device v) (server_of device c.mend_port.new.self) in
     (done.0, done.1, subst P c.self.view_is done.2)
 
-pub returns-in-Failed-clause-ports : goal.returns-in-Failed-clause-ports
-returns-in-Failed-clause-ports g c = λ q other.
-    c.recover_port.ensures.ports q other ∙ ap (λ (v : ServerView g.row.A.Denot). found_of v.ports q) c.self.view_is
+pub returns-in-Broken-clause-ports : goal.returns-in-Broken-clause-ports
+returns-in-Broken-clause-ports g c = λ q other.
+    c.mend_port.ensures.ports q other ∙ ap (λ (v : ServerView g.row.A.Denot). found_of v.ports q) c.self.view_is
 
 pub invariant_of-self-then-used-eq0 : goal.invariant_of-self-then-used-eq0
 invariant_of-self-then-used-eq0 g c =
     let device = g.A.Adapter.device in
     let s = server_of device (seen c.self.inside) in
     let ready = finishing.ready_before device (seen c.self.inside) c.args.self.now c.self.view_is c.self.invariant c.args.port c.requires.ready in
-    let seen_kept = c.looks_keep.ensures.looking s (device c.look_at.new.adapter) c.args.port c.self.invariant.kept ready c.look_at.ensures.followed in
+    let seen_kept = c.looks_keep.ensures.looking s (device c.look_at-look.new.adapter) c.args.port c.self.invariant.kept ready c.look_at-look.ensures.followed in
     record { kept = seen_kept; issued = c.self.invariant.issued }
 
 pub returns-then-used-eq0-clause-serves : goal.returns-then-used-eq0-clause-serves
@@ -77,12 +85,12 @@ returns-then-used-eq0-clause-serves g c =
     let device = g.A.Adapter.device in
     let s = server_of device (seen c.self.inside) in
     let ready = finishing.ready_before device (seen c.self.inside) c.args.self.now c.self.view_is c.self.invariant c.args.port c.requires.ready in
-    let seen_kept = c.looks_keep.ensures.looking s (device c.look_at.new.adapter) c.args.port c.self.invariant.kept ready c.look_at.ensures.followed in
+    let seen_kept = c.looks_keep.ensures.looking s (device c.look_at-look.new.adapter) c.args.port c.self.invariant.kept ready c.look_at-look.ensures.followed in
     let its = serving.its_mask s c.args.port c.self.invariant.kept ready c.from.result c.from.ensures c.index-self-from.result c.taken-used.result c.taken-used.ensures in
-    let P : ServerView g.row.A.Denot → Type 0 = λ v. ServesPort c.args.port [] (server_of device v) (record s { device = device c.look_at.new.adapter }) in (
+    let P : ServerView g.row.A.Denot → Type 0 = λ v. ServesPort c.args.port [] (server_of device v) (record s { device = device c.look_at-look.new.adapter }) in (
       [],
       sym (append-nil c.args.replies.now.items),
-      subst P c.self.view_is (c.a_port_is_served.ensures.idle s (device c.look_at.new.adapter) c.args.port c.self.invariant ready c.in-Undisturbed.ensures.looks c.look_at.ensures.followed
+      subst P c.self.view_is (c.a_port_is_served.ensures.idle s (device c.look_at-look.new.adapter) c.args.port c.self.invariant ready c.in-Undisturbed.ensures.looks c.look_at-look.ensures.followed
           (subst (IsMaskOf (slots_at s.slots c.args.port.0)) c.if-used-eq0.true its)),
     )
 
@@ -91,7 +99,7 @@ returns-then-used-eq0-clause-settled g c =
     let device = g.A.Adapter.device in
     let s = server_of device (seen c.self.inside) in
     let ready = finishing.ready_before device (seen c.self.inside) c.args.self.now c.self.view_is c.self.invariant c.args.port c.requires.ready in
-    let seen_kept = c.looks_keep.ensures.looking s (device c.look_at.new.adapter) c.args.port c.self.invariant.kept ready c.look_at.ensures.followed in
+    let seen_kept = c.looks_keep.ensures.looking s (device c.look_at-look.new.adapter) c.args.port c.self.invariant.kept ready c.look_at-look.ensures.followed in
     record { kept = seen_kept; issued = c.self.invariant.issued }
 
 pub done-finished-requires-clause-there : goal.done-finished-requires-clause-there
@@ -99,16 +107,16 @@ done-finished-requires-clause-there g c =
     let device = g.A.Adapter.device in
     let s = server_of device (seen c.self.inside) in
     let ready = finishing.ready_before device (seen c.self.inside) c.args.self.now c.self.view_is c.self.invariant c.args.port c.requires.ready in
-    let seen_kept = c.looks_keep.ensures.looking s (device c.look_at.new.adapter) c.args.port c.self.invariant.kept ready c.look_at.ensures.followed in
-    serving.ready_there (record s { device = device c.look_at.new.adapter }) c.args.port seen_kept ready
+    let seen_kept = c.looks_keep.ensures.looking s (device c.look_at-look.new.adapter) c.args.port c.self.invariant.kept ready c.look_at-look.ensures.followed in
+    serving.ready_there (record s { device = device c.look_at-look.new.adapter }) c.args.port seen_kept ready
 
 pub invariant_of-self-then-finished-ne0 : goal.invariant_of-self-then-finished-ne0
 invariant_of-self-then-finished-ne0 g c =
     let device = g.A.Adapter.device in
     let s = server_of device (seen c.self.inside) in
     let ready = finishing.ready_before device (seen c.self.inside) c.args.self.now c.self.view_is c.self.invariant c.args.port c.requires.ready in
-    let seen_kept = c.looks_keep.ensures.looking s (device c.look_at.new.adapter) c.args.port c.self.invariant.kept ready c.look_at.ensures.followed in
-    let found_kept = c.looks_keep.ensures.finding (record s { device = device c.look_at.new.adapter }) (device c.done-finished.new.adapter) c.args.port c.taken-used.result c.done-finished.result seen_kept ready c.done-finished.ensures.finds in
+    let seen_kept = c.looks_keep.ensures.looking s (device c.look_at-look.new.adapter) c.args.port c.self.invariant.kept ready c.look_at-look.ensures.followed in
+    let found_kept = c.looks_keep.ensures.finding (record s { device = device c.look_at-look.new.adapter }) (device c.done-finished.new.adapter) c.args.port c.taken-used.result c.done-finished.result seen_kept ready c.done-finished.ensures.finds in
     record { kept = found_kept; issued = c.self.invariant.issued }
 
 pub finish-requires-clause-over : goal.finish-requires-clause-over
@@ -116,9 +124,9 @@ finish-requires-clause-over g c =
     let device = g.A.Adapter.device in
     let s = server_of device (seen c.self.inside) in
     let ready = finishing.ready_before device (seen c.self.inside) c.args.self.now c.self.view_is c.self.invariant c.args.port c.requires.ready in
-    let seen_kept = c.looks_keep.ensures.looking s (device c.look_at.new.adapter) c.args.port c.self.invariant.kept ready c.look_at.ensures.followed in
+    let seen_kept = c.looks_keep.ensures.looking s (device c.look_at-look.new.adapter) c.args.port c.self.invariant.kept ready c.look_at-look.ensures.followed in
     let its = serving.its_mask s c.args.port c.self.invariant.kept ready c.from.result c.from.ensures c.index-self-from.result c.taken-used.result c.taken-used.ensures in
-    λ slot small found. c.looks_keep.ensures.found (record s { device = device c.look_at.new.adapter }) (device c.done-finished.new.adapter) c.args.port c.taken-used.result c.done-finished.result slot
+    λ slot small found. c.looks_keep.ensures.found (record s { device = device c.look_at-look.new.adapter }) (device c.done-finished.new.adapter) c.args.port c.taken-used.result c.done-finished.result slot
     seen_kept ready its small c.done-finished.ensures.finds found
 
 pub invariant_of-self-else-finished-ne0 : goal.invariant_of-self-else-finished-ne0
@@ -126,8 +134,8 @@ invariant_of-self-else-finished-ne0 g c =
     let device = g.A.Adapter.device in
     let s = server_of device (seen c.self.inside) in
     let ready = finishing.ready_before device (seen c.self.inside) c.args.self.now c.self.view_is c.self.invariant c.args.port c.requires.ready in
-    let seen_kept = c.looks_keep.ensures.looking s (device c.look_at.new.adapter) c.args.port c.self.invariant.kept ready c.look_at.ensures.followed in
-    let found_kept = c.looks_keep.ensures.finding (record s { device = device c.look_at.new.adapter }) (device c.done-finished.new.adapter) c.args.port c.taken-used.result c.done-finished.result seen_kept ready c.done-finished.ensures.finds in
+    let seen_kept = c.looks_keep.ensures.looking s (device c.look_at-look.new.adapter) c.args.port c.self.invariant.kept ready c.look_at-look.ensures.followed in
+    let found_kept = c.looks_keep.ensures.finding (record s { device = device c.look_at-look.new.adapter }) (device c.done-finished.new.adapter) c.args.port c.taken-used.result c.done-finished.result seen_kept ready c.done-finished.ensures.finds in
     record { kept = found_kept; issued = c.self.invariant.issued }
 
 pub returns-then-finished-ne0-clause-serves : goal.returns-then-finished-ne0-clause-serves
@@ -135,15 +143,15 @@ returns-then-finished-ne0-clause-serves g c =
     let device = g.A.Adapter.device in
     let s = server_of device (seen c.self.inside) in
     let ready = finishing.ready_before device (seen c.self.inside) c.args.self.now c.self.view_is c.self.invariant c.args.port c.requires.ready in
-    let seen_kept = c.looks_keep.ensures.looking s (device c.look_at.new.adapter) c.args.port c.self.invariant.kept ready c.look_at.ensures.followed in
+    let seen_kept = c.looks_keep.ensures.looking s (device c.look_at-look.new.adapter) c.args.port c.self.invariant.kept ready c.look_at-look.ensures.followed in
     let its = serving.its_mask s c.args.port c.self.invariant.kept ready c.from.result c.from.ensures c.index-self-from.result c.taken-used.result c.taken-used.ensures in
     let new = server_of device c.finish.new.self in
     let done = c.finish.ensures.finishes in
     let P : ServerView g.row.A.Denot → Type 0 = λ v. ServesPort c.args.port done.0 (server_of device v) new in (
       done.0,
       done.1,
-      subst P c.self.view_is (c.a_port_is_served.ensures.finished s new (device c.look_at.new.adapter) (device c.done-finished.new.adapter) c.args.port c.taken-used.result c.done-finished.result done.0 c.self.invariant ready
-          c.in-Undisturbed.ensures.looks c.look_at.ensures.followed its (λ none. c.if-used-eq0.false (serving.zero_of_none c.taken-used.result c.taken-used.type_inv none)) c.done-finished.ensures.finds c.done-finished.ensures.seen
+      subst P c.self.view_is (c.a_port_is_served.ensures.finished s new (device c.look_at-look.new.adapter) (device c.done-finished.new.adapter) c.args.port c.taken-used.result c.done-finished.result done.0 c.self.invariant ready
+          c.in-Undisturbed.ensures.looks c.look_at-look.ensures.followed its (λ none. c.if-used-eq0.false (serving.zero_of_none c.taken-used.result c.taken-used.type_inv none)) c.done-finished.ensures.finds c.done-finished.ensures.seen
           (λ none. c.if-finished-ne0.true (serving.zero_of_none c.done-finished.result c.done-finished.type_inv none)) done.2),
     )
 
@@ -152,13 +160,13 @@ returns-else-finished-ne0-clause-serves g c =
     let device = g.A.Adapter.device in
     let s = server_of device (seen c.self.inside) in
     let ready = finishing.ready_before device (seen c.self.inside) c.args.self.now c.self.view_is c.self.invariant c.args.port c.requires.ready in
-    let seen_kept = c.looks_keep.ensures.looking s (device c.look_at.new.adapter) c.args.port c.self.invariant.kept ready c.look_at.ensures.followed in
+    let seen_kept = c.looks_keep.ensures.looking s (device c.look_at-look.new.adapter) c.args.port c.self.invariant.kept ready c.look_at-look.ensures.followed in
     let its = serving.its_mask s c.args.port c.self.invariant.kept ready c.from.result c.from.ensures c.index-self-from.result c.taken-used.result c.taken-used.ensures in
     let P : ServerView g.row.A.Denot → Type 0 = λ v. ServesPort c.args.port [] (server_of device v) (record s { device = device c.done-finished.new.adapter }) in (
       [],
       sym (append-nil c.args.replies.now.items),
-      subst P c.self.view_is (c.a_port_is_served.ensures.unfinished s (device c.look_at.new.adapter) (device c.done-finished.new.adapter) c.args.port c.taken-used.result c.self.invariant ready
-          c.in-Undisturbed.ensures.looks c.look_at.ensures.followed its (λ none. c.if-used-eq0.false (serving.zero_of_none c.taken-used.result c.taken-used.type_inv none)) c.done-finished.result c.done-finished.ensures.finds c.done-finished.ensures.seen
+      subst P c.self.view_is (c.a_port_is_served.ensures.unfinished s (device c.look_at-look.new.adapter) (device c.done-finished.new.adapter) c.args.port c.taken-used.result c.self.invariant ready
+          c.in-Undisturbed.ensures.looks c.look_at-look.ensures.followed its (λ none. c.if-used-eq0.false (serving.zero_of_none c.taken-used.result c.taken-used.type_inv none)) c.done-finished.result c.done-finished.ensures.finds c.done-finished.ensures.seen
           (serving.none_of_zero c.done-finished.result c.if-finished-ne0.false)),
     )
 
@@ -167,6 +175,6 @@ returns-else-finished-ne0-clause-settled g c =
     let device = g.A.Adapter.device in
     let s = server_of device (seen c.self.inside) in
     let ready = finishing.ready_before device (seen c.self.inside) c.args.self.now c.self.view_is c.self.invariant c.args.port c.requires.ready in
-    let seen_kept = c.looks_keep.ensures.looking s (device c.look_at.new.adapter) c.args.port c.self.invariant.kept ready c.look_at.ensures.followed in
-    let found_kept = c.looks_keep.ensures.finding (record s { device = device c.look_at.new.adapter }) (device c.done-finished.new.adapter) c.args.port c.taken-used.result c.done-finished.result seen_kept ready c.done-finished.ensures.finds in
+    let seen_kept = c.looks_keep.ensures.looking s (device c.look_at-look.new.adapter) c.args.port c.self.invariant.kept ready c.look_at-look.ensures.followed in
+    let found_kept = c.looks_keep.ensures.finding (record s { device = device c.look_at-look.new.adapter }) (device c.done-finished.new.adapter) c.args.port c.taken-used.result c.done-finished.result seen_kept ready c.done-finished.ensures.finds in
     record { kept = found_kept; issued = c.self.invariant.issued }
