@@ -261,7 +261,7 @@ pub fn give_up<A: Adapter>(adapter: &mut A, port: Port, outstanding: u32) -> Rec
 {
     laws_hold();
     match stop(adapter, port) {
-        Ok(stopped) => unnamed(outstanding, Next::Restart(stopped)),
+        Ok(halted) => unnamed(outstanding, Next::Restart(halted)),
         Err(_) => unnamed(outstanding, Next::Dead),
     }
 }
