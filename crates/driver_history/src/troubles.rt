@@ -1,4 +1,4 @@
-// Laws of what a call owes a port on which a command fails, for callers: the clause is the theorem. These functions do nothing.
+// Laws of what a call owes a port on which a command fails, or that meets a fatal error, for callers: the clause is the theorem. These functions do nothing.
 ghost use Rattle.std.specs.Prelude.{ℕ, true, false, ◌≡◌, ◌≤◌, List, ◌∷◌, All, length};
 ghost use Rattle.ata_types.specs.declared.Port.{Port};
 ghost use Rattle.ata_types.specs.declared.PortState.TheVariants.{Ready};
