@@ -18,7 +18,7 @@ use Rattle.block_machine.specs.Ports.{AreFit, Ports}
 use Rattle.block_machine.specs.State.{Pending}
 use Rattle.block_machine.specs.Steps.{Answer}
 use Rattle.driver_history.specs.Claims.{AnswerRests, GoesWellFor, HeedsFault, IsHealthyFor}
-use Rattle.driver_history.specs.Evidence.{StaysHealthy}
+use Rattle.driver_history.specs.Evidence.{ShowsFailure, StaysHealthy}
 use Rattle.driver_history.specs.Guard.{IsAskedOf}
 use Rattle.driver_history.specs.Histories.{IsHistory}
 use Rattle.driver_history.specs.Moves.{KeepsMoves}
@@ -46,7 +46,7 @@ pub record HistoryLaws : Type 0 where
       → IsAskedOf port old new
   pub heeded : (wanted : List Wanted) (first : Instant Device) (past : List (Happening Device DeviceStep)) (h : Happening Device DeviceStep) (port : Port)
       → IsHistory wanted first (h ∷ past) → h.event.ask ≡ AskService → IsAskedOf port (now first past) h.device
-      → ((now first past).device.port port.0).is 30 ≡ true → HeedsFault port (now first past) h
+      → ShowsFailure ((now first past).device.port port.0) → HeedsFault port (now first past) h
   pub well : (wanted : List Wanted) (first : Instant Device) (past : List (Happening Device DeviceStep)) (h : Happening Device DeviceStep) (port : Port)
       → IsHistory wanted first (h ∷ past) → IsHealthyFor (now first past) h port → GoesWellFor (now first past) h port
   pub rest : (wanted : List Wanted) (first : Instant Device) (past : List (Happening Device DeviceStep)) (h : Happening Device DeviceStep)
@@ -142,7 +142,7 @@ module _ (laws : HistoryLaws) where
         moves = laws.moves wanted first past h history;
         served = λ port healthy. served_well wanted first past h port history healthy;
         part = λ port asked. (history.2.accesses, history.2.came, history.2.port port asked);
-        heeded = λ port asks asked fault. laws.heeded wanted first past h port history asks asked fault;
+        heeded = λ port asks asked failure. laws.heeded wanted first past h port history asks asked failure;
       })
 
   module _ {A : Type 0} (device : A → Device) (first : Instant Device) where

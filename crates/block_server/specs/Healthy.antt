@@ -1,4 +1,4 @@
--- Lists of calls, on ports where nothing goes wrong, and on ports where commands fail (this project's own).
+-- Lists of calls, on ports where nothing goes wrong, and on ports where commands fail or fatal errors come (this project's own).
 use Rattle.std.specs.Prelude.{true, ◌≡◌, List, [], ◌∷◌, Contains}
 use Rattle.ata_types.specs.declared.Port.{Port}
 use Rattle.ata_types.specs.declared.PortState.TheVariants.{Ready}
@@ -14,7 +14,7 @@ use Rattle.block_machine.specs.Ports.{SamePort}
 use Rattle.block_machine.specs.State.{Pending}
 use Rattle.block_machine.specs.Steps.{Answer, AllTouched}
 use Rattle.driver_history.specs.Claims.{GoesWellFor, HeedsFault, IsHealthyFor}
-use Rattle.driver_history.specs.Evidence.{StaysHealthy}
+use Rattle.driver_history.specs.Evidence.{ShowsFailure, StaysHealthy}
 use Rattle.driver_history.specs.Guard.{IsAskedOf}
 use Rattle.driver_history.specs.Histories.{CameBy, Issues, TiesPort}
 use Rattle.driver_history.specs.Moves.{KeepsMoves}
@@ -54,13 +54,13 @@ DoesItsPart port old h =
     (accesses : List Access) × CameBy old.moment h.event.ask h.event.said accesses old.device h.device × TiesPort old h accesses port
 
 -- In a call after these ones, moves and clears keep to their places; and each port is served well that the call is healthy for. On each port that is ready when the
--- call begins, and keeps its disk in it with no fatal error (IsAskedOf), the call does its part, whether or not commands fail; and a service heeds the fault that such a port
--- showed when it began.
+-- call begins, and keeps its disk in it (IsAskedOf), the call does its part, whether or not commands fail or fatal errors come; and a service heeds the failure that such a port
+-- showed when it began, a fault or a fatal error.
 pub record IsSound (first : Instant Device) (past : List (Happening Device DeviceStep)) (h : Happening Device DeviceStep) : Type 0 where
   pub moves : KeepsMoves first.moment.machine (steps_of (events_of past)) h.event.steps (now first past).device h.device
   pub served : (port : Port) → IsHealthyFor (now first past) h port → IsServedWell port (now first past) h
   pub part : (port : Port) → IsAskedOf port (now first past) h.device → DoesItsPart port (now first past) h
-  pub heeded : (port : Port) → h.event.ask ≡ Service → IsAskedOf port (now first past) h.device → ((now first past).device.port port.0).is 30 ≡ true
+  pub heeded : (port : Port) → h.event.ask ≡ Service → IsAskedOf port (now first past) h.device → ShowsFailure ((now first past).device.port port.0)
       → HeedsFault port (now first past) h
 
 -- What a list of calls is that said this, after a history that leads to the server before them. Each call adds an event with what was asked and

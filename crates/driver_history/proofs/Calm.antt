@@ -109,10 +109,8 @@ none_of port Such old new disturbs u = All-weaker (λ e. IsDisturbance port e �
 pub healthy_asked : (port : Port) (old : Instant Device) (new : Device) → old.moment.ports.state port ≡ Ready → StaysHealthy port.0 old.device new → IsAskedOf port old new
 healthy_asked port old new ready healthy = record {
   ready = ready;
-  fatal = no_fatal (old.device.port port.0) healthy.well.quiet;
   change = λ change. ⊎_elim (λ n. false≢true (sym healthy.well.quiet.serr_n ∙ n)) (λ x. false≢true (sym healthy.well.quiet.serr_x ∙ x)) change;
   device = healthy.well.det;
-  unbroken = record { gained = healthy.undisturbed.gained; tape = healthy.undisturbed.tape; none = none_of port.0 (IsFatalOf port.0) old.device new (fatal_disturbs port.0) healthy.undisturbed };
   plugged = record { gained = healthy.undisturbed.gained; tape = healthy.undisturbed.tape; none = none_of port.0 (IsPlugging port.0) old.device new (plugging_disturbs port.0) healthy.undisturbed };
 }
 

@@ -7,6 +7,7 @@ pub mod Leaving
 pub mod Resting
 pub mod Standing
 pub mod Healthy
+pub mod Errors
 pub mod Parting
 pub mod Losing
 pub mod Within

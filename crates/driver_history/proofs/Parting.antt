@@ -17,17 +17,18 @@ use Rattle.adapter.specs.declared.tape.Fault as tape_fault
 use Rattle.adapter.specs.declared.command.Operation.TheVariants.{ReadLog}
 use Rattle.agreement.specs.Driven.{IsDrivenBy, IsOf, Grows, LeavesPort, SendsNone}
 use Rattle.agreement.specs.Slots.{IsMove}
-use Rattle.agreement.specs.Errors.{ChangesByDisks, ChangesByErrors, IsFatalOf, NoneFails}
+use Rattle.agreement.specs.Errors.{ChangesByDisks, ChangesByErrors, IsFatalOf}
 use Rattle.agreement.specs.Facts.{IsFaultOf}
 use Rattle.agreement.specs.Links.{ComesUp, IsPlugging, PlugsNone, SameLink}
 use Rattle.block_machine.specs.Events.{Ask, Moment, Said}
 use Rattle.block_machine.specs.Histories.{Instant}
 use Rattle.block_machine.specs.Ports.{Ports, SamePort, Evidence, IsInterrupted}
-use Rattle.driver_history.specs.Evidence.{Gains, HasErrors, HasFatalErrors, IsEvidencedOf, IsGone, IsLost, ShowsChange, ShowsFailure, ShowsLoss}
+use Rattle.driver_history.specs.Evidence.{Gains, HasErrors, HasFatalErrors, IsEvidencedOf, IsGone, IsLost, ShowsChange, ShowsLoss}
 use Rattle.error_recovery.specs.Evidence.{BringsLog, HasFailed, ShowsFatal}
 use Rattle.driver_history.specs.Laws.{Laws}
 use Rattle.driver_history.specs.Parts.{HasTurnIn, IsOfOther, NamesAlike, all_of}
 use Rattle.driver_history.specs.Trace.{LeavesCommand, LeavesEngine}
+use Rattle.driver_history.proofs.Errors.{AreShown, ErrorKind, access_shows, failure_still, fatals, shown_more, shown_none}
 
 -- ---- entries of a kind, or none
 
@@ -93,7 +94,7 @@ gains_within Is old start end new first last g = record {
 -- ---- accesses of other ports
 
 module _ (laws : Laws) (port : Port) where
-  -- What is left of the port by accesses of others: the adapter is on; the port is left to its device; and its errors rise by errors alone.
+  -- What is left of the port by accesses of others: the adapter is on; the port is left to its device; and its errors rise by errors alone, and are shown.
   pub record IsLeft (old new : Device) : Type 0 where
     pub on : IsOn new
     pub leaves : LeavesPort (old.port port.0) (new.port port.0)
@@ -103,7 +104,7 @@ module _ (laws : Laws) (port : Port) where
     pub disks : (old.port port.0).link_due ≡ false → ChangesByDisks port.0 old new
     pub shows : (old.port port.0).link_due ≡ false → PlugsNone port.0 old new → (new.port port.0).ssts_det ≡ (old.port port.0).ssts_det
     pub fresh : (old.port port.0).link_due ≡ false → PlugsNone port.0 old new → (new.port port.0).fresh ≡ (old.port port.0).fresh
-    pub faults : (new.port port.0).is 30 ≡ false → ((old.port port.0).is 30 ≡ false) × NoneFails port.0 old new
+    pub errors_shown : (kind : ErrorKind) → AreShown kind port.0 old new
 
   pub errors_none : (d : Device) → ChangesByErrors port.0 d d
   errors_none d = record { fatal = λ none place low high is. is; fault = λ none is. is }
@@ -136,7 +137,7 @@ module _ (laws : Laws) (port : Port) where
             (λ (same : SameLink (old.port port.0) (new.port port.0)). same.fresh)
             (λ (up : ComesUp (old.port port.0) (new.port port.0)). absurd (false≢true (sym undue ∙ up.due)))
             (laws.link port access old new on.no_reset (laws.spares other port Sctl apart access of) does none);
-        faults = λ clear. laws.shown port access old new on.no_reset (laws.spares other port register.Is apart access of) does clear;
+        errors_shown = λ kind. access_shows laws kind port access old new on.no_reset (laws.spares other port register.Is apart access of) does;
       }
 
   pub others_leave : (accesses : List Access) (old new : Device) → IsOn old → DoesAll accesses old new → All (IsOfOther port) accesses → IsLeft old new
@@ -149,7 +150,7 @@ module _ (laws : Laws) (port : Port) where
     disks = λ undue. laws.disks_none port.0 old;
     shows = λ undue none. refl;
     fresh = λ undue none. refl;
-    faults = λ clear. (clear, laws.fails_none port.0 old);
+    errors_shown = λ kind. shown_none kind port.0 old;
   })
   others_leave (access ∷ accesses) old new on (mid, does, rest) of =
       let a = one_left access old mid on (All-head (IsOfOther port) access accesses of) does in
@@ -167,7 +168,7 @@ module _ (laws : Laws) (port : Port) where
         fresh = λ undue none.
             let parts = laws.plugs_parts port.0 old mid new a.grows.0 b.grows.0 a.grows.1 b.grows.1 none in
             b.fresh (a.undue undue) parts.1 ∙ a.fresh undue parts.0;
-        faults = λ clear. let y = b.faults clear in let z = a.faults y.0 in (z.0, laws.fails_more port.0 old mid new z.1 y.1);
+        errors_shown = λ kind. shown_more kind port.0 old mid new a.grows b.grows (a.errors_shown kind) (b.errors_shown kind);
       }
 
   -- they write neither PxCMD nor PxSCTL of it
@@ -251,12 +252,6 @@ module _ (laws : Laws) (port : Port) where
     kept_change : ShowsChange (old.device.port port.0) → ShowsChange (t.start.port port.0)
     kept_change shown = ⊎_elim (λ n. inl (first.leaves.controls.serr_n n)) (λ x. inr (first.leaves.controls.serr_x x)) shown
 
-    kept_fatal : ShowsFatal (old.device.port port.0) → ShowsFatal (t.start.port port.0)
-    kept_fatal shown = record { place = shown.place; from = shown.from; to = shown.to; set = first.leaves.controls.is shown.place shown.set }
-
-    kept_failure : ShowsFailure (old.device.port port.0) → ShowsFailure (t.start.port port.0)
-    kept_failure shown = ⊎_elim (λ f. inl (kept_fatal f)) (λ f. inr (first.leaves.controls.is 30 f)) shown
-
     -- ready then, ready now
     ready : old.moment.ports.state port ≡ Ready → begun.ports.state port ≡ Ready
     ready is = was.1 ∙ is
@@ -301,9 +296,9 @@ module _ (laws : Laws) (port : Port) where
       lost = λ named. lost (linked (inr (alike.lost.1 named))) (its.lost (alike.lost.1 named));
       gone_all = λ is loss. alike.gone.0 (its.gone_all (ready is) (gone_all is loss));
       gone_only = λ named. gone_only (its.gone_only (alike.gone.1 named));
-      failed_all = λ is failure. alike.failed.0 (its.failed_all (ready is) (kept_failure failure));
+      failed_all = λ is failure. alike.failed.0 (its.failed_all (ready is) (failure_still port.0 old.device t.start first.errors_shown failure));
       failed_only = λ named. errors (its.failed_only (alike.failed.1 named));
-      fatal_all = λ is shown. alike.fatal.0 (its.fatal_all (ready is) (kept_fatal shown));
+      fatal_all = λ is shown. alike.fatal.0 (its.fatal_all (ready is) ((first.errors_shown fatals).still shown));
       fatal_only = λ named. fatal_errors (its.fatal_only (alike.fatal.1 named));
       stopped_all = ⊎_elim
           (λ left. inl (All-append (LeavesEngine port) t.before (t.turn ++ t.later) (others_leave_engine t.before t.others)

@@ -1,20 +1,19 @@
 -- A port's turn in a call of which its part is asked: what is asked then, and what its trouble is in the whole.
-use Rattle.std.proofs.Common.{◌≡◌, ◌⊎◌, ◌<◌, ◌≤◌, ◌+◌, ◌++◌, true, false, List, [], ◌∷◌, length, refl, sym, ap, ◌∙◌, subst, inl, inr, ⊎_elim, append_assoc, length-append, arith}
+use Rattle.std.proofs.Common.{◌≡◌, ◌⊎◌, ◌<◌, ◌≤◌, ◌+◌, ◌++◌, true, false, List, ◌∷◌, length, refl, sym, ap, ◌∙◌, inl, inr, ⊎_elim, append_assoc, length-append, arith}
 use Rattle.std.specs.List.{All}
 use Rattle.std.proofs.lemmas.Bool.{cases_Bool, false≢true}
 use Rattle.std.proofs.lemmas.List.{append_cancel_left}
 use Rattle.std.proofs.lemmas.List.Elements.{All-weaker, Contains-append_right}
 use Rattle.ata_types.specs.declared.Port.{Port}
-use Rattle.ata_types.specs.declared.PortState.TheVariants.{Ready}
+use Rattle.ata_types.specs.declared.PortState.TheVariants.{Absent, Dead, Ready}
 use Rattle.hba_regs.specs.declared.reg.Reg.TheVariants.{Ghc, Px}
 use Rattle.hba_regs.specs.declared.reg.PortReg.TheVariants.{Cmd, Sctl}
-use Rattle.adapter.specs.Access.{Access, DoesAll}
+use Rattle.adapter.specs.Access.{Access}
 use Rattle.adapter.specs.Device.{Device}
 use Rattle.adapter.specs.Rules.{IsOn}
 use Rattle.adapter.specs.declared.tape.Entry.{Entry}
 use Rattle.agreement.specs.Driven.{Grows}
-use Rattle.agreement.specs.Errors.{ChangesByErrors, IsFatalOf, NoneFails, NoneFatal}
-use Rattle.agreement.specs.Facts.{IsFaultOf}
+use Rattle.agreement.specs.Errors.{ChangesByErrors, NoneFatal}
 use Rattle.agreement.specs.Links.{IsPlugging, PlugsNone, SparesRegister}
 use Rattle.block_machine.specs.Events.{Moment, Said, Service}
 use Rattle.block_machine.specs.Histories.{Instant}
@@ -22,13 +21,14 @@ use Rattle.block_machine.specs.Ports.{Evidence, IsInterrupted, Ports, SamePort}
 use Rattle.error_recovery.specs.Evidence.{GainsRunning, ShowsFatal}
 use Rattle.driver_history.specs.Evidence.{Gains, ShowsFailure}
 use Rattle.driver_history.specs.Guard.{IsAskedOf}
-use Rattle.driver_history.specs.Histories.{BootsAnew, LosesNoTrouble, RunsWellAnew}
+use Rattle.driver_history.specs.Histories.{BootsAnew, HasFaultAlone, LosesNoTrouble, RunsWellAnew}
 use Rattle.driver_history.specs.Laws.{Laws}
 use Rattle.driver_history.specs.Parts.{HasTurnIn, IsOfOther, NamesAlike, all_of}
 use Rattle.driver_history.specs.Trace.{ResetsLink}
 use Rattle.driver_history.proofs.Calm.{gains_of}
-use Rattle.driver_history.proofs.Parting.{GainsOrNone, IsLeft, errors_more, errors_none, gains_or_none, grows_over, is_fault, others_leave}
-use Rattle.driver_history.proofs.Losing.{denies, never_fatal, never_plugged}
+use Rattle.driver_history.proofs.Parting.{IsLeft, grows_over, others_leave}
+use Rattle.driver_history.proofs.Errors.{ErrorKind, IsOne, Shows, failure, failure_still, faults, fatals, in_parts, one_came}
+use Rattle.driver_history.proofs.Losing.{never_plugged}
 use Rattle.driver_history.proofs.Within.{parts_at, reset_after, reset_before, reset_within}
 
 -- what the tape gained, as a list in two parts or three
@@ -42,19 +42,7 @@ gained_at Such old new before e later tape is = record {
 }
 
 module _ (laws : Laws) (port : Port) where
-  -- the tape gained no fault of the port
-  abbrev Lacks : Device → Device → Type 0
-  Lacks one other = (gained : List Entry) × (other.tape ≡ one.tape ++ gained) × All (λ e. IsFaultOf port.0 e → ⊥) gained
-
-  lacks : (one other : Device) → Lacks one other → NoneFails port.0 one other
-  lacks one other n = record { gained = n.0; tape = n.1; none = n.2 }
-
-  -- errors rise by errors alone over any accesses
-  errors_over : (accesses : List Access) (old new : Device) → DoesAll accesses old new → ChangesByErrors port.0 old new
-  errors_over [] old new same = subst (ChangesByErrors port.0 old) (sym same) (errors_none laws port old)
-  errors_over (access ∷ accesses) old new (mid, does, rest) =
-      errors_more laws port old mid new (laws.grows_access access old mid does) (grows_over laws port accesses mid new rest) (laws.errors port access old mid does) (errors_over accesses mid new rest)
-
+  -- where none was shown, and none came, none is shown
   no_fatal_then : (old new : Device) → ChangesByErrors port.0 old new → NoneFatal port.0 old new → (ShowsFatal (old.port port.0) → ⊥) → ShowsFatal (new.port port.0) → ⊥
   no_fatal_then old new rises none clear shown =
       let low = shown.from in
@@ -83,11 +71,6 @@ module _ (laws : Laws) (port : Port) where
 
     -- ---- what is asked of the turn
 
-    fatal_parts : NoneFatal port.0 old.device t.start × NoneFatal port.0 t.start t.end
-    fatal_parts =
-        let a = laws.fatal_parts port.0 old.device t.start new first.grows.0 since.0 first.grows.1 since.1 asked.unbroken in
-        (a.0, (laws.fatal_parts port.0 t.start t.end new middle.0 last.grows.0 middle.1 last.grows.1 a.1).0)
-
     plug_parts : PlugsNone port.0 old.device t.start × PlugsNone port.0 t.start t.end
     plug_parts =
         let a = laws.plugs_parts port.0 old.device t.start new first.grows.0 since.0 first.grows.1 since.1 asked.plugged in
@@ -96,20 +79,14 @@ module _ (laws : Laws) (port : Port) where
     pub asked_then : IsAskedOf port began t.end
     asked_then = record {
       ready = ready_then;
-      fatal = no_fatal_then old.device t.start first.errors fatal_parts.0 asked.fatal;
       change = λ shown. asked.change (⊎_elim
           (λ n. inl (⊎_elim (λ set. set) (λ clear. absurd (false≢true (sym ((first.disks undue).serr_n plug_parts.0 clear) ∙ n))) (cases_Bool (old.device.port port.0).serr_n)))
           (λ x. inr (⊎_elim (λ set. set) (λ clear. absurd (false≢true (sym ((first.disks undue).serr_x (laws.plugs_come port.0 old.device t.start plug_parts.0) clear) ∙ x)))
           (cases_Bool (old.device.port port.0).serr_x)))
           shown);
       device = first.shows undue plug_parts.0 ∙ asked.device;
-      unbroken = fatal_parts.1;
       plugged = plug_parts.1;
     }
-
-    -- what it showed of a fault it shows then
-    pub shown_then : (old.device.port port.0).is 30 ≡ true → (t.start.port port.0).is 30 ≡ true
-    shown_then set = first.leaves.controls.is 30 set
 
     -- ---- and of what was done then in the whole
 
@@ -127,7 +104,10 @@ module _ (laws : Laws) (port : Port) where
 
       pub boots_are_the_calls : (one other : Said) → SamePort old.moment.ports begun.ports port → BootsAnew Service one t.turn began ended t.end port → BootsAnew Service other (all_of t) old ports new port
       boots_are_the_calls one other was its = (
-        λ ready trouble. absurd (⊎_elim asked.fatal (λ loss. ⊎_elim asked.change (λ (out : _ × _). out.0 asked.device) loss) trouble),
+        λ ready trouble. ⊎_elim
+            (λ fatal. booted (its.0 ready_then (inl ((first.errors_shown fatals).still fatal))))
+            (λ loss. absurd (⊎_elim asked.change (λ (out : _ × _). out.0 asked.device) loss))
+            trouble,
         ⊎_elim
             (λ (same : SamePort begun.ports ended port). inl (
               stays.0 ∙ same.0 ∙ was.0,
@@ -137,9 +117,12 @@ module _ (laws : Laws) (port : Port) where
               stays.4 ∙ same.4 ∙ was.4,
               stays.5 ∙ same.5 ∙ was.5,
             ))
-            (λ anew. inr (⊎_elim (λ dead. inl (stays.1 ∙ dead)) (λ rest. inr (⊎_elim (λ absent. inl (stays.1 ∙ absent)) (λ r. inr (reset_in_call r)) rest)) anew))
+            (λ anew. inr (booted anew))
             its.1,
       )
+        where
+          booted : (ended.state port ≡ Dead) ⊎ ((ended.state port ≡ Absent) ⊎ ResetsLink port t.turn) → (ports.state port ≡ Dead) ⊎ ((ports.state port ≡ Absent) ⊎ ResetsLink port (all_of t))
+          booted anew = ⊎_elim (λ dead. inl (stays.1 ∙ dead)) (λ rest. inr (⊎_elim (λ absent. inl (stays.1 ∙ absent)) (λ r. inr (reset_in_call r)) rest)) anew
 
       module _ (turn call : Evidence) (alike : NamesAlike port turn call) where
         named : IsInterrupted turn port → IsInterrupted call port
@@ -147,29 +130,6 @@ module _ (laws : Laws) (port : Port) where
 
         unnamed : IsInterrupted call port → IsInterrupted turn port
         unnamed i = ⊎_elim (λ stopped. inl (alike.stopped.1 stopped)) (λ stuck. inr (alike.stuck.1 stuck)) i
-
-        -- TFES stays after the turn, and tells of what comes then
-        kept_after : (t.end.port port.0).is 30 ≡ true → (new.port port.0).is 30 ≡ true
-        kept_after set = last.leaves.controls.is 30 set
-
-        came_after : Gains (IsFaultOf port.0) t.end new → (new.port port.0).is 30 ≡ true
-        came_after g = ⊎_elim
-            (λ is. is)
-            (λ clear. let none = (last.faults clear).1 in absurd (denies (IsFaultOf port.0) t.end new none.gained none.tape none.none g))
-            (cases_Bool ((new.port port.0).is 30))
-
-        came_before : Gains (IsFaultOf port.0) old.device t.start → (t.start.port port.0).is 30 ≡ true
-        came_before g = ⊎_elim
-            (λ is. is)
-            (λ clear. let none = (first.faults clear).1 in absurd (denies (IsFaultOf port.0) old.device t.start none.gained none.tape none.none g))
-            (cases_Bool ((t.start.port port.0).is 30))
-
-        -- at the turn's end no fatal error is shown
-        no_fatal_end : ShowsFatal (t.end.port port.0) → ⊥
-        no_fatal_end = no_fatal_then t.start t.end (errors_over t.turn t.start t.end t.then) fatal_parts.1 asked_then.fatal
-
-        failed_after : ShowsFailure (t.end.port port.0) → (new.port port.0).is 30 ≡ true
-        failed_after failure = ⊎_elim (λ f. absurd (no_fatal_end f)) kept_after failure
 
         -- the tape, as what the three parts of the call gained
         whole_tape : new.tape ≡ old.device.tape ++ (first.grows.0 ++ (middle.0 ++ last.grows.0))
@@ -199,48 +159,44 @@ module _ (laws : Laws) (port : Port) where
               (parts_at middle.0 last.grows.0 o.0 later e o.2))
               (parts_at first.grows.0 (middle.0 ++ last.grows.0) before later e (append_cancel_left old.device.tape (first.grows.0 ++ (middle.0 ++ last.grows.0)) (before ++ e ∷ later) (sym whole_tape ∙ tape)))
 
-        module _ (set_since : ended.state port ≡ Ready → IsInterrupted turn port → length t.start.tape ≤ (t.end.port port.0).notes.st_set_at) (its : LosesNoTrouble turn began ended t.end port) where
-          -- what was shown when the turn began is shown at the call's end, unless the port was stopped
-          then_failed : ShowsFailure (t.start.port port.0) → IsInterrupted call port ⊎ ShowsFailure (new.port port.0)
-          then_failed failure = ⊎_elim (λ i. inl (named i)) (λ f. inr (inr (failed_after f))) (its.errors ready_then (inl failure))
+        module _ (set_since : ended.state port ≡ Ready → IsInterrupted turn port → length t.start.tape ≤ (t.end.port port.0).notes.st_set_at)
+            (stops : ShowsFailure (t.start.port port.0) → IsInterrupted turn port) (its : LosesNoTrouble turn began ended t.end port) where
+          -- an error that came before the turn stopped the port in it
+          stopped : (kind : ErrorKind) → Gains (IsOne kind port.0) old.device t.start → IsInterrupted turn port
+          stopped kind early = stops (failure kind (t.start.port port.0) ((first.errors_shown kind).came early))
 
-          a_fault_came : Gains (IsFaultOf port.0) old.device new → IsInterrupted call port ⊎ ShowsFailure (new.port port.0)
-          unfolding GainsOrNone
-          a_fault_came g = ⊎_elim
-              (λ early. then_failed (inr (came_before early)))
-              (λ (none_early : Lacks old.device t.start). ⊎_elim
-              (λ within. ⊎_elim (λ i. inl (named i)) (λ f. inr (inr (failed_after f))) (its.errors ready_then (inr (inl within))))
-              (λ (none_within : Lacks t.start t.end). ⊎_elim
-              (λ late. inr (inr (came_after late)))
-              (λ (none_late : Lacks t.end new).
-              let none = laws.fails_more port.0 old.device t.end new (laws.fails_more port.0 old.device t.start t.end (lacks old.device t.start none_early) (lacks t.start t.end none_within)) (lacks t.end new none_late) in
-              absurd (denies (IsFaultOf port.0) old.device new none.gained none.tape none.none g))
-              (gains_or_none (IsFaultOf port.0) (is_fault port.0) t.end new last.grows))
-              (gains_or_none (IsFaultOf port.0) (is_fault port.0) t.start t.end middle))
-              (gains_or_none (IsFaultOf port.0) (is_fault port.0) old.device t.start first.grows)
+          -- one that came in the call is shown at its end, unless the port was stopped
+          came : (kind : ErrorKind) → Gains (IsOne kind port.0) old.device new → IsInterrupted call port ⊎ ShowsFailure (new.port port.0)
+          came kind g = ⊎_elim
+              (λ early. inl (named (stopped kind early)))
+              (λ rest. ⊎_elim
+              (λ within. ⊎_elim (λ i. inl (named i)) (λ f. inr (failure_still port.0 t.end new last.errors_shown f)) (its.errors ready_then (inr (one_came kind port.0 t.start t.end within))))
+              (λ late. inr (failure kind (new.port port.0) ((last.errors_shown kind).came late)))
+              (in_parts (IsOne kind port.0) t.start t.end new middle last.grows rest))
+              (in_parts (IsOne kind port.0) old.device t.start new first.grows since g)
 
-          fault_since : ports.state port ≡ Ready → GainsRunning (IsFaultOf port.0) port.0 old.device new → (new.port port.0).is 30 ≡ true
-          fault_since ready g =
+          -- and one that came since ST was set is shown
+          came_since : (kind : ErrorKind) → (ended.state port ≡ Ready → GainsRunning (IsOne kind port.0) port.0 t.start t.end → Shows kind (t.end.port port.0)) → ports.state port ≡ Ready
+              → GainsRunning (IsOne kind port.0) port.0 old.device new → Shows kind (new.port port.0)
+          came_since kind its_own ready g =
               let at : (new.port port.0).notes.st_set_at ≡ (t.end.port port.0).notes.st_set_at = ap (λ n. n.st_set_at) last.leaves.notes in
               let least = g.since in
               let is_ready : ended.state port ≡ Ready = sym stays.1 ∙ ready in
-              by_parts (IsFaultOf port.0) ((new.port port.0).is 30 ≡ true) g.before g.entry g.later g.tape g.is
-              (λ early small. ⊎_elim
-              (λ i. let set = set_since is_ready i in absurd (omega (arith, at, least, set, small)))
-              failed_after
-              (its.errors ready_then (inl (inr (came_before early)))))
-              (λ ahead rest tape place. kept_after (its.fault is_ready (record { before = ahead; entry = g.entry; later = rest; tape = tape; is = g.is; since = omega (arith, at, least, place) })))
-              came_after
+              by_parts (IsOne kind port.0) (Shows kind (new.port port.0)) g.before g.entry g.later g.tape g.is
+              (λ early small. let set = set_since is_ready (stopped kind early) in absurd (omega (arith, at, least, set, small)))
+              (λ ahead rest tape place.
+              (last.errors_shown kind).still (its_own is_ready (record { before = ahead; entry = g.entry; later = rest; tape = tape; is = g.is; since = omega (arith, at, least, place) })))
+              (last.errors_shown kind).came
 
           pub trouble_is_the_calls : LosesNoTrouble call old ports new port
           trouble_is_the_calls = record {
             errors = λ ready trouble. ⊎_elim
-                (λ failure. ⊎_elim (λ f. absurd (asked.fatal f)) (λ shown. then_failed (inr (shown_then shown))) failure)
-                (λ came. ⊎_elim a_fault_came (λ f. absurd (never_fatal laws port old new asked f)) came)
+                (λ shown. inl (named (stops (failure_still port.0 old.device t.start first.errors_shown shown))))
+                (λ g. ⊎_elim (came faults) (came fatals) g)
                 trouble;
             changes = λ tends trouble. absurd (⊎_elim asked.change (never_plugged laws port old new asked) trouble);
-            fault = fault_since;
-            fatal = λ ready g. absurd (never_fatal laws port old new asked (gains_of port.0 (IsFatalOf port.0) old.device new g));
+            fault = came_since faults its.fault;
+            fatal = came_since fatals its.fatal;
             disk = λ ready g. absurd (never_plugged laws port old new asked (gains_of port.0 (IsPlugging port.0) old.device new g));
           }
 
@@ -256,3 +212,34 @@ module _ (laws : Laws) (port : Port) where
             (spares_other t.later t.others_later)
             (All-weaker (IsOfOther port) (SparesRegister (Px port Cmd)) (λ access x. laws.spares x.0 port Cmd x.1 access x.2) t.later t.others_later))
             b.1 (its (unnamed i) (sym stays.1 ∙ ready) b.0 fresh)
+
+-- ---- a plain request's fault
+
+-- where TFES alone is shown, with no other trouble in the call, the call's part is asked
+alone_asked : (port : Port) (old : Instant Device) (new : Device) → HasFaultAlone port old new → IsAskedOf port old new
+alone_asked port old new alone = record { ready = alone.ready; change = alone.shows.change; device = alone.shows.device; plugged = alone.plugged }
+
+module _ (laws : Laws) (port : Port) (old : Instant Device) (begun : Moment) (new : Device) (on : IsOn old.device) (undue : (old.device.port port.0).link_due ≡ false) (t : HasTurnIn port old.device new) (on_then : IsOn t.end)
+    (ready_then : begun.ports.state port ≡ Ready) (alone : HasFaultAlone port old new) where
+  then_asked : IsAskedOf port (record { device = t.start; moment = begun }) t.end
+  then_asked = asked_then laws port old begun new on undue t on_then ready_then (alone_asked port old new alone)
+
+  -- so it is in its turn
+  pub alone_then : HasFaultAlone port (record { device = t.start; moment = begun }) t.end
+  alone_then =
+      let first = others_leave laws port t.before old.device t.start on t.first t.others in
+      let middle = grows_over laws port t.turn t.start t.end t.then in
+      let last = grows_over laws port t.later t.end new t.last in
+      let since = laws.grows_more t.start t.end new middle last in
+      let a = laws.fatal_parts port.0 old.device t.start new first.grows.0 since.0 first.grows.1 since.1 alone.fatal in
+      record {
+        ready = ready_then;
+        shows = record {
+          fault = (first.errors_shown faults).still alone.shows.fault;
+          fatal = no_fatal_then laws port old.device t.start first.errors a.0 alone.shows.fatal;
+          change = then_asked.change;
+          device = then_asked.device;
+        };
+        fatal = (laws.fatal_parts port.0 t.start t.end new middle.0 last.0 middle.1 last.1 a.1).0;
+        plugged = then_asked.plugged;
+      }

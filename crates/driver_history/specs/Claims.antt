@@ -1,24 +1,23 @@
 -- What is claimed of each history of a driver (this project's own).
-use Rattle.std.specs.Prelude.{ℕ, true, false, ◌≡◌, ◌≢◌, ◌⊎◌, ◌≤◌, List, All, Contains, count_by}
+use Rattle.std.specs.Prelude.{true, ◌≡◌, ◌≢◌, ◌⊎◌, ◌≤◌, List, All, Contains, count_by}
 use Rattle.ata_types.specs.declared.Port.{Port}
 use Rattle.ata_types.specs.declared.PortState.TheVariants.{Ready, Dead}
 use Rattle.ata_types.specs.declared.request.Outcome.{Outcome}
 use Rattle.ata_types.specs.declared.request.Outcome.TheVariants as outcome
 use Rattle.adapter.specs.Access.{Access}
-use Rattle.adapter.specs.Commands.{is_queued}
 use Rattle.adapter.specs.Device.{Device}
 use Rattle.adapter.specs.Rules.{IsOn}
 use Rattle.adapter.specs.declared.access.DeviceStep.{DeviceStep}
 use Rattle.agreement.specs.Facts.{RunsWell}
-use Rattle.agreement.specs.Slots.{ServesRequest}
-use Rattle.block_machine.specs.Events.{Reset, Tick, AnswersEnded, IsHung, NoneKeepsIssue, WasIssued, moment_after, tells_fault}
+use Rattle.block_machine.specs.Events.{Reset, Service, Tick, AnswersEnded, IsHung, NoneKeepsIssue, WasIssued, moment_after, tells_fault}
 use Rattle.block_machine.specs.Histories.{Instant, Happening}
 use Rattle.block_machine.specs.Ports.{IsInterrupted, SamePort}
 use Rattle.block_machine.specs.State.{Pending}
 use Rattle.block_machine.specs.Steps.{Answer, AllTouched}
 use Rattle.port_control.specs.Engines.{Stops}
+use Rattle.error_recovery.specs.Evidence.{ShowsFatal}
 use Rattle.driver_history.specs.Evidence.{IsFaultTold, IsLost, StaysHealthy}
-use Rattle.driver_history.specs.Histories.{CameBy, FindsIn, IsAnsweredFaulty, IsIssuedOn, Issues}
+use Rattle.driver_history.specs.Histories.{CameBy, FindsIn, Issues, TellsPlainFaults}
 use Rattle.driver_history.specs.Trace.{LeavesEngine}
 
 -- A call that made these accesses leaves a port alone: it is what it was, each answer there is Ok, and neither PxCMD nor PxSCTL of it is written.
@@ -60,16 +59,15 @@ pub record GoesWellFor (old : Instant Device) (h : Happening Device DeviceStep) 
   pub finds : FindsIn h.event.ask accesses old h.event.steps port
   pub issues : Issues h.event.ask h.event.steps (moment_after old.moment h.event).machine h.event.ports port
 
--- ---- commands that fail
+-- ---- failures
 
--- A service heeds the fault that a port showed when it began: what had ended on the port is answered Ok. The port was stopped, or got stuck, and none
--- of its requests that wait keeps its issue. One of them is told a fault at most; and a plain one that was outstanding, and hadn't ended, is told its fault, unless the port ends
--- dead. So it isn't tried again.
+-- A service heeds the failure that a port showed when it began, a fault or a fatal error: what had ended on the port is answered Ok. The port was stopped, or got stuck, and none
+-- of its requests that wait keeps its issue. One of them is told a fault at most, and none where a fatal error was shown. And where TFES alone was, with no fatal error in the call, a
+-- plain one that was outstanding, and hadn't ended, is told its fault, unless the port ends dead. So it isn't tried again.
 pub record HeedsFault (port : Port) (old : Instant Device) (h : Happening Device DeviceStep) : Type 0 where
   pub ended : AnswersEnded old.moment.machine h.event.steps port
   pub stopped : IsInterrupted h.event.evidence port
   pub anew : NoneKeepsIssue h.event.steps (moment_after old.moment h.event).machine port
   pub single : count_by (tells_fault port) h.event.steps ≤ 1
-  pub told : (e : Pending) (slot : ℕ) → IsIssuedOn port old.moment.machine e → e.ended ≡ false
-      → (s : ServesRequest old.moment.machine old.device.memory (old.device.port port.0) port.0 slot e.request.id)
-      → is_queued s.command.operation ≡ false → IsAnsweredFaulty e h.event.steps ⊎ (h.event.ports.state port ≡ Dead)
+  pub fatal : ShowsFatal (old.device.port port.0) → count_by (tells_fault port) h.event.steps ≡ 0
+  pub told : TellsPlainFaults Service old h.event.ports h.device h.event.steps port

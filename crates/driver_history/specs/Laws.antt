@@ -1,5 +1,5 @@
 -- What laws of the crates below say of accesses: the laws on parts of calls rest on them.
-use Rattle.std.specs.Prelude.{ℕ, true, false, ◌≡◌, ◌≢◌, ◌++◌, List, All, length}
+use Rattle.std.specs.Prelude.{ℕ, true, false, ◌≡◌, ◌≢◌, ◌≤◌, ◌++◌, List, All, length}
 use Rattle.ata_types.specs.declared.Port.{Port}
 use Rattle.hba_regs.specs.Bits.{bit}
 use Rattle.hba_regs.specs.declared.reg.PortReg.{PortReg}
@@ -15,6 +15,7 @@ use Rattle.agreement.specs.Driven.{Grows, IsDrivenBy, IsOf, LeavesPort}
 use Rattle.agreement.specs.Errors.{ChangesByDisks, ChangesByErrors, NoneComes, NoneFails, NoneFatal}
 use Rattle.agreement.specs.Facts.{RunsWell, Undisturbed}
 use Rattle.agreement.specs.Links.{LeavesControls, LeavesLink, PlugsNone, SparesRegister}
+use Rattle.error_recovery.specs.Evidence.{ShowsFatal}
 use Rattle.port_boot.specs.States.{RunsOn}
 use Rattle.port_control.specs.Engines.{Falls, Sticks}
 
@@ -46,10 +47,11 @@ pub record Laws : Type 0 where
   pub steps : (old new : Device) → Steps old new → Keeps old new
   pub on_all : (accesses : List Access) (old new : Device) → IsOn old → All (SparesRegister Ghc) accesses → DoesAll accesses old new → IsOn new
   pub spares_host : (port : Port) (access : Access) → IsOf port access → SparesRegister Ghc access
-  pub shown_steps : (port : ℕ) (old new : Device) → old.hr ≡ false → Steps old new → (new.port port).is 30 ≡ false → ((old.port port).is 30 ≡ false) × NoneFails port old new
-  pub shown : (port : Port) (access : Access) (old new : Device) → old.hr ≡ false → SparesRegister (Px port Is) access → Does access old new → (new.port port.0).is 30 ≡ false → ((old.port port.0).is 30 ≡ false) × NoneFails port.0 old new
-  pub fails_none : (port : ℕ) (d : Device) → NoneFails port d d
-  pub fails_more : (port : ℕ) (old mid new : Device) → NoneFails port old mid → NoneFails port mid new → NoneFails port old new
+  pub faults_steps : (port : ℕ) (old new : Device) → old.hr ≡ false → Steps old new → (new.port port).is 30 ≡ false → ((old.port port).is 30 ≡ false) × NoneFails port old new
+  pub faults_access : (port : Port) (access : Access) (old new : Device) → old.hr ≡ false → SparesRegister (Px port Is) access → Does access old new → (new.port port.0).is 30 ≡ false → ((old.port port.0).is 30 ≡ false) × NoneFails port.0 old new
+  pub fatals_steps : (port : ℕ) (old new : Device) → old.hr ≡ false → Steps old new → ((place : ℕ) → 27 ≤ place → place ≤ 29 → (new.port port).is place ≡ false) → ((place : ℕ) → 27 ≤ place → place ≤ 29 → (old.port port).is place ≡ false) × NoneFatal port old new
+  pub fatals_access : (port : Port) (access : Access) (old new : Device) → old.hr ≡ false → SparesRegister (Px port Is) access → Does access old new → ((place : ℕ) → 27 ≤ place → place ≤ 29 → (new.port port.0).is place ≡ false) → ((place : ℕ) → 27 ≤ place → place ≤ 29 → (old.port port.0).is place ≡ false) × NoneFatal port.0 old new
+  pub fatal_unless : (p : PortState) → (((place : ℕ) → 27 ≤ place → place ≤ 29 → p.is place ≡ false) → ⊥) → ShowsFatal p
   pub controls : (port : Port) (access : Access) (old new : Device) → old.hr ≡ false → Does access old new → LeavesControls access port (old.port port.0) (new.port port.0)
   pub command : (port : Port) (v : ℕ) (old new : Device) → Writes (Px port Cmd) v old new → ((new.port port.0).st ≡ bit v 0) × ((new.port port.0).fre ≡ bit v 4)
   pub start : (port : Port) (v : ℕ) (old new : Device) → (old.port port.0).st ≡ false → bit v 0 ≡ true → Writes (Px port Cmd) v old new → ((new.port port.0).cr ≡ true) × ((new.port port.0).notes.st_set_at ≡ length new.tape)

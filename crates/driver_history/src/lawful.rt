@@ -8,6 +8,7 @@ use agreement::facts::{
     plugging_composes,
 };
 use agreement::stretches::{other_ports_are_left, tapes_grow};
+use error_recovery::laws::fatal_errors_show_unless_clear;
 use port_boot::laws::a_port_runs_on;
 use port_control::laws::what_is_told_of_engines_stays;
 
@@ -26,6 +27,7 @@ pub fn laws_hold()
     errors_are_shown();
     errors_rise_by_disks();
     fatal_errors_compose();
+    fatal_errors_show_unless_clear();
     faults_compose();
     link_stays();
     plugging_composes();

@@ -1,4 +1,4 @@
-// Laws of what a call owes a port on which a command fails, for callers: the clause is the theorem. These functions do nothing.
+// Laws of what a call owes a port on which a command fails, or that meets a fatal error, for callers: the clause is the theorem. These functions do nothing.
 ghost use Rattle.std.specs.Prelude.{ℕ, true, false, ◌≡◌, ◌≤◌, List, ◌∷◌, All, length};
 ghost use Rattle.ata_types.specs.declared.Port.{Port};
 ghost use Rattle.ata_types.specs.declared.PortState.TheVariants.{Ready};
@@ -13,9 +13,9 @@ ghost use Rattle.block_machine.specs.Events.{Moment, Said, Service};
 ghost use Rattle.block_machine.specs.Histories.{Happening, Instant, now};
 ghost use Rattle.block_machine.specs.Ports.{Evidence, IsInterrupted, Ports, SamePort};
 ghost use Rattle.driver_history.specs.Claims.{HeedsFault};
-ghost use Rattle.driver_history.specs.Evidence.{StaysHealthy};
+ghost use Rattle.driver_history.specs.Evidence.{ShowsFailure, StaysHealthy};
 ghost use Rattle.driver_history.specs.Guard.{IsAskedOf};
-ghost use Rattle.driver_history.specs.Histories.{BootsAnew, IsHistory, LosesNoTrouble, RunsWellAnew};
+ghost use Rattle.driver_history.specs.Histories.{BootsAnew, HasFaultAlone, IsHistory, LosesNoTrouble, RunsWellAnew};
 ghost use Rattle.driver_history.specs.Parts.{HasTurnIn, NamesAlike, all_of};
 ghost use Rattle.driver_history.specs.Trace.{ClearsNone};
 ghost use Rattle.identify.specs.declared.wanted.Wanted.{Wanted};
@@ -29,17 +29,17 @@ pub fn healthy_ports_are_asked_of()
         → IsAskedOf port old new }
 {}
 
-/// A service heeds the fault that a ready port showed when it began, where the port has a device, and shows no change of its link and no fatal error,
-/// and none comes in the call, nor a disk, nor goes one: what had ended is answered, the port was stopped, who waits keeps no issue, one request is told a fault
-/// at most, and a plain one always.
+/// A service heeds the failure that a ready port showed when it began, a fault or a fatal error, where the port has a device and shows no change of its link,
+/// and no disk goes or comes in the call: what had ended is answered, the port was stopped, who waits keeps no issue, and one request is told a fault
+/// at most. With a fatal error nobody is told one; with TFES alone, and no fatal error in the call, a plain request always is.
 pub fn shown_faults_are_heeded()
     ensures { (wanted : List Wanted) (first : Instant Device) (past : List (Happening Device DeviceStep)) (h : Happening Device DeviceStep)
         (port : Port) → IsHistory wanted first (h ∷ past) → h.event.ask ≡ Service → IsAskedOf port (now first past) h.device
-        → ((now first past).device.port port.0).is 30 ≡ true → HeedsFault port (now first past) h }
+        → ShowsFailure ((now first past).device.port port.0) → HeedsFault port (now first past) h }
 {}
 
 /// Accesses that leave the adapter on, and clear no bit that tells of a port's trouble, lose none of it; nor does the device by itself: of a port of
-/// which a call's part is asked, a fault that was shown is shown still, and so is one that came. (No other trouble comes there.)
+/// which a call's part is asked, a fault or a fatal error that was shown is shown still, and so is one that came. (No other trouble comes there.)
 pub fn ordinary_accesses_lose_no_trouble()
     ensures accesses { (port : Port) (old : Instant Device) (new : Device) (accesses : List Access) (evidence : Evidence) (ports : Ports)
         → IsOn old.device → IsAskedOf port old new → DoesAll accesses old.device new → All (SparesRegister Ghc) accesses
@@ -50,26 +50,28 @@ pub fn ordinary_accesses_lose_no_trouble()
     laws_hold();
 }
 
-/// Where a call's part is asked of a port, so it is of the port's own turn in it, if no link is due when the call begins; and the fault that the port shows
-/// when the call begins it shows when its turn begins.
+/// Where a call's part is asked of a port, so it is of the port's own turn in it, if no link is due when the call begins; and where the port shows TFES alone when
+/// the call begins, with no other trouble in it, so it is of the turn.
 pub fn what_is_asked_of_a_call_is_asked_of_a_turn()
     ensures asked { (port : Port) (old : Instant Device) (begun : Moment) (new : Device) → IsOn old.device
         → (old.device.port port.0).link_due ≡ false → (t : HasTurnIn port old.device new) → IsOn t.end → begun.ports.state port ≡ Ready
         → IsAskedOf port old new → IsAskedOf port (record { device = t.start; moment = begun }) t.end }
-    ensures shown { (port : Port) (old new : Device) → IsOn old → (t : HasTurnIn port old new) → (old.port port.0).is 30 ≡ true
-        → (t.start.port port.0).is 30 ≡ true }
+    ensures alone { (port : Port) (old : Instant Device) (begun : Moment) (new : Device) → IsOn old.device
+        → (old.device.port port.0).link_due ≡ false → (t : HasTurnIn port old.device new) → IsOn t.end → begun.ports.state port ≡ Ready
+        → HasFaultAlone port old new → HasFaultAlone port (record { device = t.start; moment = begun }) t.end }
 {
     laws_hold();
 }
 
 /// Of a port of which a call's part is asked, and no link of which is due when the call begins: what its turn owes of trouble the whole call does, where the turn's
-/// and the call's evidence name the port in the same lists, and ST was set in the turn if it stopped the port and left it ready. So it is with boots, and with a
-/// port that runs well anew.
+/// and the call's evidence name the port in the same lists, ST was set in the turn if it stopped the port and left it ready, and it stopped the port if that showed a
+/// failure when it began. So it is with boots, and with a port that runs well anew.
 pub fn a_turns_trouble_is_the_calls()
     ensures trouble { (port : Port) (old : Instant Device) (begun : Moment) (ended ports : Ports) (new : Device) (turn call : Evidence) → IsOn old.device
         → (old.device.port port.0).link_due ≡ false → (t : HasTurnIn port old.device new) → IsOn t.end → begun.ports.state port ≡ Ready
         → IsAskedOf port old new → SamePort ended ports port → NamesAlike port turn call
         → (ended.state port ≡ Ready → IsInterrupted turn port → length t.start.tape ≤ (t.end.port port.0).notes.st_set_at)
+        → (ShowsFailure (t.start.port port.0) → IsInterrupted turn port)
         → LosesNoTrouble turn (record { device = t.start; moment = begun }) ended t.end port → LosesNoTrouble call old ports new port }
     ensures boots { (port : Port) (old : Instant Device) (begun : Moment) (ended ports : Ports) (new : Device) (one other : Said) → IsOn old.device
         → (old.device.port port.0).link_due ≡ false → (t : HasTurnIn port old.device new) → IsOn t.end → begun.ports.state port ≡ Ready

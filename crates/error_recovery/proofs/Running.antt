@@ -41,7 +41,7 @@ set_unless_clear true not = refl
 set_unless_clear false not = absurd (not refl)
 
 -- one of the three bits is set, unless all are clear
-fatal_unless_clear : (p : PortState) → (((place : ℕ) → 27 ≤ place → place ≤ 29 → p.is place ≡ false) → ⊥) → ShowsFatal p
+pub fatal_unless_clear : (p : PortState) → (((place : ℕ) → 27 ≤ place → place ≤ 29 → p.is place ≡ false) → ⊥) → ShowsFatal p
 fatal_unless_clear p not = by (p.is 27) (p.is 28) (p.is 29) refl refl refl
   where
     by : (a b c : Bool) → p.is 27 ≡ a → p.is 28 ≡ b → p.is 29 ≡ c → ShowsFatal p

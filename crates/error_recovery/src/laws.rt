@@ -1,18 +1,18 @@
 // Laws of the definitions, for callers: the clause is the theorem. Nothing that runs calls these functions.
-ghost use Rattle.std.specs.Prelude.{ℕ, ◌+◌, ◌<◌, ◌≤◌, ◌++◌, All, List, length};
+ghost use Rattle.std.specs.Prelude.{ℕ, false, ◌≡◌, ◌+◌, ◌<◌, ◌≤◌, ◌++◌, All, List, length};
 ghost use Rattle.ata_types.specs.declared.Port.{Port};
 ghost use Rattle.ata_types.specs.declared.memory.TheConstants.{DRIVER_BYTES};
 ghost use Rattle.hba_regs.specs.declared.reg.PortReg.TheVariants.{Cmd, Ie, Sact, Sctl};
 ghost use Rattle.hba_regs.specs.declared.reg.Reg.TheVariants.{Ghc, Px};
 ghost use Rattle.adapter.specs.Access.{Access, DoesAll};
 ghost use Rattle.adapter.specs.Access.Access.{Loading, Storing};
-ghost use Rattle.adapter.specs.Device.{Device};
+ghost use Rattle.adapter.specs.Device.{Device, PortState};
 ghost use Rattle.adapter.specs.Rules.{IsOn};
 ghost use Rattle.adapter.specs.declared.command.Operation.TheVariants.{ReadLog};
 ghost use Rattle.adapter.specs.declared.tape.Fault.{Fault};
 ghost use Rattle.agreement.specs.Driven.{Grows, IsOf, SendsNone};
 ghost use Rattle.agreement.specs.Links.{SparesRegister};
-ghost use Rattle.error_recovery.specs.Evidence.{BringsLog, HasFailed};
+ghost use Rattle.error_recovery.specs.Evidence.{BringsLog, HasFailed, ShowsFatal};
 ghost use Rattle.error_recovery.specs.Recovery.{IsRecovering, MayBeAsked};
 
 use super::lawful::laws_hold;
@@ -48,6 +48,11 @@ pub fn what_stands_behind_a_fault_stays()
     accesses_compose();
     laws_hold();
 }
+
+/// A port shows a fatal error, unless the bits of all three are clear.
+pub fn fatal_errors_show_unless_clear()
+    ensures { (p : PortState) → (((place : ℕ) → 27 ≤ place → place ≤ 29 → p.is place ≡ false) → ⊥) → ShowsFatal p }
+{}
 
 /// What `recover` asks can be met: there is a port with a plain read that failed.
 pub fn a_port_may_be_recovered()

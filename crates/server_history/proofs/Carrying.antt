@@ -26,6 +26,7 @@ use Rattle.block_machine.specs.Steps.{Step, Answer}
 use Rattle.block_machine.proofs.Counting.{count_append}
 use Rattle.block_machine.proofs.EventLemmas.{after-append}
 use Rattle.host_boot.specs.Taken.{found_of}
+use Rattle.driver_history.specs.Evidence.{ShowsFailure}
 use Rattle.driver_history.specs.Guard.{IsAskedOf}
 use Rattle.driver_history.specs.Histories.{FindsDone, HasBadDisk, HasFaultAlone, IsAnsweredFaulty, TendsPort, TiesPort}
 use Rattle.driver_history.specs.Parts.{HasTurnIn, IsOfOther, NamesAlike}
@@ -142,7 +143,7 @@ module _ (laws : LawsBelow) (s : Server) (start : IsSettled s) (old : Moment) (r
       }
 
       alone_so_far : HasFaultAlone q began mid.device → HasFaultAlone q began c.device
-      alone_so_far alone = record { ready = alone.ready; shows = alone.shows; fatal = asked_so_far.unbroken; plugged = asked_so_far.plugged }
+      alone_so_far alone = laws.alone_then q began old mid.device kept.on undue t p.on asked.ready alone
 
       -- ---- what the call heeds of it
 
@@ -215,6 +216,10 @@ module _ (laws : LawsBelow) (s : Server) (start : IsSettled s) (old : Moment) (r
           let z : ReadyState ≡ Dead = sym ready_c ∙ dead in absurd cc)
           i
 
+      -- and where it showed a failure when the call began, it was stopped
+      stops_failed : ShowsFailure (s.device.port q.0) → IsInterrupted p.evidence q
+      stops_failed failure = serves.interrupts (inl (d.evidenced.failed_all asked.ready failure))
+
       -- ---- the whole
 
       not_bad : HasBadDisk old.ports q → ⊥
@@ -238,7 +243,7 @@ module _ (laws : LawsBelow) (s : Server) (start : IsSettled s) (old : Moment) (r
           changed = λ bad. absurd (not_bad bad);
         };
         boots = laws.call_boots q began old (ports_of c) (ports_of mid) mid.device (Served []) (Served []) kept.on undue t p.on asked.ready asked same same_self did.boots;
-        trouble = laws.call_trouble q began old (ports_of c) (ports_of mid) mid.device p.evidence evidence kept.on undue t p.on asked.ready asked same alike set_since did.trouble;
+        trouble = laws.call_trouble q began old (ports_of c) (ports_of mid) mid.device p.evidence evidence kept.on undue t p.on asked.ready asked same alike set_since stops_failed did.trouble;
         well = laws.call_well q began old (ports_of c) (ports_of mid) mid.device p.evidence evidence kept.on undue t p.on asked.ready asked same alike did.well;
         heeds = λ _. heeds_whole;
       }

@@ -1,11 +1,12 @@
--- A port's turn heeds a command that fails: its look told it, or it is shown still.
+-- A port's turn heeds a command that fails, and a fatal error: its look told it, or it is shown still.
 use Rattle.std.proofs.Common.{ℕ, ◌≡◌, ◌≤◌, ◌++◌, Bool, true, false, List, ◌∷◌, inl, inr, refl, sym, ◌∙◌, subst, ⊎_elim, arith}
 use Rattle.std.specs.List.{All, Contains}
-use Rattle.std.proofs.lemmas.Bool.{cases_Bool, false≢true}
+use Rattle.std.proofs.lemmas.Bool.{false≢true}
 use Rattle.std.proofs.lemmas.List.{append_cancel_left}
 use Rattle.std.proofs.lemmas.List.Elements.{All-contains, Contains-append_right}
 use Rattle.ata_types.specs.declared.Port.{Port}
 use Rattle.ata_types.specs.declared.request.Reply.{Reply}
+use Rattle.hba_regs.specs.Bits.{bit}
 use Rattle.hba_regs.specs.declared.reg.Reg.TheVariants.{Px}
 use Rattle.hba_regs.specs.declared.reg.PortReg.TheVariants.{Is, Ci, Sact}
 use Rattle.adapter.specs.Access.{Access}
@@ -14,16 +15,16 @@ use Rattle.adapter.specs.Device.{Device}
 use Rattle.adapter.specs.Rules.{IsOn}
 use Rattle.adapter.specs.declared.tape.Entry.{Entry}
 use Rattle.agreement.specs.Driven.{IsDrivenBy, IsOf}
-use Rattle.agreement.specs.Errors.{IsFatalOf, NoneFails, NoneFatal}
+use Rattle.agreement.specs.Errors.{IsFatalOf}
 use Rattle.agreement.specs.Facts.{IsFaultOf, ShowsNoTrouble}
 use Rattle.agreement.specs.Links.{IsPlugging, PlugsNone, SparesRegister}
 use Rattle.agreement.proofs.Driven.{by_none, by_then, driven_as}
 use Rattle.block_machine.specs.Histories.{Instant}
 use Rattle.block_machine.specs.Ports.{Evidence, Ports}
-use Rattle.driver_history.specs.Evidence.{Gains}
+use Rattle.driver_history.specs.Evidence.{Gains, ShowsFailure}
 use Rattle.driver_history.specs.Guard.{IsAskedOf}
 use Rattle.driver_history.specs.Histories.{LosesNoTrouble}
-use Rattle.error_recovery.specs.Evidence.{GainsRunning}
+use Rattle.error_recovery.specs.Evidence.{GainsRunning, ShowsFatal}
 use Rattle.ncq.specs.Masks.{IsFinding}
 use Rattle.ncq.specs.Tasks.{IsIssuing}
 use Rattle.port_look.specs.Looks.{IsLooking, LooksAt}
@@ -35,8 +36,9 @@ use Rattle.port_look.proofs.Seeing.{look_driven}
 use Rattle.slots.specs.Uses.{Uses as PortSlots}
 use Rattle.server_history.specs.Below.{LawsBelow}
 use Rattle.server_history.specs.Served.{ChecksUsed, HasNone, HasTurn, IssuesIn}
-use Rattle.server_history.proofs.Coming.{calm_or_not, none_or_some}
+use Rattle.server_history.proofs.Coming.{none_or_some}
 use Rattle.server_history.proofs.Plain.{issues_serve}
+use Rattle.server_history.proofs.Showing.{fatal_unless, set_unless}
 
 -- a bit that isn't set is clear
 clear_unless : (b : Bool) → (b ≡ true → ⊥) → b ≡ false
@@ -104,35 +106,40 @@ module _ (laws : LawsBelow) where
       pub shown_none : ShowsNoTrouble (old.device.port port.0)
       shown_none = (laws.looks_calm port turn.look old.device turn.seen on turn.looks calm).0
 
-      -- where TFES is clear, no fault came
-      pub fails_none : (new.port port.0).is 30 ≡ false → NoneFails port.0 old.device new
-      fails_none clear =
-          let late = laws.ordinary_faults port turn.seen new seen_on (later_driven calm) clear in
-          let told = laws.looks_undisturbed turn.looks.causes turn.looks.status (sym turn.looks.tells ∙ calm) in
-          laws.looks.fails_more port.0 old.device turn.seen new (laws.looks_fault port turn.look old.device turn.seen on turn.looks (told.0.quiet 30 (omega arith) (omega arith)) late.0).1 late.1
+      -- what was read told of no error
+      told_none : (place : ℕ) → 27 ≤ place → place ≤ 30 → bit turn.looks.causes place ≡ false
+      told_none = (laws.looks_undisturbed turn.looks.causes turn.looks.status (sym turn.looks.tells ∙ calm)).0.quiet
 
       -- so a fault that came is shown
       fault_shown : Gains (IsFaultOf port.0) old.device new → (new.port port.0).is 30 ≡ true
-      fault_shown g = ⊎_elim
-          (λ set. set)
-          (λ clear. let none = fails_none clear in absurd (gains_none (IsFaultOf port.0) old.device new none.gained none.tape none.none g))
-          (cases_Bool ((new.port port.0).is 30))
+      fault_shown g = set_unless ((new.port port.0).is 30) (λ clear.
+          let late = laws.ordinary_faults port turn.seen new seen_on (later_driven calm) clear in
+          let early = laws.looks_fault port turn.look old.device turn.seen on turn.looks (told_none 30 (omega arith) (omega arith)) late.0 in
+          let none = laws.looks.fails_more port.0 old.device turn.seen new early.1 late.1 in
+          gains_none (IsFaultOf port.0) old.device new none.gained none.tape none.none g)
+
+      -- and so is a fatal error
+      fatal_shown : Gains (IsFatalOf port.0) old.device new → ShowsFatal (new.port port.0)
+      fatal_shown g = fatal_unless (new.port port.0) (λ clear.
+          let late = laws.ordinary_fatals port turn.seen new seen_on (later_driven calm) clear in
+          let early = laws.looks_fatal port turn.look old.device turn.seen on turn.looks (λ place low high. told_none place low (omega (arith, high))) late.0 in
+          let none = laws.trouble.fatal_more port.0 old.device turn.seen new early.1 late.1 in
+          gains_none (IsFatalOf port.0) old.device new none.gained none.tape none.none g)
+
+      -- no failure was shown when it began
+      pub never_failed : ShowsFailure (old.device.port port.0) → ⊥
+      never_failed (inl fatal) = let high = fatal.to in false≢true (sym (shown_none.quiet fatal.place fatal.from (omega (arith, high))) ∙ fatal.set)
+      never_failed (inr fault) = false≢true (sym (shown_none.quiet 30 (omega arith) (omega arith)) ∙ fault)
 
       pub trouble_shown : (evidence : Evidence) (ports : Ports) → IsAskedOf port old new → LosesNoTrouble evidence old ports new port
       trouble_shown evidence ports asked = record {
-        errors = λ ready trouble. inr (inr (⊎_elim
-            (λ shows. ⊎_elim (λ fatal. absurd (asked.fatal fatal)) (λ fault. absurd (false≢true (sym (shown_none.quiet 30 (omega arith) (omega arith)) ∙ fault))) shows)
-            (λ gains. ⊎_elim fault_shown (λ fatal. absurd (never_fatal fatal)) gains)
-            trouble));
+        errors = λ ready trouble. inr (⊎_elim (λ shows. absurd (never_failed shows)) (λ gains. ⊎_elim (λ g. inr (fault_shown g)) (λ g. inl (fatal_shown g)) gains) trouble);
         changes = λ tended trouble. absurd (⊎_elim asked.change never_plugged trouble);
         fault = λ ready g. fault_shown (gained_running (IsFaultOf port.0) port.0 old.device new g);
-        fatal = λ ready g. absurd (never_fatal (gained_running (IsFatalOf port.0) port.0 old.device new g));
+        fatal = λ ready g. fatal_shown (gained_running (IsFatalOf port.0) port.0 old.device new g);
         disk = λ ready g. absurd (never_plugged (gained_running (IsPlugging port.0) port.0 old.device new g));
       }
         where
-          never_fatal : Gains (IsFatalOf port.0) old.device new → ⊥
-          never_fatal g = gains_none (IsFatalOf port.0) old.device new asked.unbroken.gained asked.unbroken.tape asked.unbroken.none g
-
           never_plugged : Gains (IsPlugging port.0) old.device new → ⊥
           never_plugged g = gains_none (IsPlugging port.0) old.device new asked.plugged.gained asked.plugged.tape asked.plugged.none g
 

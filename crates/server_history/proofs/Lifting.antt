@@ -37,6 +37,7 @@ use Rattle.block_machine.proofs.EventLemmas.{after-append}
 use Rattle.block_machine.proofs.Standing.{standing}
 use Rattle.block_machine.proofs.Started.{ended_issued}
 use Rattle.host_boot.specs.Taken.{found_of}
+use Rattle.driver_history.specs.Evidence.{ShowsFailure}
 use Rattle.driver_history.specs.Guard.{IsAskedOf}
 use Rattle.driver_history.specs.Histories.{BootsAnew, FindsDone, HasBadDisk, HasFaultAlone, IsAnsweredFaulty, IsAnsweredOk, IsIssuedOn, RunsWellAnew, TiesPort}
 use Rattle.driver_history.specs.Parts.{HasTurnIn, IsOfOther, NamesAlike}
@@ -295,15 +296,16 @@ module _ (laws : LawsBelow) (s : Server) (start : IsSettled s) (old : Moment) (r
             let same = laws.one_said c.device.memory (c.device.port n).bases.clb it.has.slot its.command k.command its.places k.places its.told.says k.stored.told.says in
             ap (λ (y : Meaning). is_queued y.operation) same.0 ∙ k.kind ∙ used_plain
 
-        -- the fault is shown when the turn begins, and is of that slot, which is in use
-        shown : (c.device.port n).is 30 ≡ true
-        shown = laws.shown_then (port_at n) s.device mid.device kept.on t alone.shows.fault
+        -- so it is in the turn
+        alone_now : HasFaultAlone (port_at n) (instant_of c m) mid.device
+        alone_now = laws.alone_then (port_at n) began (moment_of c m) mid.device kept.on undue t on_mid ready_c alone
 
+        -- the fault that is shown then is of that slot, which is in use
         faults : HasFaults c.device.tape (c.device.port n) n
         faults = ((p.settled.kept.behind n low).runs ready_c).recorded
 
         fault : ShowsFault (drop (c.device.port n).notes.st_set_at c.device.tape) (c.device.port n) n
-        fault = faults.fault (faults.flag shown)
+        fault = faults.fault (faults.flag alone_now.shows.fault)
 
         used_still : InUse (c.device.port n) it.has.slot
         used_still =
@@ -319,14 +321,6 @@ module _ (laws : LawsBelow) (s : Server) (start : IsSettled s) (old : Moment) (r
             absurd (⊎_elim (λ issued. false≢true (sym over.issued ∙ issued)) (λ (taken : _ × _). let z : None ≡ Some taken.0 = sym over.free ∙ taken.1 in cc) used_still))
             (λ no. no)
             (cases_Bool it.now_is.ended)
-
-        alone_now : HasFaultAlone (port_at n) (instant_of c m) mid.device
-        alone_now = record {
-          ready = ready_c;
-          shows = record { fault = shown; fatal = asked_now.fatal; change = asked_now.change; device = asked_now.device };
-          fatal = asked_now.unbroken;
-          plugged = asked_now.plugged;
-        }
 
         fault_told : IsAnsweredFaulty e all ⊎ (state_of (found_of mid.ports n) ≡ Dead)
         fault_told = ⊎_elim
@@ -404,6 +398,10 @@ module _ (laws : LawsBelow) (s : Server) (start : IsSettled s) (old : Moment) (r
           let z : ReadyState ≡ Dead = sym ready_mid ∙ dead in absurd cc)
           i
 
+      -- where the port showed a failure when it began, the turn stopped it
+      stops_failed : ShowsFailure (c.device.port n) → IsInterrupted x.evidence (port_at n)
+      stops_failed failure = serves.interrupts (inl (x.evidenced.failed_all ready_c failure))
+
       -- ---- the whole
 
       not_bad : HasBadDisk old.ports (port_at n) → ⊥
@@ -425,7 +423,7 @@ module _ (laws : LawsBelow) (s : Server) (start : IsSettled s) (old : Moment) (r
         };
         boots = subst (λ (list : List Access). BootsAnew Service (Served []) (p.accesses ++ list) began (ports_of mid) mid.device (port_at n)) (append-nil part.accesses)
             (laws.call_boots (port_at n) began (moment_of c m) (ports_of mid) (ports_of mid) mid.device (Served its) (Served []) kept.on undue t on_mid ready_c asked same_self same_n did.boots);
-        trouble = laws.call_trouble (port_at n) began (moment_of c m) (ports_of mid) (ports_of mid) mid.device x.evidence evidence kept.on undue t on_mid ready_c asked same_self alike set_since did.trouble;
+        trouble = laws.call_trouble (port_at n) began (moment_of c m) (ports_of mid) (ports_of mid) mid.device x.evidence evidence kept.on undue t on_mid ready_c asked same_self alike set_since stops_failed did.trouble;
         well = subst (λ (list : List Access). RunsWellAnew evidence (p.accesses ++ list) began (ports_of mid) mid.device (port_at n)) (append-nil part.accesses)
             (laws.call_well (port_at n) began (moment_of c m) (ports_of mid) (ports_of mid) mid.device x.evidence evidence kept.on undue t on_mid ready_c asked same_self alike did.well);
         heeds = λ _. heeds_whole;

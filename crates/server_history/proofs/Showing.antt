@@ -99,12 +99,12 @@ pub record ShowsAll (port : ℕ) (old new : Device) : Type 0 where
   pub same : (new.port port).notes.st_set_at ≡ (old.port port).notes.st_set_at
 
 -- where a bit isn't clear, it is set
-set_unless : (b : Bool) → (b ≡ false → ⊥) → b ≡ true
+pub set_unless : (b : Bool) → (b ≡ false → ⊥) → b ≡ true
 set_unless true not = refl
 set_unless false not = absurd (not refl)
 
 -- one of the three bits is set, unless all are clear
-fatal_unless : (p : PortState) → (ShowsNoFatal p → ⊥) → ShowsFatal p
+pub fatal_unless : (p : PortState) → (ShowsNoFatal p → ⊥) → ShowsFatal p
 fatal_unless p not = by (p.is 27) (p.is 28) (p.is 29) refl refl refl
   where
     by : (a b c : Bool) → p.is 27 ≡ a → p.is 28 ≡ b → p.is 29 ≡ c → ShowsFatal p

@@ -32,7 +32,7 @@ use Rattle.block_machine.proofs.Calm.{counts_none}
 use Rattle.block_machine.proofs.Members.{into_map, map_in}
 use Rattle.block_machine.proofs.Standing.{standing}
 use Rattle.block_machine.proofs.Started.{ended_issued}
-use Rattle.driver_history.specs.Evidence.{ShowsChange}
+use Rattle.driver_history.specs.Evidence.{ShowsChange, ShowsFailure}
 use Rattle.driver_history.specs.Guard.{IsAskedOf}
 use Rattle.driver_history.specs.Histories.{FindsDone, HasBadDisk, IsAnsweredOk, IsIssuedOn}
 use Rattle.driver_history.specs.Trace.{ReadsMasks}
@@ -49,7 +49,7 @@ use Rattle.server_history.specs.Turns.{FindsTurn, TiesTurn, instant_of, moment_o
 use Rattle.server_history.specs.Server.{Server, IsKept, IsMachineOf, IsSettled, mode_in, ports_of, slots_at, state_of, used_for}
 use Rattle.server_history.proofs.Answered.{answered_in, ended_stood, in_answered, may_parts, no_answer, no_answer_issuing}
 use Rattle.server_history.proofs.Coming.{TurnList}
-use Rattle.server_history.proofs.Heeding.{shown_none, told_nothing, trouble_shown}
+use Rattle.server_history.proofs.Heeding.{never_failed, told_nothing, trouble_shown}
 use Rattle.server_history.proofs.Joined.{nowhere}
 use Rattle.server_history.proofs.Looking.{still_over}
 use Rattle.server_history.proofs.Plain.{both_read}
@@ -269,9 +269,9 @@ module _ (laws : LawsBelow) (port : Port) (replies : List Reply) (old new : Serv
     calm : turn.look ≡ Calm
     calm = told_nothing laws port (slots_at old.slots port.0) replies (instant_of old m) new.device turn kept.on undue asked
 
-    -- TFES was clear
-    unfailing : (old.device.port port.0).is 30 ≡ false
-    unfailing = (shown_none laws port (slots_at old.slots port.0) replies (instant_of old m) new.device turn kept.on calm).quiet 30 (omega arith) (omega arith)
+    -- no failure was shown
+    unfailing : ShowsFailure (old.device.port port.0) → ⊥
+    unfailing = never_failed laws port (slots_at old.slots port.0) replies (instant_of old m) new.device turn kept.on calm
 
     never_lost : ShowsChange (old.device.port port.0) ⊎ ((old.device.port port.0).ssts_det ≢ 3) → ⊥
     never_lost lost = ⊎_elim asked.change (λ out. out asked.device) lost
@@ -280,10 +280,10 @@ module _ (laws : LawsBelow) (port : Port) (replies : List Reply) (old new : Serv
     not_gone here = never_lost (unlost (old.device.port port.0) (named_is (port ∷ []) old.device (ports_of old) shows_loss port here).1)
 
     not_failed : Contains its.failed port → ⊥
-    not_failed here = ⊎_elim asked.fatal (λ fault. false≢true (sym unfailing ∙ fault)) (unfailed (old.device.port port.0) (named_is (port ∷ []) old.device (ports_of old) shows_failure port here).1)
+    not_failed here = unfailing (unfailed (old.device.port port.0) (named_is (port ∷ []) old.device (ports_of old) shows_failure port here).1)
 
     not_fatal : Contains its.fatal port → ⊥
-    not_fatal here = asked.fatal (unfatal (old.device.port port.0) (named_is (port ∷ []) old.device (ports_of old) shows_fatal port here).1)
+    not_fatal here = unfailing (inl (unfatal (old.device.port port.0) (named_is (port ∷ []) old.device (ports_of old) shows_fatal port here).1))
 
     uninterrupted : IsInterrupted its port → ⊥
     uninterrupted i = ⊎_elim (nowhere port) (nowhere port) i
@@ -311,7 +311,7 @@ module _ (laws : LawsBelow) (port : Port) (replies : List Reply) (old new : Serv
   pub ties : TiesTurn port replies list.driven.accesses old new m its steps
   ties asked = record {
     finds = λ is e own. finding (calm asked) e own;
-    faults = λ alone. absurd (false≢true (sym (unfailing asked) ∙ alone.shows.fault));
+    faults = λ alone. absurd (unfailing asked (inr alone.shows.fault));
     tries = λ served coming. record {
       shown = λ absent det. absurd (never_absent absent);
       absent = λ absent det fresh. absurd (never_absent absent);
@@ -319,7 +319,7 @@ module _ (laws : LawsBelow) (port : Port) (replies : List Reply) (old new : Serv
       changed = λ bad. absurd (not_bad asked bad);
     };
     boots = (
-      λ is trouble. absurd (⊎_elim asked.fatal (λ loss. never_lost asked (⊎_elim (λ change. inl change) (λ out. inr out.0) loss)) trouble),
+      λ is trouble. absurd (⊎_elim (λ fatal. unfailing asked (inl fatal)) (λ loss. never_lost asked (⊎_elim (λ change. inl change) (λ out. inr out.0) loss)) trouble),
       inl same,
     );
     trouble = trouble_shown laws port (slots_at old.slots port.0) replies (instant_of old m) new.device turn kept.on (calm asked) its (ports_of new) asked;

@@ -23,7 +23,7 @@ use Rattle.adapter.specs.Access.{Access, Does, DoesAll, Reads}
 use Rattle.adapter.specs.Access.Access.{Loading, Storing}
 use Rattle.adapter.specs.Says.{Says}
 use Rattle.agreement.specs.Driver.{MissesTable}
-use Rattle.agreement.specs.Links.{IsPlugging, PlugsNone, SparesRegister}
+use Rattle.agreement.specs.Links.{IsPlugging, SparesRegister}
 use Rattle.agreement.specs.Tape.{TellsAmong}
 use Rattle.agreement.specs.Started.{ClearsNoStart}
 use Rattle.hba_regs.specs.Bits.{bit}
@@ -36,7 +36,7 @@ use Rattle.agreement.specs.Driver.{EndsWith, Forgets, Goes, HasNoSlot, IsBacked,
 use Rattle.agreement.specs.GivingUp.{parking_all, served_ids}
 use Rattle.agreement.specs.Slots.{Armed, Free, Own, Serves, Use, Uses, op_of, put}
 use Rattle.block_machine.specs.Due.{AreDueInTurn, IsDue, is_plain, IsInOrder as machine_in_order, due_of, of_port, with_issued, with_none, with_waiting}
-use Rattle.agreement.specs.Errors.{NoneComes, NoneFails, NoneFatal}
+use Rattle.agreement.specs.Errors.{NoneComes}
 use Rattle.block_machine.specs.State.{Machine, Pending}
 use Rattle.block_machine.specs.Steps.{Step, Accept, Again, Issue, Answer, May, after_step, newly_accepted, stays}
 use Rattle.block_machine.specs.State as machine
@@ -51,10 +51,10 @@ use Rattle.block_machine.specs.Events.{changes_disk, Ask, IsDevices, Moment, Sai
 use Rattle.block_machine.specs.Left.{after}
 use Rattle.block_machine.specs.Histories.{Instant, IsReached}
 use Rattle.block_machine.specs.Ports.{Evidence, IsInterrupted, Ports, SamePort}
-use Rattle.driver_history.specs.Evidence.{IsEvidencedOf}
+use Rattle.driver_history.specs.Evidence.{IsEvidencedOf, ShowsFailure}
 use Rattle.error_recovery.specs.Evidence.{BringsLog, HasFailed}
 use Rattle.driver_history.specs.Guard.{IsAskedOf}
-use Rattle.driver_history.specs.Histories.{BootsAnew, LosesNoTrouble, RunsWellAnew}
+use Rattle.driver_history.specs.Histories.{BootsAnew, HasFaultAlone, LosesNoTrouble, RunsWellAnew}
 use Rattle.driver_history.specs.Parts.{HasTurnIn, NamesAlike, all_of}
 use Rattle.driver_history.specs.Trace.{ClearsNone}
 use Rattle.port_boot.specs.States.{RunsOn, IsOfBoot}
@@ -222,10 +222,11 @@ pub record LawsBelow : Type 0 where
       → LosesNoTrouble evidence old ports new port
   pub asked_then : (port : Port) (old : Instant Device) (begun : Moment) (new : Device) → IsOn old.device → (old.device.port port.0).link_due ≡ false → (t : HasTurnIn port old.device new) → IsOn t.end
       → begun.ports.state port ≡ Ready → IsAskedOf port old new → IsAskedOf port (record { device = t.start; moment = begun }) t.end
-  pub shown_then : (port : Port) (old new : Device) → IsOn old → (t : HasTurnIn port old new) → (old.port port.0).is 30 ≡ true → (t.start.port port.0).is 30 ≡ true
+  pub alone_then : (port : Port) (old : Instant Device) (begun : Moment) (new : Device) → IsOn old.device → (old.device.port port.0).link_due ≡ false → (t : HasTurnIn port old.device new) → IsOn t.end
+      → begun.ports.state port ≡ Ready → HasFaultAlone port old new → HasFaultAlone port (record { device = t.start; moment = begun }) t.end
   pub call_trouble : (port : Port) (old : Instant Device) (begun : Moment) (ended ports : Ports) (new : Device) (turn call : Evidence) → IsOn old.device → (old.device.port port.0).link_due ≡ false
       → (t : HasTurnIn port old.device new) → IsOn t.end → begun.ports.state port ≡ Ready → IsAskedOf port old new → SamePort ended ports port → NamesAlike port turn call
-      → (ended.state port ≡ Ready → IsInterrupted turn port → length t.start.tape ≤ (t.end.port port.0).notes.st_set_at)
+      → (ended.state port ≡ Ready → IsInterrupted turn port → length t.start.tape ≤ (t.end.port port.0).notes.st_set_at) → (ShowsFailure (t.start.port port.0) → IsInterrupted turn port)
       → LosesNoTrouble turn (record { device = t.start; moment = begun }) ended t.end port → LosesNoTrouble call old ports new port
   pub call_boots : (port : Port) (old : Instant Device) (begun : Moment) (ended ports : Ports) (new : Device) (one other : Said) → IsOn old.device → (old.device.port port.0).link_due ≡ false
       → (t : HasTurnIn port old.device new) → IsOn t.end → begun.ports.state port ≡ Ready → IsAskedOf port old new → SamePort ended ports port → SamePort old.moment.ports begun.ports port

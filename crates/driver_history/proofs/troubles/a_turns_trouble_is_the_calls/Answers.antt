@@ -2,8 +2,8 @@ use Rattle.driver_history.proofs.Turned.{boots_are_the_calls, trouble_is_the_cal
 use Rattle.driver_history.proofs.troubles.a_turns_trouble_is_the_calls.Goals as goal
 
 pub returns-clause-trouble : goal.returns-clause-trouble
-returns-clause-trouble c port old begun ended ports new turn call on undue t on_then ready asked stays alike set its =
-    trouble_is_the_calls c.laws_hold.ensures port old begun new on undue t on_then ready asked ended ports stays turn call alike set its
+returns-clause-trouble c port old begun ended ports new turn call on undue t on_then ready asked stays alike set stops its =
+    trouble_is_the_calls c.laws_hold.ensures port old begun new on undue t on_then ready asked ended ports stays turn call alike set stops its
 
 pub returns-clause-boots : goal.returns-clause-boots
 returns-clause-boots c port old begun ended ports new one other on undue t on_then ready asked stays was its =

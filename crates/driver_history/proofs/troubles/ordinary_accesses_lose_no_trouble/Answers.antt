@@ -1,3 +1,4 @@
+use Rattle.driver_history.proofs.Errors.{steps_show}
 use Rattle.driver_history.proofs.Losing.{accesses_show, loses_none}
 use Rattle.driver_history.proofs.troubles.ordinary_accesses_lose_no_trouble.Goals as goal
 
@@ -7,4 +8,4 @@ returns-clause-accesses c port old new accesses evidence ports on asked does spa
 
 pub returns-clause-steps : goal.returns-clause-steps
 returns-clause-steps c port old new evidence ports on asked moves =
-    loses_none c.laws_hold.ensures port old new asked (c.laws_hold.ensures.shown_steps port.0 old.device new on.no_reset moves) evidence ports
+    loses_none c.laws_hold.ensures port old new asked (λ kind. steps_show c.laws_hold.ensures kind port.0 old.device new on.no_reset moves) evidence ports

@@ -1,5 +1,5 @@
-use Rattle.std.specs.Prelude.{true, ◌≡◌, List, ◌∷◌}
-use Rattle.std.proofs.Common.{inl, inr, subst}
+use Rattle.std.specs.Prelude.{◌≡◌, List, ◌∷◌}
+use Rattle.std.proofs.Common.{inl, subst}
 use Rattle.adapter.specs.Device.{Device}
 use Rattle.adapter.specs.declared.access.DeviceStep.{DeviceStep}
 use Rattle.ata_types.specs.declared.Port.{Port}
@@ -7,17 +7,19 @@ use Rattle.block_machine.specs.Events.{Ask, HeedsAt, Service, ServesReady, momen
 use Rattle.block_machine.specs.Histories.{Happening, Instant, now}
 use Rattle.identify.specs.declared.wanted.Wanted.{Wanted}
 use Rattle.driver_history.specs.Claims.{HeedsFault}
+use Rattle.driver_history.specs.Evidence.{ShowsFailure}
 use Rattle.driver_history.specs.Guard.{IsAskedOf}
 use Rattle.driver_history.specs.Histories.{IsHistory, TellsPlainFaults}
 use Rattle.driver_history.proofs.troubles.shown_faults_are_heeded.Goals as goal
 
 heeds_fault : (wanted : List Wanted) (first : Instant Device) (past : List (Happening Device DeviceStep)) (h : Happening Device DeviceStep) (port : Port)
-    → IsHistory wanted first (h ∷ past) → h.event.ask ≡ Service → IsAskedOf port (now first past) h.device → ((now first past).device.port port.0).is 30 ≡ true
+    → IsHistory wanted first (h ∷ past) → h.event.ask ≡ Service → IsAskedOf port (now first past) h.device → ShowsFailure ((now first past).device.port port.0)
     → HeedsFault port (now first past) h
-heeds_fault wanted first past h port history asks asked fault =
+heeds_fault wanted first past h port history asks asked failure =
     let old = now first past in
     let ties = history.2.port port asked in
-    let failed = (history.2.evidenced.port port).failed_all asked.ready (inr fault) in
+    let evidenced = history.2.evidenced.port port in
+    let failed = evidenced.failed_all asked.ready failure in
     let serves : ServesReady old.moment h.event.evidence h.event.steps (moment_after old.moment h.event) port =
     subst (λ (ask : Ask DeviceStep). HeedsAt port ask old.moment h.event.evidence h.event.steps (moment_after old.moment h.event)) asks ties.heeds asked.ready in
     record {
@@ -25,13 +27,8 @@ heeds_fault wanted first past h port history asks asked fault =
       stopped = serves.interrupts (inl failed);
       anew = serves.anew (inl failed);
       single = serves.single;
-      told = subst (λ (ask : Ask DeviceStep). TellsPlainFaults ask old h.event.ports h.device h.event.steps port) asks ties.faults
-          (record {
-            ready = asked.ready;
-            shows = record { fault = fault; fatal = asked.fatal; change = asked.change; device = asked.device };
-            fatal = asked.unbroken;
-            plugged = asked.plugged;
-          });
+      fatal = λ shown. (serves.fatal (evidenced.fatal_all asked.ready shown)).1;
+      told = subst (λ (ask : Ask DeviceStep). TellsPlainFaults ask old h.event.ports h.device h.event.steps port) asks ties.faults;
     }
 
 pub returns : goal.returns
