@@ -10,4 +10,5 @@ pub mod Healthy
 pub mod Parting
 pub mod Losing
 pub mod Within
+pub mod Since
 pub mod Turned

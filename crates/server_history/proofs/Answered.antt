@@ -11,19 +11,19 @@ use Rattle.block_machine.specs.Events.{AllDevices, AllMay, IsDevices, answers_of
 use Rattle.block_machine.specs.Left.{after}
 use Rattle.block_machine.specs.State.{Pending, Machine}
 use Rattle.block_machine.specs.Steps.{Step, Issue, Answer, May, after_step}
-use Rattle.block_machine.proofs.EventLemmas.{after-append}
 use Rattle.block_machine.proofs.Members.{contains_cases, contains_here, contains_none, contains_there, without_in}
 use Rattle.request_queue.specs.Entries.{Held}
 use Rattle.server_history.specs.Served.{HasEnded, IssuesOnly, answers_in, done_reply}
+use Rattle.server_history.specs.Below.{LawsBelow}
 
 -- ---- steps
 
 -- steps that may come may come in two parts
-pub may_parts : (m : Machine) (late early : List Step) → AllMay m (late ++ early) → AllMay m early × AllMay (after m early) late
-may_parts m [] early may = (may, tt)
-may_parts m (step ∷ late) early may =
-    let x = may_parts m late early may.0 in
-    (x.0, (x.1, subst (λ (n : Machine). May n step) (after-append m late early) may.1))
+pub may_parts : LawsBelow → (m : Machine) (late early : List Step) → AllMay m (late ++ early) → AllMay m early × AllMay (after m early) late
+may_parts laws m [] early may = (may, tt)
+may_parts laws m (step ∷ late) early may =
+    let x = may_parts laws m late early may.0 in
+    (x.0, (x.1, subst (λ (n : Machine). May n step) (laws.basic.joined m late early) may.1))
 
 -- ---- answers
 
@@ -77,15 +77,15 @@ told_so port (e ∷ requests) (p ∷ ended) each =
     ∙ ap (λ (replies : List Reply). reply_of (p, Ok) ∷ replies) (told_so port requests ended each.1)
 
 -- who is answered was unanswered before
-pub ended_stood : (m : Machine) (ended : List Pending) → AllMay m (answers_in ended) → (p : Pending) → Contains ended p → Contains m.book p
-ended_stood m [] may p here = absurd (contains_none p here)
-ended_stood m (x ∷ ended) may p here = ⊎_elim
+pub ended_stood : LawsBelow → (m : Machine) (ended : List Pending) → AllMay m (answers_in ended) → (p : Pending) → Contains ended p → Contains m.book p
+ended_stood laws m [] may p here = absurd (contains_none p here)
+ended_stood laws m (x ∷ ended) may p here = ⊎_elim
     (λ (is : p ≡ x). subst (Contains m.book) (sym is) parts.0.1)
-    (λ (there : Contains ended p). (without_in x.request.id m.book p (ended_stood (after_step m (Answer x Ok)) ended parts.1 p there)).0)
+    (λ (there : Contains ended p). (without_in x.request.id m.book p (ended_stood laws (after_step m (Answer x Ok)) ended parts.1 p there)).0)
     (contains_cases x ended p here)
   where
     parts : AllMay m (Answer x Ok ∷ []) × AllMay (after_step m (Answer x Ok)) (answers_in ended)
-    parts = may_parts m (answers_in ended) (Answer x Ok ∷ []) may
+    parts = may_parts laws m (answers_in ended) (Answer x Ok ∷ []) may
 
 -- nor do steps that issue requests
 pub issuing_answers : (mode : Mode) (port : Port) (late base : List Step) → IssuesOnly mode port late → answers_of (late ++ base) ≡ answers_of base

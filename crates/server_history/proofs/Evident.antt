@@ -14,7 +14,6 @@ use Rattle.adapter.specs.Access.Access.{Reading, Writing}
 use Rattle.adapter.specs.Device.{Device}
 use Rattle.adapter.specs.declared.command.Operation.TheVariants.{ReadLog}
 use Rattle.adapter.specs.declared.tape.Fault as tape_fault
-use Rattle.adapter.proofs.Calls.{does_append}
 use Rattle.agreement.specs.Driven.{AnyAccess, AnyUse, Grows, IsFollowed, IsOf, SendsNone}
 use Rattle.agreement.specs.Driver.{IsBacked}
 use Rattle.agreement.specs.Links.{SparesRegister}
@@ -267,7 +266,7 @@ module _ (laws : LawsBelow) (port : Port) (replies : List Reply) (old new : Serv
     parts = t;
     accesses = accesses_in t;
     accesses_are = refl;
-    does = does_append t.early.accesses (part ++ t.late.accesses) old.device a.mid.device new.device t.early.all (does_append part t.late.accesses a.mid.device a.device new.device t.does t.late.all);
+    does = laws.basic.does_append t.early.accesses (part ++ t.late.accesses) old.device a.mid.device new.device t.early.all (laws.basic.does_append part t.late.accesses a.mid.device a.device new.device t.does t.late.all);
     of = All-weaker (IsPart port) (IsOf port) (λ access is. is.1) (accesses_in t) kinds;
     own = All-weaker (IsPart port) IsDriversOwn (λ access is. is.0) (accesses_in t) kinds;
     others = leaves_others laws port replies old new k r kept;

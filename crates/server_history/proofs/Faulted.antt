@@ -2,7 +2,7 @@
 use Rattle.std.proofs.Common.{ℕ, ◌≡◌, ◌≢◌, ◌⊎◌, ◌≤◌, ◌++◌, ◌||◌, true, false, List, [], ◌∷◌, append_assoc, inl, inr, refl, sym, ap, ◌∙◌, arith, ⊎_elim}
 use Rattle.std.specs.List.{All, Contains}
 use Rattle.std.proofs.lemmas.Bool.{cases_Bool, cases_eq, false≢true, or_cases}
-use Rattle.std.proofs.lemmas.List.Elements.{All-cons, All-nil, Contains-append_left}
+use Rattle.std.proofs.lemmas.List.Elements.{All-cons, All-nil, Contains-append_left, Contains-append_right}
 use Rattle.ata_types.specs.declared.Port.{Port}
 use Rattle.hba_regs.specs.Bits.{bit}
 use Rattle.hba_regs.specs.declared.reg.PortReg.TheVariants.{Cmd, Is, Sctl, Ssts}
@@ -18,7 +18,6 @@ use Rattle.agreement.specs.Driven.{Grows}
 use Rattle.agreement.specs.Errors.{NoneComes}
 use Rattle.agreement.specs.Facts.{IsFaultOf}
 use Rattle.agreement.specs.Links.{SparesRegister}
-use Rattle.block_machine.proofs.Members.{contains_here, contains_there}
 use Rattle.driver_history.specs.Evidence.{Gains, ShowsChange}
 use Rattle.error_recovery.specs.Evidence.{ShowsFatal}
 use Rattle.port_boot.specs.States.{RunsOn}
@@ -41,9 +40,9 @@ is_fault port (entry.Fatal x) = inr (λ is. is)
 one_or_none : (port : ℕ) (gained : List Entry) → ((e : Entry) × Contains gained e × IsFaultOf port e) ⊎ All (λ e. IsFaultOf port e → ⊥) gained
 one_or_none port [] = inr (All-nil (λ e. IsFaultOf port e → ⊥))
 one_or_none port (e ∷ gained) = ⊎_elim
-    (λ (is : IsFaultOf port e). inl (e, contains_here e gained e refl, is))
+    (λ (is : IsFaultOf port e). inl (e, (0, omega arith, refl), is))
     (λ none. ⊎_elim
-    (λ found. inl (found.0, contains_there e gained found.0 found.1, found.2))
+    (λ found. inl (found.0, Contains-append_right (e ∷ []) gained found.0 found.1, found.2))
     (λ others. inr (All-cons (λ x. IsFaultOf port x → ⊥) e gained none others))
     (one_or_none port gained))
     (is_fault port e)
@@ -63,7 +62,7 @@ gains_more Such old mid new grows g = record {
 module _ (laws : LawsBelow) (port : Port) (old seen : Device) (l : LooksAt port Failed old seen) (on : IsOn old) where
   -- TFES, and no fatal error
   told : (bit l.causes 30 ≡ true) × ((place : ℕ) → 27 ≤ place → place ≤ 29 → bit l.causes place ≡ false)
-  told = let t = laws.looks_failed l.causes l.status (sym l.tells) in (t.0, t.3)
+  told = let t = laws.looking.looks_failed l.causes l.status (sym l.tells) in (t.0, t.3)
 
   -- a bit that was set when the turn began
   set_then : (place : ℕ) → (old.port port.0).is place ≡ true → (l.seen.port port.0).is place ≡ true
@@ -84,13 +83,13 @@ module _ (laws : LawsBelow) (port : Port) (old seen : Device) (l : LooksAt port 
 
   -- nor did the link tell of a change
   pub no_change : ShowsChange (old.port port.0) → ⊥
-  no_change change = let z : Failed ≡ Lost = laws.looks_changed port Failed old seen on l change in cc
+  no_change change = let z : Failed ≡ Lost = laws.looking.looks_changed port Failed old seen on l change in cc
 
   -- nor was a device missing, unless a disk came
   pub not_missing : (new : Device) → Grows seen new → (old.port port.0).link_due ≡ false → (old.port port.0).ssts_det ≢ 3 → NoneComes port.0 old new → ⊥
   not_missing new later undue missing none =
       let first : Grows old seen = looked in
-      let z : Failed ≡ Lost = laws.looks_unlinked port Failed old seen on l missing undue (laws.looks.comes_parts port.0 old seen new first.0 later.0 first.1 later.1 none).0 in cc
+      let z : Failed ≡ Lost = laws.looking.looks_unlinked port Failed old seen on l missing undue (laws.looks.comes_parts port.0 old seen new first.0 later.0 first.1 later.1 none).0 in cc
     where
       looked : Grows old seen
       looked =

@@ -29,8 +29,6 @@ use Rattle.ncq.specs.Tasks.{IsIssuing}
 use Rattle.port_look.specs.Looks.{IsLooking}
 use Rattle.port_look.specs.Services.{IsOrdinary}
 use Rattle.port_look.specs.declared.Look.TheVariants.{Undisturbed as Calm}
-use Rattle.port_look.proofs.Apart.{looking_of}
-use Rattle.port_look.proofs.Seeing.{look_driven}
 use Rattle.slots.specs.Uses.{Uses as PortSlots}
 use Rattle.server_history.specs.Below.{LawsBelow}
 use Rattle.server_history.specs.Served.{ChecksUsed, HasNone, HasTurn, IssuesIn}
@@ -96,19 +94,19 @@ module _ (laws : LawsBelow) where
         c = turn.calm calm
 
     seen_on : IsOn turn.seen
-    seen_on = laws.of_on port old.device turn.seen on (driven_as (IsLooking port) (IsOf port) old.device turn.seen (looking_of port) (look_driven port turn.look old.device turn.seen turn.looks))
+    seen_on = laws.of_on port old.device turn.seen on (driven_as (IsLooking port) (IsOf port) old.device turn.seen (laws.looking.looking_of port) (laws.looking.looks_driven port turn.look old.device turn.seen turn.looks))
 
     module _ (calm : turn.look ≡ Calm) where
       -- it showed no trouble, then
       pub shown_none : ShowsNoTrouble (old.device.port port.0)
-      shown_none = (laws.looks_calm port turn.look old.device turn.seen on turn.looks calm).0
+      shown_none = (laws.looking.looks_calm port turn.look old.device turn.seen on turn.looks calm).0
 
       -- where TFES is clear, no fault came
       pub fails_none : (new.port port.0).is 30 ≡ false → NoneFails port.0 old.device new
       fails_none clear =
-          let late = laws.ordinary_shows port turn.seen new seen_on (later_driven calm) clear in
-          let told = laws.looks_undisturbed turn.looks.causes turn.looks.status (sym turn.looks.tells ∙ calm) in
-          laws.looks.fails_more port.0 old.device turn.seen new (laws.looks_unread port turn.look old.device turn.seen on turn.looks (told.0.quiet 30 (omega arith) (omega arith)) late.0).1 late.1
+          let late = laws.looking.ordinary_shows port turn.seen new seen_on (later_driven calm) clear in
+          let told = laws.looking.looks_undisturbed turn.looks.causes turn.looks.status (sym turn.looks.tells ∙ calm) in
+          laws.looks.fails_more port.0 old.device turn.seen new (laws.looking.looks_unread port turn.look old.device turn.seen on turn.looks (told.0.quiet 30 (omega arith) (omega arith)) late.0).1 late.1
 
       -- so a fault that came is shown
       fault_shown : Gains (IsFaultOf port.0) old.device new → (new.port port.0).is 30 ≡ true
@@ -148,7 +146,7 @@ module _ (laws : LawsBelow) where
           ⊎_elim
           (λ calm. calm)
           (λ failed. absurd (turn.whole failed))
-          (laws.looks_heed port turn.look old.device turn.seen on turn.looks undue whole
+          (laws.looking.looks_heed port turn.look old.device turn.seen on turn.looks undue whole
           (clear_unless (old.device.port port.0).serr_n (λ n. asked.change (inl n))) (clear_unless (old.device.port port.0).serr_x (λ x. asked.change (inr x))) asked.device
           (subst (NoneFatal port.0 old.device) same asked.unbroken) (subst (PlugsNone port.0 old.device) same asked.plugged)))
           (calm_or_not turn.look)

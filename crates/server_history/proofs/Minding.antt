@@ -14,14 +14,12 @@ use Rattle.ata_types.specs.declared.request.Outcome.TheVariants as outcome
 use Rattle.ata_types.specs.declared.request.Reply.{Reply}
 use Rattle.ata_types.specs.declared.request.RequestId.{RequestId}
 use Rattle.agreement.specs.Driven.{AnyUse, IsFollowed}
-use Rattle.agreement.proofs.Sparing.{found_before, steps_spare}
 use Rattle.block_machine.specs.Events.{IsIssuedIn, NoneKeepsIssue, ServesReady, answers_of, issues_it, tells_fault}
 use Rattle.block_machine.specs.Histories.{IsReached}
 use Rattle.block_machine.specs.Left.{after}
 use Rattle.block_machine.specs.State.{Machine, Pending}
 use Rattle.block_machine.specs.Steps.{Answer, Issue, Step, at, issue}
 use Rattle.block_machine.specs.declared.due.Mode.{Mode}
-use Rattle.block_machine.proofs.EventLemmas.{after-append}
 use Rattle.block_machine.proofs.Members.{at_cases, contains_cases, contains_here, contains_none, contains_there, map_in}
 use Rattle.host_boot.specs.Taken.{found_of}
 use Rattle.port_boot.specs.States.{ShowsOwnDisk}
@@ -54,10 +52,10 @@ use Rattle.server_history.proofs.Zips.{at_right}
 -- ---- requests that are issued
 
 -- Who is issued after steps that issue requests was issued by them, or was before.
-issued_before : (mode : Mode) (port : Port) (m : Machine) (steps : List Step) → IssuesOnly mode port steps → (e : Pending) → Contains (after m steps).book e → e.issued ≡ true
+issued_before : LawsBelow → (mode : Mode) (port : Port) (m : Machine) (steps : List Step) → IssuesOnly mode port steps → (e : Pending) → Contains (after m steps).book e → e.issued ≡ true
     → IsIssuedIn e.request.id steps ⊎ ((was : Pending) × Contains m.book was × (was.request ≡ e.request) × (was.issued ≡ true))
-issued_before mode port m [] only e here issued = inr (e, here, refl, issued)
-issued_before mode port m (Issue its x ∷ steps) only e here issued =
+issued_before laws mode port m [] only e here issued = inr (e, here, refl, issued)
+issued_before laws mode port m (Issue its x ∷ steps) only e here issued =
     let w = map_in (λ (y : Pending). at x.request.id issue y) (after m steps).book e here in ⊎_elim
     (λ (hit : (w.0.request.id.0 ≡ x.request.id.0) × (at x.request.id issue w.0 ≡ issue w.0)).
     let same : e.request.id.0 ≡ x.request.id.0 = ap (λ (y : Pending). y.request.id.0) (w.2 ∙ hit.1) ∙ hit.0 in
@@ -68,18 +66,18 @@ issued_before mode port m (Issue its x ∷ steps) only e here issued =
     (λ (before : IsIssuedIn w.0.request.id steps).
     inl (by (x.request.id.0 == e.request.id.0) (subst (λ (y : Pending). IsIssuedIn y.request.id steps) (sym same) before)))
     (λ was. inr (was.0, was.1, was.2 ∙ ap (λ (y : Pending). y.request) (sym same), was.3))
-    (issued_before mode port m steps only.2 w.0 w.1 (ap (λ (y : Pending). y.issued) (sym same) ∙ issued)))
+    (issued_before laws mode port m steps only.2 w.0 w.1 (ap (λ (y : Pending). y.issued) (sym same) ∙ issued)))
     (at_cases x.request.id issue w.0)
   where
     by : (b : Bool) → list_any (issues_it e.request.id) steps ≡ true → (b || list_any (issues_it e.request.id) steps) ≡ true
     by true is = refl
     by false is = is
-issued_before mode port m (step ∷ steps) only e here issued =
-    let l = found_before (after m steps).book (after m (step ∷ steps)).book e (steps_spare (after m steps) (step ∷ []) (tt, only.0)).book here in
+issued_before laws mode port m (step ∷ steps) only e here issued =
+    let l = laws.basic.found_before (after m steps).book (after m (step ∷ steps)).book e (laws.basic.spares (after m steps) (step ∷ []) (tt, only.0)).book here in
     ⊎_elim
     (λ (before : IsIssuedIn l.0.request.id steps). inl (by (issues_it e.request.id step) (subst (λ (id : RequestId). IsIssuedIn id steps) (sym (ap (λ q. q.id) l.2.request)) before)))
     (λ was. inr (was.0, was.1, was.2 ∙ sym l.2.request, was.3))
-    (issued_before mode port m steps only.1 l.0 l.1 (sym l.2.issued ∙ issued))
+    (issued_before laws mode port m steps only.1 l.0 l.1 (sym l.2.issued ∙ issued))
   where
     by : (b : Bool) → list_any (issues_it e.request.id) steps ≡ true → (b || list_any (issues_it e.request.id) steps) ≡ true
     by true is = refl
@@ -186,11 +184,11 @@ module _ (laws : LawsBelow) (port : Port) (replies : List Reply) (old new : Serv
 
   anew : NoneKeepsIssue d.steps (after m d.steps) port
   anew e here own issued =
-      let all : after m d.steps ≡ after (after m base) d.issuing.steps = ap (after m) d.steps_are ∙ after-append m d.issuing.steps base in
+      let all : after m d.steps ≡ after (after m base) d.issuing.steps = ap (after m) d.steps_are ∙ laws.basic.joined m d.issuing.steps base in
       subst (IsIssuedIn e.request.id) (sym d.steps_are) (⊎_elim
       (λ now. issued_late e.request.id d.issuing.steps base now)
       (λ was. absurd (none_issued was.0 was.1 (ap (λ q. q.port) was.2 ∙ own) was.3))
-      (issued_before (mode_in r.mid port) port (after m base) d.issuing.steps d.issuing.only e (subst (λ (n : Machine). Contains n.book e) all here) issued))
+      (issued_before laws (mode_in r.mid port) port (after m base) d.issuing.steps d.issuing.only e (subst (λ (n : Machine). Contains n.book e) all here) issued))
 
   -- ---- one fault is told at most
 

@@ -112,7 +112,7 @@ module _ (laws : LawsBelow) (s : Server) (start : IsSettled s) (old : Moment) (r
     serving = All-nil (IsServing (TendsPort (ports_of s)));
     others = λ q none. All-nil (IsOfOther q);
     steps = [];
-    turns = no_turns old reached;
+    turns = no_turns laws old reached;
     stands = at;
     backed = laws.backed_none s.device old.machine;
     belong = tt;
@@ -213,7 +213,7 @@ module _ (laws : LawsBelow) (s : Server) (start : IsSettled s) (old : Moment) (r
     serving = p.serving;
     others = λ q none. p.others q (λ served. let small = served.0 in none (omega (arith, small), served.1));
     steps = p.steps;
-    turns = turns_more old reached n (n + 1) p.steps (omega arith) p.turns;
+    turns = turns_more laws old reached n (n + 1) p.steps (omega arith) p.turns;
     stands = p.stands;
     backed = p.backed;
     belong = p.belong;

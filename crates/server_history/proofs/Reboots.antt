@@ -1,20 +1,19 @@
 -- A turn in which a command had failed leaves the port what it was, or dead, or has reset its link.
-use Rattle.std.proofs.Common.{◌≡◌, ◌≢◌, ◌<◌, ◌++◌, List, Some, refl, sym, ap, ◌∙◌, subst, inl, inr, arith, ⊎_elim}
+use Rattle.std.proofs.Common.{◌≡◌, ◌≢◌, ◌<◌, ◌++◌, List, Some, refl, sym, ap, ◌∙◌, subst, inl, inr, arith, ⊎_elim, []}
 use Rattle.std.specs.Prelude.{◌⊎◌}
 use Rattle.std.proofs.lemmas.List.{get_or-set_same}
+use Rattle.std.proofs.lemmas.List.Elements.{All-contains, All-nil}
 use Rattle.ata_types.specs.declared.Port.{Port}
 use Rattle.ata_types.specs.declared.PortState.TheVariants as shown
 use Rattle.ata_types.specs.declared.PortState.TheVariants.{Dead as DeadState, Ready as ReadyState}
 use Rattle.ata_types.specs.declared.request.Reply.{Reply}
 use Rattle.adapter.specs.Access.{Access}
 use Rattle.adapter.specs.Device.{Device}
-use Rattle.adapter.proofs.Calls.{does_append}
 use Rattle.agreement.specs.Driven.{AnyUse, IsFollowed}
 use Rattle.agreement.specs.Links.{SameAdapter}
 use Rattle.block_machine.specs.Events.{Served, Service}
 use Rattle.block_machine.specs.Ports.{SamePort}
 use Rattle.block_machine.specs.State.{Machine}
-use Rattle.block_machine.proofs.Members.{contains_none}
 use Rattle.driver_history.specs.Histories.{BootsAnew}
 use Rattle.driver_history.specs.Trace.{ResetsLink}
 use Rattle.error_recovery.specs.declared.Next.{Next}
@@ -63,7 +62,7 @@ module _ (laws : LawsBelow) (port : Port) (replies : List Reply) (old new : Serv
   adapter : SameAdapter old.device a.device
   adapter = laws.recovery.any_same old.device a.device (record {
     accesses = until;
-    all = does_append t.early.accesses x.recovers.accesses old.device a.mid.device a.device t.early.all t.does;
+    all = laws.basic.does_append t.early.accesses x.recovers.accesses old.device a.mid.device a.device t.early.all t.does;
     only = λ i access small. tt;
   })
 
@@ -119,8 +118,8 @@ module _ (laws : LawsBelow) (port : Port) (replies : List Reply) (old new : Serv
   pub reboots : (m : Machine) → BootsAnew Service (Served replies) evident.accesses (instant_of old m) (ports_of new) new.device port
   reboots m = (
     (λ is_ready trouble. absurd (⊎_elim
-        (λ fatal. contains_none port ((evident.evidenced m).fatal_all is_ready fatal))
-        (λ loss. contains_none port ((evident.evidenced m).gone_all is_ready loss))
+        (λ fatal. All-contains (λ _. ⊥) [] port (All-nil (λ _. ⊥)) ((evident.evidenced m).fatal_all is_ready fatal))
+        (λ loss. All-contains (λ _. ⊥) [] port (All-nil (λ _. ⊥)) ((evident.evidenced m).gone_all is_ready loss))
         trouble)),
     ends,
   )

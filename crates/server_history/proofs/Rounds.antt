@@ -9,7 +9,6 @@ use Rattle.ata_types.specs.declared.Port.{Port}
 use Rattle.ata_types.specs.declared.request.RequestId.{RequestId}
 use Rattle.ata_types.specs.declared.PortState.TheVariants.{Dead}
 use Rattle.adapter.specs.declared.command.Operation.{Operation}
-use Rattle.adapter.proofs.Calls.{does_append}
 use Rattle.agreement.specs.Driven.{IsDrivenBy, SendsNone}
 use Rattle.agreement.specs.Slots.{op_of}
 use Rattle.agreement.specs.Driver.{IsBacked}
@@ -23,8 +22,6 @@ use Rattle.block_machine.specs.State.{Machine, Pending, unanswered}
 use Rattle.block_machine.specs.Steps.{Step, Accept, Again, Answer, Issue}
 use Rattle.block_machine.specs.declared.due.Mode.{Mode}
 use Rattle.block_machine.specs.declared.due.Unanswered.{Unanswered}
-use Rattle.block_machine.proofs.EventLemmas.{after-append}
-use Rattle.block_machine.proofs.HistoryLemmas.{may-append, reached_more}
 use Rattle.block_machine.proofs.Members.{contains_cases, contains_here, contains_none, contains_there, into_map, map_in}
 use Rattle.driver_history.specs.Histories.{IssuesDue, unissued}
 use Rattle.ncq.specs.Tasks.{IsIssuing}
@@ -186,12 +183,12 @@ module _ (laws : LawsBelow) (port : Port) where
   each_issued (first ∷ ids) old new k (mid, one, more) m reached is =
       let x : IsIssue port first old mid m = issue_one laws old mid port first k one m reached is in
       let early : List Step = Issue (mode_in old port) x.request ∷ x.steps in
-      let y : AreIssued port ids mid new (after m early) = each_issued ids mid new (issue_kept laws old mid port first k one) more (after m early) (reached_more m early reached x.may) x.stands in
+      let y : AreIssued port ids mid new (after m early) = each_issued ids mid new (issue_kept laws old mid port first k one) more (after m early) (laws.basic.reached m early reached x.may) x.stands in
       record {
         steps = y.steps ++ early;
-        may = may-append m y.steps early x.may y.may;
+        may = laws.basic.may m y.steps early x.may y.may;
         backed = laws.backed_parts old.device mid.device new.device m early y.steps x.backed y.backed;
-        stands = subst (IsMachineOf new) (sym (after-append m y.steps early)) y.stands;
+        stands = subst (IsMachineOf new) (sym (laws.basic.joined m y.steps early)) y.stands;
         only = only_append (mode_in old port) port y.steps early (subst (λ (modes : List Mode). IssuesOnly (mode_at modes port.0) port y.steps) (ap (λ (n : Server). n.modes) one.server) y.only) (refl, x.port_is, devices_only (mode_in old port) port x.steps x.only);
         named = λ id i. ⊎_elim
             (λ (late : IsIssuedIn id y.steps). contains_there first ids id (y.named id late))
@@ -239,7 +236,7 @@ module _ (laws : LawsBelow) (port : Port) where
       let early = driven_as (IsIssuing port one.slot) (IssuesIn port) old.device mid.device (λ access is. (one.slot, one.small, is)) one.issues.driven in
       record {
         accesses = early.accesses ++ late.accesses;
-        all = does_append early.accesses late.accesses old.device mid.device new.device early.all late.all;
+        all = laws.basic.does_append early.accesses late.accesses old.device mid.device new.device early.all late.all;
         only = All-append (IssuesIn port) early.accesses late.accesses early.only late.only;
       }
 

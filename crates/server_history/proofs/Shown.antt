@@ -1,9 +1,9 @@
 -- A port of which a look told a failure showed a device: so it had a disk when the turn began, or one went or came in it.
-use Rattle.std.proofs.Common.{ℕ, ◌≡◌, ◌⊎◌, ◌++◌, true, false, List, [], ◌∷◌, append_assoc, inl, inr, refl, sym, ap, ◌∙◌, subst, ⊎_elim}
+use Rattle.std.proofs.Common.{ℕ, ◌≡◌, ◌⊎◌, ◌++◌, true, false, List, [], ◌∷◌, append_assoc, inl, inr, refl, sym, ap, ◌∙◌, subst, ⊎_elim, arith}
 use Rattle.std.specs.List.{All, Contains, list_any}
 use Rattle.std.proofs.lemmas.Bool.{cases_Bool, cases_eq, false≢true}
 use Rattle.std.proofs.lemmas.List.{append_cancel_left}
-use Rattle.std.proofs.lemmas.List.Elements.{All-cons, All-nil, Contains-append_left}
+use Rattle.std.proofs.lemmas.List.Elements.{All-cons, All-nil, Contains-append_left, Contains-append_right}
 use Rattle.ata_types.specs.declared.Port.{Port}
 use Rattle.hba_regs.specs.declared.reg.PortReg.TheVariants.{Is, Ssts}
 use Rattle.hba_regs.specs.declared.reg.Reg.TheVariants as reg
@@ -22,7 +22,6 @@ use Rattle.agreement.proofs.Driven.{written_ghc}
 use Rattle.block_machine.specs.Events.{changes_disk}
 use Rattle.block_machine.specs.State.{Machine}
 use Rattle.block_machine.specs.Steps.{Step}
-use Rattle.block_machine.proofs.Members.{contains_here, contains_there}
 use Rattle.port_look.specs.Looks.{LooksAt}
 use Rattle.port_look.specs.declared.Look.TheVariants.{Failed}
 use Rattle.server_history.specs.Below.{LawsBelow}
@@ -51,9 +50,9 @@ coming_plugs port (entry.Fatal x) is = absurd is
 one_or_none : (port : ℕ) (gained : List Entry) → ((e : Entry) × Contains gained e × IsComing port e) ⊎ All (λ e. IsComing port e → ⊥) gained
 one_or_none port [] = inr (All-nil (λ e. IsComing port e → ⊥))
 one_or_none port (e ∷ gained) = ⊎_elim
-    (λ (is : IsComing port e). inl (e, contains_here e gained e refl, is))
+    (λ (is : IsComing port e). inl (e, (0, omega arith, refl), is))
     (λ none. ⊎_elim
-    (λ found. inl (found.0, contains_there e gained found.0 found.1, found.2))
+    (λ found. inl (found.0, Contains-append_right (e ∷ []) gained found.0 found.1, found.2))
     (λ others. inr (All-cons (λ x. IsComing port x → ⊥) e gained none others))
     (one_or_none port gained))
     (is_coming port e)
@@ -90,7 +89,7 @@ module _ (laws : LawsBelow) (port : Port) where
         let read = on_over (Reading (Px port Is) l.causes) old l.seen tt l.reads on in
         let cleared = on_over (Writing (Px port Is) l.causes) l.seen l.cleared (λ e. absurd (let z : Px port Is ≡ Ghc = e in cc)) l.clears read in
         let acknowledged = on_over (Writing reg.Is l.own) l.cleared l.acknowledged (λ e. absurd (let z : reg.Is ≡ Ghc = e in cc)) l.acknowledges cleared in
-        sym (laws.looks.shown_after port Ssts l.status l.acknowledged seen acknowledged.no_reset l.shows) ∙ (laws.looks_failed l.causes l.status (sym l.tells)).4
+        sym (laws.looks.shown_after port Ssts l.status l.acknowledged seen acknowledged.no_reset l.shows) ∙ (laws.looking.looks_failed l.causes l.status (sym l.tells)).4
 
     -- where a disk is in as it shows, one was in before, or the tape tells that one came
     was_in : ((seen.port port.0).ssts_det ≡ 3 → (seen.port port.0).present ≡ true) → ((old.port port.0).present ≡ true) ⊎ ((gained : List Entry) × (seen.tape ≡ old.tape ++ gained) × ((e : Entry) × Contains gained e × IsComing port.0 e))
