@@ -67,8 +67,8 @@ pub fn what_is_asked_of_a_call_is_asked_of_a_turn()
 }
 
 /// Of a port of which a call's part is asked, and no link of which is due when the call begins: what its turn owes of trouble the whole call does, where the turn's
-/// and the call's evidence name the port in the same lists, and ST was set in the turn if it stopped the port and left it ready. So it is with boots, and with a
-/// port that runs well anew.
+/// and the call's evidence name the port in the same lists, and ST was set in the turn if it stopped the port and left it ready. So it is with boots; and with a
+/// port that runs well anew, where ST of one that is left ready was set by the turn's end.
 pub fn a_turns_trouble_is_the_calls()
     ensures trouble { (port : Port) (old : Instant Device) (begun : Moment) (ended ports : Ports) (new : Device) (turn call : Evidence) → IsOn old.device
         → (old.device.port port.0).link_due ≡ false → (t : HasTurnIn port old.device new) → IsOn t.end → begun.ports.state port ≡ Ready
