@@ -1,6 +1,6 @@
 -- A write that may be made may be made later.
 use Rattle.std.proofs.Common.{ℕ, ◌≡◌, ◌≢◌, ◌⊎◌, ◌<◌, ◌≤◌, ◌+◌, ◌%◌, ◌||◌, Bool, true, false, refl, sym, ◌∙◌, ap, arith, inl, inr, ⊎_elim}
-use Rattle.std.proofs.lemmas.Bool.{cases_eq}
+use Rattle.std.proofs.lemmas.Bool.{cases_eq, both_ways}
 use Rattle.ata_types.specs.declared.Port.{Port}
 use Rattle.hba_regs.specs.Bits.{bit}
 use Rattle.hba_regs.specs.declared.reg.Reg.{Reg}
@@ -12,7 +12,6 @@ use Rattle.adapter.specs.Access.{Writes}
 use Rattle.adapter.specs.Device.{Bases, Notes, PortState, Device}
 use Rattle.adapter.specs.Kept.{Keeps, KeepsOn, KeepsPort, KeepsControls}
 use Rattle.adapter.specs.Rules.{IsOn, HasPort, MayStart, MayReceive, MayStopReceiving, MayCommand, MayWritePort, MayWrite, Stays}
-use Rattle.adapter.proofs.Absurd.{true-false}
 use Rattle.adapter.proofs.Calls.{PutAt, put, on_after, on_stays}
 use Rattle.adapter.proofs.KeptLemmas.{steps_keep}
 use Rattle.agreement.specs.Driver.{LeavesUses, AllFree, IsWrittenBack}
@@ -185,13 +184,13 @@ module _ (port : Port) (was v : ℕ) (d : Device) (on : IsOn d) (there : HasPort
   starting_may ready x = may (record {
     start = λ b. inr ready;
     receive = λ b. inl ready.receives;
-    stop_receiving = λ b. true-false x.receive b;
+    stop_receiving = λ b. absurd (both_ways _ b x.receive);
     others = others true true x;
   })
 
   pub stopping_may : IsWrittenBack false (d.port port.0).fre was v → Stays (MayWrite (Px port Cmd) v) d
   stopping_may x = may (record {
-    start = λ b. true-false b x.start;
+    start = λ b. absurd (both_ways _ x.start b);
     receive = λ b. inl (sym x.receive ∙ b);
     stop_receiving = λ b. inl (sym x.receive ∙ b);
     others = others false (d.port port.0).fre x;
@@ -201,14 +200,14 @@ module _ (port : Port) (was v : ℕ) (d : Device) (on : IsOn d) (there : HasPort
   receiving_may ready x = may (record {
     start = λ b. inl (sym x.start ∙ b);
     receive = λ b. inr ready;
-    stop_receiving = λ b. true-false x.receive b;
+    stop_receiving = λ b. absurd (both_ways _ b x.receive);
     others = others (d.port port.0).st true x;
   })
 
   pub no_receiving_may : MayStopReceiving (d.port port.0) → IsWrittenBack false false was v → Stays (MayWrite (Px port Cmd) v) d
   no_receiving_may ready x = may (record {
-    start = λ b. true-false b x.start;
-    receive = λ b. true-false b x.receive;
+    start = λ b. absurd (both_ways _ x.start b);
+    receive = λ b. absurd (both_ways _ x.receive b);
     stop_receiving = λ b. inr (ready, x.start);
     others = others false false x;
   })

@@ -16,7 +16,6 @@ use Rattle.ata_types.specs.Grant.{Allows, Covers}
 use Rattle.block_machine.specs.Rules.{IsNamed, BreaksNone}
 use Rattle.block_machine.specs.State.{Accepted, Machine, block_of, frame_at}
 use Rattle.block_machine.specs.Steps.{IsNew, unanswered_of}
-use Rattle.block_machine.proofs.Members.{contains_here}
 use Rattle.block_machine.proofs.Setting.{client, port, frame, row, request, two_rows, its_row, IsFit, acceptable}
 use Rattle.agreement.specs.Places.{place_in}
 
@@ -56,7 +55,7 @@ places_in n i lt =
 read_fits : (m : Machine) (first n : ℕ) → m.rows ≡ two_rows → m.owner (frame n) ≡ Some client → m.lent (frame n) ≡ None → 100 ≤ first → first + 8 ≤ 164 → IsFit 0 (situation_of m) (read_into first n)
 read_fits m first n rows mine free low high = record {
   rows = rows;
-  mine = contains_here (row 0) (row 1 ∷ []) (row 0) refl;
+  mine = (0, omega arith, refl);
   client_is = refl;
   grant = refl;
   allowed = refl;
@@ -87,7 +86,7 @@ trim_breaks_none : (m : Machine) (first : ℕ) → m.rows ≡ two_rows → 100 �
 trim_breaks_none m first rows low high = none
   where
     named : IsNamed m.rows (trim_of first) (row 0)
-    named = (subst (λ (rs : List GrantRow). Contains rs (row 0)) (sym rows) (contains_here (row 0) (row 1 ∷ []) (row 0) refl), (refl, refl))
+    named = (subst (λ (rs : List GrantRow). Contains rs (row 0)) (sym rows) ((0, omega arith, refl)), (refl, refl))
 
     is_row : (x : GrantRow) → IsNamed m.rows (trim_of first) x → x ≡ row 0
     is_row x h = its_row x (subst (λ (rs : List GrantRow). Contains rs x) rows h.0) ∙ ap row h.1.1

@@ -1,7 +1,7 @@
 -- The link is awaited; and a port on which ST may be set.
 use Rattle.std.proofs.Common.{ℕ, ◌≡◌, ◌⊎◌, ◌+◌, ◌*◌, ◌/◌, ◌%◌, Bool, true, false, ◌&&◌, ◌||◌, List, [], ◌∷◌, length, refl, sym, ◌∙◌, ap, subst, arith, inl, inr, ⊎_elim, eq-eqb, eqb-true}
 use Rattle.std.specs.Prelude.{if◌then◌else◌, nat_eq}
-use Rattle.std.proofs.lemmas.Bool.{cond-true, cond-false, and_parts, or_cases}
+use Rattle.std.proofs.lemmas.Bool.{cond-true, cond-false, and_parts, or_cases, both_ways, false≢true}
 use Rattle.ata_types.specs.declared.Port.{Port}
 use Rattle.hba_regs.specs.Bits.{bit}
 use Rattle.hba_regs.specs.declared.reg.Reg.{Reg}
@@ -14,7 +14,6 @@ use Rattle.adapter.specs.Kept.{KeepsPort}
 use Rattle.adapter.specs.Rules.{MayWrite, Stays}
 use Rattle.adapter.specs.Steps.{Step, Can, after, Leads, Steps}
 use Rattle.adapter.specs.Steps.Step.{Fetch, FetchFault, Move, Clear, Done, Fault, Fatal, Fall, FrFall, LinkUp, Unplug, Plug, ResetEnds, Scribble}
-use Rattle.adapter.proofs.Absurd.{true-false}
 use Rattle.adapter.proofs.Changed.{changed_same}
 use Rattle.adapter.proofs.KeptLemmas.{steps_keep}
 use Rattle.agreement.specs.Facts.{IsAwaited, IsUnflagged, IsQuiet, KeepsRecord}
@@ -31,18 +30,18 @@ leads_keep P keep port (step ∷ steps) old new (can, lead) h = leads_keep P kee
 -- ---- the link
 
 step_awaited : (d : Device) (port : ℕ) (step : Step) → Can step d → IsAwaited (d.port port) → IsAwaited ((after step d).port port)
-step_awaited d port (Fetch p slot c places) can h = at_port IsAwaited IsAwaited d p port _ h (λ e x due. true-false can.working.running (x due).0) (λ ne x. x)
-step_awaited d port (FetchFault p slot queued kept_bits) can h = at_port IsAwaited IsAwaited d p port _ h (λ e x due. true-false can.working.running (x due).0) (λ ne x. x)
+step_awaited d port (Fetch p slot c places) can h = at_port IsAwaited IsAwaited d p port _ h (λ e x due. absurd (both_ways _ (x due).0 can.working.running)) (λ ne x. x)
+step_awaited d port (FetchFault p slot queued kept_bits) can h = at_port IsAwaited IsAwaited d p port _ h (λ e x due. absurd (both_ways _ (x due).0 can.working.running)) (λ ne x. x)
 step_awaited d port (Move p slot t bytes) can h = at_port IsAwaited IsAwaited d p port _ h (λ e x. x) (λ ne x. x)
 step_awaited d port (Clear p slot t first count) can h = at_port IsAwaited IsAwaited d p port _ h (λ e x. x) (λ ne x. x)
-step_awaited d port (Done p slot flag t) can h = at_port IsAwaited IsAwaited d p port _ h (λ e x due. true-false can.works.working.running (x due).0) (λ ne x. x)
-step_awaited d port (Fault p slot error kept_bits t) can h = at_port IsAwaited IsAwaited d p port _ h (λ e x due. true-false can.running (x due).0) (λ ne x. x)
+step_awaited d port (Done p slot flag t) can h = at_port IsAwaited IsAwaited d p port _ h (λ e x due. absurd (both_ways _ (x due).0 can.works.working.running)) (λ ne x. x)
+step_awaited d port (Fault p slot error kept_bits t) can h = at_port IsAwaited IsAwaited d p port _ h (λ e x due. absurd (both_ways _ (x due).0 can.running)) (λ ne x. x)
 step_awaited d port (Fatal p place) can h = at_port IsAwaited IsAwaited d p port _ h (λ e x. x) (λ ne x. x)
 step_awaited d port (Fall p) can h = at_port IsAwaited IsAwaited d p port _ h (λ e x due. (refl, (x due).1)) (λ ne x. x)
 step_awaited d port (FrFall p) can h = at_port IsAwaited IsAwaited d p port _ h (λ e x. x) (λ ne x. x)
 step_awaited d port (LinkUp p sig n) can h = at_port IsAwaited IsAwaited d p port _ h
     (λ e x due. ⊎_elim
-    (λ (up : false ≡ true). true-false up refl)
+    (λ (up : false ≡ true). absurd (false≢true up))
     (λ (one : (d.port p).sctl_det ≡ 1). absurd (let z : (d.port p).sctl_det ≡ 0 = can.det in omega (arith, one, z)))
     due)
     (λ ne x. x)
@@ -92,8 +91,8 @@ module _ (p : PortState) (v tape : ℕ) where
       by true e true is = subst (λ (x : PortState). IsAwaited (with_fre (bit v 4) x)) (sym (cond-true p.st p _ is)) h
       by true e false is = subst (λ (x : PortState). IsAwaited (with_fre (bit v 4) x)) (sym (cond-false p.st p _ is))
           (⊎_elim
-          (λ (on : p.st ≡ true). true-false on is)
-          (λ (q : IsQuiet p) (due : (p.link_due ≡ true) ⊎ (p.sctl_det ≡ 1)). ⊎_elim (λ (l : p.link_due ≡ true). true-false l q.linked) (λ (o : p.sctl_det ≡ 1). absurd (q.no_comreset o)) due)
+          (λ (on : p.st ≡ true). absurd (both_ways _ is on))
+          (λ (q : IsQuiet p) (due : (p.link_due ≡ true) ⊎ (p.sctl_det ≡ 1)). ⊎_elim (λ (l : p.link_due ≡ true). absurd (both_ways _ q.linked l)) (λ (o : p.sctl_det ≡ 1). absurd (q.no_comreset o)) due)
           (may e))
 
 written_awaited : (port : ℕ) (d : Device) (r : Reg) (v : ℕ) → MayWrite r v d → KeepsRecord r v d → IsAwaited (d.port port) → IsAwaited ((written r v d).port port)
@@ -143,12 +142,12 @@ comreset_begins port v old new cr one call =
 
 step_unflagged : (d : Device) (port : ℕ) (step : Step) → Can step d → IsUnflagged (d.port port) → IsUnflagged ((after step d).port port)
 step_unflagged d port (Fetch p slot c places) can h = at_port IsUnflagged IsUnflagged d p port _ h (λ e x. x) (λ ne x. x)
-step_unflagged d port (FetchFault p slot queued kept_bits) can h = at_port IsUnflagged IsUnflagged d p port _ h (λ e x. true-false can.working.running x.0) (λ ne x. x)
+step_unflagged d port (FetchFault p slot queued kept_bits) can h = at_port IsUnflagged IsUnflagged d p port _ h (λ e x. absurd (both_ways _ x.0 can.working.running)) (λ ne x. x)
 step_unflagged d port (Move p slot t bytes) can h = at_port IsUnflagged IsUnflagged d p port _ h (λ e x. x) (λ ne x. x)
 step_unflagged d port (Clear p slot t first count) can h = at_port IsUnflagged IsUnflagged d p port _ h (λ e x. x) (λ ne x. x)
-step_unflagged d port (Done p slot flag t) can h = at_port IsUnflagged IsUnflagged d p port _ h (λ e x. true-false can.works.working.running x.0) (λ ne x. x)
-step_unflagged d port (Fault p slot error kept_bits t) can h = at_port IsUnflagged IsUnflagged d p port _ h (λ e x. true-false can.running x.0) (λ ne x. x)
-step_unflagged d port (Fatal p place) can h = at_port IsUnflagged IsUnflagged d p port _ h (λ e x. true-false can.0 x.0) (λ ne x. x)
+step_unflagged d port (Done p slot flag t) can h = at_port IsUnflagged IsUnflagged d p port _ h (λ e x. absurd (both_ways _ x.0 can.works.working.running)) (λ ne x. x)
+step_unflagged d port (Fault p slot error kept_bits t) can h = at_port IsUnflagged IsUnflagged d p port _ h (λ e x. absurd (both_ways _ x.0 can.running)) (λ ne x. x)
+step_unflagged d port (Fatal p place) can h = at_port IsUnflagged IsUnflagged d p port _ h (λ e x. absurd (both_ways _ x.0 can.0)) (λ ne x. x)
 step_unflagged d port (Fall p) can h = at_port IsUnflagged IsUnflagged d p port _ h (λ e x. (refl, x.1)) (λ ne x. x)
 step_unflagged d port (FrFall p) can h = at_port IsUnflagged IsUnflagged d p port _ h (λ e x. x) (λ ne x. x)
 step_unflagged d port (LinkUp p sig n) can h = at_port IsUnflagged IsUnflagged d p port _ h (λ e x. x) (λ ne x. x)

@@ -5,6 +5,7 @@ use Rattle.std.specs.Prelude.{nat_eq, max}
 use Rattle.std.proofs.lemmas.Nat.Bits.{bit_at-zero, bit_at-pow_other, bit_at_or}
 use Rattle.ata_types.specs.declared.Port.{Port}
 use Rattle.std.proofs.lemmas.List.Elements.{All-nil}
+use Rattle.std.proofs.lemmas.Bool.{true≢false}
 use Rattle.hba_regs.specs.Bits.{bit}
 use Rattle.hba_regs.specs.declared.reg.Reg.{Reg}
 use Rattle.hba_regs.specs.declared.reg.Reg.TheVariants.{Px}
@@ -17,7 +18,6 @@ use Rattle.adapter.specs.Memory.{changed}
 use Rattle.adapter.specs.Rules.{MayStart, MayWrite, MayWritePort, Stays}
 use Rattle.adapter.specs.Steps.{Can, after}
 use Rattle.adapter.specs.Steps.Step.{LinkUp}
-use Rattle.adapter.proofs.Absurd.{true-false}
 use Rattle.adapter.proofs.Runs.{Steps-refl, Steps-one}
 use Rattle.agreement.specs.Agrees.{port_at}
 use Rattle.agreement.specs.Booted.{waking, BootIsFound}
@@ -125,7 +125,7 @@ unfolding changed
 may_start = permitted Cmd 0x11 ready (λ p e. cc) refl refl refl (record {
   start = λ b. inr is_startable;
   receive = λ b. inl refl;
-  stop_receiving = λ b. true-false refl b;
+  stop_receiving = λ b. absurd (true≢false b);
   others = λ place lt start receive. ap (λ (n : ℕ). n == 1) (two_bits place start receive ∙ sym (bit_at-zero place));
 })
 

@@ -1,6 +1,6 @@
 -- Bits of PxIS stay clear while the engine stands; and what a write leaves of the port's notes.
 use Rattle.std.proofs.Common.{ℕ, ◌≡◌, ◌≢◌, Bool, true, false, not, ◌&&◌, length, refl, sym, ◌∙◌, ap, subst}
-use Rattle.std.proofs.lemmas.Bool.{cond-true, cond-false}
+use Rattle.std.proofs.lemmas.Bool.{cond-true, cond-false, both_ways}
 use Rattle.ata_types.specs.declared.Port.{Port}
 use Rattle.hba_regs.specs.Bits.{bit}
 use Rattle.hba_regs.specs.declared.reg.PortReg.{PortReg}
@@ -10,7 +10,6 @@ use Rattle.adapter.specs.Access.{Access, Does, Writes, port_written, with_st, wi
 use Rattle.adapter.specs.Device.{Notes, PortState, Device}
 use Rattle.adapter.specs.Steps.{Step, Can, after, Steps}
 use Rattle.adapter.specs.Steps.Step.{Fetch, FetchFault, Move, Clear, Done, Fault, Fatal, Fall, FrFall, LinkUp, Unplug, Plug, ResetEnds, Scribble}
-use Rattle.adapter.proofs.Absurd.{true-false}
 use Rattle.adapter.proofs.KeptLemmas.{steps_keep}
 use Rattle.agreement.proofs.Awaiting.{leads_keep}
 use Rattle.agreement.proofs.Crossing.{access_steps, effect_keeps}
@@ -24,13 +23,13 @@ module _ (place : ℕ) where
   Stands p = (p.cr ≡ false) × (p.is place ≡ false)
 
   step_stands : (d : Device) (port : ℕ) (step : Step) → Can step d → Stands (d.port port) → Stands ((after step d).port port)
-  step_stands d port (Fetch p slot c places) can h = at_port Stands Stands d p port _ h (λ e x. true-false can.working.running x.0) (λ ne x. x)
-  step_stands d port (FetchFault p slot queued kept_bits) can h = at_port Stands Stands d p port _ h (λ e x. true-false can.working.running x.0) (λ ne x. x)
+  step_stands d port (Fetch p slot c places) can h = at_port Stands Stands d p port _ h (λ e x. absurd (both_ways _ x.0 can.working.running)) (λ ne x. x)
+  step_stands d port (FetchFault p slot queued kept_bits) can h = at_port Stands Stands d p port _ h (λ e x. absurd (both_ways _ x.0 can.working.running)) (λ ne x. x)
   step_stands d port (Move p slot t bytes) can h = at_port Stands Stands d p port _ h (λ e x. x) (λ ne x. x)
   step_stands d port (Clear p slot t first count) can h = at_port Stands Stands d p port _ h (λ e x. x) (λ ne x. x)
-  step_stands d port (Done p slot flag t) can h = at_port Stands Stands d p port _ h (λ e x. true-false can.works.working.running x.0) (λ ne x. x)
-  step_stands d port (Fault p slot error kept_bits t) can h = at_port Stands Stands d p port _ h (λ e x. true-false can.running x.0) (λ ne x. x)
-  step_stands d port (Fatal p which) can h = at_port Stands Stands d p port _ h (λ e x. true-false can.0 x.0) (λ ne x. x)
+  step_stands d port (Done p slot flag t) can h = at_port Stands Stands d p port _ h (λ e x. absurd (both_ways _ x.0 can.works.working.running)) (λ ne x. x)
+  step_stands d port (Fault p slot error kept_bits t) can h = at_port Stands Stands d p port _ h (λ e x. absurd (both_ways _ x.0 can.running)) (λ ne x. x)
+  step_stands d port (Fatal p which) can h = at_port Stands Stands d p port _ h (λ e x. absurd (both_ways _ x.0 can.0)) (λ ne x. x)
   step_stands d port (Fall p) can h = at_port Stands Stands d p port _ h (λ e x. (refl, x.1)) (λ ne x. x)
   step_stands d port (FrFall p) can h = at_port Stands Stands d p port _ h (λ e x. x) (λ ne x. x)
   step_stands d port (LinkUp p sig n) can h = at_port Stands Stands d p port _ h (λ e x. x) (λ ne x. x)

@@ -2,7 +2,7 @@
 use Rattle.std.proofs.Common.{ℕ, zero, suc, ◌≡◌, ◌⊎◌, ◌==◌, ◌++◌, Bool, true, false, Option, None, Some, List, [], ◌∷◌, refl, ◌∙◌, ap, subst, inl, inr, ⊎_elim}
 use Rattle.std.specs.Prelude.{All, ◌||◌}
 use Rattle.std.specs.List.{Contains, list_any}
-use Rattle.std.proofs.lemmas.Bool.{cases_eq, eq-eqb, ne_eqb, or_right}
+use Rattle.std.proofs.lemmas.Bool.{cases_eq, eq-eqb, ne_eqb, or_right, both_ways}
 use Rattle.std.proofs.lemmas.List.Elements.{All-nil, All-cons}
 use Rattle.std.proofs.lemmas.List.Folds.{list_any-append}
 use Rattle.ata_types.specs.declared.Port.{Port}
@@ -12,7 +12,6 @@ use Rattle.adapter.specs.declared.tape.Move as tape_move
 use Rattle.adapter.specs.declared.tape.Done as tape_done
 use Rattle.adapter.specs.declared.tape.Entry.{Entry}
 use Rattle.adapter.specs.declared.tape.Entry.TheVariants as entry
-use Rattle.adapter.proofs.Absurd.{true-false}
 use Rattle.block_machine.specs.State.{Pending, Machine}
 use Rattle.block_machine.specs.Steps.{Step, Unplug, Replace}
 use Rattle.block_machine.specs.Left.{after}
@@ -128,11 +127,11 @@ module _ (port : Port) where
   pub entry_told : (m : Machine) (entries : List Entry) (steps : List Step) → TellsAmong m entries steps → Changes steps ≡ true → (e : Entry) × Contains entries e × IsPlugging port.0 e
   entry_told m entries steps t changes = ⊎_elim
       (λ (has : HasOne entries × (Changes steps ≡ true)). has.0)
-      (λ (none : HasNone entries × (Changes steps ≡ false)). true-false changes none.1)
+      (λ (none : HasNone entries × (Changes steps ≡ false)). absurd (both_ways _ none.1 changes))
       (entries_alike m entries steps t)
 
   pub none_told : (m : Machine) (entries : List Entry) (steps : List Step) → TellsAmong m entries steps → Changes steps ≡ false → All (λ e. IsPlugging port.0 e → ⊥) entries
   none_told m entries steps t changes = ⊎_elim
-      (λ (has : HasOne entries × (Changes steps ≡ true)). true-false has.1 changes)
+      (λ (has : HasOne entries × (Changes steps ≡ true)). absurd (both_ways _ changes has.1))
       (λ (none : HasNone entries × (Changes steps ≡ false)). none.0.1)
       (entries_alike m entries steps t)

@@ -1,7 +1,7 @@
 -- A link that comes up while the engine stands.
 use Rattle.std.proofs.Common.{ℕ, ◌≡◌, ◌≢◌, ◌⊎◌, ◌%◌, ◌++◌, ◌&&◌, Bool, true, false, List, [], ◌∷◌, length, refl, sym, ◌∙◌, ap, subst, arith, ⊎_elim}
 use Rattle.std.specs.Prelude.{if◌then◌else◌, nat_eq}
-use Rattle.std.proofs.lemmas.Bool.{cases_eq}
+use Rattle.std.proofs.lemmas.Bool.{cases_eq, both_ways}
 use Rattle.ata_types.specs.declared.Port.{Port}
 use Rattle.hba_regs.specs.Bits.{bit}
 use Rattle.hba_regs.specs.declared.reg.Reg.TheVariants.{Ghc, Px}
@@ -15,7 +15,6 @@ use Rattle.adapter.specs.Kept.{Keeps, KeepsPort}
 use Rattle.adapter.specs.Steps.{Step, Can, after, Leads, Steps, restarted}
 use Rattle.adapter.specs.Steps.Step.{Fetch, FetchFault, Move, Clear, Done, Fault, Fatal, Fall, FrFall, LinkUp, Unplug, Plug, ResetEnds, Scribble}
 use Rattle.adapter.specs.declared.tape.Entry.{Entry}
-use Rattle.adapter.proofs.Absurd.{true-false}
 use Rattle.adapter.proofs.Changed.{changed_same}
 use Rattle.adapter.proofs.KeptLemmas.{step_keeps, steps_keep}
 use Rattle.agreement.specs.Errors.{IsComing, NoneComes}
@@ -61,7 +60,7 @@ unlinked p stands other = record { stands = stands; up = λ det. absurd (other d
 module _ (port : ℕ) (d : Device) (gained : List Entry) (none : NoneOf (IsComing port) gained) (h : Coming (d.port port)) where
   -- a step of an engine that runs
   works : {Q : Type 0} (p : ℕ) → (d.port p).cr ≡ true → p ≡ port → Q
-  works p runs e = true-false runs (ap (λ (k : ℕ). (d.port k).cr) e ∙ h.0)
+  works p runs e = absurd (both_ways _ (ap (λ (k : ℕ). (d.port k).cr) e ∙ h.0) runs)
 
   step_coming : (step : Step) → Can step d → (after step d).tape ≡ d.tape ++ gained → Coming ((after step d).port port)
   step_coming (Fetch p slot c places) can is = at_port Coming Coming d p port _ h (λ e x. works p can.working.running e) (λ ne x. x)

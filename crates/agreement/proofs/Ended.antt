@@ -1,6 +1,7 @@
 -- A command that is done, and whose request isn't answered: that of the first read.
 use Rattle.std.proofs.Common.{◌≡◌, true, false, List, [], refl, ◌∙◌, subst}
 use Rattle.std.specs.List.{Contains}
+use Rattle.std.proofs.lemmas.List.Elements.{All-contains, All-nil}
 use Rattle.ata_types.specs.declared.request.RequestId.{RequestId}
 use Rattle.adapter.specs.Device.{Device}
 use Rattle.adapter.specs.FirstRead.{first_read, sector_of}
@@ -15,7 +16,6 @@ use Rattle.block_machine.specs.Left.{after}
 use Rattle.block_machine.specs.State.{Pending, Machine}
 use Rattle.block_machine.specs.Steps.{NoneKept}
 use Rattle.block_machine.proofs.HistoryLemmas.{reached_more}
-use Rattle.block_machine.proofs.Members.{contains_none}
 use Rattle.agreement.specs.Agrees.{port_at}
 use Rattle.agreement.specs.Driver.{Known, Knows}
 use Rattle.agreement.specs.Facts.{IsClear, EndedIn}
@@ -35,7 +35,7 @@ module _ (k : Known) (m : Machine) (reached : IsReached m) (knows : Knows m k) (
   follows = steps_follow k.uses m k.device new reached knows.agrees s
 
   none_kept : NoneKept m (port_at 0)
-  none_kept e kept is = contains_none e (subst (λ (es : List Pending). Contains es e) none kept)
+  none_kept e kept is = All-contains (λ _. ⊥) [] e (All-nil (λ _. ⊥)) (subst (λ (es : List Pending). Contains es e) none kept)
 
   pub done_is_known : k.device.hr ≡ false → (k.device.port 0).st ≡ true → (new.port 0).ci 0 ≡ false → (new.port 0).sact 0 ≡ false → DoneIsKnown k id
   done_is_known off st issued sact =

@@ -1,6 +1,7 @@
 -- The end of the only command of a port ends its halt.
 use Rattle.std.proofs.Common.{ℕ, ◌≡◌, ◌≢◌, ◌⊎◌, Bool, true, false, not, ◌&&◌, ◌||◌, List, [], ◌∷◌, length, Some, refl, sym, ◌∙◌, ap, subst, arith, inl, inr, ⊎_elim, if◌then◌else◌}
-use Rattle.std.proofs.lemmas.Bool.{cases_eq, cond-true, cond-false, or_left}
+use Rattle.std.proofs.lemmas.Bool.{cases_eq, cond-true, cond-false, or_left, both_ways}
+use Rattle.std.proofs.lemmas.Option.{none-some}
 use Rattle.ata_types.specs.declared.Port.{Port}
 use Rattle.hba_regs.specs.Bits.{bit}
 use Rattle.hba_regs.specs.declared.reg.Reg.TheVariants.{Px}
@@ -15,7 +16,6 @@ use Rattle.adapter.specs.Memory.{changed}
 use Rattle.adapter.specs.Steps.{Step, Can, after, Leads, Steps}
 use Rattle.adapter.specs.Steps.Step.{Fetch, FetchFault, Move, Clear, Done, Fault, Fatal, Fall, FrFall, LinkUp, Unplug, Plug, ResetEnds, Scribble}
 use Rattle.adapter.specs.declared.command.Operation.{Operation}
-use Rattle.adapter.proofs.Absurd.{true-false, some-none}
 use Rattle.adapter.proofs.Changed.{changed_same}
 use Rattle.adapter.proofs.KeptLemmas.{step_keeps, steps_keep}
 use Rattle.block_machine.specs.Histories.{IsReached}
@@ -55,14 +55,14 @@ pub taken_issued : (uses : Uses) (m : Machine) (d : Device) (port slot : ℕ) (t
 taken_issued uses m d port slot t a st clear is = by (uses port slot) (a.slot port slot)
   where
     by : (u : Use) → IsServed m d.memory d.tape (d.port port) port slot u → (d.port port).ci slot ≡ true
-    by Free h = some-none is h.free
-    by Armed h = some-none is h.free
+    by Free h = absurd (none-some _ (sym h.free ∙ is))
+    by Armed h = absurd (none-some _ (sym h.free ∙ is))
     by (Own o) h = of h.stage
       where
         of : OwnWaits (d.port port) slot ⊎ (OwnTaken d.memory d.tape (d.port port) port slot h.command ⊎ OwnOver d.memory d.tape (d.port port) port slot h.command) → (d.port port).ci slot ≡ true
         of (inl w) = w.issued
         of (inr (inl x)) = x.issued ∙ st
-        of (inr (inr x)) = some-none is x.over.free
+        of (inr (inr x)) = absurd (none-some _ (sym x.over.free ∙ is))
     by (Serves id) h = of h.stage
       where
         of : Stage d.memory (d.port port) port slot h.pending h.command h.places → (d.port port).ci slot ≡ true
@@ -70,8 +70,8 @@ taken_issued uses m d port slot t a st clear is = by (uses port slot) (a.slot po
         of (inr (inl x)) =
             let plain : is_queued h.command.operation ≡ false = ap (λ (b : Bool). b && is_queued h.command.operation) (sym st) ∙ (sym x.sact ∙ clear) in
             x.issued ∙ (ap (λ (b : Bool). b && not (is_queued h.command.operation)) st ∙ ap not plain)
-        of (inr (inr (inl x))) = some-none is x.free
-        of (inr (inr (inr x))) = some-none is x.free
+        of (inr (inr (inl x))) = absurd (none-some _ (sym x.free ∙ is))
+        of (inr (inr (inr x))) = absurd (none-some _ (sym x.free ∙ is))
 
 -- bit 0 of what falls at a place, or stays
 pub fallen_zero : (b : Bool) (f : ℕ → Bool) (slot : ℕ) → f 0 ≡ false → (if b then changed f slot false else f) 0 ≡ false
@@ -86,10 +86,10 @@ module _ (uses : Uses) (m : Machine) (d : Device) (a : Agrees uses m d) (port : 
       record { issued = h.issued; free = h.free }
 
   issued_first : (p slot : ℕ) → p ≡ port → (d.port p).ci slot ≡ true → slot ≡ 0
-  issued_first p slot e is = ⊎_elim (λ (z : slot ≡ 0). z) (λ (ne : slot ≡ 0 → ⊥). true-false is (beside_over p slot e ne).issued) (cases_eq slot 0)
+  issued_first p slot e is = ⊎_elim (λ (z : slot ≡ 0). z) (λ (ne : slot ≡ 0 → ⊥). absurd (both_ways _ (beside_over p slot e ne).issued is)) (cases_eq slot 0)
 
   taken_first : (p slot : ℕ) (t : Taken) → p ≡ port → (d.port p).taken slot ≡ Some t → slot ≡ 0
-  taken_first p slot t e is = ⊎_elim (λ (z : slot ≡ 0). z) (λ (ne : slot ≡ 0 → ⊥). some-none is (beside_over p slot e ne).free) (cases_eq slot 0)
+  taken_first p slot t e is = ⊎_elim (λ (z : slot ≡ 0). z) (λ (ne : slot ≡ 0 → ⊥). absurd (none-some _ (sym (beside_over p slot e ne).free ∙ is))) (cases_eq slot 0)
 
   at_zero : (p slot : ℕ) → slot ≡ 0 → (d.port p).sact 0 ≡ false → (d.port p).sact slot ≡ false
   at_zero p slot z clear = subst (λ (n : ℕ). (d.port p).sact n ≡ false) (sym z) clear
@@ -117,12 +117,12 @@ module _ (uses : Uses) (m : Machine) (d : Device) (a : Agrees uses m d) (port : 
       (x.0, x.1, inl (subst (λ (n : ℕ). (d.port p).ci n ≡ true) z (taken_issued uses m d p slot t a x.0 (at_zero p slot z x.1) can.taken))))
       (λ ne x. x)
   step_ends (Fatal p place) can = at_port Ends Ends d p port _ h (λ e x. x) (λ ne x. x)
-  step_ends (Fall p) can = at_port Ends Ends d p port _ h (λ e x. true-false x.0 can.0) (λ ne x. x)
+  step_ends (Fall p) can = at_port Ends Ends d p port _ h (λ e x. absurd (both_ways _ can.0 x.0)) (λ ne x. x)
   step_ends (FrFall p) can = at_port Ends Ends d p port _ h (λ e x. x) (λ ne x. x)
   step_ends (LinkUp p sig n) can = at_port Ends Ends d p port _ h (λ e x. (x.0, x.1, inr refl)) (λ ne x. x)
   step_ends (Unplug p) can = at_port Ends Ends d p port _ h (λ e x. x) (λ ne x. x)
   step_ends (Plug p disk) can = at_port Ends Ends d p port _ h (λ e x. x) (λ ne x. x)
-  step_ends ResetEnds can = true-false can off
+  step_ends ResetEnds can = absurd (both_ways _ off can)
   step_ends (Scribble p slot at bytes) can = h
 
 leads_end : (uses : Uses) (m : Machine) (port : ℕ) → ((slot : ℕ) → slot ≢ 0 → uses port slot ≡ Free) → (steps : List Step) (old new : Device) → IsReached m → Agrees uses m old → old.hr ≡ false → Leads steps old new → Ends (old.port port) →
@@ -192,7 +192,7 @@ reads_end uses m port v old new r a h call =
 pub halt_ended : (uses : Uses) (m : Machine) (port : Port) (v : ℕ) (old new : Device) → IsReached m → Agrees uses m old → EndsHalt uses port.0 old → Reads (Px port Ci) v old new → bit v 0 ≡ false → (new.port port.0).halt ≡ NotHalted
 halt_ended uses m port v old new r a h call clear =
     let shown : (new.port port.0).ci 0 ≡ false = ap (λ (d : Device). (d.port port.0).ci 0) call.effect ∙ (ap (λ (p : PortState). p.ci 0) (changed_same call.mid.port port.0 _) ∙ (sym (call.shows 0 (omega arith)) ∙ clear)) in
-    ⊎_elim (λ (i : (new.port port.0).ci 0 ≡ true). true-false i shown) (λ (n : (new.port port.0).halt ≡ NotHalted). n) (reads_end uses m port v old new r a h call).ends
+    ⊎_elim (λ (i : (new.port port.0).ci 0 ≡ true). absurd (both_ways _ shown i)) (λ (n : (new.port port.0).halt ≡ NotHalted). n) (reads_end uses m port v old new r a h call).ends
 
 pub ended_well : (uses : Uses) (m : Machine) (port : Port) (v causes : ℕ) (old mid new : Device) → IsReached m → Agrees uses m old → EndsHalt uses port.0 old → RunsLinked (old.port port.0) → Reads (Px port Ci) v old mid → bit v 0 ≡ false →
     Reads (Px port Is) causes mid new → TellsNoTrouble causes → RunsWell (new.port port.0)

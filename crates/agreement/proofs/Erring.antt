@@ -1,7 +1,7 @@
 -- Bits that tell of a port's errors stay set, and rise for its disks alone.
 use Rattle.std.proofs.Common.{ℕ, ◌≡◌, ◌≢◌, ◌++◌, ◌%◌, not, Bool, true, false, List, [], ◌∷◌, length, refl, sym, ◌∙◌, ap, subst, arith, ⊎_elim, append-nil}
 use Rattle.std.specs.Prelude.{if◌then◌else◌, nat_eq}
-use Rattle.std.proofs.lemmas.Bool.{cases_eq, and_left, cond-true, cond-false}
+use Rattle.std.proofs.lemmas.Bool.{cases_eq, and_left, cond-true, cond-false, both_ways}
 use Rattle.std.proofs.lemmas.List.Elements.{All-nil, All-cons}
 use Rattle.ata_types.specs.declared.Port.{Port}
 use Rattle.hba_regs.specs.Bits.{bit}
@@ -16,7 +16,6 @@ use Rattle.adapter.specs.Steps.{Step, Can, after, Leads, Steps}
 use Rattle.adapter.specs.Steps.Step.{Fetch, FetchFault, Move, Clear, Done, Fault, Fatal, Fall, FrFall, LinkUp, Unplug, Plug, ResetEnds, Scribble}
 use Rattle.adapter.specs.declared.tape.Entry.{Entry}
 use Rattle.adapter.specs.declared.tape.Entry.TheVariants as entry
-use Rattle.adapter.proofs.Absurd.{true-false}
 use Rattle.adapter.proofs.Changed.{changed_same, changed_other}
 use Rattle.adapter.proofs.KeptLemmas.{step_keeps, steps_keep}
 use Rattle.agreement.specs.Driven.{Grows}
@@ -117,7 +116,7 @@ module _ (port : ℕ) (d : Device) (off : d.hr ≡ false) (undue : (d.port port)
   step_turns (Fatal p place) can = calm _ (at_port News News d p port _ (refl, refl, refl, refl) (λ e x. x) (λ ne x. x)) (one_plugs port d _ _ (λ x. x) refl)
   step_turns (Fall p) can = calm _ (at_port News News d p port _ (refl, refl, refl, refl) (λ e x. x) (λ ne x. x)) (no_plugs port d _ refl)
   step_turns (FrFall p) can = calm _ (at_port News News d p port _ (refl, refl, refl, refl) (λ e x. x) (λ ne x. x)) (no_plugs port d _ refl)
-  step_turns (LinkUp p sig n) can = calm _ (at_port News News d p port _ (refl, refl, refl, refl) (λ e x. true-false can.due (x.0 ∙ undue)) (λ ne x. x)) (no_plugs port d _ refl)
+  step_turns (LinkUp p sig n) can = calm _ (at_port News News d p port _ (refl, refl, refl, refl) (λ e x. absurd (both_ways _ (x.0 ∙ undue) can.due)) (λ ne x. x)) (no_plugs port d _ refl)
   step_turns (Unplug p) can = ⊎_elim
       (λ (e : p ≡ port). (
         at_port News (λ (q : PortState). q.link_due ≡ false) d p port _ (refl, refl, refl, refl) (λ _ x. x.0 ∙ undue) (λ _ x. undue),
@@ -145,7 +144,7 @@ module _ (port : ℕ) (d : Device) (off : d.hr ≡ false) (undue : (d.port port)
       ))
       (λ (ne : p ≡ port → ⊥). elsewhere p _ _ refl (one_plugs port d _ _ ne refl) ne)
       (cases_eq p port)
-  step_turns ResetEnds can = true-false can off
+  step_turns ResetEnds can = absurd (both_ways _ off can)
   step_turns (Scribble p slot at bytes) can = calm _ (refl, refl, refl, refl) (no_plugs port d _ refl)
 
 leads_turn : (port : ℕ) (steps : List Step) (old new : Device) → old.hr ≡ false → (old.port port).link_due ≡ false → Leads steps old new → Turns port old new

@@ -1,6 +1,7 @@
 -- A fault of the only command of a port shows while the command isn't over.
 use Rattle.std.proofs.Common.{ℕ, ◌≡◌, ◌≢◌, ◌⊎◌, ◌≤◌, Bool, true, false, not, List, [], ◌∷◌, length, Some, refl, sym, ◌∙◌, ap, subst, arith, inl, inr, ⊎_elim}
-use Rattle.std.proofs.lemmas.Bool.{cases_eq, cond-true, cond-false, or_left, and_left}
+use Rattle.std.proofs.lemmas.Bool.{cases_eq, cond-true, cond-false, or_left, and_left, both_ways, false≢true}
+use Rattle.std.proofs.lemmas.Option.{none-some}
 use Rattle.ata_types.specs.declared.Port.{Port}
 use Rattle.hba_regs.specs.Bits.{bit}
 use Rattle.hba_regs.specs.declared.reg.Reg.TheVariants.{Px}
@@ -15,7 +16,6 @@ use Rattle.adapter.specs.Memory.{changed}
 use Rattle.adapter.specs.Steps.{Step, Can, after, Leads, Steps, admits, halted}
 use Rattle.adapter.specs.Steps.Step.{Fetch, FetchFault, Move, Clear, Done, Fault, Fatal, Fall, FrFall, LinkUp, Unplug, Plug, ResetEnds, Scribble}
 use Rattle.adapter.specs.declared.command.Operation.{Operation}
-use Rattle.adapter.proofs.Absurd.{true-false, some-none}
 use Rattle.adapter.proofs.Changed.{changed_same, changed_other}
 use Rattle.adapter.proofs.KeptLemmas.{step_keeps, steps_keep}
 use Rattle.block_machine.specs.Histories.{IsReached}
@@ -59,8 +59,8 @@ faults HaltedPlain false = inl refl
 
 -- and a port that a fault has halted works on nothing
 unworked : {A : Type 0} (h : Halt) (o : Operation) → IsFaulted h → admits h o ≡ true → A
-unworked {A} h o (inl e) can = true-false (ap (λ (x : Halt). admits x o) (sym e) ∙ can) refl
-unworked {A} h o (inr e) can = true-false (ap (λ (x : Halt). admits x o) (sym e) ∙ can) refl
+unworked {A} h o (inl e) can = absurd (false≢true (ap (λ (x : Halt). admits x o) (sym e) ∙ can))
+unworked {A} h o (inr e) can = absurd (false≢true (ap (λ (x : Halt). admits x o) (sym e) ∙ can))
 
 -- another bit of PxIS is set
 beside_set : (f : ℕ → Bool) (place : ℕ) → place ≢ 30 → f 30 ≡ false → changed f place true 30 ≡ false
@@ -73,10 +73,10 @@ module _ (uses : Uses) (m : Machine) (d : Device) (a : Agrees uses m d) (port : 
       record { issued = h.issued; free = h.free }
 
   issued_first : (p slot : ℕ) → p ≡ port → (d.port p).ci slot ≡ true → slot ≡ 0
-  issued_first p slot e is = ⊎_elim (λ (z : slot ≡ 0). z) (λ (ne : slot ≡ 0 → ⊥). true-false is (beside_over p slot e ne).issued) (cases_eq slot 0)
+  issued_first p slot e is = ⊎_elim (λ (z : slot ≡ 0). z) (λ (ne : slot ≡ 0 → ⊥). absurd (both_ways _ (beside_over p slot e ne).issued is)) (cases_eq slot 0)
 
   taken_first : (p slot : ℕ) (t : Taken) → p ≡ port → (d.port p).taken slot ≡ Some t → slot ≡ 0
-  taken_first p slot t e is = ⊎_elim (λ (z : slot ≡ 0). z) (λ (ne : slot ≡ 0 → ⊥). some-none is (beside_over p slot e ne).free) (cases_eq slot 0)
+  taken_first p slot t e is = ⊎_elim (λ (z : slot ≡ 0). z) (λ (ne : slot ≡ 0 → ⊥). absurd (none-some _ (sym (beside_over p slot e ne).free ∙ is))) (cases_eq slot 0)
 
   at_zero : (p slot : ℕ) → slot ≡ 0 → (d.port p).sact 0 ≡ false → (d.port p).sact slot ≡ false
   at_zero p slot z clear = subst (λ (n : ℕ). (d.port p).sact n ≡ false) (sym z) clear
@@ -133,12 +133,12 @@ module _ (uses : Uses) (m : Machine) (d : Device) (a : Agrees uses m d) (port : 
       small : (place ≡ 27) ⊎ (place ≡ 29) → place ≢ 30
       small (inl z) e = omega (arith, z, e)
       small (inr z) e = omega (arith, z, e)
-  step_opens (Fall p) can = at_port Open Open d p port _ h (λ e x. true-false x.0 can.0) (λ ne x. x)
+  step_opens (Fall p) can = at_port Open Open d p port _ h (λ e x. absurd (both_ways _ can.0 x.0)) (λ ne x. x)
   step_opens (FrFall p) can = at_port Open Open d p port _ h (λ e x. x) (λ ne x. x)
-  step_opens (LinkUp p sig n) can = at_port Open Open d p port _ h (λ e x. true-false can.due x.2) (λ ne x. x)
+  step_opens (LinkUp p sig n) can = at_port Open Open d p port _ h (λ e x. absurd (both_ways _ x.2 can.due)) (λ ne x. x)
   step_opens (Unplug p) can = at_port Open Open d p port _ h (λ e x. x) (λ ne x. x)
   step_opens (Plug p disk) can = at_port Open Open d p port _ h (λ e x. x) (λ ne x. x)
-  step_opens ResetEnds can = true-false can off
+  step_opens ResetEnds can = absurd (both_ways _ off can)
   step_opens (Scribble p slot at bytes) can = h
 
 leads_open : (uses : Uses) (m : Machine) (port : ℕ) → ((slot : ℕ) → slot ≢ 0 → uses port slot ≡ Free) → (steps : List Step) (old new : Device) → IsReached m → Agrees uses m old → old.hr ≡ false → Leads steps old new → Open (old.port port) →
@@ -230,7 +230,7 @@ unfailed uses m port v old new r a h call clear =
     let shown : (call.mid.port port.0).ci 0 ≡ false = sym (call.shows 0 (omega arith)) ∙ clear in
     ap (λ (d : Device). (d.port port.0).is 30) call.effect ∙ (ap (λ (p : PortState). p.is 30) (changed_same call.mid.port port.0 _) ∙ ⊎_elim
     (λ (n : (call.mid.port port.0).is 30 ≡ false). n)
-    (λ (y : ((call.mid.port port.0).ci 0 ≡ true) × IsFaulted (call.mid.port port.0).halt). true-false y.0 shown)
+    (λ (y : ((call.mid.port port.0).ci 0 ≡ true) × IsFaulted (call.mid.port port.0).halt). absurd (both_ways _ shown y.0))
     mid.told)
 
 pub open_well : (p : PortState) → RunsLinked p → p.halt ≡ NotHalted → p.is 30 ≡ false → p.serr_n ≡ false → p.serr_x ≡ false → ((place : ℕ) → 27 ≤ place → place ≤ 29 → p.is place ≡ false) → RunsWell p

@@ -1,7 +1,7 @@
 -- A port that a fault has halted, and what its task file shows.
 use Rattle.std.proofs.Common.{ℕ, ◌≡◌, ◌≢◌, ◌<◌, ◌+◌, ◌*◌, ◌/◌, ◌%◌, Bool, true, false, List, length, drop, refl, sym, ◌∙◌, ap, subst, arith}
 use Rattle.std.specs.Prelude.{if◌then◌else◌}
-use Rattle.std.proofs.lemmas.Bool.{cond-true}
+use Rattle.std.proofs.lemmas.Bool.{cond-true, both_ways, false≢true}
 use Rattle.ata_types.specs.declared.Port.{Port}
 use Rattle.hba_regs.specs.Bits.{bit}
 use Rattle.hba_regs.specs.declared.reg.Reg.{Reg}
@@ -14,7 +14,6 @@ use Rattle.adapter.specs.Device.{PortState, Device}
 use Rattle.adapter.specs.Kept.{Keeps, KeepsOn}
 use Rattle.adapter.specs.Steps.{Step, Can, after, Steps}
 use Rattle.adapter.specs.Steps.Step.{Fetch, FetchFault, Move, Clear, Done, Fault, Fatal, Fall, FrFall, LinkUp, Unplug, Plug, ResetEnds, Scribble}
-use Rattle.adapter.proofs.Absurd.{true-false}
 use Rattle.adapter.proofs.Calls.{SeenAt, seen}
 use Rattle.adapter.proofs.KeptLemmas.{steps_keep}
 use Rattle.adapter.specs.declared.tape.Entry.{Entry}
@@ -43,10 +42,10 @@ step_stuck d port (Fault p slot error kept_bits t) can h = at_port IsStuck IsStu
 step_stuck d port (Fatal p place) can h = at_port IsStuck IsStuck d p port _ h (λ e x. x) (λ ne x. x)
 step_stuck d port (Fall p) can h = at_port IsStuck IsStuck d p port _ h (λ e x. x) (λ ne x. x)
 step_stuck d port (FrFall p) can h = at_port IsStuck IsStuck d p port _ h (λ e x. x) (λ ne x. x)
-step_stuck d port (LinkUp p sig n) can h = at_port IsStuck IsStuck d p port _ h (λ e x st. true-false can.due (x st).0) (λ ne x. x)
+step_stuck d port (LinkUp p sig n) can h = at_port IsStuck IsStuck d p port _ h (λ e x st. absurd (both_ways _ (x st).0 can.due)) (λ ne x. x)
 step_stuck d port (Unplug p) can h = at_port IsStuck IsStuck d p port _ h (λ e x. x) (λ ne x. x)
 step_stuck d port (Plug p disk) can h = at_port IsStuck IsStuck d p port _ h (λ e x. x) (λ ne x. x)
-step_stuck d port ResetEnds can h = λ st. true-false st refl
+step_stuck d port ResetEnds can h = λ st. absurd (false≢true st)
 step_stuck d port (Scribble p slot at bytes) can h = h
 
 module _ (port : ℕ) (old new : Device) (off : old.hr ≡ false) (st : (old.port port).st ≡ true) (h : IsRecorded old.tape (old.port port) port) (faulted : IsFaulted (old.port port).halt) where

@@ -1,6 +1,7 @@
 -- Which requests have ended, and what the readings of CI and SACT tell of a running port.
 use Rattle.std.proofs.Common.{ℕ, ◌≡◌, ◌⊎◌, Bool, true, false, not, ◌&&◌, List, length, refl, sym, ◌∙◌, ap, subst, arith, inl, inr, ⊎_elim}
 use Rattle.std.specs.List.{Contains}
+use Rattle.std.proofs.lemmas.Bool.{both_ways}
 use Rattle.ata_types.specs.declared.Port.{Port}
 use Rattle.ata_types.specs.declared.request.RequestId.{RequestId}
 use Rattle.hba_regs.specs.Bits.{bit}
@@ -12,7 +13,6 @@ use Rattle.adapter.specs.Device.{Device}
 use Rattle.adapter.specs.Kept.{Keeps, KeepsOn}
 use Rattle.adapter.specs.Memory.{bytes_at}
 use Rattle.adapter.specs.declared.command.Operation.{Operation}
-use Rattle.adapter.proofs.Absurd.{true-false}
 use Rattle.adapter.proofs.Calls.{SeenAt, seen}
 use Rattle.adapter.proofs.KeptLemmas.{steps_keep}
 use Rattle.block_machine.specs.Left.{after}
@@ -35,8 +35,8 @@ use Rattle.agreement.proofs.Following.{Follows-trans}
 use Rattle.agreement.proofs.Sparing.{follows_spare, none_kept_on}
 
 both_clear : {A : Type 0} (q : Bool) {i c : Bool} → i ≡ true && not q → c ≡ true && q → i ≡ false → c ≡ false → A
-both_clear true a b e f = true-false b f
-both_clear false a b e f = true-false a e
+both_clear true a b e f = absurd (both_ways _ f b)
+both_clear false a b e f = absurd (both_ways _ e a)
 
 -- a slot whose command has ended is clear, and its request has ended
 is_ended : (m : Machine) (d : Device) (port : Port) (slot : ℕ) (id : RequestId) (h : ServesRequest m d.memory (d.port port.0) port.0 slot id) → IsEnded (d.port port.0) slot h.pending →
@@ -69,10 +69,10 @@ ended_is_clear uses m d port slot e reached a moves ended u = by (subst (λ (v :
         its = ap (λ (y : Pending). y.ended) (living_one m (standing m reached).sound h.pending e (runs_lives m h.pending h.moves) (runs_lives m e moves) (ap (λ (i : RequestId). i.0) h.id_is)) ∙ ended
 
         of : Stage d.memory (d.port port.0) port.0 slot h.pending h.command h.places → IsClear (d.port port.0) slot × EndedIn m port e.request.id
-        of (inl w) = true-false its w.unended
-        of (inr (inl t)) = true-false its t.unended
+        of (inl w) = absurd (both_ways _ w.unended its)
+        of (inr (inl t)) = absurd (both_ways _ t.unended its)
         of (inr (inr (inl x))) = is_ended m d port slot e.request.id h x
-        of (inr (inr (inr x))) = true-false its x.unended
+        of (inr (inr (inr x))) = absurd (both_ways _ x.unended its)
 
 -- on a running port a slot whose two bits are clear has ended its request
 pub clear_is_ended : (uses : Uses) (m : Machine) (d : Device) (port : Port) (slot : ℕ) (id : RequestId) → Agrees uses m d → uses port.0 slot ≡ Serves id → (d.port port.0).st ≡ true →
@@ -83,12 +83,12 @@ clear_is_ended uses m d port slot id a u st issued sact = by (subst (λ (v : Use
     by h = of h.stage
       where
         of : Stage d.memory (d.port port.0) port.0 slot h.pending h.command h.places → IsClear (d.port port.0) slot × EndedIn m port id
-        of (inl w) = true-false w.issued issued
+        of (inl w) = absurd (both_ways _ issued w.issued)
         of (inr (inl t)) = both_clear (is_queued h.command.operation)
             (t.issued ∙ ap (λ (b : Bool). b && not (is_queued h.command.operation)) st)
             (t.sact ∙ ap (λ (b : Bool). b && is_queued h.command.operation) st) issued sact
         of (inr (inr (inl x))) = is_ended m d port slot id h x
-        of (inr (inr (inr x))) = true-false st x.stopped
+        of (inr (inr (inr x))) = absurd (both_ways _ x.stopped st)
 
 pub done_is_found : (uses : Uses) (m : Machine) (port : Port) (ci sact : ℕ) (old mid new : Device) → IsReached m → Agrees uses m old → old.hr ≡ false → (old.port port.0).st ≡ true →
     Reads (Px port Ci) ci old mid → Reads (Px port Sact) sact mid new → Finds uses m port ci sact old new
@@ -135,13 +135,13 @@ module _ (uses : Uses) (m : Machine) (d : Device) (port : ℕ) (o : Operation) (
   own_over = of own.stage
     where
       of : OwnWaits (d.port port) 0 ⊎ (OwnTaken d.memory d.tape (d.port port) port 0 own.command ⊎ OwnOver d.memory d.tape (d.port port) port 0 own.command) → OwnOver d.memory d.tape (d.port port) port 0 own.command
-      of (inl w) = true-false w.issued issued
-      of (inr (inl t)) = true-false (t.issued ∙ st) issued
+      of (inl w) = absurd (both_ways _ issued w.issued)
+      of (inr (inl t)) = absurd (both_ways _ issued (t.issued ∙ st))
       of (inr (inr x)) = x
 
   own_brought : Brought d.memory d.tape port o (d.port port).notes.st_set_at
   own_brought = ⊎_elim
-      (λ (z : (d.port port).st ≡ false). true-false st z)
+      (λ (z : (d.port port).st ≡ false). absurd (both_ways _ z st))
       (λ (b : Brought d.memory d.tape port own.command.operation (d.port port).notes.st_set_at). subst (λ (x : Operation). Brought d.memory d.tape port x (d.port port).notes.st_set_at) own.operation_is b)
       own_over.brought
 

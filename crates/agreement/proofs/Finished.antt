@@ -1,7 +1,7 @@
 -- A command that is over stays so, and so does what the machine has of its request.
 use Rattle.std.proofs.Common.{ℕ, ◌≡◌, ◌<◌, ◌||◌, Bool, true, false, List, length, None, refl, sym, ◌∙◌, ap, subst, inl, inr, ⊎_elim}
 use Rattle.std.specs.List.{Contains}
-use Rattle.std.proofs.lemmas.Bool.{cond-true, cond-false}
+use Rattle.std.proofs.lemmas.Bool.{cond-true, cond-false, false≢true}
 use Rattle.ata_types.specs.declared.Port.{Port}
 use Rattle.ata_types.specs.declared.request.RequestId.{RequestId}
 use Rattle.hba_regs.specs.Bits.{bit}
@@ -13,7 +13,6 @@ use Rattle.adapter.specs.Access.Access.{Writing}
 use Rattle.adapter.specs.Device.{PortState, Device}
 use Rattle.adapter.specs.Kept.{KeepsPort}
 use Rattle.adapter.specs.Steps.{Steps}
-use Rattle.adapter.proofs.Absurd.{true-false}
 use Rattle.adapter.proofs.KeptLemmas.{steps_keep}
 use Rattle.block_machine.specs.Events.{AllDevices}
 use Rattle.block_machine.specs.Left.{after}
@@ -82,7 +81,7 @@ pub access_over : (port : Port) (slot : ℕ) (access : Access) (old new : Device
 access_over port slot access old new ci x h =
     let s = access_steps access old new x in
     let mid : IsOver (s.0.port port.0) slot = steps_over port.0 slot old s.0 s.1 h in
-    let e = effect_unset false port slot access old new x ci (λ a. true-false a refl) (mid.issued, mid.free, λ a. true-false a refl) in
+    let e = effect_unset false port slot access old new x ci (λ a. absurd (false≢true a)) (mid.issued, mid.free, λ a. absurd (false≢true a)) in
     record { issued = e.0; free = e.1 }
 
 pub access_clear : (port : Port) (slot : ℕ) (access : Access) (old new : Device) → ((v : ℕ) → access ≡ Writing (Px port Ci) v → bit v slot ≡ false) → ((v : ℕ) → access ≡ Writing (Px port Sact) v → bit v slot ≡ false) →

@@ -1,5 +1,6 @@
 -- A port whose engine has stopped.
 use Rattle.std.proofs.Common.{ℕ, ◌≡◌, ◌⊎◌, Bool, true, false, List, [], ◌∷◌, length, Option, refl, sym, ◌∙◌, ap, subst, inl, inr}
+use Rattle.std.proofs.lemmas.Bool.{both_ways}
 use Rattle.ata_types.specs.declared.Port.{Port}
 use Rattle.hba_regs.specs.Bits.{bit}
 use Rattle.hba_regs.specs.declared.reg.Reg.{Reg}
@@ -14,7 +15,6 @@ use Rattle.adapter.specs.Kept.{KeepsPort}
 use Rattle.adapter.specs.Rules.{MayWrite, MayWritePort, Stays}
 use Rattle.adapter.specs.Steps.{Step, Can, after, Leads, Steps}
 use Rattle.adapter.specs.Steps.Step.{Fetch, FetchFault, Move, Clear, Done, Fault, Fatal, Fall, FrFall, LinkUp, Unplug, Plug, ResetEnds, Scribble}
-use Rattle.adapter.proofs.Absurd.{true-false}
 use Rattle.adapter.proofs.Changed.{changed_same}
 use Rattle.adapter.proofs.KeptLemmas.{steps_keep}
 use Rattle.block_machine.specs.State.{Machine}
@@ -93,7 +93,7 @@ module _ (v tape : ℕ) (p : PortState) (off : bit v 0 ≡ false) where
 
 port_halted : (r : PortReg) (v : ℕ) (d : Device) (p : PortState) → MayWritePort r v d p → (r ≡ Cmd → bit v 0 ≡ false) → IsHalted p → IsHalted (port_written r v (length d.tape) p)
 port_halted Cmd v d p may off h = stopped_halted v (length d.tape) p (off refl) h
-port_halted px.Ci v d p may off h = true-false may.running h.st
+port_halted px.Ci v d p may off h = absurd (both_ways _ h.st may.running)
 port_halted px.Clb v d p may off h = same_halted p _ refl refl refl refl h
 port_halted px.Clbu v d p may off h = same_halted p _ refl refl refl refl h
 port_halted px.Fb v d p may off h = same_halted p _ refl refl refl refl h
@@ -107,8 +107,8 @@ port_halted _ v d p may off h = h
 
 port_reset : (r : PortReg) (v : ℕ) (d : Device) (p : PortState) → MayWritePort r v d p → (r ≡ Cmd → (bit v 0 ≡ false) × (bit v 4 ≡ false)) → IsAfterReset p → IsAfterReset (port_written r v (length d.tape) p)
 port_reset Cmd v d p may off h = stopped_reset v (length d.tape) p (off refl).0 (off refl).1 h
-port_reset px.Sact v d p may off h = true-false may h.halted.st
-port_reset px.Ci v d p may off h = true-false may.running h.halted.st
+port_reset px.Sact v d p may off h = absurd (both_ways _ h.halted.st may)
+port_reset px.Ci v d p may off h = absurd (both_ways _ h.halted.st may.running)
 port_reset px.Clb v d p may off h = same_reset p _ refl refl refl h (port_halted px.Clb v d p may (λ e. (off e).0) h.halted)
 port_reset px.Clbu v d p may off h = same_reset p _ refl refl refl h (port_halted px.Clbu v d p may (λ e. (off e).0) h.halted)
 port_reset px.Fb v d p may off h = same_reset p _ refl refl refl h (port_halted px.Fb v d p may (λ e. (off e).0) h.halted)
@@ -155,14 +155,14 @@ over_of m d port slot Armed st cr h = record { issued = h.issued; free = h.free 
 over_of m d port slot (Own o) st cr h = of h.stage
   where
     of : OwnWaits (d.port port) slot ⊎ (OwnTaken d.memory d.tape (d.port port) port slot h.command ⊎ OwnOver d.memory d.tape (d.port port) port slot h.command) → IsOver (d.port port) slot
-    of (inl w) = true-false w.started st
-    of (inr (inl t)) = true-false t.running cr
+    of (inl w) = absurd (both_ways _ st w.started)
+    of (inr (inl t)) = absurd (both_ways _ cr t.running)
     of (inr (inr x)) = x.over
 over_of m d port slot (Serves id) st cr h = of h.stage
   where
     of : Stage d.memory (d.port port) port slot h.pending h.command h.places → IsOver (d.port port) slot
-    of (inl w) = true-false w.started st
-    of (inr (inl t)) = true-false t.running cr
+    of (inl w) = absurd (both_ways _ st w.started)
+    of (inr (inl t)) = absurd (both_ways _ cr t.running)
     of (inr (inr (inl x))) = record { issued = x.issued; free = x.free }
     of (inr (inr (inr x))) = record { issued = x.issued; free = x.free }
 
@@ -198,7 +198,7 @@ later : (step : Step) (old new : Device) → Can step old → Ends (after step o
 later step old new can s = (s.0, s.1, step_first step old (after ResetEnds s.0) can s.2)
 
 reset_ends : (steps : List Step) (old new : Device) → old.hr ≡ true → new.hr ≡ false → Leads steps old new → Ends old new
-reset_ends [] old new on off e = true-false on (sym (ap (λ (d : Device). d.hr) e) ∙ off)
+reset_ends [] old new on off e = absurd (both_ways _ (sym (ap (λ (d : Device). d.hr) e) ∙ off) on)
 reset_ends (ResetEnds ∷ steps) old new on off (can, lead) = (old, record { steps = steps; lead = lead }, record { steps = ResetEnds ∷ []; lead = (can, refl) })
 reset_ends (Fetch p slot c places ∷ steps) old new on off (can, lead) = later (Fetch p slot c places) old new can (reset_ends steps (after (Fetch p slot c places) old) new on off lead)
 reset_ends (FetchFault p slot queued kept_bits ∷ steps) old new on off (can, lead) = later (FetchFault p slot queued kept_bits) old new can (reset_ends steps (after (FetchFault p slot queued kept_bits) old) new on off lead)

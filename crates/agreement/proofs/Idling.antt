@@ -1,6 +1,7 @@
 -- An idle device and a machine with nothing in it.
 use Rattle.std.proofs.Common.{ℕ, ◌≡◌, ◌+◌, ◌*◌, true, List, [], Option, None, Some, slice_index, refl, sym, ap, subst, arith, ⊎_elim}
 use Rattle.std.specs.List.{Contains}
+use Rattle.std.proofs.lemmas.List.Elements.{All-contains, All-nil}
 use Rattle.ata_types.specs.declared.grant.GrantRow.{GrantRow}
 use Rattle.ata_types.specs.declared.request.ClientId.{ClientId}
 use Rattle.ata_types.specs.declared.request.Frame.{Frame}
@@ -8,7 +9,6 @@ use Rattle.adapter.specs.Device.{Device}
 use Rattle.adapter.specs.Idle.{IsIdle, TellsDisks}
 use Rattle.block_machine.specs.State.{Disk, Machine}
 use Rattle.block_machine.specs.Left.{IsStart}
-use Rattle.block_machine.proofs.Members.{contains_none}
 use Rattle.agreement.specs.Slots.{Free, Serves}
 use Rattle.agreement.specs.Agrees.{IsDiskOf, SameMemory, SameSectors}
 use Rattle.agreement.specs.Driven.{IsAgreed}
@@ -27,8 +27,8 @@ idle_knows m d s i disk memory sectors = record {
     sectors = sectors;
   };
   have = λ q e may at_port. ⊎_elim
-      (λ z. absurd (contains_none e (subst (λ es. Contains es e) s.book z.0)))
-      (λ z. absurd (contains_none e (subst (λ es. Contains es e) s.kept z)))
+      (λ z. absurd (All-contains (λ _. ⊥) [] e (All-nil (λ _. ⊥)) (subst (λ es. Contains es e) s.book z.0)))
+      (λ z. absurd (All-contains (λ _. ⊥) [] e (All-nil (λ _. ⊥)) (subst (λ es. Contains es e) s.kept z)))
       may;
 }
 
@@ -74,7 +74,7 @@ unowned_starts d = record {
   next = refl;
   few = omega arith;
   rows = λ i j d lt small. absurd (omega (arith, small));
-  configured = λ row here. absurd (contains_none row here);
+  configured = λ row here. absurd (All-contains (λ _. ⊥) [] row (All-nil (λ _. ⊥)) here);
   owned = λ frame client (e : None ≡ Some client). absurd (cc);
 }
 

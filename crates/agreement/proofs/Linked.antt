@@ -1,6 +1,6 @@
 -- A link that is up stays up over faults, and a port that runs with it runs on.
 use Rattle.std.proofs.Common.{ℕ, ◌≡◌, ◌≢◌, ◌++◌, Bool, true, false, List, [], ◌∷◌, length, refl, sym, ◌∙◌, ap, subst, ⊎_elim}
-use Rattle.std.proofs.lemmas.Bool.{cond-true, cond-false}
+use Rattle.std.proofs.lemmas.Bool.{cond-true, cond-false, both_ways}
 use Rattle.ata_types.specs.declared.Port.{Port}
 use Rattle.hba_regs.specs.Bits.{bit}
 use Rattle.hba_regs.specs.declared.reg.Reg.TheVariants.{Px}
@@ -14,7 +14,6 @@ use Rattle.adapter.specs.Kept.{Keeps}
 use Rattle.adapter.specs.Steps.{Step, Can, after, Leads, Steps}
 use Rattle.adapter.specs.Steps.Step.{Fetch, FetchFault, Move, Clear, Done, Fault, Fatal, Fall, FrFall, LinkUp, Unplug, Plug, ResetEnds, Scribble}
 use Rattle.adapter.specs.declared.tape.Entry.{Entry}
-use Rattle.adapter.proofs.Absurd.{true-false}
 use Rattle.adapter.proofs.Changed.{changed_same}
 use Rattle.adapter.proofs.KeptLemmas.{step_keeps, steps_keep}
 use Rattle.agreement.specs.Errors.{NoneFatal, IsFatalOf}
@@ -75,14 +74,14 @@ module _ (port : ℕ) (d : Device) (gained others : List Entry) (none : NoneOf (
   step_runs (Fault p slot error kept_bits t) off can is too h = at_port Runs Runs d p port _ h (λ e x. x) (λ ne x. x)
   step_runs (Fatal p place) off can is too h = at_port Runs Runs d p port _ h
       (λ e x. absurd (gained_none (IsFatalOf port) d.tape _ others too calm e)) (λ ne x. x)
-  step_runs (Fall p) off can is too h = at_port Runs Runs d p port _ h (λ e x. true-false x.0 can.0) (λ ne x. x)
+  step_runs (Fall p) off can is too h = at_port Runs Runs d p port _ h (λ e x. absurd (both_ways _ can.0 x.0)) (λ ne x. x)
   step_runs (FrFall p) off can is too h = at_port Runs Runs d p port _ h (λ e x. x) (λ ne x. x)
-  step_runs (LinkUp p sig n) off can is too h = at_port Runs Runs d p port _ h (λ e x. true-false can.due x.5) (λ ne x. x)
+  step_runs (LinkUp p sig n) off can is too h = at_port Runs Runs d p port _ h (λ e x. absurd (both_ways _ x.5 can.due)) (λ ne x. x)
   step_runs (Unplug p) off can is too h = at_port Runs Runs d p port _ h
       (λ e x. absurd (gained_none (IsPlugging port) d.tape _ gained is none e)) (λ ne x. x)
   step_runs (Plug p disk) off can is too h = at_port Runs Runs d p port _ h
       (λ e x. absurd (gained_none (IsPlugging port) d.tape _ gained is none e)) (λ ne x. x)
-  step_runs ResetEnds off can is too h = true-false can off
+  step_runs ResetEnds off can is too h = absurd (both_ways _ off can)
   step_runs (Scribble p slot at bytes) off can is too h = h
 
 leads_run : (port : ℕ) (steps : List Step) (old new : Device) → old.hr ≡ false → PlugsNone port old new → NoneFatal port old new → Leads steps old new → Runs (old.port port) → Runs (new.port port)

@@ -1,6 +1,6 @@
 -- What the device and accesses leave of a port's controls, of its disk and of its link.
 use Rattle.std.proofs.Common.{ℕ, ◌≡◌, ◌≢◌, ◌++◌, Bool, true, false, List, [], ◌∷◌, length, refl, sym, ◌∙◌, ap, subst, inl, inr, ⊎_elim}
-use Rattle.std.proofs.lemmas.Bool.{cond-true, cond-false}
+use Rattle.std.proofs.lemmas.Bool.{cond-true, cond-false, both_ways}
 use Rattle.ata_types.specs.declared.Port.{Port}
 use Rattle.hba_regs.specs.Bits.{bit}
 use Rattle.hba_regs.specs.declared.reg.Reg.TheVariants.{Px}
@@ -16,7 +16,6 @@ use Rattle.adapter.specs.declared.command.Operation.{Operation}
 use Rattle.adapter.specs.declared.command.Operation.TheVariants as operation
 use Rattle.adapter.specs.declared.tape.Entry.{Entry}
 use Rattle.adapter.specs.declared.tape.Entry.TheVariants as entry
-use Rattle.adapter.proofs.Absurd.{true-false}
 use Rattle.adapter.proofs.KeptLemmas.{step_keeps, steps_keep}
 use Rattle.agreement.specs.Agrees.{port_at}
 use Rattle.agreement.specs.Facts.{IsDisturbance, Undisturbed}
@@ -164,12 +163,12 @@ module _ (first : PortState) (port : ℕ) (d : Device) (gained : List Entry) (no
   step_link (LinkUp p sig n) off can is h = at_port Linked Linked d p port _ h
       (λ e x. ⊎_elim
       (λ (s : SameLink first (d.port p)). inr (record { due = sym s.due ∙ can.due; up = refl; det = refl; fresh = refl; present = can.present; released = can.det }))
-      (λ (s : ComesUp first (d.port p)). true-false can.due s.up)
+      (λ (s : ComesUp first (d.port p)). absurd (both_ways _ s.up can.due))
       x)
       (λ ne x. x)
   step_link (Unplug p) off can is h = at_port Linked Linked d p port _ h (λ e x. absurd (gained_none (IsPlugging port) d.tape _ gained is none e)) (λ ne x. x)
   step_link (Plug p disk) off can is h = at_port Linked Linked d p port _ h (λ e x. absurd (gained_none (IsPlugging port) d.tape _ gained is none e)) (λ ne x. x)
-  step_link ResetEnds off can is h = true-false can off
+  step_link ResetEnds off can is h = absurd (both_ways _ off can)
   step_link (Scribble p slot at bytes) off can is h = h
 
 leads_link : (first : PortState) (port : ℕ) (steps : List Step) (old new : Device) → old.hr ≡ false → Leads steps old new → PlugsNone port old new → LeavesLink first (old.port port) → LeavesLink first (new.port port)

@@ -1,6 +1,6 @@
 -- What readings of PxIS and PxSSTS tell of what was before.
 use Rattle.std.proofs.Common.{ℕ, ◌≡◌, ◌≢◌, ◌⊎◌, ◌≤◌, ◌%◌, true, false, refl, ◌∙◌, inl, inr, ⊎_elim}
-use Rattle.std.proofs.lemmas.Bool.{cases_eq, cases_Bool}
+use Rattle.std.proofs.lemmas.Bool.{cases_eq, cases_Bool, both_ways}
 use Rattle.ata_types.specs.declared.Port.{Port}
 use Rattle.hba_regs.specs.Bits.{bit}
 use Rattle.hba_regs.specs.declared.reg.Reg.TheVariants.{Px}
@@ -9,7 +9,6 @@ use Rattle.adapter.specs.Access.{Reads}
 use Rattle.adapter.specs.Access.Access.{Reading}
 use Rattle.adapter.specs.Device.{Device}
 use Rattle.adapter.specs.Kept.{KeepsControls}
-use Rattle.adapter.proofs.Absurd.{true-false}
 use Rattle.adapter.proofs.Calls.{SeenAt, seen}
 use Rattle.agreement.specs.Errors.{ChangesByDisks, NoneFails}
 use Rattle.agreement.specs.Links.{PlugsNone, LeavesLink, SameLink, ComesUp}
@@ -47,14 +46,14 @@ module _ (port : Port) (v : ℕ) (old new : Device) (off : old.hr ≡ false) whe
 
         neither : (old.port port.0).serr_n ≡ false → (old.port port.0).serr_x ≡ false → PlugsNone port.0 old new → ⊥
         neither n x none = ⊎_elim
-            (λ (t : bit v 22 ≡ true). true-false t (seen_is.shows 22 refl ∙ change.serr_n none n))
-            (λ (t : bit v 6 ≡ true). true-false t (seen_is.shows 6 refl ∙ change.serr_x (plugs_come port.0 old new none) x))
+            (λ (t : bit v 22 ≡ true). absurd (both_ways _ (seen_is.shows 22 refl ∙ change.serr_n none n) t))
+            (λ (t : bit v 6 ≡ true). absurd (both_ways _ (seen_is.shows 6 refl ∙ change.serr_x (plugs_come port.0 old new none) x) t))
             told
 
     pub fault_told : bit v 30 ≡ true → ((old.port port.0).is 30 ≡ true) ⊎ (NoneFails port.0 old new → ⊥)
     fault_told told = ⊎_elim
         (λ (t : (old.port port.0).is 30 ≡ true). inl t)
-        (λ (f : (old.port port.0).is 30 ≡ false). inr (λ none. true-false told (seen_is.shows 30 refl ∙ (access_raises port (Reading (Px port Is) v) old new call).fault none f)))
+        (λ (f : (old.port port.0).is 30 ≡ false). inr (λ none. absurd (both_ways _ (seen_is.shows 30 refl ∙ (access_raises port (Reading (Px port Is) v) old new call).fault none f) told)))
         (cases_Bool ((old.port port.0).is 30))
 
   pub unlinked_told : (old.port port.0).link_due ≡ false → Reads (Px port Ssts) v old new → v % 16 ≢ 3 → ((old.port port.0).ssts_det ≢ 3) ⊎ (PlugsNone port.0 old new → ⊥)

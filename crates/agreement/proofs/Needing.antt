@@ -1,6 +1,8 @@
 -- What plain work can't do without.
 use Rattle.std.proofs.Common.{ℕ, ◌≡◌, ◌<◌, ◌+◌, ◌*◌, ◌%◌, ◌^◌, false, ◌==◌, Some, refl, sym, ◌∙◌, ap, arith, inl}
 use Rattle.std.proofs.lemmas.Nat.Bits.{bit_at-pow_other, bit_at-zero}
+use Rattle.std.proofs.lemmas.Bool.{both_ways, false≢true, true≢false}
+use Rattle.std.proofs.lemmas.Option.{none-some}
 use Rattle.hba_regs.specs.declared.reg.Reg.TheVariants.{Px}
 use Rattle.hba_regs.specs.declared.reg.PortReg.TheVariants.{Cmd, Ci}
 use Rattle.adapter.specs.Access.{written}
@@ -15,7 +17,6 @@ use Rattle.adapter.specs.Steps.{Can, after, begun, Steps, restarted}
 use Rattle.adapter.specs.Steps.Step.{Fetch, Fault}
 use Rattle.adapter.specs.declared.command.Operation.TheVariants.{ReadQueued}
 use Rattle.adapter.specs.declared.command.Prd.{Prd}
-use Rattle.adapter.proofs.Absurd.{true-false, some-none}
 use Rattle.adapter.proofs.Runs.{Steps-one}
 use Rattle.block_machine.specs.Histories.{IsReached}
 use Rattle.block_machine.specs.State.{Machine}
@@ -37,7 +38,7 @@ AreTakenPlainly d port = (slot : ℕ) (t : Taken) → (d.port port).taken slot �
 
 none_taken : AreTakenPlainly two_issued 0
 unfolding changed
-none_taken slot t is = some-none is refl
+none_taken slot t is = absurd (none-some _ is)
 
 issued_runs : restarted (two_issued.port 0).halt ≡ NotHalted
 unfolding changed
@@ -46,7 +47,7 @@ issued_runs = refl
 pub needs_unarmed : ((uses : Uses) (m : Machine) (port : ℕ) (old new : Device) → IsReached m → Agrees uses m old → Steps old new → restarted (old.port port).halt ≡ NotHalted → AreTakenPlainly old port → AreTakenPlainly new port) → ⊥
 needs_unarmed law =
     let w : TwoAreKnown = two_are_known in
-    true-false w.queued (law (two_known two_issued).uses w.machine 0 two_issued one_taken w.reached w.issued.agrees w.takes issued_runs none_taken 0 w.command w.taken)
+    absurd (both_ways _ (law (two_known two_issued).uses w.machine 0 two_issued one_taken w.reached w.issued.agrees w.takes issued_runs none_taken 0 w.command w.taken) w.queued)
 
 -- ---- one was taken before ST was cleared
 
@@ -62,16 +63,16 @@ may_stop = (
   record { ae = refl; no_reset = refl },
   (omega arith, refl),
   record {
-    start = λ b. true-false b refl;
+    start = λ b. absurd (false≢true b);
     receive = λ b. inl refl;
-    stop_receiving = λ b. true-false refl b;
+    stop_receiving = λ b. absurd (true≢false b);
     others = λ place lt start receive. ap (λ (n : ℕ). n == 1) (bit_at-pow_other 4 place receive ∙ sym (bit_at-zero place));
   },
 )
 
 leaves : LeavesUses (two_known one_taken).uses (Px (port_at 0) Cmd) 0x10 one_taken
 unfolding changed
-leaves = record { start = λ b. true-false b refl; receive = λ _. (omega arith, refl) }
+leaves = record { start = λ b. absurd (false≢true b); receive = λ _. (omega arith, refl) }
 
 can_fail : Can (Fault 0 0 0x40 0 queued_taken) stopping
 unfolding changed
@@ -108,7 +109,7 @@ queued_spelt memory slot first n small aligned even header fis prd = record {
   header = header;
   aligned = aligned;
   fis = fis;
-  meaning = record { ranged = λ _. (omega arith, omega arith, small); not_ranged = λ h. true-false refl h };
+  meaning = record { ranged = λ _. (omega arith, omega arith, small); not_ranged = λ h. absurd (true≢false h) };
   prd = prd;
   allowed = record { even_address = even; even_bytes = refl; some = omega arith; limit = omega arith };
   whole = refl;
@@ -128,13 +129,13 @@ unfolding changed
 can_fetch = record {
   fetchable = record { st = refl; issued = refl; free = refl };
   working = record { running = refl; present = refl; fresh = refl; admitted = refl; whole = refl };
-  alone = λ slot t is. some-none is refl;
+  alone = λ slot t is. absurd (none-some _ is);
   says = first_told.says;
 }
 
 unarmed_works : WorksPlainly (unarmed.port 0)
 unfolding changed
-unarmed_works = record { restarts = refl; unarmed = λ slot. refl; plain = λ slot t is. some-none is refl }
+unarmed_works = record { restarts = refl; unarmed = λ slot. refl; plain = λ slot t is. absurd (none-some _ is) }
 
 taken_then : ((after (Fetch 0 0 (queued_read 100) (cut 0x28000 8)) unarmed).port 0).taken 0 ≡ Some queued_taken
 unfolding changed
@@ -142,5 +143,5 @@ taken_then = refl
 
 pub needs_agreed : ((port : ℕ) (old new : Device) → Steps old new → WorksPlainly (old.port port) → WorksPlainly (new.port port)) → ⊥
 needs_agreed law =
-    true-false refl ((law 0 unarmed (after (Fetch 0 0 (queued_read 100) (cut 0x28000 8)) unarmed)
-    (Steps-one (Fetch 0 0 (queued_read 100) (cut 0x28000 8)) unarmed (after (Fetch 0 0 (queued_read 100) (cut 0x28000 8)) unarmed) can_fetch refl) unarmed_works).plain 0 queued_taken taken_then)
+    absurd (true≢false ((law 0 unarmed (after (Fetch 0 0 (queued_read 100) (cut 0x28000 8)) unarmed)
+    (Steps-one (Fetch 0 0 (queued_read 100) (cut 0x28000 8)) unarmed (after (Fetch 0 0 (queued_read 100) (cut 0x28000 8)) unarmed) can_fetch refl) unarmed_works).plain 0 queued_taken taken_then))

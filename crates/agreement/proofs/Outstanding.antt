@@ -1,12 +1,12 @@
 -- A slot in use is outstanding, and so is that of a fault.
-use Rattle.std.proofs.Common.{ℕ, ◌≡◌, ◌≢◌, ◌⊎◌, Bool, true, false, not, ◌&&◌, List, None, refl, ◌∙◌, ap, subst, inl, inr, ⊎_elim}
-use Rattle.std.proofs.lemmas.Bool.{cases_eq}
+use Rattle.std.proofs.Common.{ℕ, ◌≡◌, ◌≢◌, ◌⊎◌, Bool, true, false, not, ◌&&◌, List, None, refl, ◌∙◌, ap, subst, inl, inr, ⊎_elim, sym}
+use Rattle.std.proofs.lemmas.Bool.{cases_eq, both_ways}
+use Rattle.std.proofs.lemmas.Option.{none-some}
 use Rattle.ata_types.specs.declared.request.RequestId.{RequestId}
 use Rattle.adapter.specs.Commands.{is_queued}
 use Rattle.adapter.specs.Device.{Device}
 use Rattle.adapter.specs.Rules.{InUse}
 use Rattle.adapter.specs.declared.tape.Entry.{Entry}
-use Rattle.adapter.proofs.Absurd.{true-false, some-none}
 use Rattle.block_machine.specs.State.{Pending, Machine}
 use Rattle.block_machine.specs.Steps.{MayMove}
 use Rattle.agreement.specs.Agrees.{Agrees}
@@ -82,13 +82,13 @@ stopped_clear uses m d port slot a st = by (uses port slot) (a.slot port slot)
     by (Own o) h = (of h.stage, h.unqueued)
       where
         of : OwnWaits (d.port port) slot ⊎ (OwnTaken d.memory d.tape (d.port port) port slot h.command ⊎ OwnOver d.memory d.tape (d.port port) port slot h.command) → (d.port port).ci slot ≡ false
-        of (inl w) = true-false w.started st
+        of (inl w) = absurd (both_ways _ st w.started)
         of (inr (inl t)) = t.issued ∙ st
         of (inr (inr x)) = x.over.issued
     by (Serves id) h = of h.stage
       where
         of : Stage d.memory (d.port port) port slot h.pending h.command h.places → ((d.port port).ci slot ≡ false) × ((d.port port).sact slot ≡ false)
-        of (inl w) = true-false w.started st
+        of (inl w) = absurd (both_ways _ st w.started)
         of (inr (inl t)) = (masked ((d.port port).ci slot) (not (is_queued h.command.operation)) t.issued, masked ((d.port port).sact slot) (is_queued h.command.operation) t.sact)
         of (inr (inr (inl x))) = (x.issued, x.sact)
         of (inr (inr (inr x))) = (x.issued, x.sact)
@@ -100,7 +100,7 @@ over_decided uses m d port slot id a u over =
     (h.pending, h.moves, h.id_is, of h h.stage)
   where
     of : (h : ServesRequest m d.memory (d.port port) port slot id) → Stage d.memory (d.port port) port slot h.pending h.command h.places → (h.pending.ended ≡ true) ⊎ (((d.port port).st ≡ false) × (h.pending.ended ≡ false))
-    of h (inl w) = true-false w.issued over.issued
-    of h (inr (inl t)) = some-none t.taken over.free
+    of h (inl w) = absurd (both_ways _ over.issued w.issued)
+    of h (inr (inl t)) = absurd (none-some _ (sym over.free ∙ t.taken))
     of h (inr (inr (inl x))) = inl x.ended
     of h (inr (inr (inr x))) = inr (x.stopped, x.unended)

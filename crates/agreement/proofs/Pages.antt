@@ -1,8 +1,9 @@
 -- The page of a command of the driver's own is awaited over steps and accesses.
 use Rattle.std.proofs.Common.{ℕ, ◌≡◌, ◌⊎◌, ◌≤◌, ◌+◌, ◌++◌, Bool, true, false, List, [], ◌∷◌, length, Some, refl, sym, ◌∙◌, ap, subst, arith, inl, inr, ⊎_elim, append_assoc, le_refl, if◌then◌else◌}
-use Rattle.std.proofs.lemmas.Bool.{cases_eq, cond-true, cond-false, or_left, or_right}
+use Rattle.std.proofs.lemmas.Bool.{cases_eq, cond-true, cond-false, or_left, or_right, both_ways, false≢true, true≢false}
 use Rattle.std.proofs.lemmas.List.{length-append}
 use Rattle.std.proofs.lemmas.List.Elements.{All-head, All-tail}
+use Rattle.std.proofs.lemmas.Option.{none-some, same_Some}
 use Rattle.ata_types.specs.declared.Port.{Port}
 use Rattle.hba_regs.specs.Bits.{bit}
 use Rattle.hba_regs.specs.declared.reg.Reg.TheVariants.{Px}
@@ -21,7 +22,6 @@ use Rattle.adapter.specs.declared.command.Operation.{Operation}
 use Rattle.adapter.specs.declared.tape.Entry.{Entry}
 use Rattle.adapter.specs.declared.tape.Move as tape_move
 use Rattle.adapter.specs.declared.tape.Entry.TheVariants as entry
-use Rattle.adapter.proofs.Absurd.{true-false, some-none, some_one}
 use Rattle.adapter.proofs.Changed.{changed_same, changed_other}
 use Rattle.adapter.proofs.KeptLemmas.{step_keeps, steps_keep}
 use Rattle.adapter.proofs.SaysLemmas.{says_meaning}
@@ -118,7 +118,7 @@ other_right false f slot ne = changed_other f slot false 0 (λ z. ne (sym z))
 
 plain_left : (b : Bool) (f g : ℕ → Bool) → b ≡ false → (if b then g else f) 0 ≡ f 0
 plain_left false f g plain = refl
-plain_left true f g plain = true-false refl plain
+plain_left true f g plain = absurd (true≢false plain)
 
 module _ (uses : Uses) (m : Machine) (d : Device) (a : Agrees uses m d) (port : ℕ) (o : Operation) (u : uses port 0 ≡ Own o) (off : d.hr ≡ false) (st : (d.port port).st ≡ true) (h : Un (d.port port)) where
   served : ServesOwn d.memory d.tape (d.port port) port 0 o
@@ -129,11 +129,11 @@ module _ (uses : Uses) (m : Machine) (d : Device) (a : Agrees uses m d) (port : 
   taken_of t is = of served.stage
     where
       of : OwnWaits (d.port port) 0 ⊎ (OwnTaken d.memory d.tape (d.port port) port 0 served.command ⊎ OwnOver d.memory d.tape (d.port port) port 0 served.command) → (t.meaning ≡ served.command) × (t.places ≡ scratch_of port ∷ [])
-      of (inl y) = some-none is y.free
+      of (inl y) = absurd (none-some _ (sym y.free ∙ is))
       of (inr (inl y)) =
-          let same : y.command ≡ t = some_one (sym y.taken ∙ is) in
+          let same : y.command ≡ t = same_Some _ _ (sym y.taken ∙ is) in
           (ap (λ (z : Taken). z.meaning) (sym same) ∙ y.meaning, ap (λ (z : Taken). z.places) (sym same) ∙ y.places_are)
-      of (inr (inr y)) = some-none is y.over.free
+      of (inr (inr y)) = absurd (none-some _ (sym y.over.free ∙ is))
 
   plain : (c : Meaning) → c ≡ served.command → is_queued c.operation ≡ false
   plain c same = own_plain c.operation (ap (λ (w : Meaning). op_of w.operation) same ∙ ap op_of served.operation_is ∙ served.own)
@@ -157,7 +157,7 @@ module _ (uses : Uses) (m : Machine) (d : Device) (a : Agrees uses m d) (port : 
   -- slot 0 has taken this one then, with nothing moved
   now : (p slot : ℕ) (new : PortState) (t : Taken) → (p ≡ port) × (slot ≡ 0) → new.ci 0 ≡ (d.port p).ci 0 → new.taken ≡ changed (d.port p).taken slot (Some t) → t.moved ≡ 0 → Un (changed d.port p new port)
   now p slot new t x ci taken none = at_port Un Un d p port new h
-      (λ e y. (ci ∙ y.0, λ z is. ap (λ (w : Taken). w.moved) (sym (some_one (sym (ap (λ (f : ℕ → _). f 0) taken ∙ ap (λ (s : ℕ). changed (d.port p).taken s (Some t) 0) x.1 ∙ changed_same (d.port p).taken 0 (Some t)) ∙ is))) ∙ none))
+      (λ e y. (ci ∙ y.0, λ z is. ap (λ (w : Taken). w.moved) (sym (same_Some _ _ (sym (ap (λ (f : ℕ → _). f 0) taken ∙ ap (λ (s : ℕ). changed (d.port p).taken s (Some t) 0) x.1 ∙ changed_same (d.port p).taken 0 (Some t)) ∙ is))) ∙ none))
       (λ ne y. absurd (ne (sym x.0)))
 
   taken_beside : (p slot : ℕ) (x : _) → (p ≡ port → slot ≡ 0 → ⊥) → p ≡ port → changed (d.port p).taken slot x 0 ≡ (d.port p).taken 0
@@ -199,8 +199,8 @@ module _ (uses : Uses) (m : Machine) (d : Device) (a : Agrees uses m d) (port : 
       absurd (omega (arith, none, one, full)))
       (λ ne. inl (still p _ (λ e. other_right (is_queued t.meaning.operation) (d.port p).ci slot (ne e)) (taken_beside p slot _ ne)))
       (which p slot)
-  step_awaits (Fall p) can = inl (at_port Un Un d p port _ h (λ e x. true-false (sym (there (λ (q : PortState). q.st) p e) ∙ st) can.0) (λ ne x. x))
-  step_awaits ResetEnds can = true-false can off
+  step_awaits (Fall p) can = inl (at_port Un Un d p port _ h (λ e x. absurd (both_ways _ can.0 (sym (there (λ (q : PortState). q.st) p e) ∙ st))) (λ ne x. x))
+  step_awaits ResetEnds can = absurd (both_ways _ off can)
   step_awaits (FetchFault p slot queued kept_bits) can = inl (still p _ (λ e. refl) (λ e. refl))
   step_awaits (Fault p slot error kept_bits t) can = inl (still p _ (λ e. refl) (λ e. refl))
   step_awaits (Fatal p place) can = inl (still p _ (λ e. refl) (λ e. refl))
@@ -252,7 +252,7 @@ command_same : (v tape : ℕ) (p : PortState) → ((port_written Cmd v tape p).t
 command_same v tape p = by (bit v 0) p.st refl
   where
     by : (b s : Bool) → p.st ≡ s → ((with_fre (bit v 4) (with_st b tape p)).taken ≡ p.taken) × (b ≡ true → p.st ≡ true → (with_fre (bit v 4) (with_st b tape p)).st ≡ true) × (b ≡ true → (with_fre (bit v 4) (with_st b tape p)).ci ≡ p.ci)
-    by false s is = (refl, λ on _. true-false on refl, λ on. true-false on refl)
+    by false s is = (refl, λ on _. absurd (false≢true on), λ on. absurd (false≢true on))
     by true true is = subst (λ (x : PortState). (x.taken ≡ p.taken) × (true ≡ true → p.st ≡ true → x.st ≡ true) × (true ≡ true → x.ci ≡ p.ci)) (sym (cond-true p.st p _ is)) (refl, λ _ st. st, λ _. refl)
     by true false is = subst (λ (x : PortState). (x.taken ≡ p.taken) × (true ≡ true → p.st ≡ true → x.st ≡ true) × (true ≡ true → x.ci ≡ p.ci)) (sym (cond-false p.st p _ is)) (refl, λ _ st. refl, λ _. refl)
 
@@ -303,13 +303,13 @@ page_is_issued uses m port o v old new r a off x call =
       known = le_refl (length new.tape);
       page = inl (record {
         issued = ap (λ (p : PortState). p.ci 0) is ∙ or_right ((call.mid.port port.0).ci 0) (bit v 0) y.here;
-        unmoved = λ t taken. some-none (sym (ap (λ (p : PortState). p.taken 0) is) ∙ taken) over.free;
+        unmoved = λ t taken. absurd (none-some _ (sym over.free ∙ (sym (ap (λ (p : PortState). p.taken 0) is) ∙ taken)));
       });
     }
 
 -- the command isn't issued any more
 come_of : (uses : Uses) (port : ℕ) (o : Operation) (since : ℕ) (d : Device) → AwaitsPage uses port o since d → (d.port port).ci 0 ≡ false → HasCome d.tape port o since
-come_of uses port o since d w clear = ⊎_elim (λ (x : IsUnbrought (d.port port)). true-false x.issued clear) (λ (x : HasCome d.tape port o since). x) w.page
+come_of uses port o since d w clear = ⊎_elim (λ (x : IsUnbrought (d.port port)). absurd (both_ways _ clear x.issued)) (λ (x : HasCome d.tape port o since). x) w.page
 
 pub page_is_awaited : (uses : Uses) (m : Machine) (port : Port) (o : Operation) (since v : ℕ) (old new : Device) → IsReached m → Agrees uses m old → AwaitsPage uses port.0 o since old → Reads (Px port Ci) v old new → bit v 0 ≡ false →
     FindsPage uses m port.0 o old new × Brought new.memory new.tape port.0 o since

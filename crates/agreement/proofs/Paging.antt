@@ -4,6 +4,7 @@ use Rattle.std.specs.Prelude.{All}
 use Rattle.std.proofs.lemmas.Bool.{cases_eq}
 use Rattle.std.proofs.lemmas.List.{append_cancel_left}
 use Rattle.std.proofs.lemmas.List.Elements.{All-nil, All-cons, All-append}
+use Rattle.std.proofs.lemmas.Option.{none-some, same_Some}
 use Rattle.adapter.specs.Access.{Access, Does}
 use Rattle.adapter.specs.Commands.{Meaning, is_queued}
 use Rattle.adapter.specs.Device.{Taken, PortState, Device}
@@ -15,7 +16,6 @@ use Rattle.adapter.specs.Steps.Step.{Fetch, FetchFault, Move, Clear, Done, Fault
 use Rattle.adapter.specs.declared.command.Operation.{Operation}
 use Rattle.adapter.specs.declared.tape.Entry.{Entry}
 use Rattle.adapter.specs.declared.tape.Entry.TheVariants as entry
-use Rattle.adapter.proofs.Absurd.{some-none, some_one}
 use Rattle.adapter.proofs.Changed.{changed_same, changed_other}
 use Rattle.adapter.proofs.KeptLemmas.{step_keeps, steps_keep}
 use Rattle.block_machine.specs.Histories.{IsReached}
@@ -48,18 +48,18 @@ module _ (uses : Uses) (m : Machine) (d : Device) (a : Agrees uses m d) (port : 
   page_asked p slot t bytes can x = by (uses p slot) refl (a.slot p slot)
     where
       by : (u : Use) → uses p slot ≡ u → IsServed m d.memory d.tape (d.port p) p slot u → (uses port 0 ≡ Own o) × (p ≡ port) × (slot ≡ 0)
-      by Free u h = some-none can.works.taken h.free
-      by Armed u h = some-none can.works.taken h.free
+      by Free u h = absurd (none-some _ (sym h.free ∙ can.works.taken))
+      by Armed u h = absurd (none-some _ (sym h.free ∙ can.works.taken))
       by (Serves id) u h =
           let known : TakenAs d.memory (d.port p) p slot h.pending h.command h.places t = taken_as d.memory (d.port p) p slot h.pending h.command h.places t can.works.taken h.stage in
           none_op (sym own ∙ ap op_of (sym x.1) ∙ ap (λ (c : Meaning). op_of c.operation) known.meaning ∙ h.means.op)
       by (Own w) u h = of h.stage
         where
           of : OwnWaits (d.port p) slot ⊎ (OwnTaken d.memory d.tape (d.port p) p slot h.command ⊎ OwnOver d.memory d.tape (d.port p) p slot h.command) → (uses port 0 ≡ Own o) × (p ≡ port) × (slot ≡ 0)
-          of (inl y) = some-none can.works.taken y.free
-          of (inr (inr y)) = some-none can.works.taken y.over.free
+          of (inl y) = absurd (none-some _ (sym y.free ∙ can.works.taken))
+          of (inr (inr y)) = absurd (none-some _ (sym y.over.free ∙ can.works.taken))
           of (inr (inl y)) =
-              let same : y.command ≡ t = some_one (sym y.taken ∙ can.works.taken) in
+              let same : y.command ≡ t = same_Some _ _ (sym y.taken ∙ can.works.taken) in
               let is : w ≡ o = sym h.operation_is ∙ ap (λ (c : Meaning). c.operation) (sym y.meaning) ∙ ap (λ (z : Taken). z.meaning.operation) same ∙ x.1 in
               (ap (λ (q : ℕ). uses q 0) (sym x.0) ∙ ap (uses p) (sym h.head) ∙ u ∙ ap Own is, x.0, h.head)
 
@@ -85,17 +85,17 @@ module _ (uses : Uses) (m : Machine) (d : Device) (a : Agrees uses m d) (port : 
       left = can.left
 
       unspent : IsSpent (d.port port) → ⊥
-      unspent (inl over) = some-none taken over.free
+      unspent (inl over) = absurd (none-some _ (sym over.free ∙ taken))
       unspent (inr (z, there, all)) =
-          let full : t.moved ≡ length t.places = subst (λ (y : Taken). y.moved ≡ length y.places) (some_one (sym there ∙ taken)) all in
+          let full : t.moved ≡ length t.places = subst (λ (y : Taken). y.moved ≡ length y.places) (same_Some _ _ (sym there ∙ taken)) all in
           let l = left in
           omega (arith, full, l)
 
       of : OwnWaits (d.port port) 0 ⊎ (OwnTaken d.memory d.tape (d.port port) port 0 served.command ⊎ OwnOver d.memory d.tape (d.port port) port 0 served.command) → IsSpent ((after (Move p slot t bytes) d).port port)
-      of (inl y) = some-none taken y.free
-      of (inr (inr y)) = some-none taken y.over.free
+      of (inl y) = absurd (none-some _ (sym y.free ∙ taken))
+      of (inr (inr y)) = absurd (none-some _ (sym y.over.free ∙ taken))
       of (inr (inl y)) =
-          let same : y.command ≡ t = some_one (sym y.taken ∙ taken) in
+          let same : y.command ≡ t = same_Some _ _ (sym y.taken ∙ taken) in
           let places : t.places ≡ scratch_of port ∷ [] = ap (λ (z : Taken). z.places) (sym same) ∙ y.places_are in
           let one : length t.places ≡ 1 = ap length places in
           let l = left in
@@ -146,13 +146,13 @@ module _ (uses : Uses) (m : Machine) (d : Device) (a : Agrees uses m d) (port : 
       taken = of served.stage
         where
           of : OwnWaits (d.port port) 0 ⊎ (OwnTaken d.memory d.tape (d.port port) port 0 served.command ⊎ OwnOver d.memory d.tape (d.port port) port 0 served.command) → OwnTaken d.memory d.tape (d.port port) port 0 served.command
-          of (inl y) = some-none is y.free
+          of (inl y) = absurd (none-some _ (sym y.free ∙ is))
           of (inr (inl y)) = y
-          of (inr (inr y)) = some-none is y.over.free
+          of (inr (inr y)) = absurd (none-some _ (sym y.over.free ∙ is))
 
       plain : is_queued t.meaning.operation ≡ false
       plain =
-          let same : taken.command ≡ t = some_one (sym taken.taken ∙ is) in
+          let same : taken.command ≡ t = same_Some _ _ (sym taken.taken ∙ is) in
           own_plain t.meaning.operation (ap (λ (z : Taken). op_of z.meaning.operation) (sym same) ∙ ap (λ (c : Meaning). op_of c.operation) taken.meaning ∙ ap op_of served.operation_is ∙ own)
 
       -- what slot 0 has taken is the same, or another slot's changed
@@ -163,10 +163,10 @@ module _ (uses : Uses) (m : Machine) (d : Device) (a : Agrees uses m d) (port : 
       slot_still p slot new x ne e = still p new (λ here. ap (λ (f : ℕ → Option Taken). f 0) e ∙ changed_other (d.port p).taken slot x 0 (λ zero. ne here (sym zero)))
 
       at_slot : (p slot : ℕ) (z : Taken) → p ≡ port → slot ≡ 0 → (d.port p).taken slot ≡ Some z → t ≡ z
-      at_slot p slot z e f there = some_one (sym is ∙ ap (λ (q : ℕ). (d.port q).taken 0) (sym e) ∙ ap (λ (s : ℕ). (d.port p).taken s) (sym f) ∙ there)
+      at_slot p slot z e f there = same_Some _ _ (sym is ∙ ap (λ (q : ℕ). (d.port q).taken 0) (sym e) ∙ ap (λ (s : ℕ). (d.port p).taken s) (sym f) ∙ there)
 
       by : (step : steps.Step) → Can step d → IsSpent ((after step d).port port)
-      by (Fetch p slot c places) can = slot_still p slot _ _ (λ e f. some-none is (ap (λ (q : ℕ). (d.port q).taken 0) (sym e) ∙ ap (λ (s : ℕ). (d.port p).taken s) (sym f) ∙ can.fetchable.free)) refl
+      by (Fetch p slot c places) can = slot_still p slot _ _ (λ e f. absurd (none-some _ (sym (ap (λ (q : ℕ). (d.port q).taken 0) (sym e) ∙ ap (λ (s : ℕ). (d.port p).taken s) (sym f) ∙ can.fetchable.free) ∙ is))) refl
       by (Move p slot z bytes) can = slot_still p slot _ _
           (λ e f. let full : z.moved ≡ length z.places = subst (λ (y : Taken). y.moved ≡ length y.places) (at_slot p slot z e f can.works.taken) all in
           let left : z.moved < length z.places = can.left in

@@ -1,9 +1,8 @@
 -- A slot is put to another use, or given up: who is served then, and who is parked.
-use Rattle.std.proofs.Common.{ℕ, ◌≡◌, ◌≢◌, List, ◌∷◌, refl, sym, subst, ⊎_elim}
+use Rattle.std.proofs.Common.{ℕ, ◌≡◌, ◌≢◌, List, ◌∷◌, refl, sym, subst, ⊎_elim, arith}
 use Rattle.std.specs.List.{Contains}
 use Rattle.ata_types.specs.declared.request.RequestId.{RequestId}
 use Rattle.adapter.proofs.Changed.{changed_same}
-use Rattle.block_machine.proofs.Members.{contains_here}
 use Rattle.agreement.specs.Agrees.{AreApart}
 use Rattle.agreement.specs.Driver.{Known, HasNoSlot, parking}
 use Rattle.agreement.specs.Slots.{Use, Free, Serves, Uses, put}
@@ -28,4 +27,4 @@ parking_leaves k port slot id other none = put_unserved k.uses port slot Free ot
 
 pub parking_parks : (k : Known) (port slot : ℕ) (id : RequestId) → Contains ((parking k port slot id).parked port) id
 parking_parks k port slot id =
-    subst (λ (l : List RequestId). Contains l id) (sym (changed_same k.parked port (id ∷ k.parked port))) (contains_here id (k.parked port) id refl)
+    subst (λ (l : List RequestId). Contains l id) (sym (changed_same k.parked port (id ∷ k.parked port))) ((0, omega arith, refl))

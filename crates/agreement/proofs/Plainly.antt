@@ -1,6 +1,7 @@
 -- A port that works on plain commands alone goes on so.
 use Rattle.std.proofs.Common.{ℕ, ◌≡◌, ◌⊎◌, Bool, true, false, ◌&&◌, List, [], ◌∷◌, length, Option, Some, None, refl, sym, ◌∙◌, ap, subst, inl, inr, if◌then◌else◌}
-use Rattle.std.proofs.lemmas.Bool.{cond-true, cond-false}
+use Rattle.std.proofs.lemmas.Bool.{cond-true, cond-false, both_ways}
+use Rattle.std.proofs.lemmas.Option.{none-some, same_Some}
 use Rattle.ata_types.specs.declared.Port.{Port}
 use Rattle.hba_regs.specs.Bits.{bit}
 use Rattle.hba_regs.specs.declared.reg.Reg.TheVariants.{Px}
@@ -13,7 +14,6 @@ use Rattle.adapter.specs.Device.Halt.{NotHalted, HaltedPlain, HaltedQueued, LogO
 use Rattle.adapter.specs.Memory.{changed}
 use Rattle.adapter.specs.Steps.{Step, Can, after, Leads, Steps, halted, restarted, begun, MayFetch}
 use Rattle.adapter.specs.Steps.Step.{Fetch, FetchFault, Move, Clear, Done, Fault, Fatal, Fall, FrFall, LinkUp, Unplug, Plug, ResetEnds, Scribble}
-use Rattle.adapter.proofs.Absurd.{true-false, some-none, some_one}
 use Rattle.adapter.proofs.SaysLemmas.{says_meaning}
 use Rattle.block_machine.specs.Histories.{IsReached}
 use Rattle.block_machine.specs.Left as left
@@ -54,8 +54,8 @@ module _ (uses : Uses) (m : Machine) (d : Device) (a : Agrees uses m d) (port sl
   fetched_plain can clear = by (uses port slot) (a.slot port slot)
     where
       by : (u : Use) → IsServed m d.memory d.tape (d.port port) port slot u → is_queued c.operation ≡ false
-      by Free h = true-false can.fetchable.issued h.issued
-      by Armed h = true-false can.fetchable.issued h.issued
+      by Free h = absurd (both_ways _ h.issued can.fetchable.issued)
+      by Armed h = absurd (both_ways _ h.issued can.fetchable.issued)
       by (Own o) h =
           let same : c ≡ h.command = says_meaning d.memory (d.port port).bases.clb slot c h.command places (scratch_of port ∷ []) can.says h.told.says in
           own_plain c.operation (ap (λ (x : Meaning). op_of x.operation) same ∙ ap op_of h.operation_is ∙ h.own)
@@ -66,35 +66,35 @@ module _ (uses : Uses) (m : Machine) (d : Device) (a : Agrees uses m d) (port sl
 
           of : Stage d.memory (d.port port) port slot h.pending h.command h.places → is_queued c.operation ≡ false
           of (inl w) = ap (λ (x : Meaning). is_queued x.operation) same ∙ (sym w.sact ∙ clear)
-          of (inr (inl t)) = some-none t.taken can.fetchable.free
-          of (inr (inr (inl x))) = true-false can.fetchable.issued x.issued
-          of (inr (inr (inr x))) = true-false can.fetchable.issued x.issued
+          of (inr (inl t)) = absurd (none-some _ (sym can.fetchable.free ∙ t.taken))
+          of (inr (inr (inl x))) = absurd (both_ways _ x.issued can.fetchable.issued)
+          of (inr (inr (inr x))) = absurd (both_ways _ x.issued can.fetchable.issued)
 
 -- and one that is taken has a plain command, while ST is 1
 taken_plain : (uses : Uses) (m : Machine) (d : Device) (port slot : ℕ) (t : Taken) → Agrees uses m d → (d.port port).st ≡ true → (d.port port).sact slot ≡ false → (d.port port).taken slot ≡ Some t → is_queued t.meaning.operation ≡ false
 taken_plain uses m d port slot t a st clear is = by (uses port slot) (a.slot port slot)
   where
     here : (c : Taken) (w : Meaning) → (d.port port).taken slot ≡ Some c → c.meaning ≡ w → t.meaning ≡ w
-    here c w e f = ap (λ (x : Taken). x.meaning) (some_one (sym is ∙ e)) ∙ f
+    here c w e f = ap (λ (x : Taken). x.meaning) (same_Some _ _ (sym is ∙ e)) ∙ f
 
     by : (u : Use) → IsServed m d.memory d.tape (d.port port) port slot u → is_queued t.meaning.operation ≡ false
-    by Free h = some-none is h.free
-    by Armed h = some-none is h.free
+    by Free h = absurd (none-some _ (sym h.free ∙ is))
+    by Armed h = absurd (none-some _ (sym h.free ∙ is))
     by (Own o) h = of h.stage
       where
         of : OwnWaits (d.port port) slot ⊎ (OwnTaken d.memory d.tape (d.port port) port slot h.command ⊎ OwnOver d.memory d.tape (d.port port) port slot h.command) → is_queued t.meaning.operation ≡ false
-        of (inl w) = some-none is w.free
+        of (inl w) = absurd (none-some _ (sym w.free ∙ is))
         of (inr (inl x)) = own_plain t.meaning.operation (ap (λ (w : Meaning). op_of w.operation) (here x.command h.command x.taken x.meaning) ∙ ap op_of h.operation_is ∙ h.own)
-        of (inr (inr x)) = some-none is x.over.free
+        of (inr (inr x)) = absurd (none-some _ (sym x.over.free ∙ is))
     by (Serves id) h = of h.stage
       where
         of : Stage d.memory (d.port port) port slot h.pending h.command h.places → is_queued t.meaning.operation ≡ false
-        of (inl w) = some-none is w.free
+        of (inl w) = absurd (none-some _ (sym w.free ∙ is))
         of (inr (inl x)) =
             ap (λ (w : Meaning). is_queued w.operation) (here x.command h.command x.taken x.meaning)
             ∙ (ap (λ (b : Bool). b && is_queued h.command.operation) (sym st) ∙ (sym x.sact ∙ clear))
-        of (inr (inr (inl x))) = some-none is x.free
-        of (inr (inr (inr x))) = some-none is x.free
+        of (inr (inr (inl x))) = absurd (none-some _ (sym x.free ∙ is))
+        of (inr (inr (inr x))) = absurd (none-some _ (sym x.free ∙ is))
 
 -- ---- a step
 
@@ -113,7 +113,7 @@ taken_on p slot next here plain =
 
 -- it is a command with the same meaning
 same_plain : (t next : Taken) → next.meaning ≡ t.meaning → is_queued t.meaning.operation ≡ false → (x : Taken) → Some next ≡ Some x → is_queued x.meaning.operation ≡ false
-same_plain t next same plain x e = ap (λ (w : Taken). is_queued w.meaning.operation) (sym (some_one e)) ∙ (ap (λ (w : Meaning). is_queued w.operation) same ∙ plain)
+same_plain t next same plain x e = ap (λ (w : Taken). is_queued w.meaning.operation) (sym (same_Some _ _ e)) ∙ (ap (λ (w : Meaning). is_queued w.operation) same ∙ plain)
 
 -- a bit that falls, or stays
 fallen_on : (b : Bool) (p : PortState) (slot : ℕ) → ((k : ℕ) → p.sact k ≡ false) → (k : ℕ) → (if b then changed p.sact slot false else p.sact) k ≡ false
@@ -136,7 +136,7 @@ module _ (uses : Uses) (m : Machine) (d : Device) (a : Agrees uses m d) (port : 
   step_plain (Clear p slot t first count) can = at_port Plain Plain d p port _ h
       (λ e x. (x.0, x.1, taken_on (d.port p) slot _ (same_plain t _ refl (x.2 slot t can.works.taken)) x.2)) (λ ne x. x)
   step_plain (Done p slot flag t) can = at_port Plain Plain d p port _ h
-      (λ e x. (refl, fallen_on (is_queued t.meaning.operation) (d.port p) slot x.1, taken_on (d.port p) slot None (λ z none. some-none none refl) x.2)) (λ ne x. x)
+      (λ e x. (refl, fallen_on (is_queued t.meaning.operation) (d.port p) slot x.1, taken_on (d.port p) slot None (λ z none. absurd (none-some _ none)) x.2)) (λ ne x. x)
   step_plain (Fault p slot error kept_bits t) can = at_port Plain Plain d p port _ h
       (λ e x. (
         ap (λ (b : Bool). restarted (halted (d.port p).halt b)) (x.2 slot t can.taken) ∙ halted_plain (d.port p).halt x.0,
@@ -145,12 +145,12 @@ module _ (uses : Uses) (m : Machine) (d : Device) (a : Agrees uses m d) (port : 
       ))
       (λ ne x. x)
   step_plain (Fatal p place) can = at_port Plain Plain d p port _ h (λ e x. x) (λ ne x. x)
-  step_plain (Fall p) can = at_port Plain Plain d p port _ h (λ e x. (x.0, x.1, λ slot t none. some-none none refl)) (λ ne x. x)
+  step_plain (Fall p) can = at_port Plain Plain d p port _ h (λ e x. (x.0, x.1, λ slot t none. absurd (none-some _ none))) (λ ne x. x)
   step_plain (FrFall p) can = at_port Plain Plain d p port _ h (λ e x. x) (λ ne x. x)
   step_plain (LinkUp p sig n) can = at_port Plain Plain d p port _ h (λ e x. (refl, x.1, x.2)) (λ ne x. x)
   step_plain (Unplug p) can = at_port Plain Plain d p port _ h (λ e x. x) (λ ne x. x)
   step_plain (Plug p disk) can = at_port Plain Plain d p port _ h (λ e x. x) (λ ne x. x)
-  step_plain ResetEnds can = (h.0, λ slot. refl, λ slot t none. some-none none refl)
+  step_plain ResetEnds can = (h.0, λ slot. refl, λ slot t none. absurd (none-some _ none))
   step_plain (Scribble p slot at bytes) can = h
 
 leads_plain : (uses : Uses) (m : Machine) (port : ℕ) (steps : List Step) (old new : Device) → IsReached m → Agrees uses m old → Leads steps old new → Plain (old.port port) → Plain (new.port port)

@@ -1,5 +1,6 @@
 -- A device shows in PxSSTS, or no disk is in.
 use Rattle.std.proofs.Common.{ℕ, ◌≡◌, ◌≢◌, false, List, [], ◌∷◌, length, refl, sym, ◌∙◌, subst, inl, inr, ⊎_elim}
+use Rattle.std.proofs.lemmas.Bool.{both_ways}
 use Rattle.ata_types.specs.declared.Port.{Port}
 use Rattle.hba_regs.specs.declared.reg.Reg.TheVariants.{Px}
 use Rattle.hba_regs.specs.declared.reg.PortReg.{PortReg}
@@ -8,7 +9,6 @@ use Rattle.adapter.specs.Access.{Access, Does, port_written}
 use Rattle.adapter.specs.Device.{PortState, Device}
 use Rattle.adapter.specs.Steps.{Step, Can, after, Leads, Steps}
 use Rattle.adapter.specs.Steps.Step.{Fetch, FetchFault, Move, Clear, Done, Fault, Fatal, Fall, FrFall, LinkUp, Unplug, Plug, ResetEnds, Scribble}
-use Rattle.adapter.proofs.Absurd.{true-false}
 use Rattle.adapter.proofs.KeptLemmas.{step_keeps}
 use Rattle.agreement.specs.Links.{SparesRegister, HasDeviceOrNone}
 use Rattle.agreement.proofs.Crossing.{access_steps, effect_keeps}
@@ -32,7 +32,7 @@ step_shown port d (FrFall p) off can h = at_port Shown Shown d p port _ h (λ e 
 step_shown port d (LinkUp p sig n) off can h = at_port Shown Shown d p port _ h (λ e x. inl refl) (λ ne x. x)
 step_shown port d (Unplug p) off can h = at_port Shown Shown d p port _ h (λ e x. inr refl) (λ ne x. x)
 step_shown port d (Plug p disk) off can h = at_port Shown Shown d p port _ h (λ e x. inl refl) (λ ne x. x)
-step_shown port d ResetEnds off can h = true-false can off
+step_shown port d ResetEnds off can h = absurd (both_ways _ off can)
 step_shown port d (Scribble p slot at bytes) off can h = h
 
 leads_shown : (port : ℕ) (steps : List Step) (old new : Device) → old.hr ≡ false → Leads steps old new → Shown (old.port port) → Shown (new.port port)

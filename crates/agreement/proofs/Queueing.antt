@@ -2,6 +2,8 @@
 use Rattle.std.proofs.Common.{ℕ, ◌≡◌, ◌<◌, ◌+◌, ◌*◌, ◌%◌, ◌^◌, ◌==◌, true, false, [], ◌∷◌, Some, refl, sym, ◌∙◌, ap, subst, arith, inl, ⊎_elim}
 use Rattle.std.specs.List.{Contains}
 use Rattle.std.proofs.lemmas.Nat.Bits.{bit_at-pow_same}
+use Rattle.std.proofs.lemmas.Bool.{false≢true, true≢false}
+use Rattle.std.proofs.lemmas.Option.{none-some}
 use Rattle.ata_types.specs.declared.request.Frame.{Frame}
 use Rattle.hba_regs.specs.Bits.{bit}
 use Rattle.hba_regs.specs.declared.reg.Reg.TheVariants.{Px}
@@ -16,7 +18,6 @@ use Rattle.adapter.specs.Steps.{Can, begun}
 use Rattle.adapter.specs.Steps.Step.{Fetch}
 use Rattle.adapter.specs.declared.command.Operation.TheVariants.{ReadQueued}
 use Rattle.adapter.specs.declared.command.Prd.{Prd}
-use Rattle.adapter.proofs.Absurd.{true-false, some-none}
 use Rattle.adapter.proofs.Runs.{Steps-one}
 use Rattle.adapter.proofs.SaysLemmas.{cut_length}
 use Rattle.block_machine.specs.declared.due.Mode.{Mode}
@@ -56,7 +57,7 @@ queued_spelt memory slot first n small aligned even header fis prd = record {
   header = header;
   aligned = aligned;
   fis = fis;
-  meaning = record { ranged = λ _. (omega arith, omega arith, small); not_ranged = λ h. true-false refl h };
+  meaning = record { ranged = λ _. (omega arith, omega arith, small); not_ranged = λ h. absurd (true≢false h) };
   prd = prd;
   allowed = record { even_address = even; even_bytes = refl; some = omega arith; limit = omega arith };
   whole = refl;
@@ -144,7 +145,7 @@ read_prepared uses m was d slot first n may free small started list told = recor
   port_is = refl;
   free = free;
   usable = small;
-  head = λ plain. true-false plain refl;
+  head = λ plain. absurd (false≢true plain);
   started = started;
   placed = record { port_below = omega arith; slot_below = small; list = list };
   command = queued_read first;
@@ -223,7 +224,7 @@ unfolding changed
 can_fetch = record {
   fetchable = record { st = refl; issued = refl; free = refl };
   working = record { running = refl; present = refl; fresh = refl; admitted = refl; whole = refl };
-  alone = λ slot t is. some-none is refl;
+  alone = λ slot t is. absurd (none-some _ is);
   says = first_told.says;
 }
 

@@ -1,6 +1,6 @@
 -- A slot that is made ready stays so, and its bit of PxCI may be written.
 use Rattle.std.proofs.Common.{ℕ, if◌then◌else◌, ◌≡◌, ◌≢◌, ◌<◌, ◌≤◌, ◌/◌, ◌%◌, Bool, true, false, not, List, length, None, refl, sym, ◌∙◌, ap, subst, ⊎_elim}
-use Rattle.std.proofs.lemmas.Bool.{cases_eq, cond-true, cond-false}
+use Rattle.std.proofs.lemmas.Bool.{cases_eq, cond-true, cond-false, both_ways}
 use Rattle.ata_types.specs.declared.Port.{Port}
 use Rattle.hba_regs.specs.Bits.{bit}
 use Rattle.hba_regs.specs.declared.reg.Reg.TheVariants.{Px}
@@ -14,7 +14,6 @@ use Rattle.adapter.specs.Kept.{Keeps, KeepsOn}
 use Rattle.adapter.specs.Rules.{IsOn, HasPort, MayWrite, Stays}
 use Rattle.adapter.specs.Says.{Says}
 use Rattle.adapter.specs.Steps.{Steps}
-use Rattle.adapter.proofs.Absurd.{true-false}
 use Rattle.adapter.proofs.KeptLemmas.{steps_keep}
 use Rattle.adapter.proofs.MemoryLemmas.{patched_apart}
 use Rattle.adapter.proofs.SaysLemmas.{says_meaning}
@@ -163,7 +162,7 @@ readied_permitted uses m d port slot c places v reached a on there usable x here
     )
   where
     one : (j : ℕ) → bit v j ≡ true → j ≡ slot
-    one j b = ⊎_elim (λ (e : j ≡ slot). e) (λ (ne : j ≡ slot → ⊥). true-false b (alone j ne)) (cases_eq j slot)
+    one j b = ⊎_elim (λ (e : j ≡ slot). e) (λ (ne : j ≡ slot → ⊥). absurd (both_ways _ (alone j ne) b)) (cases_eq j slot)
 
 pub readied_prepared : (uses : Uses) (m : Machine) (d : Device) (port slot : ℕ) (c : Meaning) (places : List ℕ) (mode : Mode) (e : Pending) (v : ℕ) → IsReadied uses d port slot c places → May m (Issue mode e) → e.request.port.0 ≡ port →
     slot < mode.usable → (is_plain mode e.request.asked.op ≡ true → slot ≡ 0) → Means port slot e.request c places → is_queued c.operation ≡ not (is_plain mode e.request.asked.op) →

@@ -4,6 +4,7 @@ use Rattle.std.specs.Prelude.{bit_and}
 use Rattle.std.proofs.lemmas.Nat.{and_le_r}
 use Rattle.std.proofs.lemmas.List.{drop-append-le, length-append}
 use Rattle.std.proofs.lemmas.List.Elements.{All-nil, All-push}
+use Rattle.std.proofs.lemmas.Bool.{both_ways, false≢true}
 use Rattle.adapter.specs.Device.{Bases, Disk, Halt, PortState, Device}
 use Rattle.adapter.specs.Device.Halt.{NotHalted, HaltedPlain, HaltedQueued, LogOnly}
 use Rattle.adapter.specs.Memory.{changed}
@@ -13,7 +14,6 @@ use Rattle.adapter.specs.Steps.Step.{Fetch, FetchFault, Move, Clear, Done, Fault
 use Rattle.adapter.specs.declared.command.Operation.{Operation}
 use Rattle.adapter.specs.declared.tape.Entry.{Entry}
 use Rattle.adapter.specs.declared.tape.Entry.TheVariants as entry
-use Rattle.adapter.proofs.Absurd.{true-false}
 use Rattle.adapter.proofs.Changed.{changed_other}
 use Rattle.agreement.specs.Facts.{IsFaulted, IsFaultOf, ShowsFault, HasFaults, IsRecorded}
 use Rattle.agreement.proofs.Healthy.{at_port}
@@ -22,8 +22,8 @@ use Rattle.agreement.proofs.Healthy.{at_port}
 
 -- a port that a fault has halted takes no command, and goes on with none
 pub faulted_admits : {A : Type 0} (h : Halt) (o : Operation) → IsFaulted h → admits h o ≡ true → A
-faulted_admits h o (inl e) a = true-false (ap (λ (x : Halt). admits x o) (sym e) ∙ a) refl
-faulted_admits h o (inr e) a = true-false (ap (λ (x : Halt). admits x o) (sym e) ∙ a) refl
+faulted_admits h o (inl e) a = absurd (false≢true (ap (λ (x : Halt). admits x o) (sym e) ∙ a))
+faulted_admits h o (inr e) a = absurd (false≢true (ap (λ (x : Halt). admits x o) (sym e) ∙ a))
 
 pub running_faulted : {A : Type 0} → IsFaulted NotHalted → A
 running_faulted (inl e) = absurd cc
@@ -177,7 +177,7 @@ recorded_fault tape p new port q slot error kept_bits queued here st set_at link
 
 -- a port whose ST is 0 has nothing to record
 pub stopped_recorded : (tape : List Entry) (p : PortState) (port : ℕ) → p.st ≡ false → IsRecorded tape p port
-stopped_recorded tape p port off on = true-false on off
+stopped_recorded tape p port off on = absurd (both_ways _ off on)
 
 -- ---- a step
 
@@ -232,7 +232,7 @@ module _ (port : ℕ) (d : Device) (h : IsRecorded d.tape (d.port port) port) wh
   step_recorded (Fall p) can = silent p _ (λ e x. stopped_recorded d.tape _ port can.0)
   step_recorded (FrFall p) can = silent p _ (λ e x. recorded_on d.tape (d.port p) _ port
       (same_with (d.port p) _ _ _ _ _ _ _ _ _ _ _ _) x)
-  step_recorded (LinkUp p sig n) can = silent p _ (λ e x st. true-false can.due (x st).linked)
+  step_recorded (LinkUp p sig n) can = silent p _ (λ e x st. absurd (both_ways _ (x st).linked can.due))
   step_recorded (Unplug p) can = entered p _ _ (λ f. absurd f)
       (λ e x. recorded_more d.tape _ _ port (λ f. f) (recorded_on d.tape (d.port p) _ port
       (same_with (d.port p) _ _ _ _ _ _ _ _ _ _ _ _) x))

@@ -2,8 +2,9 @@
 use Rattle.std.proofs.Common.{ℕ, ◌≡◌, ◌≢◌, ◌==◌, ◌&&◌, not, Bool, true, false, [], ◌∷◌, refl, sym, ◌∙◌, ap, subst, arith, inl, inr, ⊎_elim, if◌then◌else◌}
 use Rattle.std.specs.Int.{bit_at}
 use Rattle.std.specs.Prelude.{nat_eq, max}
-use Rattle.std.proofs.lemmas.Bool.{cases_eq}
+use Rattle.std.proofs.lemmas.Bool.{cases_eq, false≢true, true≢false}
 use Rattle.std.proofs.lemmas.Nat.Bits.{bit_at-zero, bit_at-pow_other, bit_at_or}
+use Rattle.std.proofs.lemmas.Option.{none-some}
 use Rattle.ata_types.specs.declared.Port.{Port}
 use Rattle.hba_regs.specs.Bits.{bit}
 use Rattle.hba_regs.specs.declared.reg.Reg.{Reg}
@@ -20,7 +21,6 @@ use Rattle.adapter.specs.Rules.{MayStart, MayWrite, MayWritePort, Stays}
 use Rattle.adapter.specs.Says.{cut}
 use Rattle.adapter.specs.Steps.{Can, after, begun, Steps}
 use Rattle.adapter.specs.Steps.Step.{Fetch, Fault, Fall}
-use Rattle.adapter.proofs.Absurd.{true-false, some-none}
 use Rattle.adapter.proofs.Changed.{changed_other}
 use Rattle.adapter.proofs.FirstRead.{first_says}
 use Rattle.adapter.proofs.Runs.{Steps-refl, Steps-one}
@@ -76,7 +76,7 @@ unfolding changed
 first_fetch = record {
   fetchable = record { st = refl; issued = refl; free = refl };
   working = record { running = refl; present = refl; fresh = refl; admitted = refl; whole = refl };
-  alone = λ slot t is. some-none is refl;
+  alone = λ slot t is. absurd (none-some _ is);
   says = first_says;
 }
 
@@ -152,9 +152,9 @@ two_bits place start receive =
 may_stop : Stays (MayWrite (port_reg Cmd) 0x10) failed
 unfolding changed
 may_stop = permitted Cmd 0x10 failed (λ p e. cc) refl refl refl (record {
-  start = λ b. true-false b refl;
+  start = λ b. absurd (false≢true b);
   receive = λ b. inl refl;
-  stop_receiving = λ b. true-false refl b;
+  stop_receiving = λ b. absurd (true≢false b);
   others = λ place lt start receive. ap (λ (n : ℕ). n == 1) (one_bit place receive ∙ sym (bit_at-zero place));
 })
 
@@ -167,7 +167,7 @@ unfolding changed
 may_start = permitted Cmd 0x11 ready (λ p e. cc) refl refl refl (record {
   start = λ b. inr is_startable;
   receive = λ b. inl refl;
-  stop_receiving = λ b. true-false refl b;
+  stop_receiving = λ b. absurd (true≢false b);
   others = λ place lt start receive. ap (λ (n : ℕ). n == 1) (two_bits place start receive ∙ sym (bit_at-zero place));
 })
 
@@ -175,7 +175,7 @@ may_start = permitted Cmd 0x11 ready (λ p e. cc) refl refl refl (record {
 
 first_plain : WorksPlainly (first_read.port 0)
 unfolding changed
-first_plain = record { restarts = refl; unarmed = λ slot. refl; plain = λ slot t is. some-none is refl }
+first_plain = record { restarts = refl; unarmed = λ slot. refl; plain = λ slot t is. absurd (none-some _ is) }
 
 first_linked : IsLinked (first_read.port 0)
 unfolding changed
@@ -183,7 +183,7 @@ first_linked = record { det = refl; present = refl; fresh = refl; linked = refl;
 
 ready_plain : WorksPlainly (ready.port 0)
 unfolding changed
-ready_plain = record { restarts = refl; unarmed = λ slot. refl; plain = λ slot t is. some-none is refl }
+ready_plain = record { restarts = refl; unarmed = λ slot. refl; plain = λ slot t is. absurd (none-some _ is) }
 
 ready_linked : IsLinked (ready.port 0)
 unfolding changed

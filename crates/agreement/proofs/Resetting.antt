@@ -1,6 +1,6 @@
 -- What a reset of the adapter leaves, and what GHC tells.
 use Rattle.std.proofs.Common.{ℕ, ◌≡◌, ◌≢◌, ◌||◌, Bool, true, false, refl, sym, ◌∙◌, ap, subst, arith, ⊎_elim}
-use Rattle.std.proofs.lemmas.Bool.{or_right}
+use Rattle.std.proofs.lemmas.Bool.{or_right, both_ways, true≢false}
 use Rattle.hba_regs.specs.Bits.{bit}
 use Rattle.hba_regs.specs.declared.reg.Reg.TheVariants.{Ghc}
 use Rattle.adapter.specs.Access.{Reads, Writes}
@@ -11,7 +11,6 @@ use Rattle.adapter.specs.Memory.{changed}
 use Rattle.adapter.specs.Rules.{IsOn}
 use Rattle.adapter.specs.Steps.{Step, Can, after, Steps}
 use Rattle.adapter.specs.Steps.Step.{Fetch, FetchFault, Move, Clear, Done, Fault, Fatal, Fall, FrFall, LinkUp, Unplug, Plug, ResetEnds, Scribble}
-use Rattle.adapter.proofs.Absurd.{true-false}
 use Rattle.adapter.proofs.KeptLemmas.{steps_keep}
 use Rattle.agreement.specs.Errors.{IsLeftByReset, IsCleared}
 use Rattle.agreement.specs.Facts.{IsAwaited}
@@ -63,18 +62,18 @@ Idles p =
     × (p.serr_x ≡ false → (p.ssts_det ≡ 0) × (p.tfd ≡ 0x7f) × (p.sig ≡ 0xffffffff))
 
 step_idles : (d : Device) (port : ℕ) (step : Step) → Can step d → Idles (d.port port) → Idles ((after step d).port port)
-step_idles d port (Fetch p slot c places) can h = at_port Idles Idles d p port _ h (λ e x. true-false can.working.running x.0) (λ ne x. x)
-step_idles d port (FetchFault p slot queued kept_bits) can h = at_port Idles Idles d p port _ h (λ e x. true-false can.working.running x.0) (λ ne x. x)
+step_idles d port (Fetch p slot c places) can h = at_port Idles Idles d p port _ h (λ e x. absurd (both_ways _ x.0 can.working.running)) (λ ne x. x)
+step_idles d port (FetchFault p slot queued kept_bits) can h = at_port Idles Idles d p port _ h (λ e x. absurd (both_ways _ x.0 can.working.running)) (λ ne x. x)
 step_idles d port (Move p slot t bytes) can h = at_port Idles Idles d p port _ h (λ e x. x) (λ ne x. x)
 step_idles d port (Clear p slot t first count) can h = at_port Idles Idles d p port _ h (λ e x. x) (λ ne x. x)
-step_idles d port (Done p slot flag t) can h = at_port Idles Idles d p port _ h (λ e x. true-false can.works.working.running x.0) (λ ne x. x)
-step_idles d port (Fault p slot error kept_bits t) can h = at_port Idles Idles d p port _ h (λ e x. true-false can.running x.0) (λ ne x. x)
-step_idles d port (Fatal p place) can h = at_port Idles Idles d p port _ h (λ e x. true-false can.0 x.0) (λ ne x. x)
+step_idles d port (Done p slot flag t) can h = at_port Idles Idles d p port _ h (λ e x. absurd (both_ways _ x.0 can.works.working.running)) (λ ne x. x)
+step_idles d port (Fault p slot error kept_bits t) can h = at_port Idles Idles d p port _ h (λ e x. absurd (both_ways _ x.0 can.running)) (λ ne x. x)
+step_idles d port (Fatal p place) can h = at_port Idles Idles d p port _ h (λ e x. absurd (both_ways _ x.0 can.0)) (λ ne x. x)
 step_idles d port (Fall p) can h = at_port Idles Idles d p port _ h (λ e x. (refl, x.1, x.2, x.3)) (λ ne x. x)
 step_idles d port (FrFall p) can h = at_port Idles Idles d p port _ h (λ e x. x) (λ ne x. x)
-step_idles d port (LinkUp p sig n) can h = at_port Idles Idles d p port _ h (λ e x. (x.0, x.1, x.2, λ clear. true-false refl clear)) (λ ne x. x)
+step_idles d port (LinkUp p sig n) can h = at_port Idles Idles d p port _ h (λ e x. (x.0, x.1, x.2, λ clear. absurd (true≢false clear))) (λ ne x. x)
 step_idles d port (Unplug p) can h = at_port Idles Idles d p port _ h (λ e x. (x.0, x.1, x.2, λ clear. let y = x.3 clear in (refl, y.1, y.2))) (λ ne x. x)
-step_idles d port (Plug p disk) can h = at_port Idles Idles d p port _ h (λ e x. (x.0, x.1, x.2, λ clear. true-false refl clear)) (λ ne x. x)
+step_idles d port (Plug p disk) can h = at_port Idles Idles d p port _ h (λ e x. (x.0, x.1, x.2, λ clear. absurd (true≢false clear))) (λ ne x. x)
 step_idles d port ResetEnds can h = (refl, λ place. refl, refl, λ clear. (refl, refl, refl))
 step_idles d port (Scribble p slot at bytes) can h = h
 
@@ -92,7 +91,7 @@ reset_awaits v old new on call clear port =
 -- ---- the link is awaited where none is due
 
 pub undue_awaited : (p : PortState) → p.link_due ≡ false → p.sctl_det ≢ 1 → IsAwaited p
-undue_awaited p undue other = λ due. ⊎_elim (λ (e : p.link_due ≡ true). true-false e undue) (λ (e : p.sctl_det ≡ 1). absurd (other e)) due
+undue_awaited p undue other = λ due. ⊎_elim (λ (e : p.link_due ≡ true). absurd (both_ways _ undue e)) (λ (e : p.sctl_det ≡ 1). absurd (other e)) due
 
 pub first_awaited : IsAwaited (first_read.port 0)
 unfolding changed

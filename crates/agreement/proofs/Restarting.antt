@@ -1,6 +1,6 @@
 -- A link that is up stays so while nothing disturbs the port, so that the port may be stopped and started again.
 use Rattle.std.proofs.Common.{ℕ, ◌≡◌, ◌≢◌, ◌++◌, Bool, true, false, List, length, refl, sym, ap, subst}
-use Rattle.std.proofs.lemmas.Bool.{cond-true, cond-false}
+use Rattle.std.proofs.lemmas.Bool.{cond-true, cond-false, both_ways}
 use Rattle.ata_types.specs.declared.Port.{Port}
 use Rattle.hba_regs.specs.Bits.{bit}
 use Rattle.hba_regs.specs.declared.reg.Reg.TheVariants.{Px}
@@ -12,7 +12,6 @@ use Rattle.adapter.specs.Device.Halt.{NotHalted}
 use Rattle.adapter.specs.Steps.{Step, Can, after, Steps, restarted}
 use Rattle.adapter.specs.Steps.Step.{Fetch, FetchFault, Move, Clear, Done, Fault, Fatal, Fall, FrFall, LinkUp, Unplug, Plug, ResetEnds, Scribble}
 use Rattle.adapter.specs.declared.tape.Entry.{Entry}
-use Rattle.adapter.proofs.Absurd.{true-false}
 use Rattle.adapter.proofs.KeptLemmas.{step_keeps}
 use Rattle.agreement.specs.Facts.{IsDisturbance, Undisturbed}
 use Rattle.agreement.specs.Links.{SparesRegister}
@@ -43,12 +42,12 @@ module _ (port : ℕ) (d : Device) (gained : List Entry) (calm : NoneOf (IsDistu
   step_up (Fatal p place) off can is h = at_port Up Up d p port _ h (λ e x. x) (λ ne x. x)
   step_up (Fall p) off can is h = at_port Up Up d p port _ h (λ e x. x) (λ ne x. x)
   step_up (FrFall p) off can is h = at_port Up Up d p port _ h (λ e x. x) (λ ne x. x)
-  step_up (LinkUp p sig n) off can is h = at_port Up Up d p port _ h (λ e x. true-false can.due x.3) (λ ne x. x)
+  step_up (LinkUp p sig n) off can is h = at_port Up Up d p port _ h (λ e x. absurd (both_ways _ x.3 can.due)) (λ ne x. x)
   step_up (Unplug p) off can is h = at_port Up Up d p port _ h
       (λ e x. absurd (gained_none (IsDisturbance port) d.tape _ gained is calm e)) (λ ne x. x)
   step_up (Plug p disk) off can is h = at_port Up Up d p port _ h
       (λ e x. absurd (gained_none (IsDisturbance port) d.tape _ gained is calm e)) (λ ne x. x)
-  step_up ResetEnds off can is h = true-false can off
+  step_up ResetEnds off can is h = absurd (both_ways _ off can)
   step_up (Scribble p slot at bytes) off can is h = h
 
 on_up : (port : ℕ) (old new : Device) → old.hr ≡ false → Undisturbed port old new → Steps old new → Up (old.port port) → Up (new.port port)

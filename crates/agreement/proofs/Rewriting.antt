@@ -1,7 +1,7 @@
 -- What readings and writes leave of the faults since ST was set.
 use Rattle.std.proofs.Common.{ℕ, ◌≡◌, ◌⊎◌, Bool, true, false, not, List, length, refl, sym, subst, inl, inr, ⊎_elim, le_refl}
 use Rattle.std.specs.Prelude.{if◌then◌else◌}
-use Rattle.std.proofs.lemmas.Bool.{cond-true, cond-false, and_parts, or_left}
+use Rattle.std.proofs.lemmas.Bool.{cond-true, cond-false, and_parts, or_left, both_ways}
 use Rattle.ata_types.specs.declared.Port.{Port}
 use Rattle.hba_regs.specs.Bits.{bit}
 use Rattle.hba_regs.specs.declared.reg.Reg.{Reg}
@@ -14,7 +14,6 @@ use Rattle.adapter.specs.Memory.{changed}
 use Rattle.adapter.specs.Rules.{MayWrite, Stays}
 use Rattle.adapter.specs.Steps.{restarted}
 use Rattle.adapter.specs.declared.tape.Entry.{Entry}
-use Rattle.adapter.proofs.Absurd.{true-false}
 use Rattle.agreement.specs.Facts.{IsRecorded, IsQuiet, KeepsRecord}
 use Rattle.agreement.proofs.Accesses.{noted_tape, note_times}
 use Rattle.agreement.proofs.Healthy.{at_port}
@@ -48,7 +47,7 @@ module _ (tape : List Entry) (p : PortState) (port v : ℕ) (h : IsRecorded tape
   started_recorded q st = record {
     known = le_refl (length tape);
     linked = q.linked;
-    flag = λ f. true-false f q.unflagged.1;
+    flag = λ f. absurd (both_ways _ q.unflagged.1 f);
     fault = λ f. restarted_faulted p.halt f;
   }
 
@@ -62,7 +61,7 @@ module _ (tape : List Entry) (p : PortState) (port v : ℕ) (h : IsRecorded tape
       by false e s is = stopped_recorded tape _ port refl
       by true e true is = subst (λ (x : PortState). IsRecorded tape x port) (sym (cond-true p.st p _ is)) h
       by true e false is = subst (λ (x : PortState). IsRecorded tape x port) (sym (cond-false p.st p _ is))
-          (⊎_elim (λ (on : p.st ≡ true). true-false on is) (λ (q : IsQuiet p). started_recorded q) (may e))
+          (⊎_elim (λ (on : p.st ≡ true). absurd (both_ways _ is on)) (λ (q : IsQuiet p). started_recorded q) (may e))
 
   acknowledged_recorded : IsRecorded tape (if bit v port then unacknowledged p else p) port
   acknowledged_recorded = by (bit v port)

@@ -1,6 +1,6 @@
 -- A port that was started goes on while nothing disturbs it, its bits of trouble stay clear, and so it runs well.
 use Rattle.std.proofs.Common.{ℕ, ◌≡◌, ◌≤◌, ◌++◌, Bool, true, false, List, [], ◌∷◌, length, refl, sym, ◌∙◌, ap, subst}
-use Rattle.std.proofs.lemmas.Bool.{cond-true}
+use Rattle.std.proofs.lemmas.Bool.{cond-true, both_ways}
 use Rattle.ata_types.specs.declared.Port.{Port}
 use Rattle.hba_regs.specs.Bits.{bit}
 use Rattle.hba_regs.specs.declared.reg.Reg.{Reg}
@@ -15,7 +15,6 @@ use Rattle.adapter.specs.Kept.{Keeps}
 use Rattle.adapter.specs.Steps.{Step, Can, after, Leads, Steps}
 use Rattle.adapter.specs.Steps.Step.{Fetch, FetchFault, Move, Clear, Done, Fault, Fatal, Fall, FrFall, LinkUp, Unplug, Plug, ResetEnds, Scribble}
 use Rattle.adapter.specs.declared.tape.Entry.{Entry}
-use Rattle.adapter.proofs.Absurd.{true-false}
 use Rattle.adapter.proofs.KeptLemmas.{step_keeps, steps_keep}
 use Rattle.agreement.specs.Agrees.{port_at}
 use Rattle.agreement.specs.Errors.{ChangesByDisks, StaysClear}
@@ -74,14 +73,14 @@ module _ (port : ℕ) (d : Device) (gained : List Entry) (calm : NoneOf (IsDistu
       (λ e x. absurd (gained_none (IsDisturbance port) d.tape _ gained is calm e)) (λ ne x. x)
   step_started (Fatal p place) off can is h = at_port At At d p port _ h
       (λ e x. absurd (gained_none (IsDisturbance port) d.tape _ gained is calm e)) (λ ne x. x)
-  step_started (Fall p) off can is h = at_port At At d p port _ h (λ e x. true-false x.0 can.0) (λ ne x. x)
+  step_started (Fall p) off can is h = at_port At At d p port _ h (λ e x. absurd (both_ways _ can.0 x.0)) (λ ne x. x)
   step_started (FrFall p) off can is h = at_port At At d p port _ h (λ e x. x) (λ ne x. x)
-  step_started (LinkUp p sig n) off can is h = at_port At At d p port _ h (λ e x. true-false can.due x.5) (λ ne x. x)
+  step_started (LinkUp p sig n) off can is h = at_port At At d p port _ h (λ e x. absurd (both_ways _ x.5 can.due)) (λ ne x. x)
   step_started (Unplug p) off can is h = at_port At At d p port _ h
       (λ e x. absurd (gained_none (IsDisturbance port) d.tape _ gained is calm e)) (λ ne x. x)
   step_started (Plug p disk) off can is h = at_port At At d p port _ h
       (λ e x. absurd (gained_none (IsDisturbance port) d.tape _ gained is calm e)) (λ ne x. x)
-  step_started ResetEnds off can is h = true-false can off
+  step_started ResetEnds off can is h = absurd (both_ways _ off can)
   step_started (Scribble p slot at bytes) off can is h = h
 
 -- no reset is pending, either

@@ -1,7 +1,7 @@
 -- The bits that tell of a port's trouble.
 use Rattle.std.proofs.Common.{ℕ, ◌≡◌, ◌⊎◌, ◌≤◌, ◌&&◌, not, Bool, true, false, List, [], ◌∷◌, length, refl, sym, ◌∙◌, ap, subst, arith, inl, inr, ⊎_elim, append-nil, if◌then◌else◌}
 use Rattle.std.specs.Prelude.{All}
-use Rattle.std.proofs.lemmas.Bool.{cases_eq}
+use Rattle.std.proofs.lemmas.Bool.{cases_eq, both_ways, true≢false}
 use Rattle.std.proofs.lemmas.List.Elements.{All-nil, All-cons}
 use Rattle.ata_types.specs.declared.Port.{Port}
 use Rattle.hba_regs.specs.Bits.{bit}
@@ -17,7 +17,6 @@ use Rattle.adapter.specs.Memory.{changed}
 use Rattle.adapter.specs.Steps.{Step, Can, after, Leads, Steps}
 use Rattle.adapter.specs.Steps.Step.{Fetch, FetchFault, Move, Clear, Done, Fault, Fatal, Fall, FrFall, LinkUp, Unplug, Plug, ResetEnds, Scribble}
 use Rattle.adapter.specs.declared.tape.Entry.{Entry}
-use Rattle.adapter.proofs.Absurd.{true-false}
 use Rattle.adapter.proofs.Calls.{SeenAt, seen}
 use Rattle.adapter.proofs.Changed.{changed_same}
 use Rattle.adapter.proofs.KeptLemmas.{step_keeps, steps_keep}
@@ -31,7 +30,7 @@ use Rattle.agreement.proofs.Running.{healthy_reads}
 -- ---- the bits
 
 pub was_false : (a b : Bool) → (a ≡ true → b ≡ true) → b ≡ false → a ≡ false
-was_false true b rises clear = true-false (rises refl) clear
+was_false true b rises clear = absurd (both_ways _ clear (rises refl))
 was_false false b rises clear = refl
 
 -- a port with the same bits
@@ -78,17 +77,17 @@ module _ (port : ℕ) (d : Device) where
   step_calm (FetchFault p slot queued kept_bits) off can h = record {
     gained = _;
     tape = refl;
-    calm = one_calm port _ (at_port p _ h (λ x. true-false (changed_same (d.port p).is 30 true) (x.quiet 30 (omega arith) (omega arith))));
+    calm = one_calm port _ (at_port p _ h (λ x. absurd (both_ways _ (x.quiet 30 (omega arith) (omega arith)) (changed_same (d.port p).is 30 true))));
   }
   step_calm (Fault p slot error kept_bits t) off can h = record {
     gained = _;
     tape = refl;
-    calm = one_calm port _ (at_port p _ h (λ x. true-false (changed_same (d.port p).is 30 true) (x.quiet 30 (omega arith) (omega arith))));
+    calm = one_calm port _ (at_port p _ h (λ x. absurd (both_ways _ (x.quiet 30 (omega arith) (omega arith)) (changed_same (d.port p).is 30 true))));
   }
   step_calm (Fatal p place) off can h = record {
     gained = _;
     tape = refl;
-    calm = one_calm port _ (at_port p _ h (λ x. true-false (changed_same (d.port p).is place true) (x.quiet place (low can.1) (high can.1))));
+    calm = one_calm port _ (at_port p _ h (λ x. absurd (both_ways _ (x.quiet place (low can.1) (high can.1)) (changed_same (d.port p).is place true))));
   }
     where
       low : (place ≡ 27) ⊎ (place ≡ 29) → 27 ≤ place
@@ -98,8 +97,8 @@ module _ (port : ℕ) (d : Device) where
       high : (place ≡ 27) ⊎ (place ≡ 29) → place ≤ 30
       high (inl e) = omega (arith, e)
       high (inr e) = omega (arith, e)
-  step_calm (Unplug p) off can h = record { gained = _; tape = refl; calm = one_calm port _ (at_port p _ h (λ x. true-false refl x.serr_n)) }
-  step_calm (Plug p disk) off can h = record { gained = _; tape = refl; calm = one_calm port _ (at_port p _ h (λ x. true-false refl x.serr_n)) }
+  step_calm (Unplug p) off can h = record { gained = _; tape = refl; calm = one_calm port _ (at_port p _ h (λ x. absurd (true≢false x.serr_n))) }
+  step_calm (Plug p disk) off can h = record { gained = _; tape = refl; calm = one_calm port _ (at_port p _ h (λ x. absurd (true≢false x.serr_n))) }
   step_calm (Move p slot t bytes) off can h = record { gained = _; tape = refl; calm = one_calm port _ (λ x. x) }
   step_calm (Clear p slot t first count) off can h = record { gained = _; tape = refl; calm = one_calm port _ (λ x. x) }
   step_calm (Done p slot flag t) off can h = record { gained = _; tape = refl; calm = one_calm port _ (λ x. x) }
@@ -155,7 +154,7 @@ stores_show port at bytes old new off call =
 
 -- a bit that isn't cleared was clear before
 kept_bit : (a b : Bool) → b ≡ false → a && not b ≡ false → a ≡ false
-kept_bit true true keep clear = true-false refl keep
+kept_bit true true keep clear = absurd (true≢false keep)
 kept_bit true false keep clear = clear
 kept_bit false b keep clear = refl
 

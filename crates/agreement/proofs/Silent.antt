@@ -2,6 +2,7 @@
 use Rattle.std.proofs.Common.{ℕ, ◌≡◌, ◌++◌, false, true, List, [], ◌∷◌, length, refl, sym, ◌∙◌, subst, append-nil}
 use Rattle.std.proofs.lemmas.List.{append_cancel_left}
 use Rattle.std.proofs.lemmas.List.Elements.{All-nil, All-cons}
+use Rattle.std.proofs.lemmas.Bool.{both_ways}
 use Rattle.hba_regs.specs.declared.reg.PortReg.{PortReg}
 use Rattle.hba_regs.specs.declared.reg.PortReg.TheVariants.{Cmd}
 use Rattle.adapter.specs.Access.{Access, Does, port_written}
@@ -10,7 +11,6 @@ use Rattle.adapter.specs.Kept.{Keeps}
 use Rattle.adapter.specs.Steps.{Step, Can, after, Leads, Steps}
 use Rattle.adapter.specs.Steps.Step.{Fetch, FetchFault, Move, Clear, Done, Fault, Fatal, Fall, FrFall, LinkUp, Unplug, Plug, ResetEnds, Scribble}
 use Rattle.adapter.specs.declared.tape.Entry.{Entry}
-use Rattle.adapter.proofs.Absurd.{true-false}
 use Rattle.adapter.proofs.KeptLemmas.{step_keeps, steps_keep}
 use Rattle.agreement.specs.Agrees.{port_at}
 use Rattle.agreement.specs.Errors.{IsComing, NoneComes, IsWork}
@@ -23,7 +23,7 @@ use Rattle.agreement.proofs.Healthy.{at_port}
 
 module _ (port : ℕ) (d : Device) (cr : (d.port port).cr ≡ false) where
   stands : (p : ℕ) → (d.port p).cr ≡ true → p ≡ port → ⊥
-  stands p on e = true-false (subst (λ (k : ℕ). (d.port k).cr ≡ true) e on) cr
+  stands p on e = absurd (both_ways _ cr (subst (λ (k : ℕ). (d.port k).cr ≡ true) e on))
 
   -- the tape gains one entry, or none
   one : (e : Entry) → (IsWork port e → ⊥) → NoneOf (IsWork port) (e ∷ [])
@@ -72,8 +72,8 @@ module _ (disk : Disk) where
   step_rests : (port : ℕ) (d : Device) (gained : List Entry) → NoneOf (IsComing port) gained → (step : Step) → Can step d → (after step d).tape ≡ d.tape ++ gained → Rests (d.port port) → Rests ((after step d).port port)
   step_rests port d gained none (Fetch p slot c places) can is h = at_port Rests Rests d p port _ h (λ e x. x) (λ ne x. x)
   step_rests port d gained none (FetchFault p slot queued kept_bits) can is h = at_port Rests Rests d p port _ h (λ e x. x) (λ ne x. x)
-  step_rests port d gained none (Move p slot t bytes) can is h = at_port Rests Rests d p port _ h (λ e x. true-false can.works.working.running x.0) (λ ne x. x)
-  step_rests port d gained none (Clear p slot t first count) can is h = at_port Rests Rests d p port _ h (λ e x. true-false can.works.working.running x.0) (λ ne x. x)
+  step_rests port d gained none (Move p slot t bytes) can is h = at_port Rests Rests d p port _ h (λ e x. absurd (both_ways _ x.0 can.works.working.running)) (λ ne x. x)
+  step_rests port d gained none (Clear p slot t first count) can is h = at_port Rests Rests d p port _ h (λ e x. absurd (both_ways _ x.0 can.works.working.running)) (λ ne x. x)
   step_rests port d gained none (Done p slot flag t) can is h = at_port Rests Rests d p port _ h (λ e x. x) (λ ne x. x)
   step_rests port d gained none (Fault p slot error kept_bits t) can is h = at_port Rests Rests d p port _ h (λ e x. x) (λ ne x. x)
   step_rests port d gained none (Fatal p place) can is h = at_port Rests Rests d p port _ h (λ e x. x) (λ ne x. x)

@@ -1,10 +1,9 @@
 -- A slot of port 0 with one PRD: what its bytes say, by computing with them.
 use Rattle.std.proofs.Common.{ℕ, zero, suc, ◌≡◌, ◌≤◌, ◌+◌, ◌*◌, ◌/◌, ◌%◌, ◌^◌, ◌&&◌, Bool, true, false, List, [], ◌∷◌, All, slice_index, refl, sym, ◌∙◌, arith, append-nil, eqb-true}
 use Rattle.std.specs.Prelude.{if◌then◌else◌, nat_eq}
-use Rattle.std.proofs.lemmas.Bool.{and_parts}
+use Rattle.std.proofs.lemmas.Bool.{and_parts, both_ways}
 use Rattle.byteorder.specs.Endian.{little_from}
 use Rattle.adapter.specs.declared.command.Operation.{Operation}
-use Rattle.adapter.proofs.Absurd.{true-false}
 use Rattle.adapter.specs.Commands.{Meaning, IsMeaning, is_ranged, command_of, pieces_moved, reads_memory}
 use Rattle.adapter.specs.Memory.{bytes_at}
 use Rattle.adapter.specs.Says.{Says, IsWhole, cut}
@@ -109,7 +108,7 @@ page_told memory o unranged one header fis prd = spelt_told memory 0 (record { o
   header = header;
   aligned = refl;
   fis = fis;
-  meaning = record { ranged = λ h. true-false h unranged; not_ranged = λ _. (refl, refl) };
+  meaning = record { ranged = λ h. absurd (both_ways _ unranged h); not_ranged = λ _. (refl, refl) };
   prd = prd;
   allowed = record { even_address = refl; even_bytes = refl; some = omega arith; limit = omega arith };
   whole = refl;

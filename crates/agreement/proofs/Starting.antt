@@ -2,7 +2,7 @@
 use Rattle.std.proofs.Common.{ℕ, ◌≡◌, ◌≢◌, ◌⊎◌, ◌%◌, ◌==◌, Bool, true, false, not, ◌&&◌, ◌||◌, length, refl, sym, ◌∙◌, ap, subst, arith, inl, inr, ⊎_elim}
 use Rattle.std.specs.Prelude.{nat_eq}
 use Rattle.std.specs.Int.{bit_at}
-use Rattle.std.proofs.lemmas.Bool.{cases_Bool, and_left, and_right}
+use Rattle.std.proofs.lemmas.Bool.{cases_Bool, and_left, and_right, both_ways, true≢false}
 use Rattle.std.proofs.Common.{eqb-true}
 use Rattle.ata_types.specs.declared.Port.{Port}
 use Rattle.hba_regs.specs.Bits.{bit}
@@ -15,7 +15,6 @@ use Rattle.adapter.specs.Device.{PortState, Device}
 use Rattle.adapter.specs.Kept.{KeepsPort}
 use Rattle.adapter.specs.Steps.{Step, Can, after, Steps}
 use Rattle.adapter.specs.Steps.Step.{Fetch, FetchFault, Move, Clear, Done, Fault, Fatal, Fall, FrFall, LinkUp, Unplug, Plug, ResetEnds, Scribble}
-use Rattle.adapter.proofs.Absurd.{true-false}
 use Rattle.adapter.proofs.Changed.{changed_same}
 use Rattle.adapter.proofs.KeptLemmas.{steps_keep}
 use Rattle.agreement.specs.Agrees.{port_at}
@@ -34,7 +33,7 @@ not_one n ne = ⊎_elim (λ (t : nat_eq n 1 ≡ true). absurd (ne (eqb-true n 1 
 
 pub neither : (a b : Bool) → a ≡ false → b ≡ false → a || b ≡ false
 neither false b x y = y
-neither true b x y = true-false refl x
+neither true b x y = absurd (true≢false x)
 
 step_linked : (d : Device) (port : ℕ) (step : Step) → Can step d → IsLinked (d.port port) → IsLinked ((after step d).port port)
 step_linked d port (Fetch p slot c places) can h = at_port IsLinked IsLinked d p port _ h (λ e x. x) (λ ne x. x)
@@ -150,7 +149,7 @@ pub quiet_is_found : (port : Port) (v : ℕ) (old new : Device) → IsAwaited (o
 quiet_is_found port v old new awaited unflagged call clear =
     let u : IsUnflagged (call.mid.port port.0) = steps_unflagged port.0 old call.mid call.steps unflagged in
     let w : IsAwaited (call.mid.port port.0) = steps_awaited port.0 old call.mid call.steps awaited in
-    let none : ((call.mid.port port.0).link_due ≡ true) ⊎ ((call.mid.port port.0).sctl_det ≡ 1) → ⊥ = λ due. true-false (sym (drq_read v (call.mid.port port.0).tfd call.shows) ∙ (w due).1) clear in
+    let none : ((call.mid.port port.0).link_due ≡ true) ⊎ ((call.mid.port port.0).sctl_det ≡ 1) → ⊥ = λ due. absurd (both_ways _ clear (sym (drq_read v (call.mid.port port.0).tfd call.shows) ∙ (w due).1)) in
     let q : IsQuiet (call.mid.port port.0) = record {
       unflagged = u;
       linked = ⊎_elim (λ (t : (call.mid.port port.0).link_due ≡ true). absurd (none (inl t))) (λ (f : (call.mid.port port.0).link_due ≡ false). f) (cases_Bool (call.mid.port port.0).link_due);

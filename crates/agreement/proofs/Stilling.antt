@@ -1,5 +1,7 @@
 -- Frames that the device leaves alone.
 use Rattle.std.proofs.Common.{ℕ, ◌≡◌, ◌⊎◌, ◌<◌, ◌≤◌, ◌+◌, ◌*◌, ◌/◌, true, List, [], ◌∷◌, length, slice_index, Option, Some, None, refl, sym, ◌∙◌, ap, subst, arith, inl, inr, ⊎_elim}
+use Rattle.std.proofs.lemmas.Bool.{both_ways}
+use Rattle.std.proofs.lemmas.Option.{none-some, same_Some}
 use Rattle.ata_types.specs.declared.request.Frame.{Frame}
 use Rattle.ata_types.specs.declared.request.Op.{Op}
 use Rattle.ata_types.specs.declared.request.Op.TheVariants.{Read, Write, Trim, Flush}
@@ -10,7 +12,6 @@ use Rattle.adapter.specs.Idle.{IsIdle, IsIdlePort}
 use Rattle.adapter.specs.Kept.{KeepsPort}
 use Rattle.adapter.specs.Rules.{InPlaces, InUse, InCommand, IsFree, Stays}
 use Rattle.adapter.specs.Rules as rules
-use Rattle.adapter.proofs.Absurd.{true-false, some-none, some_one}
 use Rattle.adapter.proofs.KeptLemmas.{steps_keep}
 use Rattle.adapter.proofs.SaysLemmas.{says_table, says_prds, says_places}
 use Rattle.block_machine.specs.Confined.{MovesBytes}
@@ -32,8 +33,8 @@ use Rattle.agreement.proofs.Sparing.{follows_spare}
 
 -- a slot with nothing issued or taken is not in use
 pub over_unused : (p : PortState) (slot : ℕ) → IsOver p slot → InUse p slot → ⊥
-over_unused p slot o (inl set) = true-false set o.issued
-over_unused p slot o (inr (t, is)) = some-none is o.free
+over_unused p slot o (inl set) = absurd (both_ways _ o.issued set)
+over_unused p slot o (inr (t, is)) = absurd (none-some _ (sym o.free ∙ is))
 
 -- what a placed slot's header and bytes say lies below the clients' frames, but for the places
 told_low : (d : Device) (p : PortState) (port slot : ℕ) (c : Meaning) (places : List ℕ) (at : ℕ) → IsPlaced p port slot → Told d.memory p.bases.clb port slot c places → 163840 ≤ at →
@@ -98,14 +99,14 @@ module _ (uses : Uses) (m : Machine) (d : Device) (a : Agrees uses m d) (reached
 
     -- what it has taken
     taken : (u : Use) → uses port slot ≡ u → IsServed m d.memory d.tape (d.port port) port slot u → (t : Taken) → (d.port port).taken slot ≡ Some t → InPlaces t.places at → ⊥
-    taken Free is h t there x = some-none there h.free
-    taken Armed is h t there x = some-none there h.free
+    taken Free is h t there x = absurd (none-some _ (sym h.free ∙ there))
+    taken Armed is h t there x = absurd (none-some _ (sym h.free ∙ there))
     taken (Own o) is h t there x = own h.stage
       where
         own : OwnWaits (d.port port) slot ⊎ (OwnTaken d.memory d.tape (d.port port) port slot h.command ⊎ OwnOver d.memory d.tape (d.port port) port slot h.command) → ⊥
-        own (inl w) = some-none there w.free
-        own (inr (inl y)) = scratch_low port at t.places h.placed.port_below (ap (λ (z : Taken). z.places) (some_one (sym there ∙ y.taken)) ∙ y.places_are) past x
-        own (inr (inr y)) = some-none there y.over.free
+        own (inl w) = absurd (none-some _ (sym w.free ∙ there))
+        own (inr (inl y)) = scratch_low port at t.places h.placed.port_below (ap (λ (z : Taken). z.places) (same_Some _ _ (sym there ∙ y.taken)) ∙ y.places_are) past x
+        own (inr (inr y)) = absurd (none-some _ (sym y.over.free ∙ there))
     taken (Serves id) is h t there x =
         let known : TakenAs d.memory (d.port port) port slot h.pending h.command h.places t = taken_as d.memory (d.port port) port slot h.pending h.command h.places t there h.stage in
         place_over id is h (inr (t, there)) (subst (λ (l : List ℕ). InPlaces l at) known.places_are x)
@@ -140,7 +141,7 @@ lent_is_still uses m d frame id reached a lent over = still_stays uses m d frame
     same_id e = cc
 
 pub unlent_is_still : (uses : Uses) (m : Machine) (d : Device) (frame : Frame) → IsReached m → Agrees uses m d → m.lent frame ≡ None → 40 ≤ frame.0 → Stays (IsStill frame) d
-unlent_is_still uses m d frame reached a none high = still_stays uses m d frame reached a high (λ id is. some-none is none)
+unlent_is_still uses m d frame reached a none high = still_stays uses m d frame reached a high (λ id is. absurd (none-some _ (sym none ∙ is)))
 
 -- an idle device, which has nothing in use whatever it does, uses no byte
 pub idle_is_still : (d : Device) (frame : Frame) → IsIdle d → Stays (IsStill frame) d
@@ -152,7 +153,7 @@ idle_is_still d frame idle mid s port slot at from to x =
     (λ (u : InUse (mid.port port) slot × ((((mid.port port).bases.clb + 32 * slot ≤ at) × (at < (mid.port port).bases.clb + 32 * slot + 32)) ⊎ InCommand mid (mid.port port) slot at)). over_unused (mid.port port) slot none u.0)
     (λ (y : ((t : Taken) × ((mid.port port).taken slot ≡ Some t) × InPlaces t.places at) ⊎ (((mid.port port).fre ≡ true) × ((mid.port port).bases.fb ≤ at) × (at < (mid.port port).bases.fb + 256))). ⊎_elim
     (λ (t : (t : Taken) × ((mid.port port).taken slot ≡ Some t) × InPlaces t.places at). over_unused (mid.port port) slot none (inr (t.0, t.1)))
-    (λ (f : ((mid.port port).fre ≡ true) × ((mid.port port).bases.fb ≤ at) × (at < (mid.port port).bases.fb + 256)). true-false f.0 (k.fre i.fre))
+    (λ (f : ((mid.port port).fre ≡ true) × ((mid.port port).bases.fb ≤ at) × (at < (mid.port port).bases.fb + 256)). absurd (both_ways _ (k.fre i.fre) f.0))
     y)
     x
 

@@ -2,6 +2,7 @@
 use Rattle.std.proofs.Common.{ℕ, ◌≡◌, ◌⊎◌, ◌++◌, Bool, true, false, List, [], ◌∷◌, refl, sym, ◌∙◌, ap, subst, inl, inr, append-nil, length, ◌≢◌}
 use Rattle.std.proofs.lemmas.List.{append_cancel_left}
 use Rattle.std.proofs.lemmas.List.Elements.{All-nil, All-cons, All-append}
+use Rattle.std.proofs.lemmas.Bool.{both_ways}
 use Rattle.ata_types.specs.declared.Port.{Port}
 use Rattle.hba_regs.specs.Bits.{bit}
 use Rattle.hba_regs.specs.declared.reg.Reg.TheVariants.{Px}
@@ -15,7 +16,6 @@ use Rattle.adapter.specs.Memory.{changed}
 use Rattle.adapter.specs.Steps.{Step, Can, after, Leads, Steps}
 use Rattle.adapter.specs.Steps.Step.{Fetch, FetchFault, Move, Clear, Done, Fault, Fatal, Fall, FrFall, LinkUp, Unplug, Plug, ResetEnds, Scribble}
 use Rattle.adapter.specs.declared.tape.Entry.{Entry}
-use Rattle.adapter.proofs.Absurd.{true-false}
 use Rattle.adapter.proofs.Changed.{changed_same}
 use Rattle.adapter.proofs.KeptLemmas.{step_keeps, steps_keep}
 use Rattle.agreement.specs.Links.{SparesRegister, IsPlugging, PlugsNone}
@@ -90,7 +90,7 @@ pub noted_plugs : (port : ℕ) (old new : Device) → old.hr ≡ false → Steps
 noted_plugs port old new off s clear =
     let k : Keeps old new = steps_keep s in (
       was_false (old.port port).serr_n (new.port port).serr_n ((k.on off).controls port).serr_n clear,
-      record { gained = k.gained; tape = k.tape; none = leads_untold port s.steps old new off s.lead (λ n. true-false n clear) k.gained k.tape },
+      record { gained = k.gained; tape = k.tape; none = leads_untold port s.steps old new off s.lead (λ n. absurd (both_ways _ clear n)) k.gained k.tape },
     )
 
 -- ---- accesses

@@ -1,7 +1,7 @@
 -- A trim, from its issue to its end.
 use Rattle.std.proofs.Common.{ℕ, ◌≡◌, ◌<◌, ◌&&◌, Bool, true, false, List, [], ◌∷◌, All, nat_lt, Some, refl, sym, ◌∙◌, ap, arith, inl, inr, ltb-true}
 use Rattle.std.specs.List.{Contains}
-use Rattle.std.proofs.lemmas.Bool.{and_parts}
+use Rattle.std.proofs.lemmas.Bool.{and_parts, false≢true, true≢false}
 use Rattle.std.proofs.lemmas.List.Elements.{All-nil, All-cons}
 use Rattle.adapter.specs.Device.{Taken, Device}
 use Rattle.adapter.specs.FirstRead.{first_memory}
@@ -10,7 +10,6 @@ use Rattle.adapter.specs.Steps.{Can, Steps, after, begun}
 use Rattle.adapter.specs.Steps.Step.{Fetch, Move, Clear, Done}
 use Rattle.adapter.specs.Trim.{trim_sectors, consecutive}
 use Rattle.adapter.specs.declared.command.Operation.TheVariants.{Trim}
-use Rattle.adapter.proofs.Absurd.{true-false}
 use Rattle.adapter.proofs.MemoryLemmas.{patched_bytes}
 use Rattle.adapter.proofs.Runs.{Steps-one}
 use Rattle.block_machine.specs.Histories.{IsReached}
@@ -74,7 +73,7 @@ waits_in : Contains accepted.book waits
 waits_in = contains_here waits [] waits refl
 
 may_issue : May accepted (Issue plain waits)
-may_issue = (waits_in, record { here = into_map unanswered accepted.book waits waits_in; clear = refl; slot = λ h. true-false refl h }, λ e h. absurd (contains_none e h))
+may_issue = (waits_in, record { here = into_map unanswered accepted.book waits waits_in; clear = refl; slot = λ h. absurd (true≢false h) }, λ e h. absurd (contains_none e h))
 
 abbrev issued : Machine
 issued = after_step accepted (Issue plain waits)
@@ -100,7 +99,7 @@ prepared = record {
   command = trim;
   places = 0x9000 ∷ [];
   told = told;
-  means = record { op = refl; first = λ h. true-false h refl; places_are = refl; head = λ _. refl };
+  means = record { op = refl; first = λ h. absurd (false≢true h); places_are = refl; head = λ _. refl };
   kind = refl;
   block = ap trim_sectors block_is ∙ block_means;
   here = refl;

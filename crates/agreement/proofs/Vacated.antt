@@ -1,7 +1,7 @@
 -- A port with no disk in, and one whose disk has shown itself, while none comes.
 use Rattle.std.proofs.Common.{ℕ, ◌≡◌, ◌≢◌, ◌%◌, ◌++◌, Bool, true, false, List, [], ◌∷◌, length, refl, sym, ◌∙◌, ap, subst, arith, inl}
 use Rattle.std.specs.Prelude.{if◌then◌else◌, nat_eq}
-use Rattle.std.proofs.lemmas.Bool.{cond-true, cond-false}
+use Rattle.std.proofs.lemmas.Bool.{cond-true, cond-false, both_ways}
 use Rattle.ata_types.specs.declared.Port.{Port}
 use Rattle.hba_regs.specs.Bits.{bit}
 use Rattle.hba_regs.specs.declared.reg.Reg.TheVariants.{Ghc, Px}
@@ -14,7 +14,6 @@ use Rattle.adapter.specs.Kept.{Keeps}
 use Rattle.adapter.specs.Steps.{Step, Can, after, Leads, Steps}
 use Rattle.adapter.specs.Steps.Step.{Fetch, FetchFault, Move, Clear, Done, Fault, Fatal, Fall, FrFall, LinkUp, Unplug, Plug, ResetEnds, Scribble}
 use Rattle.adapter.specs.declared.tape.Entry.{Entry}
-use Rattle.adapter.proofs.Absurd.{true-false}
 use Rattle.adapter.proofs.Changed.{changed_same}
 use Rattle.adapter.proofs.KeptLemmas.{step_keeps, steps_keep}
 use Rattle.agreement.specs.Errors.{IsComing, NoneComes}
@@ -110,7 +109,7 @@ module _ (port : ℕ) (d : Device) (gained : List Entry) (none : NoneOf (IsComin
   step_vacant (Fatal p place) can is h = at_port Vacant Vacant d p port _ h (λ e x. x) (λ ne x. x)
   step_vacant (Fall p) can is h = at_port Vacant Vacant d p port _ h (λ e x. x) (λ ne x. x)
   step_vacant (FrFall p) can is h = at_port Vacant Vacant d p port _ h (λ e x. x) (λ ne x. x)
-  step_vacant (LinkUp p sig n) can is h = at_port Vacant Vacant d p port _ h (λ e x. true-false can.present x.0) (λ ne x. x)
+  step_vacant (LinkUp p sig n) can is h = at_port Vacant Vacant d p port _ h (λ e x. absurd (both_ways _ x.0 can.present)) (λ ne x. x)
   step_vacant (Unplug p) can is h = at_port Vacant Vacant d p port _ h (λ e x. (refl, λ z. not_three z)) (λ ne x. x)
   step_vacant (Plug p disk) can is h = at_port Vacant Vacant d p port _ h (λ e x. absurd (gained_none (IsComing port) d.tape _ gained is none e)) (λ ne x. x)
   step_vacant ResetEnds can is h = (h.0, λ z. not_three z)

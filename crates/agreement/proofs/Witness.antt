@@ -3,6 +3,8 @@ use Rattle.std.proofs.Common.{ℕ, ◌≡◌, ◌<◌, ◌+◌, ◌*◌, ◌^◌
 use Rattle.std.proofs.lemmas.Bool.{cond-false}
 use Rattle.std.proofs.lemmas.Nat.Bits.{bit_at-pow_other}
 use Rattle.std.proofs.lemmas.List.{get_or-replicate}
+use Rattle.std.proofs.lemmas.List.Elements.{All-contains, All-nil}
+use Rattle.std.proofs.lemmas.Option.{none-some}
 use Rattle.hba_regs.specs.Bits.{bit}
 use Rattle.hba_regs.specs.declared.reg.Reg.TheVariants.{Px}
 use Rattle.hba_regs.specs.declared.reg.PortReg.TheVariants.{Ci}
@@ -16,7 +18,6 @@ use Rattle.adapter.specs.ReadDone.{read_of}
 use Rattle.adapter.specs.Says.{Says, cut}
 use Rattle.adapter.specs.Steps.{Can}
 use Rattle.adapter.specs.Steps.Step.{Fetch}
-use Rattle.adapter.proofs.Absurd.{some-none}
 use Rattle.adapter.proofs.Changed.{fun_ext, changed_same, changed_other}
 use Rattle.adapter.proofs.FirstRead.{first_says}
 use Rattle.adapter.proofs.Runs.{Steps-refl}
@@ -27,7 +28,6 @@ use Rattle.block_machine.specs.Left.{IsStart}
 use Rattle.block_machine.specs.State.{Accepted, Pending, Machine}
 use Rattle.block_machine.specs.Steps.{Accept, Issue, May, IsNew, MayMove, after_step, newly_accepted, issue}
 use Rattle.block_machine.proofs.HistoryLemmas.{reached_more}
-use Rattle.block_machine.proofs.Members.{contains_here, contains_none}
 use Rattle.block_machine.proofs.Setting.{empty, filled_starts}
 use Rattle.agreement.specs.Slots.{Free, Serves, Told, IsFree}
 use Rattle.agreement.specs.Agrees.{Agrees, port_at, IsDiskOf, SameSectors, IsReceiving}
@@ -79,7 +79,7 @@ accepting_reached : IsReached accepting
 accepting_reached = record { first = start; past = Accept accepted ∷ []; starts = starts_with first_memory; legal = (tt, is_new); is = refl }
 
 may_issue : May accepting (Issue plain waits)
-may_issue = (contains_here waits [] waits refl, record { here = contains_here _ [] _ refl; clear = refl; slot = λ h. true_false refl h }, λ e h. absurd (contains_none e h))
+may_issue = ((0, omega arith, refl), record { here = (0, omega arith, refl); clear = refl; slot = λ h. true_false refl h }, λ e h. absurd (All-contains (λ _. ⊥) [] e (All-nil (λ _. ⊥)) h))
 
 abbrev pub issued : Machine
 issued = after_step accepting (Issue plain waits)
@@ -88,7 +88,7 @@ pub reached : IsReached issued
 reached = reached_more accepting (Issue plain waits ∷ []) accepting_reached (tt, may_issue)
 
 moves : MayMove issued (issue waits)
-moves = inl (contains_here (issue waits) [] (issue waits) refl, refl)
+moves = inl ((0, omega arith, refl), refl)
 
 -- ---- the relation
 
@@ -126,7 +126,7 @@ ready_knows memory = record {
         (record { told = sector_of; tells = refl; same = λ k b kl bl. tells k b bl })
         (λ n ne. record { told = λ k. []; tells = refl; same = λ k b kl bl. absurd (omega (arith, kl)) });
   };
-  have = λ q e may at_port. ⊎_elim (λ z. absurd (contains_none e z.0)) (λ z. absurd (contains_none e z)) may;
+  have = λ q e may at_port. ⊎_elim (λ z. absurd (All-contains (λ _. ⊥) [] e (All-nil (λ _. ⊥)) z.0)) (λ z. absurd (All-contains (λ _. ⊥) [] e (All-nil (λ _. ⊥)) z)) may;
 }
 
 -- a command that is issued there may be taken
@@ -135,7 +135,7 @@ unfolding changed
 can_take memory c places says = record {
   fetchable = record { st = refl; issued = refl; free = refl };
   working = record { running = refl; present = refl; fresh = refl; admitted = refl; whole = refl };
-  alone = λ slot t is. some-none is refl;
+  alone = λ slot t is. absurd (none-some _ is);
   says = says;
 }
 

@@ -1,5 +1,7 @@
 -- Ports of which the facts speak: one that runs, one that a fault has halted, and one that stands.
 use Rattle.std.proofs.Common.{◌≡◌, true, ◌∷◌, [], refl, arith}
+use Rattle.std.proofs.lemmas.Bool.{false≢true}
+use Rattle.std.proofs.lemmas.Option.{none-some}
 use Rattle.adapter.specs.Device.{Taken, Device}
 use Rattle.adapter.specs.Device.Halt.{HaltedPlain}
 use Rattle.adapter.specs.FirstRead.{first_read}
@@ -8,7 +10,6 @@ use Rattle.adapter.specs.ReadDone.{read_of}
 use Rattle.adapter.specs.Says.{cut}
 use Rattle.adapter.specs.Steps.{Can, after, begun, Steps}
 use Rattle.adapter.specs.Steps.Step.{Fetch, Fault}
-use Rattle.adapter.proofs.Absurd.{true-false, some-none}
 use Rattle.adapter.proofs.FirstRead.{first_says}
 use Rattle.agreement.specs.Facts.{HasFaults, IsQuiet}
 use Rattle.agreement.proofs.Recording.{running_faulted, steps_recorded}
@@ -18,7 +19,7 @@ unfolding changed
 first_recorded = record {
   known = omega arith;
   linked = refl;
-  flag = λ f. true-false f refl;
+  flag = λ f. absurd (false≢true f);
   fault = λ f. running_faulted f;
 }
 
@@ -42,7 +43,7 @@ unfolding changed
 first_fetch = record {
   fetchable = record { st = refl; issued = refl; free = refl };
   working = record { running = refl; present = refl; fresh = refl; admitted = refl; whole = refl };
-  alone = λ slot t is. some-none is refl;
+  alone = λ slot t is. absurd (none-some _ is);
   says = first_says;
 }
 

@@ -1,6 +1,6 @@
 -- A port that takes plain commands alone.
-use Rattle.std.proofs.Common.{◌≡◌, ℕ, ◌<◌, ◌≤◌, Bool, true, false, cond, not, ◌&&◌, ◌||◌, ◌==◌, List, [], ◌∷◌, length, inl, inr, refl, sym, ap, ◌∙◌, arith, eqb-true, eq-eqb, lt-ltb, le-ltb}
-use Rattle.std.proofs.lemmas.Bool.{and_left, and_parts, and_from, or_left, or_right, cond-true, cond-false, both_ways, false_from_ne_true, not_from_false}
+use Rattle.std.proofs.Common.{◌≡◌, ℕ, ◌<◌, ◌≤◌, Bool, true, false, cond, not, ◌||◌, ◌==◌, List, [], ◌∷◌, length, inl, inr, refl, sym, ap, ◌∙◌, arith, eqb-true, eq-eqb, lt-ltb, le-ltb}
+use Rattle.std.proofs.lemmas.Bool.{and_parts, and_from, or_left, or_right, cond-true, cond-false, both_ways, false_from_ne_true, not_from_false}
 use Rattle.std.proofs.lemmas.List.Sums.{length-filter}
 use Rattle.std.specs.List.{Contains, list_any, count_by, filter}
 use Rattle.std.specs.Prelude.{nat_lt}
@@ -9,7 +9,7 @@ use Rattle.ata_types.specs.declared.request.Op.{Op}
 use Rattle.ata_types.specs.declared.request.Op.TheVariants.{Read, Write, Trim, Flush}
 use Rattle.block_machine.specs.declared.due.Mode.{Mode}
 use Rattle.block_machine.specs.declared.due.Unanswered.{Unanswered}
-use Rattle.block_machine.specs.Due.{IsInOrder, holds_back, is_plain, is_clear, is_due, due_of, ahead, free_slots}
+use Rattle.block_machine.specs.Due.{IsInOrder, holds_back, is_plain, is_clear, due_of}
 use Rattle.block_machine.proofs.Order.{In, Ordered, in_from, from_in, ordered_from}
 use Rattle.block_machine.proofs.Counting.{count_cons, count_none, unheld}
 use Rattle.block_machine.proofs.Keeps.{same_port}

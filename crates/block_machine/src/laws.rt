@@ -13,7 +13,7 @@ ghost use Rattle.block_machine.specs.State.{Block, Accepted, Pending, Machine, f
 ghost use Rattle.block_machine.specs.Steps.{Step, Touch, End, Issue, Again, Answer, Age, after_step, May, IsNew, IsLiving, AllTouched};
 ghost use Rattle.block_machine.specs.Left.{IsStart, IsLegal, AllTold, HoldsLeft, after};
 ghost use Rattle.block_machine.specs.Confined.{IsGranted, IsConfined, IsHeld, HasFrame, WasAccepted, WithinLimits};
-ghost use Rattle.block_machine.specs.Events.{Moment, Event, IsRun, EveryReadHolds, moment_of, steps_of};
+ghost use Rattle.block_machine.specs.Events.{Moment, Event, AllMay, IsRun, EveryReadHolds, moment_of, steps_of};
 ghost use Rattle.block_machine.specs.Histories.{IsReached};
 
 /// Over every run of calls whose reads moved their disks' bytes: each read that is answered Ok has, at the end of the
@@ -56,6 +56,20 @@ pub fn runs_are_legal<D>()
         × ((i : ℕ) → i < length e.request.asked.frames.items
         → (after first.machine early).lent
         (frame_at e.request.asked.frames.items i) ≡ Some e.request.id) }
+{}
+
+/// Steps go on from what earlier ones left: after some, and then others, the machine is as after them all, which may come where each part may. So
+/// a machine that is reached leads to others that are.
+pub fn steps_go_on()
+    ensures joined { (m : Machine) (late early : List Step) → after m (late ++ early) ≡ after (after m early) late }
+    ensures may { (m : Machine) (late early : List Step) → AllMay m early → AllMay (after m early) late → AllMay m (late ++ early) }
+    ensures reached { (m : Machine) (steps : List Step) → IsReached m → AllMay m steps → IsReached (after m steps) }
+{}
+
+/// No two requests of a book have one id.
+pub fn one_id_is_in_the_book_once()
+    ensures { (m : Machine) (a b : Pending) → IsReached m → Contains m.book a → Contains m.book b
+        → a.request.id.0 ≡ b.request.id.0 → a ≡ b }
 {}
 
 /// An unanswered request that has ended is issued.

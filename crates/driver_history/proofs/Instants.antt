@@ -2,6 +2,7 @@
 use Rattle.std.proofs.Common.{ℕ, ◌≡◌, ◌<◌, Bool, true, false, List, [], ◌∷◌, refl, sym, ◌∙◌, subst, inl, ⊎_elim}
 use Rattle.std.proofs.lemmas.Bool.{cases_Bool, cases_lt}
 use Rattle.std.specs.List.{Contains}
+use Rattle.std.proofs.lemmas.List.Elements.{All-contains, All-nil}
 use Rattle.ata_types.specs.declared.Port.{Port}
 use Rattle.ata_types.specs.declared.PortState.{PortState}
 use Rattle.ata_types.specs.declared.PortState.TheVariants.{Absent, Ready}
@@ -14,7 +15,6 @@ use Rattle.block_machine.specs.Histories.{Instant, Happening, now}
 use Rattle.block_machine.specs.Histories as histories
 use Rattle.block_machine.specs.Ports.{AreFit}
 use Rattle.block_machine.specs.State.{Pending}
-use Rattle.block_machine.proofs.Members.{contains_none}
 use Rattle.host_boot.specs.Taken.{wanted_of}
 use Rattle.identify.specs.declared.wanted.Wanted.{Wanted}
 use Rattle.driver_history.specs.Histories.{IsHistory}
@@ -65,7 +65,7 @@ module _ (wanted : List Wanted) where
 
     slot : (slot : ℕ) × (s.uses e.request.port.0 slot ≡ Serves e.request.id)
     slot = ⊎_elim
-        (λ parked. absurd (contains_none e.request.id (subst (λ (ids : List RequestId). Contains ids e.request.id) ready.slots.unparked parked)))
+        (λ parked. absurd (All-contains (λ _. ⊥) [] e.request.id (All-nil (λ _. ⊥)) (subst (λ (ids : List RequestId). Contains ids e.request.id) ready.slots.unparked parked)))
         (λ has. has)
         (holds.knows.have e.request.port.0 e (inl (here, issued)) refl)
 

@@ -11,4 +11,5 @@ pub mod Errors
 pub mod Parting
 pub mod Losing
 pub mod Within
+pub mod Since
 pub mod Turned

@@ -36,11 +36,15 @@ use Rattle.driver_history.proofs.Resting.{answer_rests}
 abbrev pub UnlentIsStill : Type 0
 UnlentIsStill = (uses : Uses) (m : Machine) (d : Device) (frame : Frame) → IsReached m → Agrees uses m d → m.lent frame ≡ None → DRIVER_FRAMES ≤ frame.0 → Stays (IsStill frame) d
 
+-- the machine of a history is reached
+pub history_reached : (wanted : List Wanted) (first : Instant Device) (past : List (Happening Device DeviceStep)) → IsHistory wanted first past → IsReached (now first past).moment.machine
+history_reached wanted first past history = history_reaches (Begins wanted) (Ties wanted) first past history
+
 pub unlent_still : UnlentIsStill → (wanted : List Wanted) (first : Instant Device) (past : List (Happening Device DeviceStep)) (frame : Frame) → IsHistory wanted first past
     → DRIVER_FRAMES ≤ frame.0 → (now first past).moment.machine.lent frame ≡ None → Stays (IsStill frame) (now first past).device
 unlent_still law wanted first past frame history low free =
     let h = holds_at wanted first past history in
-    law h.0.uses (now first past).moment.machine (now first past).device frame (history_reaches (Begins wanted) (Ties wanted) first past history) h.1.knows.agrees free low
+    law h.0.uses (now first past).moment.machine (now first past).device frame (history_reached wanted first past history) h.1.knows.agrees free low
 
 -- ---- what is seen
 

@@ -13,7 +13,8 @@ use Rattle.adapter.specs.Device.{Device}
 use Rattle.adapter.specs.Rules.{IsOn}
 use Rattle.adapter.specs.declared.tape.Entry.{Entry}
 use Rattle.agreement.specs.Driven.{Grows}
-use Rattle.agreement.specs.Errors.{ChangesByErrors, NoneFatal}
+use Rattle.agreement.specs.Errors.{ChangesByErrors, IsFatalOf, NoneFatal}
+use Rattle.agreement.specs.Facts.{IsFaultOf}
 use Rattle.agreement.specs.Links.{IsPlugging, PlugsNone, SparesRegister}
 use Rattle.block_machine.specs.Events.{Moment, Said, Service}
 use Rattle.block_machine.specs.Histories.{Instant}
@@ -21,12 +22,13 @@ use Rattle.block_machine.specs.Ports.{Evidence, IsInterrupted, Ports, SamePort}
 use Rattle.error_recovery.specs.Evidence.{GainsRunning, ShowsFatal}
 use Rattle.driver_history.specs.Evidence.{Gains, ShowsFailure}
 use Rattle.driver_history.specs.Guard.{IsAskedOf}
-use Rattle.driver_history.specs.Histories.{BootsAnew, HasFaultAlone, LosesNoTrouble, RunsWellAnew}
+use Rattle.driver_history.specs.Histories.{BootsAnew, HasFaultAlone, LosesNoTrouble, RunsWellAnew, StayedUp}
 use Rattle.driver_history.specs.Laws.{Laws}
 use Rattle.driver_history.specs.Parts.{HasTurnIn, IsOfOther, NamesAlike, all_of}
 use Rattle.driver_history.specs.Trace.{ResetsLink}
 use Rattle.driver_history.proofs.Calm.{gains_of}
 use Rattle.driver_history.proofs.Parting.{IsLeft, grows_over, others_leave}
+use Rattle.driver_history.proofs.Since.{calm_since, running_in_part}
 use Rattle.driver_history.proofs.Errors.{ErrorKind, IsOne, Shows, failure, failure_still, faults, fatals, in_parts, one_came}
 use Rattle.driver_history.proofs.Losing.{never_plugged}
 use Rattle.driver_history.proofs.Within.{parts_at, reset_after, reset_before, reset_within}
@@ -87,6 +89,12 @@ module _ (laws : Laws) (port : Port) where
       device = first.shows undue plug_parts.0 ∙ asked.device;
       plugged = plug_parts.1;
     }
+
+    -- no fatal error of the call came in the turn
+    within_turn : NoneFatal port.0 old.device new → NoneFatal port.0 t.start t.end
+    within_turn none =
+        let a = laws.fatal_parts port.0 old.device t.start new first.grows.0 since.0 first.grows.1 since.1 none in
+        (laws.fatal_parts port.0 t.start t.end new middle.0 last.grows.0 middle.1 last.grows.1 a.1).0
 
     -- ---- and of what was done then in the whole
 
@@ -200,18 +208,23 @@ module _ (laws : Laws) (port : Port) where
             disk = λ ready g. absurd (never_plugged laws port old new asked (gains_of port.0 (IsPlugging port.0) old.device new g));
           }
 
-        pub well_is_the_calls : RunsWellAnew turn t.turn began ended t.end port → RunsWellAnew call (all_of t) old ports new port
-        well_is_the_calls its i ready calm reset =
-            let a = laws.calm_parts port.0 old.device t.start new first.grows.0 since.0 first.grows.1 since.1 calm in
-            let b = laws.calm_parts port.0 t.start t.end new middle.0 last.grows.0 middle.1 last.grows.1 a.1 in
-            let fresh : ResetsLink port t.turn ⊎ ((t.start.port port.0).fresh ≡ true) =
-            ⊎_elim (λ r. inl (reset_in_turn r)) (λ f. inr (first.fresh undue plug_parts.0 ∙ f)) reset in
+        pub well_is_the_calls : (ended.state port ≡ Ready → (t.end.port port.0).notes.st_set_at ≤ length t.end.tape) → RunsWellAnew turn t.turn began ended t.end port → RunsWellAnew call (all_of t) old ports new port
+        well_is_the_calls known its i ready plugs unfailed unbroken how =
+            let is_ready : ended.state port ≡ Ready = sym stays.1 ∙ ready in
+            let same : (new.port port.0).notes.st_set_at ≡ (t.end.port port.0).notes.st_set_at = ap (λ n. n.st_set_at) last.leaves.notes in
+            let small = known is_ready in
+            let stayed : ResetsLink port t.turn ⊎ StayedUp port t.start t.end =
+            ⊎_elim (λ r. inl (reset_in_turn r)) (λ (up : StayedUp port old.device new). inr (record { fresh = first.fresh undue plug_parts.0 ∙ up.fresh; unbroken = within_turn up.unbroken })) how in
             laws.well port.0 t.end new
             (laws.runs port t.later t.end new on_then t.last
             (All-weaker (IsOfOther port) (SparesRegister Ghc) (λ access x. laws.spares_host x.0 access x.2) t.later t.others_later)
             (spares_other t.later t.others_later)
             (All-weaker (IsOfOther port) (SparesRegister (Px port Cmd)) (λ access x. laws.spares x.0 port Cmd x.1 access x.2) t.later t.others_later))
-            b.1 (its (unnamed i) (sym stays.1 ∙ ready) b.0 fresh)
+            (calm_since laws port.0 old.device t.end new (laws.grows_more old.device t.start t.end first.grows middle) last.grows (omega (arith, same, small)) plugs unfailed unbroken)
+            (its (unnamed i) is_ready plug_parts.1
+            (λ g. unfailed (running_in_part (IsFaultOf port.0) port.0 old.device t.start t.end new first.grows last.grows same g))
+            (λ g. unbroken (running_in_part (IsFatalOf port.0) port.0 old.device t.start t.end new first.grows last.grows same g))
+            stayed)
 
 -- ---- a plain request's fault
 

@@ -17,7 +17,7 @@ ghost use Rattle.agreement.specs.Facts.{IsStill, RunsWell};
 ghost use Rattle.agreement.specs.Links.{PlugsNone};
 ghost use Rattle.agreement.specs.Slots.{ServesRequest};
 ghost use Rattle.block_machine.specs.Events.{Ask, Moment, Said, steps_of, Service, Tick, Reset, IsHung, IsRun, EveryReadHolds, NoneKeepsIssue};
-ghost use Rattle.block_machine.specs.Histories.{Instant, Happening, events_of, now};
+ghost use Rattle.block_machine.specs.Histories.{Instant, Happening, IsReached, events_of, now};
 ghost use Rattle.block_machine.specs.Ports.{AreFit, Evidence, Ports, SameDisk, SamePort};
 ghost use Rattle.block_machine.specs.State.{Pending};
 ghost use Rattle.block_machine.specs.Steps.{Answer};
@@ -42,6 +42,12 @@ use port_boot::laws::a_port_runs_on;
 pub fn histories_are_runs()
     ensures { (wanted : List Wanted) (first : Instant Device) (past : List (Happening Device DeviceStep)) → IsHistory wanted first past
         → IsRun first.moment (events_of past) }
+{}
+
+/// The machine of a history is reached.
+pub fn histories_reach_their_machines()
+    ensures { (wanted : List Wanted) (first : Instant Device) (past : List (Happening Device DeviceStep)) → IsHistory wanted first past
+        → IsReached (now first past).moment.machine }
 {}
 
 /// Where the adapter's disks tell their sectors, each read of a history that was answered Ok has, at the end of the call that

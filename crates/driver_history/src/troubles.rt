@@ -8,10 +8,14 @@ ghost use Rattle.adapter.specs.Device.{Device};
 ghost use Rattle.adapter.specs.Rules.{IsOn};
 ghost use Rattle.adapter.specs.Steps.{Steps};
 ghost use Rattle.adapter.specs.declared.access.DeviceStep.{DeviceStep};
-ghost use Rattle.agreement.specs.Links.{SparesRegister};
+ghost use Rattle.agreement.specs.Driven.{Grows};
+ghost use Rattle.agreement.specs.Errors.{IsFatalOf};
+ghost use Rattle.agreement.specs.Facts.{IsFaultOf, Undisturbed};
+ghost use Rattle.agreement.specs.Links.{PlugsNone, SparesRegister};
 ghost use Rattle.block_machine.specs.Events.{Moment, Said, Service};
 ghost use Rattle.block_machine.specs.Histories.{Happening, Instant, now};
 ghost use Rattle.block_machine.specs.Ports.{Evidence, IsInterrupted, Ports, SamePort};
+ghost use Rattle.error_recovery.specs.Evidence.{GainsRunning};
 ghost use Rattle.driver_history.specs.Claims.{HeedsFault};
 ghost use Rattle.driver_history.specs.Evidence.{ShowsFailure, StaysHealthy};
 ghost use Rattle.driver_history.specs.Guard.{IsAskedOf};
@@ -65,7 +69,7 @@ pub fn what_is_asked_of_a_call_is_asked_of_a_turn()
 
 /// Of a port of which a call's part is asked, and no link of which is due when the call begins: what its turn owes of trouble the whole call does, where the turn's
 /// and the call's evidence name the port in the same lists, ST was set in the turn if it stopped the port and left it ready, and it stopped the port if that showed a
-/// failure when it began. So it is with boots, and with a port that runs well anew.
+/// failure when it began. So it is with boots; and with a port that runs well anew, where ST of one that is left ready was set by the turn's end.
 pub fn a_turns_trouble_is_the_calls()
     ensures trouble { (port : Port) (old : Instant Device) (begun : Moment) (ended ports : Ports) (new : Device) (turn call : Evidence) → IsOn old.device
         → (old.device.port port.0).link_due ≡ false → (t : HasTurnIn port old.device new) → IsOn t.end → begun.ports.state port ≡ Ready
@@ -81,8 +85,19 @@ pub fn a_turns_trouble_is_the_calls()
     ensures well { (port : Port) (old : Instant Device) (begun : Moment) (ended ports : Ports) (new : Device) (turn call : Evidence) → IsOn old.device
         → (old.device.port port.0).link_due ≡ false → (t : HasTurnIn port old.device new) → IsOn t.end → begun.ports.state port ≡ Ready
         → IsAskedOf port old new → SamePort ended ports port → NamesAlike port turn call
+        → (ended.state port ≡ Ready → (t.end.port port.0).notes.st_set_at ≤ length t.end.tape)
         → RunsWellAnew turn t.turn (record { device = t.start; moment = begun }) ended t.end port
         → RunsWellAnew call (all_of t) old ports new port }
+{
+    laws_hold();
+}
+
+/// Where no disk of a port went or came, and no fault and no fatal error came since its ST was last set, nothing went wrong on it after any moment that
+/// ST was set before.
+pub fn what_is_untroubled_since_st_was_set_is_calm()
+    ensures { (port : ℕ) (old mid new : Device) → Grows old mid → Grows mid new → (new.port port).notes.st_set_at ≤ length mid.tape
+        → PlugsNone port old new → (GainsRunning (IsFaultOf port) port old new → ⊥) → (GainsRunning (IsFatalOf port) port old new → ⊥)
+        → Undisturbed port mid new }
 {
     laws_hold();
 }

@@ -4,7 +4,7 @@ use Rattle.adapter.specs.declared.tape.Entry.{Entry}
 use Rattle.std.proofs.lemmas.List.{append_cancel_left}
 use Rattle.std.proofs.Common.{length, length-append, true, subst, ◌∙◌, ℕ, zero, suc, ◌≡◌, false, List, [], ◌∷◌, ◌++◌, inl, inr, ⊎_elim, refl, sym, ap, arith, ◌≢◌, Bool, not, ◌&&◌, ◌==◌}
 use Rattle.std.specs.List.{Contains, All}
-use Rattle.std.proofs.lemmas.List.Elements.{All-nil, All-cons, All-contains}
+use Rattle.std.proofs.lemmas.List.Elements.{All-nil, All-cons}
 use Rattle.std.proofs.lemmas.List.Sorted.{IsPermutation-refl}
 use Rattle.ata_types.specs.declared.Port.{Port}
 use Rattle.ata_types.specs.declared.PortState.TheVariants.{Absent, Ready}
@@ -24,7 +24,7 @@ use Rattle.agreement.specs.Agrees.{port_at}
 use Rattle.agreement.specs.Acts.{at}
 use Rattle.agreement.specs.Driver.{IsBacked, Knows}
 use Rattle.agreement.specs.Errors.{IsFatalOf}
-use Rattle.agreement.specs.Facts.{IsFaultOf, IsDisturbance, RunsWell}
+use Rattle.agreement.specs.Facts.{IsFaultOf, RunsWell}
 use Rattle.agreement.specs.Links.{IsPlugging}
 use Rattle.agreement.specs.Slots.{IsFree, IsMove, ServesRequest}
 use Rattle.agreement.specs.Witness.{first_id}
@@ -269,12 +269,30 @@ trouble zero = record {
 }
 trouble (suc n) = no_trouble fault_evidence submitted_at both recovered (port_at (suc n)) (entry.Fault fault ∷ []) refl (fault_alone (suc n) (omega arith)) (served_ready (suc n)) (quiet (suc n))
 
--- it disturbs port 0; and no other port was stopped
+-- the bits of PxIS are clear again
+quiet_again : (place : ℕ) → started.is place ≡ false
+unfolding changed
+quiet_again place = ⊎_elim
+    (λ (same : place ≡ 30). subst (λ (k : ℕ). started.is k ≡ false) (sym same) refl)
+    (λ (ne : place ≢ 30). ap (λ (b : Bool). b && not (bit 0xffffffff place)) (cond-false (place == 30) true false (ne_eqb place 30 ne)))
+    (cases_eq place 30)
+
+runs_well : RunsWell started
+runs_well = record {
+  st = refl;
+  cr = refl;
+  det = refl;
+  present = refl;
+  fresh = refl;
+  linked = refl;
+  running = refl;
+  whole = refl;
+  quiet = record { serr_n = refl; serr_x = refl; quiet = λ place from to. quiet_again place };
+}
+
+-- its fault came before ST was set again: port 0 runs well; and no other port was stopped
 well : (n : ℕ) → RunsWellAnew fault_evidence recovery_accesses submitted_at both recovered (port_at n)
-well zero = λ why ready calm. absurd (
-    let same : calm.gained ≡ entry.Fault fault ∷ [] = append_cancel_left pages calm.gained (entry.Fault fault ∷ []) (sym calm.tape) in
-    All-contains (λ e. IsDisturbance 0 e → ⊥) calm.gained (entry.Fault fault) calm.calm
-    (subst (λ (es : List Entry). Contains es (entry.Fault fault)) (sym same) (0, omega arith, refl)) refl)
+well zero = λ why ready plugs unfailed unbroken how. runs_well
 well (suc n) = λ why. absurd (⊎_elim (unnamed n).stopped (unnamed n).stuck why)
 
 part_of : (n : ℕ) → TiesPort submitted_at service recovery_accesses (port_at n)
@@ -346,27 +364,6 @@ ties = record {
   issues = λ port is r here. absurd (nowhere r here);
   port = λ port healthy. part_of port.0;
   holds = (no_slots, holds_recovered);
-}
-
--- the bits of PxIS are clear again
-quiet_again : (place : ℕ) → started.is place ≡ false
-unfolding changed
-quiet_again place = ⊎_elim
-    (λ (same : place ≡ 30). subst (λ (k : ℕ). started.is k ≡ false) (sym same) refl)
-    (λ (ne : place ≢ 30). ap (λ (b : Bool). b && not (bit 0xffffffff place)) (cond-false (place == 30) true false (ne_eqb place 30 ne)))
-    (cases_eq place 30)
-
-runs_well : RunsWell started
-runs_well = record {
-  st = refl;
-  cr = refl;
-  det = refl;
-  present = refl;
-  fresh = refl;
-  linked = refl;
-  running = refl;
-  whole = refl;
-  quiet = record { serr_n = refl; serr_x = refl; quiet = λ place from to. quiet_again place };
 }
 
 pub recovery_ties : RecoveryTies

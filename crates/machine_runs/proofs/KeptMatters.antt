@@ -16,11 +16,10 @@ use Rattle.block_machine.specs.declared.due.Mode.{Mode}
 use Rattle.block_machine.specs.Rules.{IsCount, frames_for}
 use Rattle.block_machine.specs.Refusals.{Situation}
 use Rattle.block_machine.specs.Due.{is_flush, is_writer}
-use Rattle.block_machine.specs.State.{Block, Memory, Accepted, Pending, Machine, block_of, is_reader, unanswered, written_by}
+use Rattle.block_machine.specs.State.{Block, Memory, Accepted, Pending, Machine, block_of, is_reader, written_by}
 use Rattle.block_machine.specs.Steps.{Step, Accept, Issue, Touch, End, Answer, newly_accepted, issue, touch, mark_ended, unanswered_of, IsNew}
 use Rattle.block_machine.specs.Left.{after, HoldsLeft, IsLeft, HasTouched, Wrote}
 use Rattle.machine_runs.specs.Worked.{IsLoose, GoesWrong}
-use Rattle.block_machine.proofs.Members.{contains_here}
 use Rattle.block_machine.proofs.Setting.{client, port, frame, row, two_rows, request, empty, its_row, is_trim, filled_starts, IsFit, acceptable}
 
 -- each frame is filled with its number
@@ -65,7 +64,7 @@ fit : (m : Machine) (n : ℕ) (op : Op) → m.rows ≡ two_rows → m.owner (fra
     → op ≢ Trim → op ≢ Flush → frames_for op 1 ≡ 1 → IsCount op 1 → Allows (row 0).rights op → IsFit 0 (meets m) (one_sector n op).asked
 fit m n op same_rows own free none ids no_trim no_flush frames count allowed = record {
   rows = same_rows;
-  mine = contains_here (row 0) (row 1 ∷ []) (row 0) refl;
+  mine = (0, omega arith, refl);
   client_is = refl;
   grant = refl;
   allowed = allowed;
@@ -138,13 +137,13 @@ wrong h = go (h.sectors 0 (omega arith)).1
     go (inr r) = r.0 (one_sector 2 Write) two_wrote
 
 here : (e : Pending) → Contains (e ∷ []) e
-here e = contains_here e [] e refl
+here e = (0, omega arith, refl)
 
 one_touched : (i : ℕ) → i < 1 → ((i == 0) || false) ≡ true
 one_touched i lt = or_left _ _ (eq-eqb i 0 (omega arith))
 
 loose : IsLoose start history
-loose = ((((((((((((tt, new start 1 Write (write_fits start 1 refl refl refl refl (omega arith)) refl refl refl), (here (newly_accepted (one_sector 1 Write)), record { here = contains_here (unanswered (newly_accepted (one_sector 1 Write))) [] (unanswered (newly_accepted (one_sector 1 Write))) refl; clear = refl; slot = λ _. omega arith })), here one), new (after start first_part) 2 Write (write_fits (after start first_part) 2 refl refl refl refl (omega arith)) refl refl refl), (here (newly_accepted (one_sector 2 Write)), record { here = contains_here (unanswered (newly_accepted (one_sector 2 Write))) [] (unanswered (newly_accepted (one_sector 2 Write))) refl; clear = refl; slot = λ _. omega arith })), (inl (here two, refl), omega arith, refl, omega arith, λ _ b lt. refl)), (inr (here one), omega arith, refl, omega arith, λ _ b lt. refl)), (inl (here (touch 0 two), refl), one_touched, refl)), here (mark_ended (touch 0 two))), new (after start second_part) 3 Read (read_fits (after start second_part) 3 refl refl refl refl (omega arith)) refl refl refl), (here (newly_accepted (one_sector 3 Read)), record { here = contains_here (unanswered (newly_accepted (one_sector 3 Read))) [] (unanswered (newly_accepted (one_sector 3 Read))) refl; clear = refl; slot = λ _. omega arith })), (inl (here read, refl), omega arith, refl, omega arith, λ e. absurd (false≢true (sym (ap is_reader e)))))
+loose = ((((((((((((tt, new start 1 Write (write_fits start 1 refl refl refl refl (omega arith)) refl refl refl), (here (newly_accepted (one_sector 1 Write)), record { here = (0, omega arith, refl); clear = refl; slot = λ _. omega arith })), here one), new (after start first_part) 2 Write (write_fits (after start first_part) 2 refl refl refl refl (omega arith)) refl refl refl), (here (newly_accepted (one_sector 2 Write)), record { here = (0, omega arith, refl); clear = refl; slot = λ _. omega arith })), (inl (here two, refl), omega arith, refl, omega arith, λ _ b lt. refl)), (inr (here one), omega arith, refl, omega arith, λ _ b lt. refl)), (inl (here (touch 0 two), refl), one_touched, refl)), here (mark_ended (touch 0 two))), new (after start second_part) 3 Read (read_fits (after start second_part) 3 refl refl refl refl (omega arith)) refl refl refl), (here (newly_accepted (one_sector 3 Read)), record { here = (0, omega arith, refl); clear = refl; slot = λ _. omega arith })), (inl (here read, refl), omega arith, refl, omega arith, λ e. absurd (false≢true (sym (ap is_reader e)))))
 
 pub goes_wrong : GoesWrong
 goes_wrong = record {

@@ -1,6 +1,7 @@
 -- A run in which resets issue a request anew, abort it in the end, and issue one that waited for it.
 use Rattle.std.proofs.Common.{◌≡◌, ℕ, ◌<◌, true, suc, List, [], ◌∷◌, Some, inl, inr, refl, arith}
 use Rattle.std.proofs.lemmas.Bool.{false≢true}
+use Rattle.std.proofs.lemmas.List.Elements.{All-contains, All-nil}
 use Rattle.ata_types.specs.declared.Port.{Port}
 use Rattle.ata_types.specs.declared.PortState.TheVariants.{Ready}
 use Rattle.ata_types.specs.declared.request.Outcome.TheVariants as outcome
@@ -9,7 +10,6 @@ use Rattle.block_machine.specs.State.{Pending, Machine, unanswered}
 use Rattle.block_machine.specs.Steps.{Issue, Again, Answer, Release, newly_accepted, issue, requeued}
 use Rattle.block_machine.specs.Events.{Moment, Reset, WasReset, Event, Happens, IsIssuedIn, reply_of, moment_of, moment_after}
 use Rattle.machine_runs.specs.Worked.{GoesAgainInResets}
-use Rattle.block_machine.proofs.Members.{contains_none, contains_here}
 use Rattle.block_machine.proofs.Setting.{port, empty_starts}
 use Rattle.machine_runs.proofs.Scene.{mode, ports, first, one_issued, one_told, none_told, none_unplugged, finds_none, emptied_of, only_one, of_two, ports_fit, none_dead, spares_ports}
 use Rattle.machine_runs.proofs.WaitingRun.{write, read, run2, happens1, happens2, none_due}
@@ -33,7 +33,7 @@ abbrev abort : Event (Unit {0})
 abort = record { ask = Reset; said = WasReset (Some (reply_of (tried 4, outcome.Aborted) ∷ [])); evidence = halted; steps = Issue mode waits ∷ Answer (tried 4) outcome.Aborted ∷ Release ∷ []; ports = ports }
 
 becomes : (p : Port) → MayBecome ports halted ports p
-becomes p = record { served = refl; stuck = λ dead. none_dead p dead; dies = λ h. absurd (contains_none p h); keeps = λ _. (refl, refl) }
+becomes p = record { served = refl; stuck = λ dead. none_dead p dead; dies = λ h. absurd (All-contains (λ _. ⊥) [] p (All-nil (λ _. ⊥)) h); keeps = λ _. (refl, refl) }
 
 -- the moment before a reset
 abbrev before : Machine → ℕ → Moment
@@ -42,12 +42,12 @@ before m n = record { machine = record m { book = tried n ∷ waits ∷ []; kept
 again : (m : Machine) (n : ℕ) → ((p : Port) → m.present p ≡ true) → n < 4 → Happens (before m n) (retry n)
 again m n present few = record {
   may = (
-    ((tt, tt), (contains_here (tried n) (waits ∷ []) (tried n) refl, refl, few)),
-    (contains_here (requeued (tried n)) (waits ∷ []) (requeued (tried n)) refl, record { here = contains_here (unanswered (requeued (tried n))) (unanswered waits ∷ []) (unanswered (requeued (tried n))) refl; clear = refl; slot = λ _. omega arith }, λ e h. absurd (contains_none e h)),
+    ((tt, tt), ((0, omega arith, refl), refl, few)),
+    ((0, omega arith, refl), record { here = (0, omega arith, refl); clear = refl; slot = λ _. omega arith }, λ e h. absurd (All-contains (λ _. ⊥) [] e (All-nil (λ _. ⊥)) h)),
   );
   belong = (((tt, inr tt), inr refl), inr (refl, refl));
   last = (((tt, λ id h i. false≢true i), λ id h i. false≢true i), λ id h i. false≢true i);
-  lawful = (tt, contains_here port [] port refl);
+  lawful = (tt, (0, omega arith, refl));
   fit = ports_fit Ready refl;
   disks = λ e o h i same. (refl, refl);
   answered = record {
@@ -69,12 +69,12 @@ again m n present few = record {
 happens6 : Happens (moment_of first run5) abort
 happens6 = record {
   may = (
-    ((tt, tt), contains_here (tried 4) (waits ∷ []) (tried 4) refl),
-    (contains_here waits [] waits refl, record { here = contains_here (unanswered waits) [] (unanswered waits) refl; clear = refl; slot = λ _. omega arith }, λ e h. absurd (contains_none e h)),
+    ((tt, tt), (0, omega arith, refl)),
+    ((0, omega arith, refl), record { here = (0, omega arith, refl); clear = refl; slot = λ _. omega arith }, λ e h. absurd (All-contains (λ _. ⊥) [] e (All-nil (λ _. ⊥)) h)),
   );
   belong = (((tt, inr tt), inr tt), inr (refl, refl));
   last = (((tt, λ id h i. false≢true i), λ id h i. false≢true i), λ id h i. false≢true i);
-  lawful = (tt, (record { pending = tried 4; here = contains_here (tried 4) (waits ∷ []) (tried 4) refl; id_is = refl; issued = refl }, refl, refl, contains_here port [] port refl, (refl, refl)));
+  lawful = (tt, (record { pending = tried 4; here = (0, omega arith, refl); id_is = refl; issued = refl }, refl, refl, (0, omega arith, refl), (refl, refl)));
   fit = ports_fit Ready refl;
   disks = λ e o h i same. (refl, refl);
   answered = record {

@@ -17,7 +17,7 @@ use Rattle.agreement.specs.Driven.{IsControl, IsDrivenBy, IsFollowed}
 use Rattle.agreement.specs.Driver.{AllFree}
 use Rattle.agreement.specs.Errors.{NoneFatal, NoneFails}
 use Rattle.agreement.specs.Facts.{Undisturbed, ShowsNoTrouble}
-use Rattle.agreement.specs.Links.{SparesRegister}
+use Rattle.agreement.specs.Links.{PlugsNone, SparesRegister}
 use Rattle.agreement.specs.Started.{IsStarted}
 use Rattle.agreement.specs.Driven.{Grows}
 use Rattle.disk_page.specs.Asking.{IsAsking, LeavesRunning}
@@ -111,16 +111,16 @@ module _ (laws : Laws) where
     fault_since : HasCauses port.0 old new → NoneFails port.0 start new → (new.port port.0).is 30 ≡ false
     fault_since goes none = goes.errors.fault (laws.fails_parts port.0 start old new early.0 late.0 early.1 late.1 none).1 (up.calm 30 (omega arith))
 
-    no_trouble : HasCauses port.0 old new → Undisturbed port.0 start new → ShowsNoTrouble (new.port port.0)
-    no_trouble goes calm =
-        let plugs = laws.undisturbed_plugs port.0 start new calm in
+    -- where no disk went or came, and nothing else went wrong since the port was up
+    no_trouble : HasCauses port.0 old new → PlugsNone port.0 start new → Undisturbed port.0 old new → ShowsNoTrouble (new.port port.0)
+    no_trouble goes plugs calm =
         let clear = clear_since goes in
         record {
           serr_n = clear.serr_n plugs;
           serr_x = clear.serr_x (laws.plugs_come port.0 start new plugs);
           quiet = λ place low high. elim (cases_eq place 30) [
-            | inl e ↦ let P : ℕ → Type 0 = λ k. (new.port port.0).is k ≡ false in subst P (sym e) (fault_since goes (laws.undisturbed_fails port.0 start new calm))
-            | inr ne ↦ fatal_since goes (laws.undisturbed_fatal port.0 start new calm) place low (omega (arith, high, ne))
+            | inl e ↦ let P : ℕ → Type 0 = λ k. (new.port port.0).is k ≡ false in subst P (sym e) (goes.errors.fault (laws.undisturbed_fails port.0 old new calm) (up.calm 30 (omega arith)))
+            | inr ne ↦ goes.errors.fatal (laws.undisturbed_fatal port.0 old new calm) place low (omega (arith, high, ne)) (up.calm place (omega (arith, high)))
           ];
         }
 
@@ -136,7 +136,17 @@ module _ (laws : Laws) where
       fatal = fatal_since runs.goes;
       fault = fault_since runs.goes;
       recorded = runs.recorded up.recorded;
-      well = λ calm. let s = started_then calm in laws.well_of (new.port port.0) (runs.started s.0 s.1) (no_trouble runs.goes calm);
+      well = λ calm. let s = started_then calm in laws.well_of (new.port port.0) (runs.started s.0 s.1) (no_trouble runs.goes (laws.undisturbed_plugs port.0 start new calm) s.0);
+    }
+
+    pub gets_ready : GetsAsked port old new → RunsOn port.0 old new → GetsReady port start new
+    gets_ready then runs = record {
+      up = old;
+      first = up.way;
+      then = then;
+      well = λ plugs calm.
+          let parts = plugs_in_parts laws port.0 start old new early late plugs in
+          laws.well_of (new.port port.0) (runs.started calm (up.well parts.0)) (no_trouble runs.goes plugs calm);
     }
 
     pub ends_late : StopsThen port old new → EndsLate port start new
@@ -151,9 +161,10 @@ module _ (laws : Laws) where
   -- ---- by what is answered
 
   module _ {T : Type 0} (port : Port) (start old new : Device) (early : Grows start old) where
-    pub whole_way : (result : Result T PortState) → IsBroughtUp port start old → OnOk result (GetsAsked port old new) → OnOk result (GetsReady port start new)
-    whole_way (Ok x) up then = record { up = old; first = up.way; then = then }
-    whole_way (Err state) up then = then
+    pub whole_way : (result : Result T PortState) → IsBroughtUp port start old → OnOk result (GetsAsked port old new) → OnOk result (IsFollowed (IsOfBoot port) (λ uses. AllFree uses port.0) old new) → OnOk result (RunsOn port.0 old new) →
+        OnOk result (GetsReady port start new)
+    whole_way (Ok x) up then boots runs = gets_ready port start old new up early (driven_grows laws (IsOfBoot port) old new boots.driven) then runs
+    whole_way (Err state) up then boots runs = runs
 
     pub whole_news : (result : Result T PortState) → IsBroughtUp port start old → OnOk result (IsFollowed (IsOfBoot port) (λ uses. AllFree uses port.0) old new) → OnOk result (RunsOn port.0 old new) → OnOk result (ShowsNews port.0 start new)
     whole_news (Ok x) up boots runs = shows_news port start old new up early (driven_grows laws (IsOfBoot port) old new boots.driven) runs

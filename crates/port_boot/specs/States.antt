@@ -157,11 +157,12 @@ pub record GetsAsked (port : Port) (old new : Device) : Type 0 where
   pub asks : IsDrivenBy (IsAsking port) old asked
   pub tells : Writes (Px port Ie) told_causes asked new
 
--- the whole way to a port that is ready
+-- The whole way to a port that is ready. It runs well where no disk went or came on the way, and nothing went wrong since ST was set.
 pub record GetsReady (port : Port) (old new : Device) : Type 0 where
   pub up : Device
   pub first : GetsUp port old up
   pub then : GetsAsked port up new
+  pub well : PlugsNone port.0 old new → Undisturbed port.0 up new → RunsWell (new.port port.0)
 
 -- The port wasn't started: after COMRESET it was looked at, with this fault. Where no disk came, its link is up if PxSSTS shows one. But
 -- for a missing device, PxSERR and PxIS were cleared.

@@ -25,9 +25,7 @@ use Rattle.block_machine.specs.State as machine
 use Rattle.block_machine.specs.State.{Machine}
 use Rattle.block_machine.specs.Steps.{Step, Accept, IsNew, after_step, lend}
 use Rattle.block_machine.specs.declared.due.Unanswered.{Unanswered}
-use Rattle.block_machine.proofs.EventLemmas.{after-append}
-use Rattle.block_machine.proofs.HistoryLemmas.{may-append, reached_more}
-use Rattle.block_machine.proofs.Members.{append_in, contains_here, contains_there, some_in}
+use Rattle.block_machine.proofs.Members.{append_in, contains_there, some_in}
 use Rattle.agreement.specs.Driven.{IsDrivenBy, known}
 use Rattle.agreement.proofs.Deciding.{accept_knows}
 use Rattle.agreement.proofs.Lasting.{same_refl}
@@ -57,6 +55,7 @@ use Rattle.server_history.proofs.Granting.{has_room, is_accepted, is_new, on_rea
 use Rattle.server_history.proofs.Rounds.{AreIssued, accepts_on, any_append, belong_on, dues, dues_carried, each_driven, each_issued, each_settings, last_on, lawful_on, or_none, settled}
 use Rattle.server_history.proofs.Slots.{ready_found, served_request, serves_used, used_ready}
 use Rattle.server_history.proofs.Told.{no_evidence, told_by, uninterrupted}
+use Rattle.server_history.proofs.Lists.{first_here}
 
 -- ---- what issuing writes
 
@@ -82,7 +81,7 @@ issuing_clears_none port other (Reading r v) here = absurd here.2
 any_in : {X : Type 0} (p : X → Bool) (xs : List X) → list_any p xs ≡ true → (x : X) × Contains xs x × (p x ≡ true)
 any_in p [] h = absurd (false≢true h)
 any_in p (y ∷ ys) h = ⊎_elim
-    (λ here. (y, contains_here y ys y refl, here))
+    (λ here. (y, first_here y ys, here))
     (λ later. let r = any_in p ys later in (r.0, contains_there y ys r.0 r.1, r.2))
     (or_cases (p y) (list_any p ys) h)
 
@@ -143,7 +142,7 @@ module _ (laws : LawsBelow) (s : Server) (k : IsKept s) (r : Request) (acc : IsA
     next = after_step m (Accept request)
 
     reached_next : IsReached next
-    reached_next = reached_more m (Accept request ∷ []) was (tt, fresh)
+    reached_next = laws.basic.reached m (Accept request ∷ []) was (tt, fresh)
 
     stands_next : IsMachineOf more next
     stands_next = record {
@@ -204,8 +203,8 @@ module _ (laws : LawsBelow) (s : Server) (k : IsKept s) (r : Request) (acc : IsA
     pub event : (first : Instant Device) (past : List (Happening Device DeviceStep)) → Leads first past s
         → (h : Happening Device DeviceStep) × (h.event.ask ≡ Submit r) × (h.event.said ≡ Submitted (Ok id)) × Leads first (h ∷ past) new
     event first past leads =
-        lead_by first past s new (Submit r) (Submitted (Ok id)) (x.steps ++ early) (ap (λ (n : Server). n.wanted) same) (ap ports_of same) leads settles.kept
-        (may-append m x.steps early (tt, fresh m was is) x.may)
+        lead_by laws first past s new (Submit r) (Submitted (Ok id)) (x.steps ++ early) (ap (λ (n : Server). n.wanted) same) (ap ports_of same) leads settles.kept
+        (laws.basic.may m x.steps early (tt, fresh m was is) x.may)
         (belong_on mode port {D = DeviceStep} (Submit r) (ports_of new) (λ p own. (its_ready p own, its_mode p own)) x.steps early x.only (tt, inr refl))
         (last_on mode port x.steps early x.only x.last (tt, λ other h i. false≢true h) (λ other i j. false≢true j))
         (lawful_on mode port old.moment no_evidence (ports_of new) x.steps early x.only tt)
@@ -214,7 +213,7 @@ module _ (laws : LawsBelow) (s : Server) (k : IsKept s) (r : Request) (acc : IsA
         (driven.all, (row, its_row, All-weaker (IssuesIn port) (IssuesOn row.port) (λ access here. subst (λ (p : Port). IssuesOn p access) (sym port_is) (issuing_is port port_low access here)) driven.accesses driven.only))
         (λ other. All-weaker (IssuesIn port) (LeavesEngine other) (issuing_leaves port other) driven.accesses driven.only)
         (λ other is_ready. due_now other)
-        (λ other asks. record { finds = tt; faults = tt; tries = tt; boots = tt; trouble = laws.ordinary other (with_device s.device old) new.device driven.accesses (told_by s.device old.moment.ports) (ports_of new) k.on asks driven.all (All-weaker (IssuesIn port) (SparesRegister Ghc) (issuing_spares_host port) driven.accesses driven.only) (All-weaker (IssuesIn port) (ClearsNone other) (issuing_clears_none port other) driven.accesses driven.only); well = λ i. absurd (uninterrupted s.device old.moment.ports other i); heeds = uninterrupted s.device old.moment.ports other })
+        (λ other asks. record { finds = tt; faults = tt; tries = tt; boots = tt; trouble = laws.calls.ordinary other (with_device s.device old) new.device driven.accesses (told_by s.device old.moment.ports) (ports_of new) k.on asks driven.all (All-weaker (IssuesIn port) (SparesRegister Ghc) (issuing_spares_host port) driven.accesses driven.only) (All-weaker (IssuesIn port) (ClearsNone other) (issuing_clears_none port other) driven.accesses driven.only); well = λ i. absurd (uninterrupted s.device old.moment.ports other i); heeds = uninterrupted s.device old.moment.ports other })
         (laws.backed_parts s.device s.device new.device m early x.steps (laws.backed_own s.device m (Accept asked) (λ no. no)) x.backed)
         stands
       where
@@ -225,7 +224,7 @@ module _ (laws : LawsBelow) (s : Server) (k : IsKept s) (r : Request) (acc : IsA
         m = old.moment.machine
 
         was : IsReached m
-        was = reached first past s leads
+        was = reached laws first past s leads
 
         is : IsMachineOf s m
         is = leads.stands.machine
@@ -240,7 +239,7 @@ module _ (laws : LawsBelow) (s : Server) (k : IsKept s) (r : Request) (acc : IsA
         x = each_issued laws port ids more new accept_kept issues (next m was is) (reached_next m was is) (stands_next m was is)
 
         stands : IsMachineOf new (after m (x.steps ++ early))
-        stands = subst (IsMachineOf new) (sym (after-append m x.steps early)) x.stands
+        stands = subst (IsMachineOf new) (sym (laws.basic.joined m x.steps early)) x.stands
 
         mode : Mode
         mode = mode_in s port
@@ -272,7 +271,7 @@ module _ (laws : LawsBelow) (s : Server) (k : IsKept s) (r : Request) (acc : IsA
         due_now : (other : Port) → IssuesDue (mode_in new other) (x.steps ++ early) (after m (x.steps ++ early)) other
         due_now other =
             subst (λ (takes : Mode). IssuesDue takes (x.steps ++ early) (after m (x.steps ++ early)) other) (sym (mode_is other))
-            (subst (λ (n : Machine). IssuesDue (mode_in s other) (x.steps ++ early) n other) (sym (after-append m x.steps early))
+            (subst (λ (n : Machine). IssuesDue (mode_in s other) (x.steps ++ early) n other) (sym (laws.basic.joined m x.steps early))
             (dues_carried laws (mode_in s other) x.steps (x.steps ++ early) (after (next m was is) x.steps) (after (next m was is) x.steps) other refl
             (λ u here own. sym (any_append (issues_it u.id) x.steps early ∙ or_none (list_any (issues_it u.id) x.steps)))
             (dues laws port more new accept_kept issues (next m was is) x other (none_other other))))

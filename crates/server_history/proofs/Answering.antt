@@ -15,7 +15,6 @@ use Rattle.adapter.proofs.Changed.{changed_each}
 use Rattle.block_machine.specs.Histories.{IsReached}
 use Rattle.block_machine.specs.State.{Machine, Pending}
 use Rattle.block_machine.specs.Steps.{Answer, IsLiving, after_step, is_lent_to, unlend}
-use Rattle.block_machine.proofs.HistoryLemmas.{reached_more}
 use Rattle.block_machine.proofs.Lending.{lent_own}
 use Rattle.block_machine.proofs.Members.{contains_cases}
 use Rattle.agreement.specs.Driven.{known}
@@ -194,7 +193,7 @@ module _ (laws : LawsBelow) (s new : Server) (port : Port) (e : Held) (k : IsKep
       (laws.fewer s.book id k.ordered)
       (left_each (λ y. y.entry.id.0 ≤ s.last) k.handed_out)
       (left_each (λ y. state_of (found_of s.ports y.entry.port.0) ≡ ReadyState) k.ready)
-      (after_step k.machine (Answer a.done outcome.Ok)) (reached_more k.machine (Answer a.done outcome.Ok ∷ []) k.reached (tt, a.here))
+      (after_step k.machine (Answer a.done outcome.Ok)) (laws.basic.reached k.machine (Answer a.done outcome.Ok ∷ []) k.reached (tt, a.here))
       (subst (λ (n : Server). IsMachineOf n (after_step k.machine (Answer a.done outcome.Ok))) one.server a.stands))
     where
       slot_low : slot < usable_of (found_of s.ports port.0) (mode_at s.modes port.0)

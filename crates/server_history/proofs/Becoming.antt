@@ -2,7 +2,7 @@
 use Rattle.std.proofs.Common.{◌≡◌, ◌≢◌, ◌<◌, true, List, [], ◌∷◌, length, Option, Some, None, refl, sym, ap, ap₂, ◌∙◌, subst, inl, inr, arith}
 use Rattle.std.specs.List.{All, Contains}
 use Rattle.std.proofs.lemmas.List.{get_or-set_same}
-use Rattle.std.proofs.lemmas.List.Elements.{All-cons, All-nil}
+use Rattle.std.proofs.lemmas.List.Elements.{All-cons, All-nil, All-contains}
 use Rattle.ata_types.specs.declared.Port.{Port}
 use Rattle.ata_types.specs.declared.PortState.TheVariants as shown
 use Rattle.ata_types.specs.declared.PortState.TheVariants.{Dead as DeadState, Ready as ReadyState}
@@ -10,7 +10,6 @@ use Rattle.ata_types.specs.declared.request.Reply.{Reply}
 use Rattle.adapter.specs.Device.{Device}
 use Rattle.agreement.specs.Driven.{AnyUse, IsFollowed}
 use Rattle.block_machine.specs.Ports.{Evidence, IsInterrupted, IsServiced, SameDisk}
-use Rattle.block_machine.proofs.Members.{contains_here, contains_none}
 use Rattle.error_recovery.specs.declared.Next.{Next}
 use Rattle.error_recovery.specs.declared.Next.TheVariants as next
 use Rattle.host_boot.specs.Again.{BootsStopped}
@@ -35,6 +34,7 @@ use Rattle.server_history.proofs.Rounds.{each_settings}
 use Rattle.server_history.proofs.Settling.{answers_settings}
 use Rattle.server_history.proofs.Slots.{ready_found}
 use Rattle.server_history.proofs.Stretching.{found_is}
+use Rattle.server_history.proofs.Lists.{nowhere}
 
 -- ---- states and prospects
 
@@ -72,19 +72,19 @@ found_served wanted port was next.Dead old new found is = ap is_served is.0
 -- ---- who is named
 
 interrupted_by : (port : Port) (look : Look) (failed : Option Failed) (prospect : Prospect) (then : Next) → (then ≡ next.Dead → prospect ≡ Dead) → IsInterrupted (evidence_of port look failed prospect then) port
-interrupted_by port look failed prospect (next.Running token) dies = inl (contains_here port [] port refl)
-interrupted_by port look failed prospect (next.Restart token) dies = inl (contains_here port [] port refl)
-interrupted_by port look failed prospect next.Dead dies = inr (subst (λ (p : Prospect). Contains (stuck_of port p) port) (sym (dies refl)) (contains_here port [] port refl))
+interrupted_by port look failed prospect (next.Running token) dies = inl (0, omega arith, refl)
+interrupted_by port look failed prospect (next.Restart token) dies = inl (0, omega arith, refl)
+interrupted_by port look failed prospect next.Dead dies = inr (subst (λ (p : Prospect). Contains (stuck_of port p) port) (sym (dies refl)) (0, omega arith, refl))
 
 pub stuck_is : (port : Port) (prospect : Prospect) → Contains (stuck_of port prospect) port → prospect ≡ Dead
-stuck_is port SameProspect here = absurd (contains_none port here)
-stuck_is port DiskLost here = absurd (contains_none port here)
+stuck_is port SameProspect here = absurd (nowhere port here)
+stuck_is port DiskLost here = absurd (nowhere port here)
 stuck_is port Dead here = refl
 
 pub lost_is : (port : Port) (prospect : Prospect) → Contains (lost_of port prospect) port → prospect ≡ DiskLost
-lost_is port SameProspect here = absurd (contains_none port here)
+lost_is port SameProspect here = absurd (nowhere port here)
 lost_is port DiskLost here = refl
-lost_is port Dead here = absurd (contains_none port here)
+lost_is port Dead here = absurd (nowhere port here)
 
 pub names_only : (port : Port) (look : Look) (failed : Option Failed) (prospect : Prospect) (then : Next) → NamesOnly port (evidence_of port look failed prospect then)
 names_only port look failed prospect then = record {
@@ -199,7 +199,7 @@ module _ (laws : LawsBelow) (port : Port) (replies : List Reply) (old new : Serv
     λ lives. (
       record {
         served = ap is_served found_new ∙ found_served (wanted_of old.wanted port.0) port a.was x.result.next a.device r.mid.device a.found a.is ∙ sym (ap is_served a.ready);
-        stuck = λ dead. subst (λ (p : Prospect). Contains (stuck_of port p) port) (sym (found_prospect (dead_found dead))) (contains_here port [] port refl);
+        stuck = λ dead. subst (λ (p : Prospect). Contains (stuck_of port p) port) (sym (found_prospect (dead_found dead))) ((0, omega arith, refl));
         dies = λ stuck. state_new ∙ ap state_of (dead_prospect (stuck_is port a.prospect stuck));
         keeps = λ other. same_disk (disk_is a.found a.was (λ is. other (state_new ∙ is)));
       },

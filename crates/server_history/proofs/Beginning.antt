@@ -47,13 +47,13 @@ use Rattle.identify.specs.declared.DiskInfo.{DiskInfo}
 use Rattle.server_history.proofs.Standing.{holds_with, slots}
 use Rattle.server_history.specs.Histories.{HasBegun}
 use Rattle.block_machine.specs.Due.{NoneDue}
-use Rattle.block_machine.proofs.Members.{contains_none}
 use Rattle.request_queue.specs.Entries.{Held, IsAccepted, IsInOrder, asks_of}
 use Rattle.request_queue.specs.Machine.{IsBook}
 use Rattle.slots.specs.Uses.{Uses as PortSlots}
 use Rattle.server_history.specs.Server.{Server, AreUsesOf, IsKept, IsMachineOf, IsNewServer, IsPortOf, IsSettled, IsUsedAs, is_served, AreKept, AreOfTwo, kept_at, mode_in, ports_of, state_of, use_of, used_for}
 use Rattle.host_boot.proofs.Leaving.{boots_begin}
 use Rattle.agreement.proofs.Driven.{followed_adds}
+use Rattle.server_history.proofs.Lists.{nowhere}
 
 -- ---- the machine of an idle device
 
@@ -189,12 +189,12 @@ none_are_kept : (found : List Found) (kept : List (List Lending)) (requests : Li
 none_are_kept found kept requests none empty = record {
   dead = λ e here. absurd (nobody e here);
   loan = λ e here. absurd (nobody e here);
-  whose = λ port loan here. absurd (contains_none loan (subst (λ (loans : List Lending). Contains loans loan) (empty port) here));
+  whose = λ port loan here. absurd (nowhere loan (subst (λ (loans : List Lending). Contains loans loan) (empty port) here));
   apart = λ port. subst (AllPairs AreOfTwo) (sym (empty port)) (λ i j d lt small. absurd (omega (arith, small)));
 }
   where
     nobody : (e : Pending) → Contains requests e → ⊥
-    nobody e here = contains_none e (subst (λ (es : List Pending). Contains es e) none here)
+    nobody e here = nowhere e (subst (λ (es : List Pending). Contains es e) none here)
 
 -- no requests are in order
 none_in_order : IsInOrder []
@@ -344,7 +344,7 @@ module _ (laws : TakenLaws) (s : Server) (host : Host) (d : Device) (is : IsIdle
 
   -- nothing is asked, so nothing is due
   none_due : (port : Port) → NoneDue (mode_in s port) (asks_of s.book) port
-  none_due port = subst (λ (book : List Held). NoneDue (mode_in s port) (asks_of book) port) (sym n.book) (λ r own due. contains_none r due.here)
+  none_due port = subst (λ (book : List Held). NoneDue (mode_in s port) (asks_of book) port) (sym n.book) (λ r own due. nowhere r due.here)
 
   pub new_server : IsSettled s × HasBegun s
   new_server =

@@ -143,7 +143,7 @@ module _ (laws : LawsBelow) (s : Server) (port : Port) (k : IsKept s) (low : por
           record {
             command = h.command;
             places = h.places;
-            stored = laws.stored (port_at q) slot h.command h.places c.acts (at_slots slots d) (at_slots then new) p.machine p.reached p.knows c.done
+            stored = laws.slots.stored (port_at q) slot h.command h.places c.acts (at_slots slots d) (at_slots then new) p.machine p.reached p.knows c.done
                 (subst (All (LeavesStored (port_at q) slot)) (sym c.accesses_are)
                 (All-weaker (IsMild port) (LeavesStored (port_at q) slot) (mild_leaves laws port (port_at q) slot other low there.0 there.1) accesses only))
                 p.on h.stored;
@@ -155,7 +155,7 @@ module _ (laws : LawsBelow) (s : Server) (port : Port) (k : IsKept s) (low : por
         its = record { accesses = accesses; all = all; only = All-weaker (IsMild port) (IsOf port) (λ access is. is.0) accesses only }
 
         goes : Goes (at_slots slots d) p.machine (steps_of c.acts) (at_slots then new)
-        goes = laws.acts_go c.acts (at_slots slots d) (at_slots then new) p.machine p.knows c.done
+        goes = laws.slots.acts_go c.acts (at_slots slots d) (at_slots then new) p.machine p.knows c.done
 
   -- ---- a stretch that is followed
 

@@ -10,7 +10,6 @@ use Rattle.agreement.specs.Errors.{IsFatalOf}
 use Rattle.agreement.specs.Recovering.{WorksPlainly}
 use Rattle.block_machine.specs.Histories.{IsReached}
 use Rattle.block_machine.specs.State.{Machine}
-use Rattle.block_machine.proofs.Members.{contains_here}
 use Rattle.driver_history.specs.Histories.{HasBadDisk, HasFaultAlone}
 use Rattle.host_boot.specs.Taken.{found_of}
 use Rattle.port_boot.specs.States.{ShowsOwnDisk}
@@ -36,6 +35,7 @@ use Rattle.server_history.proofs.Reboots.{reboots}
 use Rattle.server_history.proofs.Recovery.{evidence_by, fatal_of}
 use Rattle.server_history.proofs.Slots.{ready_found}
 use Rattle.server_history.proofs.Welling.{going_well}
+use Rattle.server_history.proofs.Lists.{first_here}
 
 module _ (laws : LawsBelow) (port : Port) (replies : List Reply) (old new : Server) (k : IsKept old) (ready : state_of (found_of old.ports port.0) ≡ ReadyState) (r : RecoversPort port replies old new)
     (looks : IsFollowed (IsLooking port) AnyUse old.device r.settled.recovered.seen) (kept : IsKept r.mid) (evident : IsEvident port replies old new r)
@@ -70,7 +70,7 @@ module _ (laws : LawsBelow) (port : Port) (replies : List Reply) (old new : Serv
   failing alone = ⊎_elim
       (λ failed. failed)
       (λ broken.
-      let here : Contains (fatal_of port r.settled.recovered.look) port = subst (λ (l : Look). Contains (fatal_of port l) port) (sym broken) (contains_here port [] port refl) in
+      let here : Contains (fatal_of port r.settled.recovered.look) port = subst (λ (l : Look). Contains (fatal_of port l) port) (sym broken) (first_here port []) in
       absurd (⊎_elim alone.shows.fatal (gains_none (IsFatalOf port.0) old.device new.device alone.fatal.gained alone.fatal.tape alone.fatal.none) ((evident.evidenced m).fatal_only here).1))
       (leads r.settled.recovered.look port r.settled.recovered.outstanding r.settled.recovered.queued r.settled.recovered.result r.settled.recovered.mends.accesses r.settled.mid.device r.settled.device r.settled.recovered.tells)
 

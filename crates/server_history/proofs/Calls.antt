@@ -30,7 +30,6 @@ use Rattle.agreement.proofs.Driven.{by_one}
 use Rattle.agreement.proofs.Lasting.{access_same}
 use Rattle.agreement.proofs.Paging.{access_sends_none}
 use Rattle.agreement.proofs.Permitting.{clients_are_free}
-use Rattle.agreement.proofs.Sparing.{steps_spare}
 use Rattle.block_machine.specs.Events.{Ask, Submit, StoreAt, LoadAt, State, AllMay, Device as Told, Said, Submitted, Shown, Stepped, IsAnswered, Moment}
 use Rattle.block_machine.specs.Histories.{Instant, Happening, IsReached, now}
 use Rattle.block_machine.specs.Left.{after}
@@ -39,7 +38,6 @@ use Rattle.block_machine.specs.Refusals.{Situation, IsFirstMemFault, IsFirstRefu
 use Rattle.block_machine.specs.State.{Machine}
 use Rattle.block_machine.specs.Steps.{Step, Load, Store}
 use Rattle.block_machine.specs.Events as events
-use Rattle.block_machine.proofs.HistoryLemmas.{history_reaches}
 use Rattle.block_machine.proofs.Limits.{owned}
 use Rattle.ata_types.specs.declared.refusal.MemFault.TheVariants.{FrameForeign}
 use Rattle.dma_frames.specs.Table.{owner_of, lent_to}
@@ -48,8 +46,7 @@ use Rattle.host_boot.specs.declared.Found.TheVariants.{Unready}
 use Rattle.ata_types.specs.declared.PortState.TheVariants.{Dead}
 use Rattle.port_look.specs.Services.{IsService}
 use Rattle.server_history.specs.Below.{LawsBelow}
-use Rattle.port_look.proofs.Serving.{services_on}
-use Rattle.driver_history.specs.Histories.{Begins, CameBy, Issues, LosesNoTrouble, Ties, TiesPort}
+use Rattle.driver_history.specs.Histories.{CameBy, Issues, LosesNoTrouble, TiesPort}
 use Rattle.driver_history.specs.Guard.{IsAskedOf}
 use Rattle.driver_history.specs.Trace.{ClearsNone, LeavesEngine}
 use Rattle.server_history.specs.Histories.{Adds, Leads, Stands, load_said, store_said}
@@ -68,9 +65,9 @@ use Rattle.server_history.proofs.Slots.{not_own, used_there}
 
 -- ---- what a history leads to
 
-module _ (first : Instant Device) (past : List (Happening Device DeviceStep)) (s : Server) (leads : Leads first past s) where
+module _ (laws : LawsBelow) (first : Instant Device) (past : List (Happening Device DeviceStep)) (s : Server) (leads : Leads first past s) where
   pub reached : IsReached (now first past).moment.machine
-  reached = history_reaches (Begins s.wanted) (Ties s.wanted) first past leads.history
+  reached = laws.basic.history_reached s.wanted first past leads.history
 
 -- what holds of the server's owners and loans holds of the machine's
 pub as_told : (s : Server) (m : Machine) → IsMachineOf s m → (P : (Frame → Option ClientId) → (Frame → Option RequestId) → Type 0) → P (owner_of s.table) (lent_to s.table) → P m.owner m.lent
@@ -116,12 +113,12 @@ module _ (laws : LawsBelow) where
   -- ---- trouble that isn't lost
 
   untroubled : (s : Server) → IsKept s → (m : Moment) (port : Port) → IsAskedOf port (still s m) s.device → LosesNoTrouble (told_by s.device m.ports) (still s m) (ports_of s) s.device port
-  untroubled s k m port asked = laws.ordinary port (still s m) s.device [] (told_by s.device m.ports) (ports_of s) k.on asked refl (All-nil (SparesRegister Ghc)) (All-nil (ClearsNone port))
+  untroubled s k m port asked = laws.calls.ordinary port (still s m) s.device [] (told_by s.device m.ports) (ports_of s) k.on asked refl (All-nil (SparesRegister Ghc)) (All-nil (ClearsNone port))
 
   one_untroubled : (s : Server) → IsKept s → (new : Device) (access : Access) → IsOfBytes access → Does access s.device new → (m : Moment) (port : Port) → IsAskedOf port (still s m) new
       → LosesNoTrouble (told_by s.device m.ports) (still s m) (ports_of s) new port
   one_untroubled s k new access its does m port asked =
-      laws.ordinary port (still s m) new (access ∷ []) (told_by s.device m.ports) (ports_of s) k.on asked (new, does, refl)
+      laws.calls.ordinary port (still s m) new (access ∷ []) (told_by s.device m.ports) (ports_of s) k.on asked (new, does, refl)
       (All-cons (SparesRegister Ghc) access [] (bytes_spare_host access its) (All-nil (SparesRegister Ghc)))
       (All-cons (ClearsNone port) access [] (bytes_clear_none port access its) (All-nil (ClearsNone port)))
 
@@ -153,13 +150,13 @@ module _ (laws : LawsBelow) where
         record {
           command = h.command;
           places = h.places;
-          stored = laws.stored_access k.stands.uses k.machine (port_at port) slot h.command h.places access s.device new k.reached k.stands.knows.agrees k.on.no_reset leaves.start leaves.list leaves.table does h.stored;
+          stored = laws.slots.stored_access k.stands.uses k.machine (port_at port) slot h.command h.places access s.device new k.reached k.stands.knows.agrees k.on.no_reset leaves.start leaves.list leaves.table does h.stored;
           kind = h.kind;
         }
 
     -- a machine that spares the book
     kept_with : (steps : List Step) → AllMay k.machine steps → IsMachineOf (record s { device = new }) (after k.machine steps) → IsKept (record s { device = new })
-    kept_with steps may stands = kept_on s new k (services_on laws.looks s.device new k.on served) same ports_on commands_on steps may stands
+    kept_with steps may stands = kept_on laws s new k (laws.looking.services_on s.device new k.on served) same ports_on commands_on steps may stands
 
   -- ---- the device's steps
 
@@ -167,7 +164,7 @@ module _ (laws : LawsBelow) where
   device_kept s new k steps =
       let x = (device_adds (known k.stands.uses k.stands.parked s.device) new steps).adds k.machine k.reached k.stands.knows in
       kept_with s k new (Loading 0 []) tt (loads_above 0 []) (none_loaded s.device new steps) x.0 x.1
-      (machine_on s new k.machine x.0 k.stands x.3.only x.2)
+      (machine_on laws s new k.machine x.0 k.stands x.3.only x.2)
 
   pub device_adds_event : (s : Server) (new : Device) (step : DeviceStep) → IsSettled s → Asked step s.device new → Steps s.device new
       → Adds s (record s { device = new }) (Told step) (Stepped true)
@@ -179,18 +176,18 @@ module _ (laws : LawsBelow) where
           let old : Instant Device = now first past in
           let at : Stands old s = leads.stands in
           let m = at.machine in
-          let x = (device_adds (known m.uses m.parked s.device) new moves).adds old.moment.machine (reached first past s leads) m.knows in
+          let x = (device_adds (known m.uses m.parked s.device) new moves).adds old.moment.machine (reached laws first past s leads) m.knows in
           let steps : List Step = x.0 in
-          lead_by first past s (record s { device = new }) (Told step) (Stepped true) steps refl refl leads (device_kept s new k.kept moves) x.1 (devices_belong (Told step) (ports_of s) steps x.3.only) (devices_last steps x.3.only)
+          lead_by laws first past s (record s { device = new }) (Told step) (Stepped true) steps refl refl leads (device_kept s new k.kept moves) x.1 (devices_belong (Told step) (ports_of s) steps x.3.only) (devices_last steps x.3.only)
           (devices_lawful old.moment no_evidence (ports_of s) steps x.3.only)
           (x.3.only, ports_same old.moment.ports (ports_of s) at.ports_are)
           []
           (refl, asked)
           (λ port. All-nil (LeavesEngine port))
           (λ port. tt)
-          (λ port asked. record { finds = tt; faults = tt; tries = tt; boots = tt; trouble = laws.ordinary_steps port (with_device s.device old) new (told_by s.device old.moment.ports) (ports_of s) k.kept.on asked moves; well = λ i. absurd (uninterrupted s.device old.moment.ports port i); heeds = uninterrupted s.device old.moment.ports port })
+          (λ port asked. record { finds = tt; faults = tt; tries = tt; boots = tt; trouble = laws.calls.ordinary_steps port (with_device s.device old) new (told_by s.device old.moment.ports) (ports_of s) k.kept.on asked moves; well = λ i. absurd (uninterrupted s.device old.moment.ports port i); heeds = uninterrupted s.device old.moment.ports port })
           x.3.backed
-          (machine_on s new old.moment.machine steps m x.3.only x.2)
+          (machine_on laws s new old.moment.machine steps m x.3.only x.2)
 
   -- ---- calls that do nothing
 
@@ -205,8 +202,8 @@ module _ (laws : LawsBelow) where
           → (h : Happening Device DeviceStep) × (h.event.ask ≡ ask) × (h.event.said ≡ said) × Leads first (h ∷ past) s
       adds first past leads =
           let old : Instant Device = now first past in
-          lead_by first past s s ask said [] refl refl leads k.kept tt tt tt tt (answered old leads.stands (told_by s.device old.moment.ports)) [] (came old.moment)
-          (λ port. All-nil (LeavesEngine port)) (issues old (reached first past s leads) leads.stands) (λ port asked. parts old.moment port asked) (nothing_backed s.device old.moment.machine) leads.stands.machine
+          lead_by laws first past s s ask said [] refl refl leads k.kept tt tt tt tt (answered old leads.stands (told_by s.device old.moment.ports)) [] (came old.moment)
+          (λ port. All-nil (LeavesEngine port)) (issues old (reached laws first past s leads) leads.stands) (λ port asked. parts old.moment port asked) (nothing_backed s.device old.moment.machine) leads.stands.machine
 
   pub undone_adds : (s : Server) (step : DeviceStep) → IsSettled s → Adds s s (Told step) (Stepped false)
   undone_adds s step k =
@@ -276,7 +273,7 @@ module _ (laws : LawsBelow) where
   load_ends s new client frame offset bytes k opens loads m r is =
       let x : EndsWith (known is.uses is.parked s.device) m (Load client frame offset bytes) (known is.uses is.parked new) =
       client_loads (known is.uses is.parked s.device) m client frame offset bytes new r is.knows (as_told s m is (λ owner lent. IsOpen owner lent client frame offset (length bytes)) opens) loads in
-      (x, machine_with s new m (after m (Load client frame offset bytes ∷ x.steps)) is (steps_spare m x.steps x.only) x.knows)
+      (x, machine_with laws s new m (after m (Load client frame offset bytes ∷ x.steps)) is (laws.basic.spares m x.steps x.only) x.knows)
 
   store_ends : (s : Server) (new : Device) (client : ClientId) (frame : Frame) (offset : ℕ) (bytes : List ℕ) → IsKept s → IsOpen (owner_of s.table) (lent_to s.table) client frame offset (length bytes)
       → Stores (4096 * frame.0 + offset) bytes s.device new → (m : Machine) → IsReached m → (is : IsMachineOf s m)
@@ -284,9 +281,9 @@ module _ (laws : LawsBelow) where
   store_ends s new client frame offset bytes k opens stores m r is =
       let x : EndsWith (known is.uses is.parked s.device) m (Store client frame offset bytes) (known is.uses is.parked new) =
       client_stores (known is.uses is.parked s.device) m client frame offset bytes new r is.knows (as_told s m is (λ owner lent. IsOpen owner lent client frame offset (length bytes)) opens) stores in
-      let spares : SparesBook m (after m x.steps) = steps_spare m x.steps x.only in (
+      let spares : SparesBook m (after m x.steps) = laws.basic.spares m x.steps x.only in (
         x,
-        machine_with s new m (after m (Store client frame offset bytes ∷ x.steps)) is
+        machine_with laws s new m (after m (Store client frame offset bytes ∷ x.steps)) is
             (record { rows = spares.rows; owner = spares.owner; lent = spares.lent; next = spares.next; book = spares.book; kept = spares.kept }) x.knows,
       )
 
@@ -321,8 +318,8 @@ module _ (laws : LawsBelow) where
         adds first past leads =
             let old : Instant Device = now first past in
             let at : Stands old s = leads.stands in
-            let x = load_ends s new client frame offset bytes k opens loads old.moment.machine (reached first past s leads) at.machine in
-            lead_by first past s (record s { device = new }) (LoadAt client frame offset (length bytes)) (load_said (Ok tt) bytes) (Load client frame offset bytes ∷ x.0.steps) refl refl leads (load_kept loads) x.0.may (devices_belong {D = DeviceStep} (LoadAt client frame offset (length bytes)) (ports_of s) x.0.steps x.0.only, inr (refl, refl, refl, refl))
+            let x = load_ends s new client frame offset bytes k opens loads old.moment.machine (reached laws first past s leads) at.machine in
+            lead_by laws first past s (record s { device = new }) (LoadAt client frame offset (length bytes)) (load_said (Ok tt) bytes) (Load client frame offset bytes ∷ x.0.steps) refl refl leads (load_kept loads) x.0.may (devices_belong {D = DeviceStep} (LoadAt client frame offset (length bytes)) (ports_of s) x.0.steps x.0.only, inr (refl, refl, refl, refl))
             (devices_last x.0.steps x.0.only, λ id h i. false≢true h)
             (devices_lawful old.moment no_evidence (ports_of s) x.0.steps x.0.only)
             (as_told s old.moment.machine at.machine (λ owner lent. IsOpen owner lent client frame offset (length bytes)) opens, ap (λ (rest : List (List ℕ)). bytes ∷ rest) (devices_transfer x.0.steps x.0.only), ports_same old.moment.ports (ports_of s) at.ports_are)
@@ -341,8 +338,8 @@ module _ (laws : LawsBelow) where
         adds first past leads =
             let old : Instant Device = now first past in
             let at : Stands old s = leads.stands in
-            let x = store_ends s new client frame offset bytes k opens stores old.moment.machine (reached first past s leads) at.machine in
-            lead_by first past s (record s { device = new }) (StoreAt client frame offset bytes) (store_said (Ok tt)) (Store client frame offset bytes ∷ x.0.steps) refl refl leads (store_kept stores) x.0.may (devices_belong {D = DeviceStep} (StoreAt client frame offset bytes) (ports_of s) x.0.steps x.0.only, inr (refl, refl, refl, refl))
+            let x = store_ends s new client frame offset bytes k opens stores old.moment.machine (reached laws first past s leads) at.machine in
+            lead_by laws first past s (record s { device = new }) (StoreAt client frame offset bytes) (store_said (Ok tt)) (Store client frame offset bytes ∷ x.0.steps) refl refl leads (store_kept stores) x.0.may (devices_belong {D = DeviceStep} (StoreAt client frame offset bytes) (ports_of s) x.0.steps x.0.only, inr (refl, refl, refl, refl))
             (devices_last x.0.steps x.0.only, λ id h i. false≢true h)
             (devices_lawful old.moment no_evidence (ports_of s) x.0.steps x.0.only)
             (as_told s old.moment.machine at.machine (λ owner lent. IsOpen owner lent client frame offset (length bytes)) opens, ap (λ (rest : List (List ℕ)). bytes ∷ rest) (devices_transfer x.0.steps x.0.only), ports_same old.moment.ports (ports_of s) at.ports_are)

@@ -24,7 +24,6 @@ use Rattle.block_machine.specs.Ports.{Evidence, IsInterrupted, Ports, SamePort}
 use Rattle.block_machine.specs.State.{Machine, Pending}
 use Rattle.block_machine.specs.Steps.{Step, Answer}
 use Rattle.block_machine.proofs.Counting.{count_append}
-use Rattle.block_machine.proofs.EventLemmas.{after-append}
 use Rattle.host_boot.specs.Taken.{found_of}
 use Rattle.driver_history.specs.Evidence.{ShowsFailure}
 use Rattle.driver_history.specs.Guard.{IsAskedOf}
@@ -72,7 +71,7 @@ module _ (laws : LawsBelow) (s : Server) (start : IsSettled s) (old : Moment) (r
     accesses = p.accesses ++ part.accesses
 
     whole_is : after old.machine all ≡ after m x.steps
-    whole_is = after-append old.machine x.steps p.steps
+    whole_is = laws.basic.joined old.machine x.steps p.steps
 
     module _ (q : Port) (apart : q ≢ port_at n) (d : IsDone c p.accesses p.steps p.evidence q) (evidence : Evidence) (alike : NamesAlike q p.evidence evidence) (same : SamePort (ports_of c) (ports_of mid) q)
         (asked : IsAskedOf q began mid.device) where
@@ -104,7 +103,7 @@ module _ (laws : LawsBelow) (s : Server) (start : IsSettled s) (old : Moment) (r
       }
 
       asked_so_far : IsAskedOf q began c.device
-      asked_so_far = laws.asked_then q began old mid.device kept.on undue t p.on asked.ready asked
+      asked_so_far = laws.calls.asked_then q began old mid.device kept.on undue t p.on asked.ready asked
 
       abbrev did : TiesPort began (turn_of [] c p.evidence p.steps) p.accesses q
       did = d.ties asked_so_far
@@ -143,7 +142,7 @@ module _ (laws : LawsBelow) (s : Server) (start : IsSettled s) (old : Moment) (r
       }
 
       alone_so_far : HasFaultAlone q began mid.device → HasFaultAlone q began c.device
-      alone_so_far alone = laws.alone_then q began old mid.device kept.on undue t p.on asked.ready alone
+      alone_so_far alone = laws.calls.alone_then q began old mid.device kept.on undue t p.on asked.ready alone
 
       -- ---- what the call heeds of it
 
@@ -175,12 +174,12 @@ module _ (laws : LawsBelow) (s : Server) (start : IsSettled s) (old : Moment) (r
       heeds_whole = record {
         ended = λ e there own ended. let y = serves.ended e there own ended in (y.0, y.1, Contains-append_right x.steps p.steps (Answer y.0 Ok) y.2);
         emptied = λ gone e here own.
-            let b = stood (port_at n) m x.steps x.own e (in_turn e here) in
+            let b = stood laws (port_at n) m x.steps x.own e (in_turn e here) in
             serves.emptied (alike.gone.1 gone) b.was b.here (ap (λ r. r.port) b.request ∙ own);
         told = λ gone. ⊎_elim (λ a. inl (told_whole _ a)) (λ b. inr (told_whole _ b)) (serves.told (alike.gone.1 gone));
         interrupts = λ trouble. named (serves.interrupts (⊎_elim (λ failed. inl (alike.failed.1 failed)) (λ gone. inr (alike.gone.1 gone)) trouble));
         anew = λ trouble e here own issued.
-            let b = others_were (port_at n) m m_reached x.steps x.own x.may e (in_turn e here) (λ is. apart (sym own ∙ is)) in
+            let b = others_were laws (port_at n) m m_reached x.steps x.own x.may e (in_turn e here) (λ is. apart (sym own ∙ is)) in
             issued_early e.request.id x.steps p.steps
             (subst (λ r. list_any (issues_it r.id) p.steps ≡ true) (sym b.2.request)
             (serves.anew (⊎_elim (λ failed. inl (alike.failed.1 failed)) (λ stopped. inr (alike.stopped.1 stopped)) trouble) b.0 b.1 (ap (λ r. r.port) (sym b.2.request) ∙ own) (sym b.2.issued ∙ issued)));
@@ -206,7 +205,7 @@ module _ (laws : LawsBelow) (s : Server) (start : IsSettled s) (old : Moment) (r
       set_since : state_of (found_of c.ports q.0) ≡ ReadyState → IsInterrupted p.evidence q → length s.device.tape ≤ (c.device.port q.0).notes.st_set_at
       set_since ready_c i = ⊎_elim
           (λ stopped. ⊎_elim
-          (λ stops. laws.set_since q p.accesses s.device c.device kept.on
+          (λ stops. laws.calls.set_since q p.accesses s.device c.device kept.on
           (All-weaker (IsServing (TendsPort (ports_of s))) (SparesRegister Ghc) (λ access serving. serving.1) p.accesses p.serving) p.does stops ((p.settled.kept.behind q.0 low).runs ready_c).st)
           (λ (reset : _ × _). absurd reset.0)
           (d.evidenced.stopped_only stopped))
@@ -242,8 +241,8 @@ module _ (laws : LawsBelow) (s : Server) (start : IsSettled s) (old : Moment) (r
           missing = λ bad. absurd (not_bad bad);
           changed = λ bad. absurd (not_bad bad);
         };
-        boots = laws.call_boots q began old (ports_of c) (ports_of mid) mid.device (Served []) (Served []) kept.on undue t p.on asked.ready asked same same_self did.boots;
-        trouble = laws.call_trouble q began old (ports_of c) (ports_of mid) mid.device p.evidence evidence kept.on undue t p.on asked.ready asked same alike set_since stops_failed did.trouble;
-        well = laws.call_well q began old (ports_of c) (ports_of mid) mid.device p.evidence evidence kept.on undue t p.on asked.ready asked same alike did.well;
+        boots = laws.calls.call_boots q began old (ports_of c) (ports_of mid) mid.device (Served []) (Served []) kept.on undue t p.on asked.ready asked same same_self did.boots;
+        trouble = laws.calls.call_trouble q began old (ports_of c) (ports_of mid) mid.device p.evidence evidence kept.on undue t p.on asked.ready asked same alike set_since stops_failed did.trouble;
+        well = laws.calls.call_well q began old (ports_of c) (ports_of mid) mid.device p.evidence evidence kept.on undue t p.on asked.ready asked same alike (λ ready_c. ((p.settled.kept.behind q.0 low).runs ready_c).recorded.known) did.well;
         heeds = λ _. heeds_whole;
       }

@@ -16,7 +16,6 @@ use Rattle.adapter.specs.Device.{Device}
 use Rattle.adapter.specs.Memory as memory
 use Rattle.adapter.specs.Rules.{IsOn}
 use Rattle.adapter.specs.Steps.{Steps}
-use Rattle.adapter.proofs.Calls.{does_append}
 use Rattle.agreement.specs.Driven.{IsBitOf, IsDrivenBy, IsOf}
 use Rattle.agreement.specs.Facts.{RunsWell, Undisturbed}
 use Rattle.command_table.specs.Written.{IsStoreWithBlock, IsTableStore}
@@ -192,7 +191,7 @@ module _ (port : Port) where
       checked_driven : IsDrivenBy (IsTurn port) old new
       checked_driven = record {
         accesses = early ++ late;
-        all = does_append early late old t.seen new (look_does t.look old t.seen t.looks) (let r = both_read port (t.calm calm).mask c.done t.seen c.read c.reads in (r.0, r.1, (c.read, r.2, more.all)));
+        all = laws.basic.does_append early late old t.seen new (look_does t.look old t.seen t.looks) (let r = both_read port (t.calm calm).mask c.done t.seen c.read c.reads in (r.0, r.1, (c.read, r.2, more.all)));
         only = All-append (IsTurn port) early late (look_turns t.looks.causes t.looks.own t.looks.status t.looks.alone)
             (All-cons (IsTurn port) (Reading (Px port Ci) c.reads.issued) (Reading (Px port Sact) c.reads.active ∷ more.accesses) (tt, (tt, refl))
             (All-cons (IsTurn port) (Reading (Px port Sact) c.reads.active) more.accesses (tt, (tt, refl)) more.only));

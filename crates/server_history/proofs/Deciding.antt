@@ -15,7 +15,6 @@ use Rattle.ata_types.specs.declared.request.RequestId.{RequestId}
 use Rattle.adapter.specs.declared.access.DeviceStep.{DeviceStep}
 use Rattle.agreement.specs.Driven.{AnyUse, IsFollowed}
 use Rattle.agreement.specs.Driver.{IsBacked}
-use Rattle.agreement.proofs.Sparing.{found_before, steps_spare}
 use Rattle.block_machine.specs.Events.{AllDevices, AllGrounded, AllLawful, AllMay, Belong, IsIssuedIn, IsLawful, IssuesLast, IsToldBefore, Moment, Service, Tells, UnplugsAll, WasIssued, answers_of, issues_it, reply_of}
 use Rattle.block_machine.specs.Histories.{IsReached}
 use Rattle.block_machine.specs.Left.{after}
@@ -24,8 +23,6 @@ use Rattle.block_machine.specs.State.{Machine, Pending}
 use Rattle.block_machine.specs.Steps.{Step, Again, Answer, Issue}
 use Rattle.block_machine.specs.declared.due.Mode.{Mode}
 use Rattle.block_machine.specs.declared.due.Unanswered.{Unanswered}
-use Rattle.block_machine.proofs.EventLemmas.{after-append}
-use Rattle.block_machine.proofs.HistoryLemmas.{may-append, reached_more}
 use Rattle.block_machine.proofs.Members.{contains_here, map_in}
 use Rattle.block_machine.specs.Due.{due_of}
 use Rattle.driver_history.specs.Histories.{IssuesDue}
@@ -66,6 +63,7 @@ use Rattle.server_history.proofs.Serving.{answers_issue_none}
 use Rattle.server_history.proofs.Slots.{of_ready, ready_found, served_request, serves_used}
 use Rattle.server_history.proofs.Turns.{belong_join, grounded_join, lawful_join}
 use Rattle.server_history.proofs.Zips.{at_left, at_right}
+use Rattle.server_history.proofs.Lists.{first_here}
 
 -- What a machine that stands for the server makes of the turn by its steps, with this evidence. (That a disk was in, `had_disk` has of them.) They are those
 -- up to the fates of its requests, and then those that issue what is due.
@@ -90,8 +88,8 @@ pub record DecidesTurn (port : Port) (replies : List Reply) (old new : Server) (
 -- ---- evidence
 
 stopped_named : (port : Port) (way : Next) → way ≢ Stuck → Contains (stopped_of port way) port
-stopped_named port (Running token) lives = contains_here port [] port refl
-stopped_named port (Restart token) lives = contains_here port [] port refl
+stopped_named port (Running token) lives = first_here port []
+stopped_named port (Restart token) lives = first_here port []
 stopped_named port Stuck lives = absurd (lives refl)
 
 -- of an error that recovery names the request had a slot
@@ -182,7 +180,7 @@ module _ (laws : LawsBelow) (port : Port) (replies : List Reply) (old new : Serv
     other_stopped = stopped_named port a.recovered.result.next (λ stuck. (subst (IsProspect a.was a.found) is a.expects).0 (no_way stuck).0)
 
     other_lost : Contains evidence.lost port
-    other_lost = subst (λ (p : Prospect). Contains (lost_of port p) port) (sym is) (contains_here port [] port refl)
+    other_lost = subst (λ (p : Prospect). Contains (lost_of port p) port) (sym is) (first_here port [])
 
     -- of it no request is left
     none_stays : (x : Held) → Contains r.mid.book x → x.entry.port ≢ port
@@ -210,7 +208,7 @@ module _ (laws : LawsBelow) (port : Port) (replies : List Reply) (old new : Serv
     began = moment_of old m
 
     base_reached : IsReached (after m base)
-    base_reached = reached_more m base reached f.may
+    base_reached = laws.basic.reached m base reached f.may
 
     pub z : AreIssued port ids r.mid new (after m base)
     z = each_issued laws port ids r.mid new k_mid r.issued (after m base) base_reached f.stands
@@ -219,7 +217,7 @@ module _ (laws : LawsBelow) (port : Port) (replies : List Reply) (old new : Serv
     all = z.steps ++ base
 
     all_is : after m (z.steps ++ base) ≡ after (after m base) z.steps
-    all_is = after-append m z.steps base
+    all_is = laws.basic.joined m z.steps base
 
     -- ---- what was so when the turn began
 
@@ -280,7 +278,7 @@ module _ (laws : LawsBelow) (port : Port) (replies : List Reply) (old new : Serv
     again_same e here = let w = f.again e here in (why_again a.failed a.prospect w.0.entry w.3, w.2.port ∙ (of_its w.0 w.1).1)
 
     early_may : AllMay m f.first × AllMay (after m f.first) (answers_in f.ended)
-    early_may = may_parts m (answers_in f.ended) f.first (may_parts m f.middle (answers_in f.ended ++ f.first) (may_parts m f.fates (f.middle ++ (answers_in f.ended ++ f.first)) f.may).0).0
+    early_may = may_parts laws m (answers_in f.ended) f.first (may_parts laws m f.middle (answers_in f.ended ++ f.first) (may_parts laws m f.fates (f.middle ++ (answers_in f.ended ++ f.first)) f.may).0).0
 
     ended_by : (e : Pending) → Contains f.ended e → (request : Held) × Contains a.recovered.requests request × HasEnded port request e
     ended_by e here = at_right (HasEnded port) a.recovered.requests f.ended f.each e here
@@ -292,7 +290,7 @@ module _ (laws : LawsBelow) (port : Port) (replies : List Reply) (old new : Serv
     ok_lawful : (e : Pending) → Contains f.ended e → IsLawful began evidence (ports_of new) e outcome.Ok
     ok_lawful e here =
         let y = ended_by e here in
-        let l = found_before m.book (after m f.first).book e (steps_spare m f.first f.first_only).book (ended_stood (after m f.first) f.ended early_may.1 e here) in
+        let l = laws.basic.found_before m.book (after m f.first).book e (laws.basic.spares m f.first f.first_only).book (ended_stood laws (after m f.first) f.ended early_may.1 e here) in
         (record { pending = l.0; here = l.1; id_is = ap (λ r. r.id) (sym l.2.request); issued = sym l.2.issued ∙ y.2.issued }, y.2.issued, y.2.touched, y.2.ended)
 
     lawful : AllLawful began evidence (ports_of new) (z.steps ++ base)
@@ -306,7 +304,7 @@ module _ (laws : LawsBelow) (port : Port) (replies : List Reply) (old new : Serv
     grounded : AllGrounded evidence (z.steps ++ base)
     grounded =
         issues_all (AllGrounded evidence) (mode_in r.mid port) port (device_grounded evidence) (λ e steps own g. g) z.steps base z.only
-        (grounded_join evidence f.fates (f.middle ++ (answers_in f.ended ++ f.first)) (deciding_grounded port evidence (contains_here port [] port refl) f.fates f.own)
+        (grounded_join evidence f.fates (f.middle ++ (answers_in f.ended ++ f.first)) (deciding_grounded port evidence (first_here port []) f.fates f.own)
         (grounded_join evidence f.middle (answers_in f.ended ++ f.first) (devices_all (AllGrounded evidence) (device_grounded evidence) tt f.middle f.middle_only)
         (answers_all (AllGrounded evidence) f.ended f.first (λ e steps here g. g) (devices_all (AllGrounded evidence) (device_grounded evidence) tt f.first f.first_only))))
 
@@ -452,7 +450,7 @@ module _ (laws : LawsBelow) (port : Port) (replies : List Reply) (old new : Serv
     -- with another disk, none of the port's requests is left
     none_waits : a.prospect ≡ DiskLost → NoneWaits (after m (z.steps ++ base)) port
     none_waits other e here own_port =
-        let b = stood port (after m base) z.steps issuing_own e (subst (λ (n : Machine). Contains n.book e) all_is here) in
+        let b = stood laws port (after m base) z.steps issuing_own e (subst (λ (n : Machine). Contains n.book e) all_is here) in
         let h = at_right IsEntry r.mid.book (after m base).book f.stands.book b.was b.here in
         none_stays other h.0 h.1 (sym h.2.port ∙ ap (λ x. x.port) b.request ∙ own_port)
 
@@ -476,7 +474,7 @@ module _ (laws : LawsBelow) (port : Port) (replies : List Reply) (old new : Serv
       fates = f;
       issuing = z;
       steps_are = refl;
-      may = may-append m z.steps base f.may z.may;
+      may = laws.basic.may m z.steps base f.may z.may;
       stands = subst (IsMachineOf new) (sym all_is) z.stands;
       backed = laws.backed_parts old.device r.mid.device new.device m base z.steps f.backed z.backed;
       own = own;

@@ -1,49 +1,18 @@
 -- What the masks show of a slot whose command is over, and of one whose bytes say a request still that another slot serves.
-use Rattle.std.proofs.Common.{ℕ, ◌≡◌, ◌≢◌, ◌<◌, true, false, Some, None, sym, ap, ◌∙◌, subst, inl, inr, ⊎_elim}
+use Rattle.std.proofs.Common.{ℕ, ◌≡◌, ◌≢◌, true, Some, None, sym, ap, ◌∙◌, subst, inl, inr, ⊎_elim}
 use Rattle.std.specs.List.{Contains}
 use Rattle.std.proofs.lemmas.Bool.{false≢true}
-use Rattle.ata_types.specs.declared.Port.{Port}
 use Rattle.ata_types.specs.declared.PortState.TheVariants.{Ready as ReadyState}
 use Rattle.ata_types.specs.declared.request.RequestId.{RequestId}
-use Rattle.hba_regs.specs.Bits.{bit}
-use Rattle.hba_regs.specs.declared.reg.Reg.TheVariants.{Px}
-use Rattle.hba_regs.specs.declared.reg.PortReg.TheVariants.{Ci, Sact}
-use Rattle.adapter.specs.Access.{Reads}
-use Rattle.adapter.specs.Device.{Device}
-use Rattle.agreement.specs.Driven.{IsDrivenBy}
-use Rattle.agreement.specs.Slots.{IsFree, IsOver, IsServed, Serves, ServesRequest, Stage, Use}
-use Rattle.agreement.proofs.Finished.{steps_over}
-use Rattle.agreement.proofs.Unarmed.{reads_clear, steps_clear}
+use Rattle.agreement.specs.Slots.{IsFree, IsServed, Serves, ServesRequest, Stage, Use}
 use Rattle.block_machine.specs.Histories.{IsReached}
 use Rattle.block_machine.specs.State.{Machine, Pending}
-use Rattle.block_machine.proofs.Standing.{standing}
 use Rattle.host_boot.specs.Taken.{found_of}
-use Rattle.port_look.specs.Looks.{IsLooking}
-use Rattle.port_look.proofs.Serving.{looks_inactive}
 use Rattle.slots.specs.declared.Use.{Use as SlotUse}
 use Rattle.server_history.specs.Below.{LawsBelow}
 use Rattle.server_history.specs.Server.{Server, IsKept, IsMachineOf, state_of, used_for}
 use Rattle.server_history.proofs.Said.{one_said}
-use Rattle.server_history.proofs.Serving.{still_over}
 use Rattle.server_history.proofs.Slots.{free_unused, ready_found, serves_used, still_booked, used_or_not}
-
--- ---- bits that are read
-
--- PxCI shows the bit of a slot clear whose command is over
-issued_clear : (port : Port) (slot v : ℕ) (old new : Device) → slot < 32 → Reads (Px port Ci) v old new → IsOver (old.port port.0) slot → bit v slot ≡ false
-issued_clear port slot v old new small r over = r.shows slot small ∙ (steps_over port.0 slot old r.mid r.steps over).issued
-
--- and PxSACT one that is clear
-active_clear : (port : Port) (slot v : ℕ) (old new : Device) → slot < 32 → Reads (Px port Sact) v old new → (old.port port.0).sact slot ≡ false → bit v slot ≡ false
-active_clear port slot v old new small r clear = r.shows slot small ∙ (steps_clear port.0 slot old r.mid r.steps clear)
-
--- so it is when the port was looked at before
-pub both_clear : LawsBelow → (port : Port) (slot issued active : ℕ) (old seen read new : Device) → slot < 32 → IsDrivenBy (IsLooking port) old seen → Reads (Px port Ci) issued seen read
-    → Reads (Px port Sact) active read new → IsOver (old.port port.0) slot → (old.port port.0).sact slot ≡ false → (bit issued slot ≡ false) × (bit active slot ≡ false)
-both_clear laws port slot issued active old seen read new small looks reads shows over clear = (
-  issued_clear port slot issued seen read small reads (still_over port slot old seen looks over),
-  active_clear port slot active read new small shows (reads_clear port.0 slot (Px port Ci) issued seen read reads (looks_inactive laws.looks port port.0 slot old seen looks clear)),
-)
 
 -- ---- bytes of another slot
 
@@ -68,7 +37,7 @@ module _ (laws : LawsBelow) (s : Server) (k : IsKept s) (m : Machine) (reached :
   has_ended = ap (λ (y : Pending). y.ended) (sym same) ∙ by says.stage
     where
       same : says.pending ≡ e
-      same = (standing m reached).sound.one says.pending e (still_booked s m n is ready says.pending says.moves says.port_is).0 here (ap (λ (i : RequestId). i.0) says.id_is)
+      same = laws.basic.one m reached says.pending e (still_booked s m n is ready says.pending says.moves says.port_is).0 here (ap (λ (i : RequestId). i.0) says.id_is)
 
       by : Stage s.device.memory (s.device.port n) n slot says.pending says.command says.places → says.pending.ended ≡ true
       by (inl waits) = absurd (false≢true (sym is_free.issued ∙ waits.issued))

@@ -14,7 +14,6 @@ use Rattle.adapter.specs.Access.Access.{Reading, Writing}
 use Rattle.adapter.specs.Device.{Device}
 use Rattle.adapter.specs.declared.command.Operation.TheVariants.{ReadLog}
 use Rattle.adapter.specs.declared.tape.Fault as tape_fault
-use Rattle.adapter.proofs.Calls.{does_append}
 use Rattle.agreement.specs.Driven.{AnyAccess, AnyUse, Grows, IsFollowed, IsOf, SendsNone}
 use Rattle.agreement.specs.Driver.{IsBacked}
 use Rattle.agreement.specs.Links.{SparesRegister}
@@ -24,7 +23,7 @@ use Rattle.block_machine.specs.Left.{after}
 use Rattle.block_machine.specs.Ports.{Fault, IsServiced}
 use Rattle.block_machine.specs.State.{Machine}
 use Rattle.block_machine.specs.Steps.{Step}
-use Rattle.block_machine.proofs.Members.{contains_cases, contains_here, contains_none}
+use Rattle.block_machine.proofs.Members.{contains_cases}
 use Rattle.driver_history.specs.Evidence.{HasErrors, HasFatalErrors, IsEvidencedOf}
 use Rattle.driver_history.specs.Trace.{IsDriversOwn}
 use Rattle.error_recovery.specs.Evidence.{HasFailed, ShowsFatal}
@@ -58,6 +57,7 @@ use Rattle.server_history.proofs.Settling.{over_on, ready_on}
 use Rattle.server_history.proofs.Shown.{had_disk}
 use Rattle.server_history.proofs.Slots.{AreOver, ready_found}
 use Rattle.server_history.proofs.Stretching.{TurnParts, accesses_in, done_over, found_is, found_kept, mid_device, turn_parts}
+use Rattle.server_history.proofs.Lists.{nowhere, first_here}
 
 -- ---- what recovery tells of the port's engine
 
@@ -65,7 +65,7 @@ module _ (laws : LawsBelow) (port : Port) (early part late : List Access) where
   engine_stops : (then : Next) → TellsEngine port then part → Contains (stopped_of port then) port → Stops port (early ++ (part ++ late))
   engine_stops (next.Running token) engine here = laws.falls_since early (part ++ late) 0 15 port (laws.falls_then part late 0 15 port engine)
   engine_stops (next.Restart token) engine here = laws.falls_since early (part ++ late) 0 15 port (laws.falls_then part late 0 15 port engine)
-  engine_stops next.Dead engine here = absurd (contains_none port here)
+  engine_stops next.Dead engine here = absurd (nowhere port here)
 
   -- one that is stuck is so in recovery, or later
   engine_sticks : (then : Next) → TellsEngine port then part → (then ≢ next.Dead → Sticks port late) → Sticks port (early ++ (part ++ late))
@@ -160,12 +160,12 @@ module _ (laws : LawsBelow) (port : Port) (replies : List Reply) (old new : Serv
   fatal_all : ShowsFatal (old.device.port port.0) → Contains (fatal_of port x.look) port
   fatal_all fatal = ⊎_elim
       (λ failed. absurd (no_fatal laws port x.look old.device x.seen x.looks k.on failed fatal))
-      (λ broken. subst (λ (l : Look). Contains (fatal_of port l) port) (sym broken) (contains_here port [] port refl))
+      (λ broken. subst (λ (l : Look). Contains (fatal_of port l) port) (sym broken) (first_here port []))
       mending
 
   fatal_only : (m : Machine) → Contains (fatal_of port x.look) port → HasFatalErrors port (instant_of old m) new.device
   fatal_only m here = ⊎_elim
-      (λ failed. absurd (contains_none port (subst (λ (l : Look). Contains (fatal_of port l) port) failed here)))
+      (λ failed. absurd (nowhere port (subst (λ (l : Look). Contains (fatal_of port l) port) failed here)))
       (λ broken. (ready, fatal_shown laws port x.look old.device x.seen x.looks k.on broken new.device grown_read))
       mending
 
@@ -191,8 +191,8 @@ module _ (laws : LawsBelow) (port : Port) (replies : List Reply) (old new : Serv
           (λ is same. let i = ready_info laws port replies old new k ready r looks kept is in e.1 i.0 i.1 (disk_same laws port replies old new k ready r looks kept i.0 i.1 same)),
         )));
     gone_all = λ _ loss. absurd (⊎_elim (no_change laws port x.look old.device x.seen x.looks k.on mending) (λ missing. not_missing laws port x.look old.device x.seen x.looks k.on mending new.device grown_seen undue missing.0 missing.1) loss);
-    gone_only = λ here. absurd (contains_none port here);
-    failed_all = λ _ _. contains_here port [] port refl;
+    gone_only = λ here. absurd (nowhere port here);
+    failed_all = λ _ _. first_here port [];
     failed_only = λ _. has_errors m;
     fatal_all = λ _ fatal. fatal_all fatal;
     fatal_only = fatal_only m;
@@ -265,10 +265,10 @@ module _ (laws : LawsBelow) (port : Port) (replies : List Reply) (old new : Serv
           subst (λ (f : Failed). TellsFault port (accesses_in t) old new (record { id = f.id; status = f.status; error = f.error })) (sym same) (tells_named its_failure named names.0 names.1)
 
       by : (f : Option Failed) → a.failed ≡ f → Contains (faults_of a.failed) told → TellsFault port (accesses_in t) old new told
-      by None is there = absurd (contains_none told (subst (λ (o : Option Failed). Contains (faults_of o) told) is there))
+      by None is there = absurd (nowhere told (subst (λ (o : Option Failed). Contains (faults_of o) told) is there))
       by (Some failed) is there =
           let fault : Fault = record { id = failed.id; status = failed.status; error = failed.error } in
-          let same : told ≡ fault = ⊎_elim (λ e. e) (λ none. absurd (contains_none told none)) (contains_cases fault [] told (subst (λ (o : Option Failed). Contains (faults_of o) told) is there)) in
+          let same : told ≡ fault = ⊎_elim (λ e. e) (λ none. absurd (nowhere told none)) (contains_cases fault [] told (subst (λ (o : Option Failed). Contains (faults_of o) told) is there)) in
           subst (TellsFault port (accesses_in t) old new) (sym same) (by_failure failed is x.result.failed refl a.names)
 
   -- ---- all of it
@@ -283,7 +283,7 @@ module _ (laws : LawsBelow) (port : Port) (replies : List Reply) (old new : Serv
     parts = t;
     accesses = accesses_in t;
     accesses_are = refl;
-    does = does_append t.early.accesses (part ++ t.late.accesses) old.device a.mid.device new.device t.early.all (does_append part t.late.accesses a.mid.device a.device new.device t.does t.late.all);
+    does = laws.basic.does_append t.early.accesses (part ++ t.late.accesses) old.device a.mid.device new.device t.early.all (laws.basic.does_append part t.late.accesses a.mid.device a.device new.device t.does t.late.all);
     of = All-weaker (IsPart port) (IsOf port) (λ access is. is.1) (accesses_in t) kinds;
     own = All-weaker (IsPart port) IsDriversOwn (λ access is. is.0) (accesses_in t) kinds;
     others = leaves_others laws port replies old new k r kept;

@@ -54,18 +54,18 @@ module _ (laws : LawsBelow) (s : Server) (seen found : Device) (port : Port) (ma
   runs = (found_kept.behind port.0 low).runs ready
 
   first : IsFaulted (seen.port port.0).halt × ((seen.port port.0).notes.last_ssts % 16 ≡ 3)
-  first = laws.fails_look port s.device seen k.on l was.st (λ _. was.recorded)
+  first = laws.looking.fails_look port s.device seen k.on l was.st (λ _. was.recorded)
 
   halted : IsFaulted (found.port port.0).halt × ((found.port port.0).notes.last_ssts % 16 ≡ 3)
   halted =
       let r = both_read port mask done seen found finds in
       let mid = r.0 in
       let access = Reading (Px port Ci) finds.issued in
-      let a = laws.fails_reads port Ci finds.issued seen mid seen_kept.on r.1 (λ e. absurd cc) then_runs.st (λ _. then_runs.recorded) first.0 in
+      let a = laws.looking.fails_reads port Ci finds.issued seen mid seen_kept.on r.1 (λ e. absurd cc) then_runs.st (λ _. then_runs.recorded) first.0 in
       let on : IsOn mid = laws.looks.access_on access seen mid seen_kept.on (λ v e. absurd cc) r.1 in
       let st = ((laws.looks.access_controls port access seen mid seen_kept.on.no_reset r.1).command tt).0 ∙ then_runs.st in
       let recorded = laws.looks.access_recorded port access seen mid tt tt r.1 (λ _. then_runs.recorded) in
-      let b = laws.fails_reads port Sact finds.active mid found on r.2 (λ e. absurd cc) st recorded a.0 in
+      let b = laws.looking.fails_reads port Sact finds.active mid found on r.2 (λ e. absurd cc) st recorded a.0 in
       (b.0, ap (λ (n : ℕ). n % 16) (b.1 ∙ a.1) ∙ first.1)
 
   pub may_recover : MayRecover port.0 found

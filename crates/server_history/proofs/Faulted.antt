@@ -18,7 +18,7 @@ use Rattle.agreement.specs.Driven.{Grows}
 use Rattle.agreement.specs.Errors.{IsFatalOf, NoneComes}
 use Rattle.agreement.specs.Facts.{IsFaultOf}
 use Rattle.agreement.specs.Links.{SparesRegister}
-use Rattle.block_machine.proofs.Members.{contains_here, contains_there}
+use Rattle.block_machine.proofs.Members.{contains_there}
 use Rattle.driver_history.specs.Evidence.{Gains, ShowsChange, ShowsFailure}
 use Rattle.error_recovery.specs.Evidence.{ShowsFatal}
 use Rattle.error_recovery.specs.declared.Recovered.{Recovered}
@@ -29,6 +29,7 @@ use Rattle.port_look.specs.declared.Look.TheVariants.{Broken, Failed, Lost, Undi
 use Rattle.server_history.specs.Below.{LawsBelow}
 use Rattle.server_history.specs.Recovered.{LeadsToMending, TellsMending}
 use Rattle.server_history.proofs.Told.{fatal_shows}
+use Rattle.server_history.proofs.Lists.{first_here}
 
 -- ---- faults on the tape
 
@@ -54,7 +55,7 @@ is_fatal port (entry.Done x) = inr (λ is. is)
 pub one_or_none : (Such : Entry → Type 0) → ((e : Entry) → Such e ⊎ (Such e → ⊥)) → (gained : List Entry) → ((e : Entry) × Contains gained e × Such e) ⊎ All (λ e. Such e → ⊥) gained
 one_or_none Such told [] = inr (All-nil (λ e. Such e → ⊥))
 one_or_none Such told (e ∷ gained) = ⊎_elim
-    (λ (is : Such e). inl (e, contains_here e gained e refl, is))
+    (λ (is : Such e). inl (e, first_here e gained, is))
     (λ none. ⊎_elim
     (λ found. inl (found.0, contains_there e gained found.0 found.1, found.2))
     (λ others. inr (All-cons (λ x. Such x → ⊥) e gained none others))
@@ -110,7 +111,7 @@ module _ (laws : LawsBelow) (port : Port) (look : Look) (old seen : Device) (l :
   module _ (failed : look ≡ Failed) where
     -- TFES, and no fatal error
     told : (bit l.causes 30 ≡ true) × ((place : ℕ) → 27 ≤ place → place ≤ 29 → bit l.causes place ≡ false)
-    told = let t = laws.looks_failed l.causes l.status (its Failed failed) in (t.0, t.3)
+    told = let t = laws.looking.looks_failed l.causes l.status (its Failed failed) in (t.0, t.3)
 
     -- no fatal error was shown when the turn began
     pub no_fatal : ShowsFatal (old.port port.0) → ⊥
@@ -138,7 +139,7 @@ module _ (laws : LawsBelow) (port : Port) (look : Look) (old seen : Device) (l :
     -- one of those three was shown then, or a fatal error came before PxIS was read
     pub fatal_shown : (new : Device) → Grows l.seen new → ShowsFatal (old.port port.0) ⊎ Gains (IsFatalOf port.0) old new
     fatal_shown new later = ⊎_elim (at 28 (omega arith) (omega arith) refl refl) (λ more. ⊎_elim (at 29 (omega arith) (omega arith) refl refl) (at 27 (omega arith) (omega arith) refl refl) more)
-        (laws.looks_broken l.causes l.status (its Broken broken)).0
+        (laws.looking.looks_broken l.causes l.status (its Broken broken)).0
       where
         at : (place : ℕ) → 27 ≤ place → place ≤ 29 → is_cause place ≡ true → shown_interrupt (l.seen.port port.0) place ≡ (l.seen.port port.0).is place → bit l.causes place ≡ true
             → ShowsFatal (old.port port.0) ⊎ Gains (IsFatalOf port.0) old new
@@ -161,16 +162,16 @@ module _ (laws : LawsBelow) (port : Port) (look : Look) (old seen : Device) (l :
 
     -- a device showed
     pub shows_link : l.status % 16 ≡ 3
-    shows_link = ⊎_elim (λ failed. (laws.looks_failed l.causes l.status (its Failed failed)).4) (λ broken. (laws.looks_broken l.causes l.status (its Broken broken)).3) mends
+    shows_link = ⊎_elim (λ failed. (laws.looking.looks_failed l.causes l.status (its Failed failed)).4) (λ broken. (laws.looking.looks_broken l.causes l.status (its Broken broken)).3) mends
 
     -- the link told of no change when the turn began
     pub no_change : ShowsChange (old.port port.0) → ⊥
-    no_change change = not_lost (laws.looks_changed port look old seen on l change)
+    no_change change = not_lost (laws.looking.looks_changed port look old seen on l change)
 
     -- nor was a device missing, unless a disk came
     pub not_missing : (new : Device) → Grows seen new → (old.port port.0).link_due ≡ false → (old.port port.0).ssts_det ≢ 3 → NoneComes port.0 old new → ⊥
     not_missing new later undue missing none =
-        not_lost (laws.looks_unlinked port look old seen on l missing undue (laws.looks.comes_parts port.0 old seen new looked.0 later.0 looked.1 later.1 none).0)
+        not_lost (laws.looking.looks_unlinked port look old seen on l missing undue (laws.looks.comes_parts port.0 old seen new looked.0 later.0 looked.1 later.1 none).0)
 
     -- a failure was shown then, or came
     pub errors_shown : (new : Device) → Grows l.seen new → ShowsFailure (old.port port.0) ⊎ (Gains (IsFaultOf port.0) old new ⊎ Gains (IsFatalOf port.0) old new)

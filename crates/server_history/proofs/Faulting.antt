@@ -22,8 +22,7 @@ use Rattle.block_machine.specs.Histories.{IsReached}
 use Rattle.block_machine.specs.Left.{after}
 use Rattle.block_machine.specs.State.{Machine, Pending}
 use Rattle.block_machine.specs.Steps.{Answer, May, Step}
-use Rattle.block_machine.proofs.Members.{contains_cases, contains_here, contains_none, map_in}
-use Rattle.block_machine.proofs.Standing.{standing}
+use Rattle.block_machine.proofs.Members.{contains_cases, contains_here, map_in}
 use Rattle.driver_history.specs.Histories.{IsAnsweredFaulty, IsIssuedOn}
 use Rattle.error_log.specs.declared.Failure.{Failure}
 use Rattle.error_recovery.specs.Recovery.{MayRecover, Rests, TellsRecovery}
@@ -59,6 +58,7 @@ use Rattle.server_history.proofs.Recovery.{evidence_by, until_issues}
 use Rattle.server_history.proofs.Settling.{over_on, ready_on}
 use Rattle.server_history.proofs.Slots.{AreOver, HasSlot, IsServedBy, free_unused, issued_has, ready_found, served_request, serves_used}
 use Rattle.server_history.proofs.Stretching.{done_over, found_kept}
+use Rattle.server_history.proofs.Lists.{nowhere}
 
 -- ---- what wasn't done
 
@@ -79,7 +79,7 @@ left_used laws port low done (e ∷ requests) old new k ready over (mid, one, it
 -- who ends is told so
 fate_told : (fate : Entry → Fate) (requests : List Held) (replies : List Reply) (old new : Holdings) → MeetFates fate requests replies old new → (e : Held) (o : Outcome) → Contains requests e → fate e.entry ≡ Ends o
     → Contains replies (reply_to e o)
-fate_told fate [] replies old new none e o here ends = absurd (contains_none e here)
+fate_told fate [] replies old new none e o here ends = absurd (nowhere e here)
 fate_told fate (request ∷ requests) replies old new (mid, its, later, split, meets, more) e o here ends = subst (λ (list : List Reply). Contains list (reply_to e o)) (sym split) (⊎_elim
     (λ (same : e ≡ request).
     let m : MeetsFate request (Ends o) its old mid = subst (λ (f : Fate). MeetsFate request f its old mid) (ap (λ (h : Held). fate h.entry) (sym same) ∙ ends) meets in
@@ -88,11 +88,11 @@ fate_told fate (request ∷ requests) replies old new (mid, its, later, split, m
     (contains_cases request requests e here))
 
 -- who is answered in a turn was unanswered when it began
-pub answer_stood : (port : Port) (m : Machine) (steps : List Step) → AllMay m steps → All (IsOfTurn port) steps → (e : Pending) (o : Outcome) → Contains steps (Answer e o) → StandsIn m.book e
-answer_stood port m [] may own e o here = absurd (contains_none (Answer e o) here)
-answer_stood port m (step ∷ steps) may own e o here = ⊎_elim
-    (λ (is : Answer e o ≡ step). stood port m steps (All-tail (IsOfTurn port) step steps own) e (subst (May (after m steps)) (sym is) may.1))
-    (λ (there : Contains steps (Answer e o)). answer_stood port m steps may.0 (All-tail (IsOfTurn port) step steps own) e o there)
+pub answer_stood : LawsBelow → (port : Port) (m : Machine) (steps : List Step) → AllMay m steps → All (IsOfTurn port) steps → (e : Pending) (o : Outcome) → Contains steps (Answer e o) → StandsIn m.book e
+answer_stood laws port m [] may own e o here = absurd (nowhere (Answer e o) here)
+answer_stood laws port m (step ∷ steps) may own e o here = ⊎_elim
+    (λ (is : Answer e o ≡ step). stood laws port m steps (All-tail (IsOfTurn port) step steps own) e (subst (May (after m steps)) (sym is) may.1))
+    (λ (there : Contains steps (Answer e o)). answer_stood laws port m steps may.0 (All-tail (IsOfTurn port) step steps own) e o there)
     (contains_cases step steps (Answer e o) here)
 
 -- the one that failed is told its error
@@ -130,8 +130,8 @@ module _ (laws : LawsBelow) (port : Port) (replies : List Reply) (old new : Serv
   -- a request that was answered so
   answered : (e : Pending) → Contains m.book e → (done : Pending) (o : Outcome) → Contains d.steps (Answer done o) → done.request.id ≡ e.request.id → done.request ≡ e.request
   answered e here done o there same =
-      let w = answer_stood port m d.steps d.may d.own done o there in
-      let one : w.was ≡ e = (standing m reached).sound.one w.was e w.here here (ap (λ (i : RequestId). i.0) (ap (λ q. q.id) w.request ∙ same)) in
+      let w = answer_stood laws port m d.steps d.may d.own done o there in
+      let one : w.was ≡ e = laws.basic.one m reached w.was e w.here here (ap (λ (i : RequestId). i.0) (ap (λ q. q.id) w.request ∙ same)) in
       sym w.request ∙ ap (λ (y : Pending). y.request) one
 
   -- the port's last fault was of a slot that is in use still
@@ -233,5 +233,5 @@ module _ (laws : LawsBelow) (port : Port) (replies : List Reply) (old new : Serv
       its_kind : slot ≡ h.slot → h.used.queued ≡ false
       its_kind same =
           let c = k.commands port.0 slot h.used (ap (used_for old.slots port.0) same ∙ h.used_is) in
-          let one = (laws.one_said old.device.memory (old.device.port port.0).bases.clb slot says.command c.command says.places c.places says.told.says c.stored.told.says).0 in
+          let one = (laws.slots.one_said old.device.memory (old.device.port port.0).bases.clb slot says.command c.command says.places c.places says.told.says c.stored.told.says).0 in
           sym c.kind ∙ ap (λ (y : Meaning). is_queued y.operation) (sym one) ∙ plain

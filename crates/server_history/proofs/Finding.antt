@@ -18,15 +18,12 @@ use Rattle.adapter.specs.Device.{Device}
 use Rattle.agreement.specs.Driven.{AnyUse, IsFollowed}
 use Rattle.agreement.specs.Slots.{Serves, ServesRequest}
 use Rattle.agreement.proofs.Finding.{ended_is_clear}
-use Rattle.agreement.proofs.Sparing.{found_before, steps_spare}
 use Rattle.block_machine.specs.Events.{AllMay, AnswersEnded}
 use Rattle.block_machine.specs.Histories.{IsReached}
 use Rattle.block_machine.specs.Left.{after}
 use Rattle.block_machine.specs.State.{Machine, Pending}
 use Rattle.block_machine.specs.Steps.{Step, Answer}
-use Rattle.block_machine.proofs.Members.{contains_cases, contains_here, contains_none, contains_there}
-use Rattle.block_machine.proofs.Standing.{standing}
-use Rattle.block_machine.proofs.Started.{ended_issued}
+use Rattle.block_machine.proofs.Members.{contains_cases, contains_there}
 use Rattle.driver_history.specs.Histories.{FindsDone, IsAnsweredOk, IsIssuedOn}
 use Rattle.driver_history.specs.Trace.{ReadsMasks}
 use Rattle.host_boot.specs.Taken.{found_of}
@@ -46,7 +43,8 @@ use Rattle.server_history.proofs.Answered.{answered_in, ended_stood, in_answered
 use Rattle.server_history.proofs.Answering.{answer_kept}
 use Rattle.server_history.proofs.Rounds.{not_true}
 use Rattle.server_history.proofs.Deciding.{DecidesTurn}
-use Rattle.server_history.proofs.Elsewhere.{both_clear, has_ended, is_free}
+use Rattle.server_history.proofs.Elsewhere.{has_ended, is_free}
+use Rattle.server_history.proofs.Looking.{both_clear}
 use Rattle.server_history.proofs.Evident.{IsEvident, slots_were}
 use Rattle.server_history.proofs.Placing.{placed_other}
 use Rattle.server_history.proofs.Plain.{both_read}
@@ -56,6 +54,7 @@ use Rattle.server_history.proofs.Settling.{over_on, ready_on}
 use Rattle.server_history.proofs.Slots.{AreOver, HasSlot, issued_has, ready_found, serves_used}
 use Rattle.server_history.proofs.Stretching.{done_over, found_kept}
 use Rattle.server_history.proofs.Zips.{at_left, at_right}
+use Rattle.server_history.proofs.Lists.{nowhere, first_here}
 
 -- ---- slots whose requests were answered
 
@@ -71,7 +70,7 @@ module _ (laws : LawsBelow) (port : Port) (low : port.0 < 4) (done : ℕ) where
 
   had_slot : (requests : List Held) (old new : Server) → IsKept old → state_of (found_of old.ports port.0) ≡ ReadyState → AreOver port done old.device → AnswersEach port done requests old new
       → (request : Held) → Contains requests request → HadSlot old request.entry.id
-  had_slot [] old new k ready over none request here = absurd (contains_none request here)
+  had_slot [] old new k ready over none request here = absurd (nowhere request here)
   had_slot (e ∷ requests) old new k ready over (mid, one, its, more) request here = ⊎_elim
       (λ (same : request ≡ e). record { slot = one.slot; small = one.small; used = one.used; used_is = one.served; id_is = one.id_is ∙ ap (λ (h : Held). h.entry.id) (sym same); found = its })
       (λ (there : Contains requests request).
@@ -87,7 +86,7 @@ module _ (laws : LawsBelow) (port : Port) (low : port.0 < 4) (done : ℕ) where
       (λ (same : slot ≡ one.slot).
       let z : Some one.used ≡ Some used = sym one.served ∙ ap (used_for old.slots port.0) (sym same) ∙ is in
       let u : one.used ≡ used = cc in
-      (e, contains_here e requests e refl, sym one.id_is ∙ ap (λ (v : SlotUse). v.id) u))
+      (e, first_here e requests, sym one.id_is ∙ ap (λ (v : SlotUse). v.id) u))
       (λ (other : slot ≢ one.slot).
       let four = k.four in
       let places = (k.slots port.0 low).places in
@@ -117,7 +116,7 @@ module _ (laws : LawsBelow) (port : Port) (replies : List Reply) (old new : Serv
   low = (ready_found old port.0 k ready).0
 
   one_of : (e y : Pending) → Contains m.book e → Contains m.book y → e.request.id.0 ≡ y.request.id.0 → e ≡ y
-  one_of e y here there same = (standing m reached).sound.one e y here there same
+  one_of e y here there same = laws.basic.one m reached e y here there same
 
   -- who is answered Ok had ended: it is no fate
   answered_ended : (e : Pending) → Contains d.steps (Answer e outcome.Ok) → Contains d.fates.ended e
@@ -153,8 +152,8 @@ module _ (laws : LawsBelow) (port : Port) (replies : List Reply) (old new : Serv
       (Contains-append_left (answers_in d.fates.ended) d.fates.first (Answer e outcome.Ok) (in_answered d.fates.ended e here)))))
 
   early_may : AllMay m d.fates.first × AllMay (after m d.fates.first) (answers_in d.fates.ended)
-  early_may = may_parts m (answers_in d.fates.ended) d.fates.first
-      (may_parts m d.fates.middle (answers_in d.fates.ended ++ d.fates.first) (may_parts m d.fates.fates (d.fates.middle ++ (answers_in d.fates.ended ++ d.fates.first)) d.fates.may).0).0
+  early_may = may_parts laws m (answers_in d.fates.ended) d.fates.first
+      (may_parts laws m d.fates.middle (answers_in d.fates.ended ++ d.fates.first) (may_parts laws m d.fates.fates (d.fates.middle ++ (answers_in d.fates.ended ++ d.fates.first)) d.fates.may).0).0
 
   -- the masks that were read
   masks_read : (read : Device) × Reads (Px port Ci) x.reads.issued x.seen read × Reads (Px port Sact) x.reads.active read x.found
@@ -189,7 +188,7 @@ module _ (laws : LawsBelow) (port : Port) (replies : List Reply) (old new : Serv
         let done = tells ∙ and_from (not (bit x.reads.issued h.slot)) (not (bit x.reads.active h.slot)) (ap not clear.0) (ap not clear.1) in
         let w = was_told laws port low x.done x.requests from a.mid (found_kept laws port replies old new k ready r looks kept) ready (done_over laws port replies old new k ready r looks kept) x.each h.slot h.used h.used_is (x.free h.slot h.small done) in
         let y = at_left (HasEnded port) x.requests d.fates.ended d.fates.each w.0 w.1 in
-        let l = found_before m.book (after m d.fates.first).book y.0 (steps_spare m d.fates.first d.fates.first_only).book (ended_stood (after m d.fates.first) d.fates.ended early_may.1 y.0 y.1) in
+        let l = laws.basic.found_before m.book (after m d.fates.first).book y.0 (laws.basic.spares m d.fates.first d.fates.first_only).book (ended_stood laws (after m d.fates.first) d.fates.ended early_may.1 y.0 y.1) in
         let id_is : e.request.id ≡ y.0.request.id = sym h.id_is ∙ sym w.2 ∙ sym y.2.entry.id in
         let one : e ≡ l.0 = one_of e l.0 own.here l.1 (ap (λ (i : RequestId). i.0) (id_is ∙ ap (λ q. q.id) l.2.request)) in
         (y.0, l.2.request ∙ ap (λ (q : Pending). q.request) (sym one), ended_answered y.0 y.1)
@@ -241,4 +240,4 @@ module _ (laws : LawsBelow) (port : Port) (replies : List Reply) (old new : Serv
 
   -- what had ended is
   pub heeding : AnswersEnded m d.steps port
-  heeding e here own ended = ended_told e (record { here = here; port_is = own; issued = ended_issued m e reached here ended }) ended
+  heeding e here own ended = ended_told e (record { here = here; port_is = own; issued = laws.basic.ended_issued m e reached here ended }) ended

@@ -18,15 +18,12 @@ use Rattle.agreement.specs.Driven.{AnyUse, IsFollowed}
 use Rattle.agreement.specs.Driver.{HasNoSlot, IsBacked}
 use Rattle.agreement.specs.Slots.{Serves, Use}
 use Rattle.agreement.specs.Spares.{SparesBook}
-use Rattle.agreement.proofs.Sparing.{found_later, steps_spare}
 use Rattle.block_machine.specs.Events.{AllDevices, AllMay}
 use Rattle.block_machine.specs.Histories.{IsReached}
 use Rattle.block_machine.specs.Left.{after}
 use Rattle.block_machine.specs.State.{Machine, Pending}
 use Rattle.block_machine.specs.Steps.{Step, Accept, after_step}
 use Rattle.block_machine.specs.declared.due.Mode.{Mode}
-use Rattle.block_machine.proofs.EventLemmas.{after-append}
-use Rattle.block_machine.proofs.HistoryLemmas.{may-append, reached_more}
 use Rattle.dma_frames.specs.Loan.{Lending}
 use Rattle.error_recovery.specs.declared.Next.{Next}
 use Rattle.error_recovery.specs.declared.Next.TheVariants.{Running, Restart, Dead as Stuck}
@@ -51,7 +48,7 @@ use Rattle.server_history.specs.Recovered.{AreUnused, IsFailed, IsFoundAfter, Is
 use Rattle.server_history.specs.Served.{answers_in}
 use Rattle.server_history.specs.Server.{AreKept, AreOfTwo, AreUsesOf, IsKept, IsMachineOf, IsUsedAs, Server, kept_at, no_slots, slots_at, state_of, use_of, used_for}
 use Rattle.server_history.proofs.Going.{book_on, still_kept}
-use Rattle.server_history.proofs.Joined.{first_or_later, nowhere}
+use Rattle.server_history.proofs.Joined.{first_or_later}
 use Rattle.server_history.proofs.Keeping.{none_alive}
 use Rattle.server_history.proofs.Looking.{finding_kept, found_over, looking_kept}
 use Rattle.server_history.proofs.Meeting.{in_loans, loans_in, meet, tame}
@@ -61,6 +58,7 @@ use Rattle.server_history.proofs.Serving.{finds_serve, followed_steps, looks_ser
 use Rattle.server_history.proofs.Settling.{AreAnswered, answers_kept, answers_settings, each_answered}
 use Rattle.server_history.proofs.Slots.{AreOver, not_dead, ready_found, served_request}
 use Rattle.server_history.proofs.Zips.{at_left}
+use Rattle.server_history.proofs.Lists.{nowhere}
 
 -- ---- lists
 
@@ -141,10 +139,10 @@ module _ (laws : LawsBelow) (port : Port) (mid : Server) (k : IsKept mid) (ready
   alive = not_dead mid port.0 ready
 
   w_reached : IsReached w
-  w_reached = reached_more n passed.passes.steps reached passed.passes.may
+  w_reached = laws.basic.reached n passed.passes.steps reached passed.passes.may
 
   spares : SparesBook n w
-  spares = steps_spare n passed.passes.steps passed.passes.only
+  spares = laws.basic.spares n passed.passes.steps passed.passes.only
 
   in_its : (e : Held) → Contains mid.book e → e.entry.port.0 ≡ port.0 → Contains its e
   in_its e here same = in_filter (λ (x : Held). is_of port x.entry) mid.book e here (eq-eqb e.entry.port.0 port.0 same)
@@ -179,15 +177,15 @@ module _ (laws : LawsBelow) (port : Port) (mid : Server) (k : IsKept mid) (ready
 
       by : (b : Bool) → e.entry.issued ≡ b → HasNoSlot t.uses e.entry.id
       by false waits =
-          let l = found_later n.book w.book entry.0 spares.book entry.1 in
-          subst (HasNoSlot t.uses) (ap (λ r. r.id) l.2.request ∙ entry.2.id) (laws.waiting t.uses w device w_reached passed.passes.knows.agrees l.0 l.1 (l.2.issued ∙ entry.2.issued ∙ waits))
+          let l = laws.basic.found_later n.book w.book entry.0 spares.book entry.1 in
+          subst (HasNoSlot t.uses) (ap (λ r. r.id) l.2.request ∙ entry.2.id) (laws.slots.waiting t.uses w device w_reached passed.passes.knows.agrees l.0 l.1 (l.2.issued ∙ entry.2.issued ∙ waits))
       by true issued = of way refl issued
 
   -- what is parked was in a slot
   parked_by : (id : RequestId) → Contains (t.parked port.0) id → (e : Held) × Contains its e × (e.entry.id ≡ id) × (e.entry.issued ≡ true)
   parked_by id here = ⊎_elim
       (λ there.
-      let slot = laws.served is.uses port.0 32 id there in
+      let slot = laws.slots.served is.uses port.0 32 id there in
       let r = served_request mid n port.0 slot.0 is ready id slot.2 in
       (r.request, in_its r.request r.there r.port_is, r.id_is, sym r.entry.issued ∙ r.issued))
       (λ there. absurd (nowhere id (subst (λ (ids : List RequestId). Contains ids id) (is.unparked port.0 alive) there)))
@@ -274,7 +272,7 @@ module _ (laws : LawsBelow) (port : Port) (mid : Server) (k : IsKept mid) (ready
       -- ---- what is kept
 
       was_kept : AreKept mid.ports mid.kept w.kept
-      was_kept = still_kept mid.ports mid.kept n.kept w.kept spares.kept is.kept
+      was_kept = still_kept laws mid.ports mid.kept n.kept w.kept spares.kept is.kept
 
       loans_are : kept_at new.kept port.0 ≡ loans_of met.held
       loans_are = kept_same ∙ met.loans ∙ ap (λ (loans : List Lending). loans ++ loans_of met.held) (none_alive mid k port.0 alive (kept_at mid.kept port.0) refl)
@@ -383,10 +381,10 @@ module _ (laws : LawsBelow) (port : Port) (later : List Reply) (old new : Server
     early = record { looked = looked.0; later = finding.0; first_is = refl; seen = looked.2; seen_backed = looked.3; found = x.2; found_backed = x.3 };
     each = y.each;
     middle_only = p.passes.only;
-    may = may-append m f.steps (p.passes.steps ++ base) (may-append m p.passes.steps base base_may p.passes.may) (subst (λ (s : Machine). AllMay s f.steps) (sym then_is) f.may);
+    may = laws.basic.may m f.steps (p.passes.steps ++ base) (laws.basic.may m p.passes.steps base base_may p.passes.may) (subst (λ (s : Machine). AllMay s f.steps) (sym then_is) f.may);
     backed = laws.backed_parts old.device new.device new.device m (p.passes.steps ++ base) f.steps
         (laws.backed_parts old.device a.mid.device new.device m base p.passes.steps base_backed p.passes.backed) (subst (λ (s : Machine). IsBacked new.device new.device s f.steps) (sym then_is) (f.backed new.device));
-    stands = subst (IsMachineOf new) (sym (after-append m f.steps (p.passes.steps ++ base) ∙ ap (λ (s : Machine). after s f.steps) then_is))
+    stands = subst (IsMachineOf new) (sym (laws.basic.joined m f.steps (p.passes.steps ++ base) ∙ ap (λ (s : Machine). after s f.steps) then_is))
         (subst (λ (s : Server). IsMachineOf s (after (after n p.passes.steps) f.steps)) (sym a.server)
         (stands laws port a.mid mid_kept mid_ready n n_reached is_mid a.recovered.result.next a.found new.device p a.failed a.prospect a.was a.expects unnamed later a.now a.meets a.mode a.slots a.unused));
     own = f.own;
@@ -396,23 +394,23 @@ module _ (laws : LawsBelow) (port : Port) (later : List Reply) (old new : Server
   }
     where
       looked : (steps : List Step) × AllMay m steps × IsMachineOf (record old { device = a.recovered.seen }) (after m steps) × IsBacked old.device a.recovered.seen m steps × AllDevices steps
-      looked = followed_steps old a.recovered.seen (looks_serve port old.device a.recovered.seen looks) m reached is
+      looked = followed_steps laws old a.recovered.seen (looks_serve laws port old.device a.recovered.seen looks) m reached is
 
       finding : (steps : List Step) × AllMay (after m looked.0) steps × IsMachineOf from (after (after m looked.0) steps) × IsBacked a.recovered.seen a.recovered.found (after m looked.0) steps × AllDevices steps
-      finding = followed_steps (record old { device = a.recovered.seen }) a.recovered.found (finds_serve laws port a.recovered.mask a.recovered.done a.recovered.seen a.recovered.found a.recovered.reads)
-          (after m looked.0) (reached_more m looked.0 reached looked.1) looked.2
+      finding = followed_steps laws (record old { device = a.recovered.seen }) a.recovered.found (finds_serve laws port a.recovered.mask a.recovered.done a.recovered.seen a.recovered.found a.recovered.reads)
+          (after m looked.0) (laws.basic.reached m looked.0 reached looked.1) looked.2
 
       x : (steps : List Step) × AllMay m steps × IsMachineOf from (after m steps) × IsBacked old.device a.recovered.found m steps × AllDevices steps
       x = (
         finding.0 ++ looked.0,
-        may-append m finding.0 looked.0 looked.1 finding.1,
-        subst (IsMachineOf from) (sym (after-append m finding.0 looked.0)) finding.2,
+        laws.basic.may m finding.0 looked.0 looked.1 finding.1,
+        subst (IsMachineOf from) (sym (laws.basic.joined m finding.0 looked.0)) finding.2,
         laws.backed_parts old.device a.recovered.seen a.recovered.found m looked.0 finding.0 looked.3 finding.3,
         devices_both finding.0 looked.0 finding.4 looked.4,
       )
 
       reached_x : IsReached (after m x.0)
-      reached_x = reached_more m x.0 reached x.1
+      reached_x = laws.basic.reached m x.0 reached x.1
 
       y : AreAnswered port a.recovered.requests from a.mid (after m x.0)
       y = each_answered laws port a.recovered.done a.recovered.requests from a.mid found_kept ready over a.recovered.each (after m x.0) reached_x x.2
@@ -424,16 +422,16 @@ module _ (laws : LawsBelow) (port : Port) (later : List Reply) (old new : Server
       n = after m base
 
       base_may : AllMay m base
-      base_may = may-append m (answers_in y.ended) x.0 x.1 y.may
+      base_may = laws.basic.may m (answers_in y.ended) x.0 x.1 y.may
 
       base_backed : IsBacked old.device a.mid.device m base
       base_backed = laws.backed_parts old.device a.recovered.found a.mid.device m x.0 (answers_in y.ended) x.3 y.backed
 
       n_reached : IsReached n
-      n_reached = reached_more m base reached base_may
+      n_reached = laws.basic.reached m base reached base_may
 
       is_mid : IsMachineOf a.mid n
-      is_mid = subst (IsMachineOf a.mid) (sym (after-append m (answers_in y.ended) x.0)) y.stands
+      is_mid = subst (IsMachineOf a.mid) (sym (laws.basic.joined m (answers_in y.ended) x.0)) y.stands
 
       p : IsPassed port.0 a.recovered.result.next a.found a.mid.device new.device (record { uses = is_mid.uses; parked = is_mid.parked }) n
       p = passed laws (wanted_of old.wanted port.0) port a.was a.recovered.result.next a.recovered.mends.accesses a.mid.device a.device new.device a.found a.recovered.mends.does.slots a.is
@@ -443,4 +441,4 @@ module _ (laws : LawsBelow) (port : Port) (later : List Reply) (old new : Server
       f = met laws port a.mid mid_kept mid_ready n n_reached is_mid a.recovered.result.next a.found new.device p a.failed a.prospect a.was a.expects unnamed later a.now a.meets
 
       then_is : after m (p.passes.steps ++ base) ≡ after n p.passes.steps
-      then_is = after-append m p.passes.steps base
+      then_is = laws.basic.joined m p.passes.steps base

@@ -13,14 +13,12 @@ use Rattle.agreement.specs.Driven.{known}
 use Rattle.agreement.specs.Driver.{Knows, IsBacked}
 use Rattle.agreement.specs.Links.{SameAdapter}
 use Rattle.agreement.specs.Spares.{AllFurther, IsFurther, SparesBook}
-use Rattle.agreement.proofs.Sparing.{found_before, found_later, steps_spare}
 use Rattle.block_machine.specs.Events.{Ask, Said, AllMay, AllDevices, Belong, IssuesLast, AllLawful, IsAnswered, KeepsDisks}
 use Rattle.block_machine.specs.Histories.{Instant, Happening, IsHistory, IsReached, now}
 use Rattle.block_machine.specs.Left.{after}
 use Rattle.block_machine.specs.Ports.{Ports, AreFit, Evidence, SamePorts, SameDisk}
 use Rattle.block_machine.specs.State.{Machine, Pending}
 use Rattle.block_machine.specs.Steps.{Step}
-use Rattle.block_machine.proofs.HistoryLemmas.{history_reaches, reached_more}
 use Rattle.dma_frames.specs.Loan.{Lending}
 use Rattle.dma_frames.specs.Table.{Table}
 use Rattle.host_boot.specs.Taken.{found_of}
@@ -39,6 +37,7 @@ use Rattle.slots.specs.declared.Use.{Use as SlotUse}
 use Rattle.block_machine.specs.Due.{is_plain}
 use Rattle.server_history.proofs.Standing.{holds_with, slots}
 use Rattle.server_history.proofs.Told.{evidenced, lawful_told, no_evidence, told_by}
+use Rattle.server_history.specs.Below.{LawsBelow}
 
 -- ---- the book
 
@@ -66,33 +65,33 @@ book_on (e ∷ es) (old ∷ olds) [] further all = absurd further
 book_on (e ∷ es) (old ∷ olds) (new ∷ news) further all = (entry_on e old new further.0 all.0, book_on es olds news further.1 all.1)
 
 -- and so do kept requests, with their loans
-pub still_kept : (found : List Found) (kept : List (List Lending)) (olds news : List Pending) → AllFurther olds news → AreKept found kept olds → AreKept found kept news
-still_kept found kept olds news further are = record {
-  dead = λ e here. let o = found_before olds news e further here in ap (λ r. found_of found r.port.0) o.2.request ∙ are.dead o.0 o.1;
+pub still_kept : LawsBelow → (found : List Found) (kept : List (List Lending)) (olds news : List Pending) → AllFurther olds news → AreKept found kept olds → AreKept found kept news
+still_kept laws found kept olds news further are = record {
+  dead = λ e here. let o = laws.basic.found_before olds news e further here in ap (λ r. found_of found r.port.0) o.2.request ∙ are.dead o.0 o.1;
   loan = λ e here.
-      let o = found_before olds news e further here in
+      let o = laws.basic.found_before olds news e further here in
       let l = are.loan o.0 o.1 in
       (l.0, subst (λ r. Contains (kept_at kept r.port.0) l.0) (sym o.2.request) l.1, (l.2.0 ∙ sym (ap (λ r. r.id) o.2.request), l.2.1 ∙ sym (ap (λ r. r.asked.frames.items) o.2.request)));
   whose = λ port loan here.
       let e = are.whose port loan here in
-      let n = found_later olds news e.0 further e.1 in
+      let n = laws.basic.found_later olds news e.0 further e.1 in
       (n.0, n.1, ap (λ r. r.port.0) n.2.request ∙ e.2, (e.3.0 ∙ sym (ap (λ r. r.id) n.2.request), e.3.1 ∙ sym (ap (λ r. r.asked.frames.items) n.2.request)));
   apart = are.apart;
 }
 
 -- ---- the machine that stands for a server
 
-pub machine_with : (s : Server) (new : Device) (m later : Machine) → (is : IsMachineOf s m) → SparesBook m later
+pub machine_with : LawsBelow → (s : Server) (new : Device) (m later : Machine) → (is : IsMachineOf s m) → SparesBook m later
     → Knows later (known is.uses is.parked new)
     → IsMachineOf (record s { device = new }) later
-machine_with s new m later is spares knows = record {
+machine_with laws s new m later is spares knows = record {
   uses = is.uses;
   used = is.used;
   parked = is.parked;
   unparked = is.unparked;
   knows = knows;
   book = book_on s.book m.book later.book spares.book is.book;
-  kept = still_kept s.ports s.kept m.kept later.kept spares.kept is.kept;
+  kept = still_kept laws s.ports s.kept m.kept later.kept spares.kept is.kept;
   rows = spares.rows ∙ is.rows;
   owner = λ frame. ap (λ f. f frame) spares.owner ∙ is.owner frame;
   lent = λ frame. ap (λ f. f frame) spares.lent ∙ is.lent frame;
@@ -100,10 +99,10 @@ machine_with s new m later is spares knows = record {
 }
 
 -- it goes on over steps of the device
-pub machine_on : (s : Server) (new : Device) (m : Machine) (steps : List Step) → (is : IsMachineOf s m) → AllDevices steps
+pub machine_on : LawsBelow → (s : Server) (new : Device) (m : Machine) (steps : List Step) → (is : IsMachineOf s m) → AllDevices steps
     → Knows (after m steps) (known is.uses is.parked new)
     → IsMachineOf (record s { device = new }) (after m steps)
-machine_on s new m steps is own knows = machine_with s new m (after m steps) is (steps_spare m steps own) knows
+machine_on laws s new m steps is own knows = machine_with laws s new m (after m steps) is (laws.basic.spares m steps own) knows
 
 -- ---- what a server keeps
 
@@ -144,11 +143,11 @@ kept_then s device table used_now book last k on same behind owners four used ki
 }
 
 -- the same with another device alone
-pub kept_on : (s : Server) (new : Device) → (k : IsKept s) → IsOn new → SameAdapter s.device new
+pub kept_on : LawsBelow → (s : Server) (new : Device) → (k : IsKept s) → IsOn new → SameAdapter s.device new
     → ((port : ℕ) → port < 4 → IsPortOf s.wanted s.ports port new) → ((port slot : ℕ) (used : SlotUse) → used_for s.slots port slot ≡ Some used → HasCommand used.queued new port slot) → (steps : List Step) → AllMay k.machine steps
     → IsMachineOf (record s { device = new }) (after k.machine steps) → IsKept (record s { device = new })
-kept_on s new k on same behind commands steps may is =
-    kept_then s new s.table s.slots s.book s.last k on same behind refl k.four k.slots k.kinds commands k.alone k.accepted k.ordered k.handed_out k.ready (after k.machine steps) (reached_more k.machine steps k.reached may) is
+kept_on laws s new k on same behind commands steps may is =
+    kept_then s new s.table s.slots s.book s.last k on same behind refl k.four k.slots k.kinds commands k.alone k.accepted k.ordered k.handed_out k.ready (after k.machine steps) (laws.basic.reached k.machine steps k.reached may) is
 
 -- ---- events
 
@@ -172,7 +171,7 @@ abbrev pub with_device : Device → Instant Device → Instant Device
 with_device d i = record { device = d; moment = i.moment }
 
 -- a call, with what its event needs
-pub lead_with : (first : Instant Device) (past : List (Happening Device DeviceStep)) (s new : Server) (ask : Ask DeviceStep) (said : Said) (evidence : Evidence) (steps : List Step)
+pub lead_with : LawsBelow → (first : Instant Device) (past : List (Happening Device DeviceStep)) (s new : Server) (ask : Ask DeviceStep) (said : Said) (evidence : Evidence) (steps : List Step)
     → new.wanted ≡ s.wanted → Leads first past s → IsKept new → AreFit (ports_of new)
     → AllMay (now first past).moment.machine steps → Belong ask (ports_of new) steps → IssuesLast steps
     → AllLawful (now first past).moment evidence (ports_of new) steps
@@ -186,7 +185,7 @@ pub lead_with : (first : Instant Device) (past : List (Happening Device DeviceSt
     → IsBacked s.device new.device (now first past).moment.machine steps
     → IsMachineOf new (after (now first past).moment.machine steps)
     → (h : Happening Device DeviceStep) × (h.event.ask ≡ ask) × (h.event.said ≡ said) × Leads first (h ∷ past) new
-lead_with first past s new ask said evidence steps wanted_is leads kept fit may belong last lawful disks answered accesses came evidenced issues parts backed stands = (
+lead_with laws first past s new ask said evidence steps wanted_is leads kept fit may belong last lawful disks answered accesses came evidenced issues parts backed stands = (
   h,
   refl,
   refl,
@@ -210,7 +209,7 @@ lead_with first past s new ask said evidence steps wanted_is leads kept fit may 
     later = after old.moment.machine steps
 
     reached : IsReached later
-    reached = reached_more old.moment.machine steps (history_reaches (Begins s.wanted) (Ties s.wanted) first past leads.history) may
+    reached = laws.basic.reached old.moment.machine steps (laws.basic.history_reached s.wanted first past leads.history) may
 
     ties : Ties new.wanted (with_device s.device old) h
     ties = record {
@@ -224,7 +223,7 @@ lead_with first past s new ask said evidence steps wanted_is leads kept fit may 
     }
 
 -- one in which no port is stopped, and each is what it was
-pub lead_by : (first : Instant Device) (past : List (Happening Device DeviceStep)) (s new : Server) (ask : Ask DeviceStep) (said : Said) (steps : List Step)
+pub lead_by : LawsBelow → (first : Instant Device) (past : List (Happening Device DeviceStep)) (s new : Server) (ask : Ask DeviceStep) (said : Said) (steps : List Step)
     → new.wanted ≡ s.wanted → ports_of new ≡ ports_of s → Leads first past s → IsKept new
     → AllMay (now first past).moment.machine steps → Belong ask (ports_of new) steps → IssuesLast steps
     → AllLawful (now first past).moment no_evidence (ports_of new) steps
@@ -237,8 +236,8 @@ pub lead_by : (first : Instant Device) (past : List (Happening Device DeviceStep
     → IsBacked s.device new.device (now first past).moment.machine steps
     → IsMachineOf new (after (now first past).moment.machine steps)
     → (h : Happening Device DeviceStep) × (h.event.ask ≡ ask) × (h.event.said ≡ said) × Leads first (h ∷ past) new
-lead_by first past s new ask said steps wanted_is ports_is leads kept may belong last lawful answered accesses came leaves issues parts backed stands =
-    lead_with first past s new ask said (told_by s.device old.moment.ports) steps wanted_is leads kept (subst AreFit ports fit) may belong last
+lead_by laws first past s new ask said steps wanted_is ports_is leads kept may belong last lawful answered accesses came leaves issues parts backed stands =
+    lead_with laws first past s new ask said (told_by s.device old.moment.ports) steps wanted_is leads kept (subst AreFit ports fit) may belong last
     (lawful_told s.device old.moment.ports old.moment (ports_of new) steps lawful)
     (λ e o here i same. disks_same old.moment.ports (ports_of new) ports e.request.port)
     answered accesses came

@@ -52,7 +52,7 @@ module _ (laws : LawsBelow) (s : Server) (k : IsKept s) (port : Port) (ready : s
       (λ (u : (used : SlotUse) × (used_for s.slots port.0 slot ≡ Some used)).
       let b : IsServedBy s k.machine port.0 slot u.0.id = served_request s k.machine port.0 slot k.stands ready u.0.id (serves_used s k.machine port.0 k.stands ready slot u.0 u.1) in
       let c = k.commands port.0 slot u.0 u.1 in
-      let one = (laws.one_said s.device.memory (s.device.port port.0).bases.clb slot b.serves.command c.command b.serves.places c.places b.serves.told.says c.stored.told.says).0 in
+      let one = (laws.slots.one_said s.device.memory (s.device.port port.0).bases.clb slot b.serves.command c.command b.serves.places c.places b.serves.told.says c.stored.told.says).0 in
       plain_stage s.device.memory (s.device.port port.0) port.0 slot b.serves.pending b.serves.command b.serves.places b.serves.stage
       (ap (λ (y : Meaning). is_queued y.operation) one ∙ c.kind ∙ alike slot u.0 u.1))
       (λ none.

@@ -31,8 +31,6 @@ use Rattle.port_look.specs.Looks.{IsLooking, LooksAt}
 use Rattle.port_look.specs.declared.Look.{Look}
 use Rattle.port_look.specs.Services.{IsOrdinary}
 use Rattle.port_look.specs.declared.Look.TheVariants.{Lost, Undisturbed as Calm}
-use Rattle.port_look.proofs.Apart.{looking_of}
-use Rattle.port_look.proofs.Seeing.{look_driven}
 use Rattle.slots.specs.Uses.{Uses as PortSlots}
 use Rattle.server_history.specs.Below.{LawsBelow}
 use Rattle.server_history.specs.Served.{ChecksUsed, HasNone, HasTurn, IssuesIn}
@@ -99,30 +97,30 @@ module _ (laws : LawsBelow) where
         c = turn.calm calm
 
     seen_on : IsOn turn.seen
-    seen_on = laws.of_on port old.device turn.seen on (driven_as (IsLooking port) (IsOf port) old.device turn.seen (looking_of port) (look_driven port turn.look old.device turn.seen turn.looks))
+    seen_on = laws.of_on port old.device turn.seen on (driven_as (IsLooking port) (IsOf port) old.device turn.seen (laws.looking.looking_of port) (laws.looking.looks_driven port turn.look old.device turn.seen turn.looks))
 
     module _ (calm : turn.look ≡ Calm) where
       -- it showed no trouble, then
       pub shown_none : ShowsNoTrouble (old.device.port port.0)
-      shown_none = (laws.looks_calm port turn.look old.device turn.seen on turn.looks calm).0
+      shown_none = (laws.looking.looks_calm port turn.look old.device turn.seen on turn.looks calm).0
 
       -- what was read told of no error
       told_none : (place : ℕ) → 27 ≤ place → place ≤ 30 → bit turn.looks.causes place ≡ false
-      told_none = (laws.looks_undisturbed turn.looks.causes turn.looks.status (sym turn.looks.tells ∙ calm)).0.quiet
+      told_none = (laws.looking.looks_undisturbed turn.looks.causes turn.looks.status (sym turn.looks.tells ∙ calm)).0.quiet
 
       -- so a fault that came is shown
       fault_shown : Gains (IsFaultOf port.0) old.device new → (new.port port.0).is 30 ≡ true
       fault_shown g = set_unless ((new.port port.0).is 30) (λ clear.
-          let late = laws.ordinary_faults port turn.seen new seen_on (later_driven calm) clear in
-          let early = laws.looks_fault port turn.look old.device turn.seen on turn.looks (told_none 30 (omega arith) (omega arith)) late.0 in
+          let late = laws.looking.ordinary_faults port turn.seen new seen_on (later_driven calm) clear in
+          let early = laws.looking.looks_fault port turn.look old.device turn.seen on turn.looks (told_none 30 (omega arith) (omega arith)) late.0 in
           let none = laws.looks.fails_more port.0 old.device turn.seen new early.1 late.1 in
           gains_none (IsFaultOf port.0) old.device new none.gained none.tape none.none g)
 
       -- and so is a fatal error
       fatal_shown : Gains (IsFatalOf port.0) old.device new → ShowsFatal (new.port port.0)
       fatal_shown g = fatal_unless (new.port port.0) (λ clear.
-          let late = laws.ordinary_fatals port turn.seen new seen_on (later_driven calm) clear in
-          let early = laws.looks_fatal port turn.look old.device turn.seen on turn.looks (λ place low high. told_none place low (omega (arith, high))) late.0 in
+          let late = laws.looking.ordinary_fatals port turn.seen new seen_on (later_driven calm) clear in
+          let early = laws.looking.looks_fatal port turn.look old.device turn.seen on turn.looks (λ place low high. told_none place low (omega (arith, high))) late.0 in
           let none = laws.trouble.fatal_more port.0 old.device turn.seen new early.1 late.1 in
           gains_none (IsFatalOf port.0) old.device new none.gained none.tape none.none g)
 
@@ -152,5 +150,5 @@ module _ (laws : LawsBelow) where
           let same : new ≡ turn.seen = (turn.told (λ calm. let z : Calm ≡ Lost = sym calm ∙ lost in cc)).1 in
           absurd (⊎_elim asked.change
           (λ more. ⊎_elim (λ out. out asked.device) (λ came. came (subst (PlugsNone port.0 old.device) same asked.plugged)) more)
-          (laws.looks_loss port old.device turn.seen on (subst (λ (l : Look). LooksAt port l old.device turn.seen) lost turn.looks) undue)))
+          (laws.looking.looks_loss port old.device turn.seen on (subst (λ (l : Look). LooksAt port l old.device turn.seen) lost turn.looks) undue)))
           turn.quiet

@@ -22,15 +22,13 @@ use Rattle.block_machine.specs.State.{Machine, Pending, unanswered}
 use Rattle.block_machine.specs.Steps.{Step, Issue, May}
 use Rattle.block_machine.specs.declared.due.Mode.{Mode}
 use Rattle.block_machine.specs.declared.due.Unanswered.{Unanswered}
-use Rattle.block_machine.proofs.HistoryLemmas.{reached_more}
 use Rattle.block_machine.proofs.Members.{into_map, map_in}
-use Rattle.agreement.specs.Driven.{known, IsDrivenBy, SendsNone}
+use Rattle.agreement.specs.Driven.{IsDrivenBy, IsOf, SendsNone, known}
 use Rattle.agreement.specs.Driver.{EndsWith, IsBacked, serving}
 use Rattle.agreement.specs.Links.{SparesRegister}
 use Rattle.agreement.specs.Slots.{Free, Serves, Use, op_of, put}
 use Rattle.agreement.specs.Spares.{SparesBook}
 use Rattle.agreement.proofs.Driven.{driven_as}
-use Rattle.agreement.proofs.Sparing.{steps_spare}
 use Rattle.host_boot.specs.Taken.{found_of}
 use Rattle.host_boot.specs.declared.Found.TheVariants.{Unready}
 use Rattle.request_queue.specs.Entries.{Held, asks_of, at, has_id, issue}
@@ -63,8 +61,6 @@ use Rattle.server_history.proofs.Zips.{at_left}
 use Rattle.port_look.specs.Services.{IsService}
 use Rattle.ncq.specs.Tasks.{IsIssuing, IsTaskOf, IssuesTask, MayServe, with_serving}
 use Rattle.server_history.proofs.Plain.{issuing_serves}
-use Rattle.port_look.proofs.Apart.{apart}
-use Rattle.port_look.proofs.Serving.{services_on, services_same}
 
 -- Steps of the device, and then the issue of this request, lead from the machine to one that stands for the new server.
 pub record IsIssue (port : Port) (id : RequestId) (old new : Server) (m : Machine) : Type 0 where
@@ -109,7 +105,7 @@ behind_issued : LawsBelow → (s : Server) (new : Device) (port : Port) (slot : 
     → MayServe port slot mode p (record { uses = k.stands.uses; parked = k.stands.parked }) k.machine → (q : ℕ) → q < 4 → IsPortOf s.wanted s.ports q new
 behind_issued laws s new port slot mode r frames p k ready issues its may =
     behind_served laws s new port k ready (issued_serves port slot s.device new issues.driven)
-    (λ q low other. apart laws.looks port (IsIssuing port slot) (laws.issuing_of port slot) q other s.device new k.on issues.driven)
+    (λ q low other. laws.looks.other_left port q s.device new other k.on (driven_as (IsIssuing port slot) (IsOf port) s.device new (laws.issuing_of port slot) issues.driven))
     (λ q other. silent_issued laws s new port slot mode r frames p k issues its may q Identify refl other)
     (λ q.
     let slots : InSlots = record { uses = k.stands.uses; parked = k.stands.parked } in
@@ -198,7 +194,7 @@ module _ (laws : LawsBelow) (s new : Server) (port : Port) (id : RequestId) (k :
     its_id = x.2.id ∙ one.id_is
 
     spares : SparesBook m (after m ends.steps)
-    spares = steps_spare m ends.steps ends.only
+    spares = laws.basic.spares m ends.steps ends.only
 
     stands : IsMachineOf later (after m (Issue mode p ∷ ends.steps))
     stands = record {
@@ -210,7 +206,7 @@ module _ (laws : LawsBelow) (s new : Server) (port : Port) (id : RequestId) (k :
       knows = ends.knows;
       book = subst (λ (i : RequestId). IsBook (map (at i issue) s.book) (after m (Issue mode p ∷ ends.steps)).book) its_id
           (laws.issues s.book (after m ends.steps) mode p (book_on s.book m.book (after m ends.steps).book spares.book is.book));
-      kept = still_kept s.ports s.kept m.kept (after m ends.steps).kept spares.kept is.kept;
+      kept = still_kept laws s.ports s.kept m.kept (after m ends.steps).kept spares.kept is.kept;
       rows = spares.rows ∙ is.rows;
       owner = λ frame. ap (λ f. f frame) spares.owner ∙ is.owner frame;
       lent = λ frame. ap (λ f. f frame) spares.lent ∙ is.lent frame;
@@ -300,7 +296,7 @@ module _ (laws : LawsBelow) (s new : Server) (port : Port) (id : RequestId) (k :
       record {
         command = h.command;
         places = h.places;
-        stored = laws.stored (port_at q) n h.command h.places acts.acts (at_slots (record { uses = k.stands.uses; parked = k.stands.parked }) s.device) _ k.machine k.reached k.stands.knows acts.done
+        stored = laws.slots.stored (port_at q) n h.command h.places acts.acts (at_slots (record { uses = k.stands.uses; parked = k.stands.parked }) s.device) _ k.machine k.reached k.stands.knows acts.done
             (λ i d small. issuing_leaves_stored port (port_at q) slot n low may_use.1 t.0 t.1 other _ (subst (All (IsIssuing port slot)) (sym acts.accesses_are) one.issues.driven.only i d small)) k.on h.stored;
         kind = h.kind;
       })
@@ -380,7 +376,7 @@ module _ (laws : LawsBelow) (s new : Server) (port : Port) (id : RequestId) (k :
       let i = issue_one k.machine k.reached k.stands in
       subst IsKept (sym one.server)
       (kept_then s new.device s.table (with_slot s.slots port.0 slot its_use) (map (at id issue) s.book) s.last k
-      (services_on laws.looks s.device new.device k.on driven) (services_same laws.looks s.device new.device driven)
+      (laws.looking.services_on s.device new.device k.on driven) (laws.looking.services_same s.device new.device driven)
       (behind_issued laws s new.device port slot mode r e.frames (p k.machine k.reached k.stands) k issued_ready one.issues (its_transfer k.machine k.reached k.stands)
       (free k.machine k.reached k.stands, may k.machine k.reached k.stands))
       refl
@@ -393,7 +389,7 @@ module _ (laws : LawsBelow) (s new : Server) (port : Port) (id : RequestId) (k :
       (laws.issued s.book id k.ordered (e, one.here, one.id_is, waiting))
       (all_changed id issue (λ y. y.entry.id.0 ≤ s.last) (λ y a. a) s.book k.handed_out)
       (all_changed id issue (λ y. state_of (found_of s.ports y.entry.port.0) ≡ ReadyState) (λ y a. a) s.book k.ready)
-      (after k.machine (Issue mode i.request ∷ i.steps)) (reached_more k.machine (Issue mode i.request ∷ i.steps) k.reached i.may)
+      (after k.machine (Issue mode i.request ∷ i.steps)) (laws.basic.reached k.machine (Issue mode i.request ∷ i.steps) k.reached i.may)
       (subst (λ (n : Server). IsMachineOf n (after k.machine (Issue mode i.request ∷ i.steps))) one.server i.stands))
     where
       driven : IsDrivenBy IsService s.device new.device

@@ -18,10 +18,7 @@ use Rattle.host_boot.specs.declared.Found.{Found}
 use Rattle.driver_history.specs.Parts.{NamesAlike}
 use Rattle.server_history.specs.Turns.{NamesOnly}
 use Rattle.server_history.specs.Server.{Server, disk_in, disk_of, is_served, mode_in, ports_of, remembered_at, sectors_of, serial_of, state_of, trims_of}
-
--- nothing is in no list
-pub nowhere : {X : Type 0} (x : X) → Contains [] x → ⊥
-nowhere x here = All-contains (λ _. ⊥) [] x (All-nil (λ _. ⊥)) here
+use Rattle.server_history.proofs.Lists.{nowhere}
 
 -- ---- answers of lists of steps
 

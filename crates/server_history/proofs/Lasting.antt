@@ -141,13 +141,13 @@ module _ (laws : LawsBelow) (port : Port) (replies : List Reply) (old new : Serv
     pub ends_ready : EndsReady (wanted_of old.wanted port.0) port info.0 asked r.mid.device
     ends_ready = subst (λ (f : Found). BootsStopped (wanted_of old.wanted port.0) port f asked r.mid.device) (again_booted.1 ∙ info.1) again_booted.2.boots
 
-    abbrev way : GetsReady port asked r.mid.device
+    abbrev pub way : GetsReady port asked r.mid.device
     way = ends_ready.way
 
-    up_on : IsOn way.up
-    up_on = laws.of_on port asked way.up asked_on (driven_as (IsOfBoot port) (IsOf port) asked way.up (λ access b. laws.booting_of port access b) (up_driven port asked way.up way.first))
+    pub up_on : IsOn way.up
+    up_on = laws.of_on port asked way.up asked_on (driven_as (IsOfBoot port) (IsOf port) asked way.up (λ access b. laws.booting_of port access b) (up_driven laws port asked way.up way.first))
 
-    since_up : IsDrivenBy (LeavesTrouble port) way.up new.device
+    pub since_up : IsDrivenBy (LeavesTrouble port) way.up new.device
     since_up =
         by_then (driven_as (IsAsking port) (LeavesTrouble port) way.up way.then.asked (asking_leaves port) way.then.asks)
         (by_then

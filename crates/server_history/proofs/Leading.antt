@@ -24,8 +24,6 @@ use Rattle.block_machine.specs.Histories.{IsReached}
 use Rattle.block_machine.specs.Left.{after}
 use Rattle.block_machine.specs.State.{Machine}
 use Rattle.block_machine.specs.Steps.{Step}
-use Rattle.block_machine.proofs.EventLemmas.{after-append}
-use Rattle.block_machine.proofs.HistoryLemmas.{may-append, reached_more}
 use Rattle.error_recovery.specs.Recovery.{LeavesSlots, with_own}
 use Rattle.error_recovery.specs.declared.Next.{Next}
 use Rattle.error_recovery.specs.declared.Next.TheVariants.{Running, Restart, Dead as Stuck}
@@ -58,9 +56,9 @@ passes_then : LawsBelow → (a b c : Known) (m : Machine) (x : Passes a b m) →
 passes_then laws a b c m x y = record {
   steps = y.steps ++ x.steps;
   only = devices_both y.steps x.steps y.only x.only;
-  may = may-append m y.steps x.steps x.may y.may;
+  may = laws.basic.may m y.steps x.steps x.may y.may;
   backed = laws.backed_parts a.device b.device c.device m x.steps y.steps x.backed y.backed;
-  knows = subst (λ (n : Machine). Knows n c) (sym (after-append m y.steps x.steps)) y.knows;
+  knows = subst (λ (n : Machine). Knows n c) (sym (laws.basic.joined m y.steps x.steps)) y.knows;
 }
 
 -- what was followed
@@ -75,7 +73,7 @@ passes_performs : LawsBelow → (accesses : List Access) (next : InSlots → InS
     → Passes (at s old) (at (next s) new) m
 passes_performs laws accesses next old new p s m reached knows =
     let c = p.comes s m reached knows tt in
-    let g = laws.acts_go c.acts (at s old) (at (next s) new) m knows c.done in
+    let g = laws.slots.acts_go c.acts (at s old) (at (next s) new) m knows c.done in
     record { steps = steps_of c.acts; only = c.tells; may = g.may; backed = g.backed; knows = g.knows }
 
 -- ---- what is in the slots then
@@ -107,7 +105,7 @@ module _ (laws : LawsBelow) (port : ℕ) (s : InSlots) (d : Device) where
     uses = λ q ne. changed_other s.uses port (λ slot. Free) q ne;
     parked = λ q ne. changed_other s.parked port (served_ids s.uses port 32 ++ s.parked port) q ne;
     its = its_then;
-    unserved = λ lives apart slot id serves. laws.frees (at s d) port slot id apart serves;
+    unserved = λ lives apart slot id serves. laws.slots.frees (at s d) port slot id apart serves;
     free = λ lives. free_then;
   }
 
@@ -118,7 +116,7 @@ module _ (laws : LawsBelow) (port : ℕ) (s : InSlots) (d : Device) where
     parked = λ q ne. changed_other s.parked port (served_ids s.uses port 32 ++ s.parked port) q ne;
     its = its_then;
     unserved = λ lives apart slot id serves.
-        laws.put_unserved (given_up port s).uses port 0 (Own o) id (laws.frees (at s d) port slot id apart serves) (λ other same. let z : Own o ≡ Serves other = same in absurd cc);
+        laws.slots.put_unserved (given_up port s).uses port 0 (Own o) id (laws.slots.frees (at s d) port slot id apart serves) (λ other same. let z : Own o ≡ Serves other = same in absurd cc);
     free = λ lives. absurd (lives dead);
   }
 
@@ -141,7 +139,7 @@ module _ (laws : LawsBelow) (wanted : Wanted) (port : Port) (old mid new : Devic
   -- its slots were given up, and then it was booted
   module _ (x : Passes (at s old) (at given mid) m) where
     here : IsReached (after m x.steps)
-    here = reached_more m x.steps reached x.may
+    here = laws.basic.reached m x.steps reached x.may
 
     booted : (way : Next) (found : Found) → BootsStopped wanted port found mid new → IsPassed port.0 way found old new s m
     booted way Unserved boots = absurd boots
@@ -184,7 +182,7 @@ passed laws wanted port was (Running token) accesses old mid new found performs 
 passed laws wanted port was (Restart token) accesses old mid new found performs (its, is, again) s m reached knows =
     subst (λ (f : Found). IsPassed port.0 (Restart token) f old new s m) is
     (booted laws wanted port old again.asked new s m reached knows
-    (passes_then laws (at s old) (at (given_up port.0 s) mid) (at (given_up port.0 s) again.asked) m x (passes_followed IsSurvey AnyUse (λ uses. uses) mid again.asked again.asks (given_up port.0 s) (after m x.steps) tt (reached_more m x.steps reached x.may) x.knows))
+    (passes_then laws (at s old) (at (given_up port.0 s) mid) (at (given_up port.0 s) again.asked) m x (passes_followed IsSurvey AnyUse (λ uses. uses) mid again.asked again.asks (given_up port.0 s) (after m x.steps) tt (laws.basic.reached m x.steps reached x.may) x.knows))
     (Restart token) its.found again.boots)
   where
     x : Passes (at s old) (at (given_up port.0 s) mid) m

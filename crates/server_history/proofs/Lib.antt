@@ -71,3 +71,4 @@ pub mod Beside
 pub mod Mending
 pub mod Minding
 pub mod Binding
+pub mod Lists

@@ -33,9 +33,6 @@ use Rattle.block_machine.specs.State.{Pending, Machine}
 use Rattle.block_machine.specs.Steps.{Step, Answer}
 use Rattle.block_machine.proofs.Calm.{counts_none}
 use Rattle.block_machine.proofs.Counting.{count_append}
-use Rattle.block_machine.proofs.EventLemmas.{after-append}
-use Rattle.block_machine.proofs.Standing.{standing}
-use Rattle.block_machine.proofs.Started.{ended_issued}
 use Rattle.host_boot.specs.Taken.{found_of}
 use Rattle.driver_history.specs.Evidence.{ShowsFailure}
 use Rattle.driver_history.specs.Guard.{IsAskedOf}
@@ -111,7 +108,7 @@ module _ (laws : LawsBelow) (s : Server) (start : IsSettled s) (old : Moment) (r
     was_ready = ap (λ (ports : Ports). ports.state (port_at n)) ports_are ∙ ready
 
     whole_is : after old.machine all ≡ after m x.steps
-    whole_is = after-append old.machine x.steps p.steps
+    whole_is = laws.basic.joined old.machine x.steps p.steps
 
     same_ids : (a b d : Pending) → b.request.id ≡ a.request.id → b.request ≡ d.request → a.request.id.0 ≡ d.request.id.0
     same_ids a b d one other = ap (λ (i : RequestId). i.0) (sym one ∙ ap (λ r. r.id) other)
@@ -162,7 +159,7 @@ module _ (laws : LawsBelow) (s : Server) (start : IsSettled s) (old : Moment) (r
 
     -- one that had ended was issued
     ended_on : (e : Pending) → Contains old.machine.book e → e.request.port ≡ port_at n → e.ended ≡ true → IsIssuedOn (port_at n) old.machine e
-    ended_on e there own ended = record { here = there; port_is = own; issued = ended_issued old.machine e reached there ended }
+    ended_on e there own ended = record { here = there; port_is = own; issued = laws.basic.ended_issued old.machine e reached there ended }
 
     -- its slot serves it when the turn begins
     slot_serves : (e : Pending) → (h : IsLeading e) → p.stands.uses n h.has.slot ≡ Serves h.now_is.request.id
@@ -198,7 +195,7 @@ module _ (laws : LawsBelow) (s : Server) (start : IsSettled s) (old : Moment) (r
           free = subst (λ (u : Use). IsServed old.machine s.device.memory s.device.tape (s.device.port n) n slot u) (free_unused s old.machine n at ready slot unused) (at.knows.agrees.slot n slot)
 
           same : says.pending ≡ e
-          same = (standing old.machine reached).sound.one says.pending e (still_booked s old.machine n at ready says.pending says.moves says.port_is).0 own.here (ap (λ (i : RequestId). i.0) says.id_is)
+          same = laws.basic.one old.machine reached says.pending e (still_booked s old.machine n at ready says.pending says.moves says.port_is).0 own.here (ap (λ (i : RequestId). i.0) says.id_is)
 
           staged : Stage s.device.memory (s.device.port n) n slot says.pending says.command says.places → says.pending.ended ≡ true
           staged (inl waits) = absurd (false≢true (sym free.issued ∙ waits.issued))
@@ -215,7 +212,7 @@ module _ (laws : LawsBelow) (s : Server) (start : IsSettled s) (old : Moment) (r
 
     module _ (evidence : Evidence) (alike : NamesAlike (port_at n) x.evidence evidence) (same_n : SamePort old.ports (ports_of c) (port_at n)) (asked : IsAskedOf (port_at n) began mid.device) where
       asked_now : IsAskedOf (port_at n) (instant_of c m) mid.device
-      asked_now = laws.asked_then (port_at n) began (moment_of c m) mid.device kept.on undue t on_mid ready_c asked
+      asked_now = laws.calls.asked_then (port_at n) began (moment_of c m) mid.device kept.on undue t on_mid ready_c asked
 
       abbrev did : TiesPort (instant_of c m) (turn_of its mid x.evidence x.steps) part.accesses (port_at n)
       did = x.ties asked_now
@@ -286,19 +283,19 @@ module _ (laws : LawsBelow) (s : Server) (start : IsSettled s) (old : Moment) (r
         used_plain : it.has.used.queued ≡ false
         used_plain =
             let k = subst (HasCommand it.has.used.queued s.device n) (sym its_slot) (kept.commands n it.has.slot it.has.used (sym (used_then it.has.slot) ∙ it.has.used_is)) in
-            let same = laws.one_said s.device.memory (s.device.port n).bases.clb slot says.command k.command says.places k.places says.told.says k.stored.told.says in
+            let same = laws.slots.one_said s.device.memory (s.device.port n).bases.clb slot says.command k.command says.places k.places says.told.says k.stored.told.says in
             sym k.kind ∙ sym (ap (λ (y : Meaning). is_queued y.operation) same.0) ∙ plain
 
         plain_now : is_queued (by e it).serves.command.operation ≡ false
         plain_now =
             let k = p.settled.kept.commands n it.has.slot it.has.used it.has.used_is in
             let its = (by e it).serves in
-            let same = laws.one_said c.device.memory (c.device.port n).bases.clb it.has.slot its.command k.command its.places k.places its.told.says k.stored.told.says in
+            let same = laws.slots.one_said c.device.memory (c.device.port n).bases.clb it.has.slot its.command k.command its.places k.places its.told.says k.stored.told.says in
             ap (λ (y : Meaning). is_queued y.operation) same.0 ∙ k.kind ∙ used_plain
 
         -- so it is in the turn
         alone_now : HasFaultAlone (port_at n) (instant_of c m) mid.device
-        alone_now = laws.alone_then (port_at n) began (moment_of c m) mid.device kept.on undue t on_mid ready_c alone
+        alone_now = laws.calls.alone_then (port_at n) began (moment_of c m) mid.device kept.on undue t on_mid ready_c alone
 
         -- the fault that is shown then is of that slot, which is in use
         faults : HasFaults c.device.tape (c.device.port n) n
@@ -310,7 +307,7 @@ module _ (laws : LawsBelow) (s : Server) (start : IsSettled s) (old : Moment) (r
         used_still : InUse (c.device.port n) it.has.slot
         used_still =
             let sole = p.settled.kept.alone n it.has.slot it.has.used it.has.used_is used_plain in
-            subst (InUse (c.device.port n)) (laws.fault_sole p.stands.uses m c.device n it.has.slot (drop (c.device.port n).notes.st_set_at c.device.tape) p.stands.knows.agrees fault
+            subst (InUse (c.device.port n)) (laws.slots.fault_sole p.stands.uses m c.device n it.has.slot (drop (c.device.port n).notes.st_set_at c.device.tape) p.stands.knows.agrees fault
             (λ other apart. free_unused c m n p.stands ready_c other (sole.1 other (λ zero. apart (zero ∙ sym sole.0))))) fault.used
 
         -- so it hasn't ended
@@ -388,7 +385,7 @@ module _ (laws : LawsBelow) (s : Server) (start : IsSettled s) (old : Moment) (r
       set_since : state_of (found_of mid.ports n) ≡ ReadyState → IsInterrupted x.evidence (port_at n) → length c.device.tape ≤ (mid.device.port n).notes.st_set_at
       set_since ready_mid i = ⊎_elim
           (λ stopped. ⊎_elim
-          (λ stops. laws.set_since (port_at n) part.accesses c.device mid.device p.on
+          (λ stops. laws.calls.set_since (port_at n) part.accesses c.device mid.device p.on
           (All-weaker (IsOf (port_at n)) (SparesRegister Ghc) (λ access of. laws.of_host (port_at n) access of) part.accesses part.of) part.does stops ((next.kept.behind n low).runs ready_mid).st)
           (λ (reset : _ × _). absurd reset.0)
           (x.evidenced.stopped_only stopped))
@@ -422,9 +419,9 @@ module _ (laws : LawsBelow) (s : Server) (start : IsSettled s) (old : Moment) (r
           changed = λ bad. absurd (not_bad bad);
         };
         boots = subst (λ (list : List Access). BootsAnew Service (Served []) (p.accesses ++ list) began (ports_of mid) mid.device (port_at n)) (append-nil part.accesses)
-            (laws.call_boots (port_at n) began (moment_of c m) (ports_of mid) (ports_of mid) mid.device (Served its) (Served []) kept.on undue t on_mid ready_c asked same_self same_n did.boots);
-        trouble = laws.call_trouble (port_at n) began (moment_of c m) (ports_of mid) (ports_of mid) mid.device x.evidence evidence kept.on undue t on_mid ready_c asked same_self alike set_since stops_failed did.trouble;
+            (laws.calls.call_boots (port_at n) began (moment_of c m) (ports_of mid) (ports_of mid) mid.device (Served its) (Served []) kept.on undue t on_mid ready_c asked same_self same_n did.boots);
+        trouble = laws.calls.call_trouble (port_at n) began (moment_of c m) (ports_of mid) (ports_of mid) mid.device x.evidence evidence kept.on undue t on_mid ready_c asked same_self alike set_since stops_failed did.trouble;
         well = subst (λ (list : List Access). RunsWellAnew evidence (p.accesses ++ list) began (ports_of mid) mid.device (port_at n)) (append-nil part.accesses)
-            (laws.call_well (port_at n) began (moment_of c m) (ports_of mid) (ports_of mid) mid.device x.evidence evidence kept.on undue t on_mid ready_c asked same_self alike did.well);
+            (laws.calls.call_well (port_at n) began (moment_of c m) (ports_of mid) (ports_of mid) mid.device x.evidence evidence kept.on undue t on_mid ready_c asked same_self alike (λ ready_mid. ((next.kept.behind n low).runs ready_mid).recorded.known) did.well);
         heeds = λ _. heeds_whole;
       }

@@ -1,22 +1,22 @@
 -- A server goes on while a ready port is looked at, and while its transfer is looked for.
-use Rattle.std.proofs.Common.{ℕ, ◌≡◌, ◌≢◌, ◌<◌, true, None, inl, inr, refl, sym, ap, ◌∙◌, subst, List}
+use Rattle.std.proofs.Common.{ℕ, ◌≡◌, ◌≢◌, ◌<◌, true, false, None, inl, inr, refl, sym, ap, ◌∙◌, subst, List}
 use Rattle.std.proofs.lemmas.Bool.{and_parts}
 use Rattle.ata_types.specs.declared.Port.{Port}
 use Rattle.ata_types.specs.declared.PortState.TheVariants.{Dead, Ready as ReadyState}
 use Rattle.hba_regs.specs.declared.reg.Reg.TheVariants.{Px}
 use Rattle.hba_regs.specs.declared.reg.PortReg.{PortReg}
 use Rattle.hba_regs.specs.declared.reg.PortReg.TheVariants.{Is, Cmd, Sact, Ci}
-use Rattle.adapter.specs.Access.{Access}
+use Rattle.adapter.specs.Access.{Access, Reads}
 use Rattle.adapter.specs.Access.Access.{Reading, Writing, Loading, Storing}
 use Rattle.adapter.specs.Device.{Device}
 use Rattle.adapter.specs.declared.command.Operation.{Operation}
 use Rattle.adapter.specs.declared.command.Operation.TheVariants.{Identify}
 use Rattle.agreement.specs.Agrees.{port_at}
-use Rattle.agreement.specs.Driven.{AnyUse, IsDrivenBy, IsFollowed, LeavesPort, NoneWrites, SendsNone}
+use Rattle.agreement.specs.Driven.{AnyUse, IsDrivenBy, IsFollowed, IsOf, LeavesPort, NoneWrites, SendsNone}
 use Rattle.agreement.specs.Halting.{IsHaltedAsTaken}
 use Rattle.agreement.specs.Slots.{IsOver, Uses, op_of}
 use Rattle.agreement.proofs.Driven.{along, driven_as, followed_adds, followed_silent}
-use Rattle.agreement.proofs.Finished.{access_over}
+use Rattle.agreement.proofs.Finished.{access_over, steps_over}
 use Rattle.host_boot.specs.Taken.{found_of}
 use Rattle.host_boot.specs.declared.Found.TheVariants.{Unready}
 use Rattle.server_history.specs.Served.{IsMaskOf}
@@ -29,14 +29,11 @@ use Rattle.server_history.proofs.Stored.{service_leaves_stored}
 use Rattle.agreement.specs.Acts.{at as at_slots}
 use Rattle.std.specs.List.{All}
 use Rattle.port_look.specs.Looks.{IsLooking}
-use Rattle.port_look.specs.Laws.{Laws}
 use Rattle.port_look.specs.Services.{IsService}
 use Rattle.ncq.specs.Masks.{ReadsDone, IsFinding}
 use Rattle.hba_regs.specs.Bits.{bit}
 use Rattle.server_history.specs.Below.{LawsBelow}
 use Rattle.server_history.proofs.Plain.{finding_serves}
-use Rattle.port_look.proofs.Apart.{apart, looking_of}
-use Rattle.port_look.proofs.Serving.{looking_service, services_on, services_same}
 
 -- ---- what stands behind the ports
 
@@ -46,7 +43,7 @@ pub behind_served : LawsBelow → (s : Server) (new : Device) (port : Port) → 
     → ((q : ℕ) → q < 4 → q ≢ port.0 → LeavesPort (s.device.port q) (new.port q)) → ((q : ℕ) → found_of s.ports q ≢ Unready Dead → SendsNone q Identify s.device new)
     → ((q : ℕ) → IsHaltedAsTaken (s.device.port q) → IsHaltedAsTaken (new.port q)) → (q : ℕ) → q < 4 → IsPortOf s.wanted s.ports q new
 behind_served laws s new port k ready driven left silent halts q low =
-    port_on laws s.wanted s.ports q s.device new (services_same laws.looks s.device new driven) k.on driven
+    port_on laws s.wanted s.ports q s.device new (laws.looking.services_same s.device new driven) k.on driven
     (λ unready. left q low (λ same. unready (ap (λ (n : ℕ). state_of (found_of s.ports n)) same ∙ ready))) (silent q) (halts q) (k.behind q low)
 
 -- ---- the server
@@ -63,11 +60,10 @@ module _ (s : Server) (new : Device) (port : Port) (k : IsKept s) (ready : state
   kept_over : LawsBelow → (May : Access → Type 0) → ((access : Access) → May access → IsService access) → ((access : Access) (at : ℕ) (bytes : List ℕ) → May access → access ≡ Storing at bytes → ⊥) → ((q : Port) → NoneWrites May (Px q Ci) × NoneWrites May (Px q Sact)) → ((q : Port) → NoneWrites May (Px q Cmd))
       → ((q : ℕ) → q < 4 → q ≢ port.0 → LeavesPort (s.device.port q) (new.port q)) → IsFollowed May AnyUse s.device new → IsKept (record s { device = new })
   kept_over below May service storeless none commandless left followed =
-      let laws : Laws = below.looks in
       let uses : Uses = k.stands.uses in
       let driven : IsDrivenBy IsService s.device new = driven_as May IsService s.device new service followed.driven in
       let x = (followed_adds followed uses k.stands.parked tt).adds k.machine k.reached k.stands.knows in
-      kept_on s new k (services_on laws s.device new k.on driven) (services_same laws s.device new driven)
+      kept_on below s new k (below.looking.services_on s.device new k.on driven) (below.looking.services_same s.device new driven)
       (behind_served below s new port k ready driven left
       (λ q other. silent_over May none followed q Identify refl other)
       (λ q. followed_halts below (port_at q) May s k new followed (commandless (port_at q))))
@@ -78,14 +74,14 @@ module _ (s : Server) (new : Device) (port : Port) (k : IsKept s) (ready : state
       record {
         command = h.command;
         places = h.places;
-        stored = below.stored (port_at q) n h.command h.places acts.acts (at_slots (record { uses = uses; parked = k.stands.parked }) s.device) (at_slots (record { uses = uses; parked = k.stands.parked }) new) k.machine k.reached k.stands.knows acts.done
+        stored = below.slots.stored (port_at q) n h.command h.places acts.acts (at_slots (record { uses = uses; parked = k.stands.parked }) s.device) (at_slots (record { uses = uses; parked = k.stands.parked }) new) k.machine k.reached k.stands.knows acts.done
             (λ i d small.
             let its = subst (All May) (sym acts.accesses_are) followed.driven.only i d small in
             service_leaves_stored (port_at q) n _ (service _ its) (λ a bytes place e x from to. storeless _ a bytes its e)) k.on h.stored;
         kind = h.kind;
       })
       x.0 x.1
-      (machine_on s new k.machine x.0 k.stands x.3.only x.2)
+      (machine_on below s new k.machine x.0 k.stands x.3.only x.2)
 
   looking_spares : (q : Port) (r : PortReg) → (Is ≡ r → ⊥) → NoneWrites (IsLooking port) (Px q r)
   looking_spares q r other (Writing reg v) (inl e) = λ is. other (let x : Px port Is ≡ Px q r = sym e ∙ is in cc)
@@ -111,14 +107,14 @@ module _ (s : Server) (new : Device) (port : Port) (k : IsKept s) (ready : state
 
   pub looking_kept : LawsBelow → IsFollowed (IsLooking port) AnyUse s.device new → IsKept (record s { device = new })
   looking_kept laws followed =
-      kept_over laws (IsLooking port) (looking_service port) looking_stores (λ q. (looking_spares q Ci (λ e. absurd cc), looking_spares q Sact (λ e. absurd cc))) (λ q. looking_spares q Cmd (λ e. absurd cc)) (λ q low other. apart laws.looks port (IsLooking port) (looking_of port) q other s.device new k.on followed.driven) followed
+      kept_over laws (IsLooking port) (laws.looking.looking_service port) looking_stores (λ q. (looking_spares q Ci (λ e. absurd cc), looking_spares q Sact (λ e. absurd cc))) (λ q. looking_spares q Cmd (λ e. absurd cc)) (λ q low other. laws.looks.other_left port q s.device new other k.on (driven_as (IsLooking port) (IsOf port) s.device new (laws.looking.looking_of port) followed.driven)) followed
 
   module _ (laws : LawsBelow) (mask done : ℕ) (finds : ReadsDone port mask done s.device new) where
     pub finding_kept : IsKept (record s { device = new })
     finding_kept =
         let followed = laws.finding_followed port mask done s.device new finds in
         kept_over laws (IsFinding port) (finding_serves port) finding_stores (λ q. (finding_spares q Ci, finding_spares q Sact)) (λ q. finding_spares q Cmd)
-        (λ q low other. apart laws.looks port (IsFinding port) (laws.finding_of port) q other s.device new k.on followed.driven) followed
+        (λ q low other. laws.looks.other_left port q s.device new other k.on (driven_as (IsFinding port) (IsOf port) s.device new (laws.finding_of port) followed.driven)) followed
 
     pub finding_silent : (q : ℕ) (o : Operation) → op_of o ≡ None → found_of s.ports q ≢ Unready Dead → SendsNone q o s.device new
     finding_silent = silent_over (IsFinding port) (λ q. (finding_spares q Ci, finding_spares q Sact)) (laws.finding_followed port mask done s.device new finds)
@@ -148,3 +144,12 @@ pub still_over : (port : Port) (slot : ℕ) (old new : Device) → IsDrivenBy (I
 still_over port slot old new driven =
     along (λ a b. IsOver (a.port port.0) slot → IsOver (b.port port.0) slot) (λ d h. h) (λ a b c x y h. y (x h)) (IsLooking port)
     (λ access a b is does h. access_over port slot access a b (λ v same. absurd (no_issue port access is v same)) does h) driven.accesses old new driven.only driven.all
+
+-- PxCI and PxSACT, which are read after a look, show the bits of a slot clear that had no command before
+pub both_clear : LawsBelow → (port : Port) (slot issued active : ℕ) (old seen read new : Device) → slot < 32 → IsDrivenBy (IsLooking port) old seen → Reads (Px port Ci) issued seen read
+    → Reads (Px port Sact) active read new → IsOver (old.port port.0) slot → (old.port port.0).sact slot ≡ false → (bit issued slot ≡ false) × (bit active slot ≡ false)
+both_clear laws port slot issued active old seen read new small looks reads shows over clear =
+    let unarmed = laws.looks.reads_clear port.0 slot (Px port Ci) issued seen read reads (laws.looking.looks_inactive port port.0 slot old seen looks clear) in (
+      reads.shows slot small ∙ (steps_over port.0 slot seen reads.mid reads.steps (still_over port slot old seen looks over)).issued,
+      shows.shows slot small ∙ laws.looks.steps_clear port.0 slot read shows.mid shows.steps unarmed,
+    )

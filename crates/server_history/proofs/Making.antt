@@ -18,7 +18,6 @@ use Rattle.adapter.specs.declared.access.DeviceStep.{DeviceStep}
 use Rattle.adapter.specs.declared.command.Operation.TheVariants.{ReadLog}
 use Rattle.agreement.specs.Driven.{SendsNone}
 use Rattle.agreement.specs.Driver.{IsBacked}
-use Rattle.agreement.proofs.Sparing.{found_before, steps_spare}
 use Rattle.block_machine.specs.Events.{AllDevices, AllGrounded, AllLawful, AllMay, Belong, IsDevices, IsLawful, IssuesLast, IsToldBefore, Moment, Served, Service, Tells, answers_of, issues_it}
 use Rattle.block_machine.specs.Histories.{IsReached}
 use Rattle.block_machine.specs.Left.{after}
@@ -36,13 +35,13 @@ use Rattle.server_history.specs.Served.{AnswersBy, AnswersTurn, HasEnded, HasTur
 use Rattle.server_history.specs.Server.{Server, IsMachineOf, IsSettled, mode_in, ports_of, remembered_at, slots_at, state_of, used_for}
 use Rattle.server_history.specs.Turns.{ServesPort, IsOfTurn, LeavesOthers, MakesTurn, NamesOnly, moment_of}
 use Rattle.server_history.proofs.Answered.{answered_in, ended_stood, issuing_answers, may_parts, no_answer, no_answer_issuing, told_so, with_ok}
-use Rattle.server_history.proofs.Joined.{nowhere}
 use Rattle.server_history.proofs.Coming.{TurnList, turn_list}
 use Rattle.server_history.proofs.Settling.{turn_apart, turn_settings, turn_slots}
 use Rattle.server_history.proofs.Slots.{ready_found}
 use Rattle.server_history.proofs.Tying.{finds, ties}
 use Rattle.server_history.proofs.Zips.{at_right}
 use Rattle.server_history.proofs.Told.{chosen, chosen_of, evidenced_of, ready_that, shows_failure, shows_fatal, shows_loss, told_of}
+use Rattle.server_history.proofs.Lists.{nowhere}
 
 -- What such a turn adds to a machine that stands for the server.
 pub record AddsTurn (port : Port) (replies : List Reply) (old new : Server) (m : Machine) : Type 0 where
@@ -235,13 +234,13 @@ module _ (laws : LawsBelow) (port : Port) (replies : List Reply) (old new : Serv
         (λ e base its_port rest. (rest, inr (ap (ports_of new).state its_port ∙ port_same.1 ∙ ready, ap (ports_of new).mode its_port ∙ mode_same)))
 
     early_may : AllMay m b.before × AllMay (after m b.before) (answers_in b.ended)
-    early_may = may_parts m (answers_in b.ended) b.before (may_parts m b.later (answers_in b.ended ++ b.before) (subst (AllMay m) b.steps_are x.may)).0
+    early_may = may_parts laws m (answers_in b.ended) b.before (may_parts laws m b.later (answers_in b.ended ++ b.before) (subst (AllMay m) b.steps_are x.may)).0
 
     -- who is answered was issued when the turn began, and has ended
     ok_lawful : (e : Pending) → Contains b.ended e → IsLawful began its (ports_of new) e Ok
     ok_lawful e here =
         let y = ended_by e here in
-        let l = found_before m.book (after m b.before).book e (steps_spare m b.before b.first).book (ended_stood (after m b.before) b.ended early_may.1 e here) in
+        let l = laws.basic.found_before m.book (after m b.before).book e (laws.basic.spares m b.before b.first).book (ended_stood laws (after m b.before) b.ended early_may.1 e here) in
         (record { pending = l.0; here = l.1; id_is = ap (λ r. r.id) (sym l.2.request); issued = sym l.2.issued ∙ y.2.issued }, y.2.issued, y.2.touched, y.2.ended)
 
     lawful : AllLawful began its (ports_of new) x.steps

@@ -14,7 +14,6 @@ use Rattle.block_machine.specs.Events.{AnswersEnded}
 use Rattle.block_machine.specs.Histories.{IsReached}
 use Rattle.block_machine.specs.State.{Machine, Pending}
 use Rattle.block_machine.specs.Steps.{Step}
-use Rattle.block_machine.proofs.Standing.{standing}
 use Rattle.host_boot.specs.Taken.{found_of}
 use Rattle.ncq.specs.Masks.{ReadsDone}
 use Rattle.port_look.specs.Looks.{IsLooking}
@@ -57,7 +56,7 @@ module _ (laws : LawsBelow) (c : Server) (k : IsKept c) (m : Machine) (reached :
         free = subst (λ (u : Use). IsServed m c.device.memory c.device.tape (c.device.port n) n slot u) (free_unused c m n is ready slot unused) (is.knows.agrees.slot n slot)
 
         same : says.pending ≡ e
-        same = (standing m reached).sound.one says.pending e (still_booked c m n is ready says.pending says.moves says.port_is).0 own.here (ap (λ (i : RequestId). i.0) says.id_is)
+        same = laws.basic.one m reached says.pending e (still_booked c m n is ready says.pending says.moves says.port_is).0 own.here (ap (λ (i : RequestId). i.0) says.id_is)
 
         staged : Stage c.device.memory (c.device.port n) n slot says.pending says.command says.places → says.pending.ended ≡ true
         staged (inl waits) = absurd (false≢true (sym free.issued ∙ waits.issued))

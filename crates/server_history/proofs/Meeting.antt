@@ -19,8 +19,6 @@ use Rattle.block_machine.specs.Histories.{IsReached}
 use Rattle.block_machine.specs.Left.{after}
 use Rattle.block_machine.specs.State.{Machine, Pending}
 use Rattle.block_machine.specs.Steps.{Step, Again, Answer, May, after_step, stays, unlend}
-use Rattle.block_machine.proofs.EventLemmas.{after-append}
-use Rattle.block_machine.proofs.HistoryLemmas.{may-append, reached_more}
 use Rattle.dma_frames.specs.Loan.{Lending}
 use Rattle.dma_frames.specs.Table.{Table, lent_to}
 use Rattle.request_queue.specs.Entries.{HasIssuesLeft, Held, IsAccepted, IsEarlier, IsInOrder, at, requeued, without}
@@ -36,9 +34,10 @@ use Rattle.server_history.specs.Below.{LawsBelow}
 use Rattle.server_history.specs.Fates.{DecidesOn, KeepsNone, MayMeet, MeetsInMachine, keeps_fate, loan_of, loans_of}
 use Rattle.server_history.specs.Server.{AreOfTwo}
 use Rattle.server_history.proofs.Answering.{given_back}
-use Rattle.server_history.proofs.Joined.{all_pairs_append, answers_append, answers_there, first_or_later, nowhere}
+use Rattle.server_history.proofs.Joined.{all_pairs_append, answers_append, answers_there, first_or_later}
 use Rattle.adapter.proofs.Changed.{changed_each, changed_other, changed_same}
 use Rattle.server_history.proofs.Zips.{at_left}
+use Rattle.server_history.proofs.Lists.{nowhere}
 
 -- ---- fates
 
@@ -232,7 +231,7 @@ module _ (laws : LawsBelow) (port : Port) (failed : Option Failed) (prospect : P
       all = r.steps ++ step ∷ []
 
       whole_is : after m (r.steps ++ step ∷ []) ≡ after (after_step m step) r.steps
-      whole_is = after-append m r.steps (step ∷ [])
+      whole_is = laws.basic.joined m r.steps (step ∷ [])
 
       answered_by : (e : Pending) (o : Outcome) → Contains (r.steps ++ step ∷ []) (Answer e o) → (y : Held) × Contains (request ∷ rest) y × IsEntry y e × (fate y.entry ≡ Ends o)
       answered_by e o there = ⊎_elim
@@ -269,7 +268,7 @@ module _ (laws : LawsBelow) (port : Port) (failed : Option Failed) (prospect : P
       decides tells = record {
         steps = r.steps ++ step ∷ [];
         parked = r.parked;
-        may = may-append m r.steps (step ∷ []) (tt, comes) r.may;
+        may = laws.basic.may m r.steps (step ∷ []) (tt, comes) r.may;
         own = All-append (DecidesOn port) r.steps (step ∷ []) r.own (All-cons (DecidesOn port) step [] of_port (All-nil (DecidesOn port)));
         backed = λ d. laws.backed_parts d d d m (step ∷ []) r.steps (laws.backed_own d m step own) (r.backed d);
         knows = subst (λ (n : Machine). Knows n (record k { parked = r.parked })) (sym whole_is) r.knows;
@@ -313,7 +312,7 @@ module _ (laws : LawsBelow) (port : Port) (failed : Option Failed) (prospect : P
     reply_is = λ i. record { id = sym its_entry.id i; client = sym its_entry.client i; outcome = o }
 
     reached : IsReached (after_step m (Answer x o))
-    reached = reached_more m (Answer x o ∷ []) may.reached (tt, comes)
+    reached = laws.basic.reached m (Answer x o ∷ []) may.reached (tt, comes)
 
     book : IsBook mid.book (after_step m (Answer x o)).book
     book = subst (λ (book : List Held). IsBook book (after_step m (Answer x o)).book) (sym meets.1)
@@ -366,7 +365,7 @@ module _ (laws : LawsBelow) (port : Port) (failed : Option Failed) (prospect : P
         (ap (λ (b : Bool). if b then x ∷ m.kept else m.kept) (stay ∙ never)) (loan.0 ∙ sym (append-nil now.kept)) (λ i j d lt below. absurd (omega (arith, lt, below))) (λ e there. absurd (nowhere e there))
         (record {
           reached = reached;
-          knows = laws.answered_agrees k m x o (decided k.parked port.0 request.entry.id) may.reached may.knows comes (stay ∙ never) (unserved request rest now mid k m may (fate_is ∙ never)) (forgets request rest now mid k m may);
+          knows = laws.slots.answered_agrees k m x o (decided k.parked port.0 request.entry.id) may.reached may.knows comes (stay ∙ never) (unserved request rest now mid k m may (fate_is ∙ never)) (forgets request rest now mid k m may);
           book = book;
           lent = λ frame. ap (λ (b : Bool). (if b then m.lent else unlend x.request.id m.lent) frame) (stay ∙ never)
               ∙ given_back m request x now.table mid.table may.reached (inl comes) its_entry may.lent (All-contains (IsAccepted rows now.table) now.book request may.accepted (here request rest now mid k m may)).lent loan.1 frame;
@@ -386,7 +385,7 @@ module _ (laws : LawsBelow) (port : Port) (failed : Option Failed) (prospect : P
         (λ e there. ⊎_elim (λ (same : e ≡ x). (subst (IsEntry request) (sym same) its_entry, fate_is ∙ keeps)) (λ none. absurd (nowhere e none)) (first_or_later x [] e there))
         (record {
           reached = reached;
-          knows = laws.kept_agrees k m x o may.reached may.knows comes (stay ∙ keeps);
+          knows = laws.slots.kept_agrees k m x o may.reached may.knows comes (stay ∙ keeps);
           book = book;
           lent = λ frame. ap (λ (b : Bool). (if b then m.lent else unlend x.request.id m.lent) frame) (stay ∙ keeps) ∙ may.lent frame ∙ ap (λ (t : Table). lent_to t frame) (sym loan.1);
           ordered = ordered;
@@ -493,8 +492,8 @@ module _ (laws : LawsBelow) (port : Port) (failed : Option Failed) (prospect : P
 
       goes : MayMeet port fate rest (record now { book = map (at request.entry.id requeued) now.book }) rows (left_known request rest now mid k m may) (after_step m (Again x))
       goes = record {
-        reached = reached_more m (Again x ∷ []) may.reached (tt, comes);
-        knows = laws.again_agrees k m x (decided k.parked port.0 request.entry.id) may.reached may.knows comes.0 (unserved request rest now mid k m may (ap (λ (f : Fate). keeps_fate f request.entry) is)) (forgets request rest now mid k m may);
+        reached = laws.basic.reached m (Again x ∷ []) may.reached (tt, comes);
+        knows = laws.slots.again_agrees k m x (decided k.parked port.0 request.entry.id) may.reached may.knows comes.0 (unserved request rest now mid k m may (ap (λ (f : Fate). keeps_fate f request.entry) is)) (forgets request rest now mid k m may);
         book = subst (λ (id : RequestId). IsBook (map (at id requeued) now.book) (after_step m (Again x)).book) (id_is request rest now mid k m may) (laws.again now.book m x may.book);
         lent = may.lent;
         ordered = laws.requeued now.book request.entry.id may.ordered (request, here request rest now mid k m may, refl, its_issue.0, few);

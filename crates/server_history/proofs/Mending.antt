@@ -12,7 +12,6 @@ use Rattle.block_machine.specs.Due.{due_of, IsDue, NoneDue, of_port}
 use Rattle.block_machine.specs.Histories.{IsReached}
 use Rattle.block_machine.specs.State.{Machine}
 use Rattle.block_machine.specs.declared.due.Mode.{Mode}
-use Rattle.block_machine.proofs.HistoryLemmas.{reached_more}
 use Rattle.host_boot.specs.Taken.{found_of}
 use Rattle.host_boot.specs.declared.Found.TheVariants.{Ready}
 use Rattle.identify.specs.declared.DiskInfo.{DiskInfo}
@@ -38,7 +37,7 @@ pub goes_on : LawsBelow → (port : Port) (later : List Reply) (old new : Server
     → IsFollowed (IsLooking port) AnyUse old.device a.recovered.seen → IsKept new
 goes_on laws port later old new k ready a looks =
     let f = adds_fates laws port later old new k ready a looks k.machine k.reached k.stands in
-    recovered_kept laws port later old new k ready a looks _ (reached_more k.machine _ k.reached f.may) f.stands
+    recovered_kept laws port later old new k ready a looks _ (laws.basic.reached k.machine _ k.reached f.may) f.stands
 
 -- nothing is due on a port that isn't ready
 pub unready_undue : LawsBelow → (s : Server) → IsKept s → (port : Port) → ((info : DiskInfo) → found_of s.ports port.0 ≡ Ready info → ⊥) → due_ids (mode_in s port) port (asks_of s.book) ≡ []

@@ -14,15 +14,13 @@ use Rattle.ata_types.specs.declared.request.Outcome.TheVariants as outcome
 use Rattle.ata_types.specs.declared.request.Reply.{Reply}
 use Rattle.ata_types.specs.declared.request.RequestId.{RequestId}
 use Rattle.agreement.specs.Driven.{AnyUse, IsFollowed}
-use Rattle.agreement.proofs.Sparing.{found_before, steps_spare}
 use Rattle.block_machine.specs.Events.{IsIssuedIn, NoneKeepsIssue, ServesReady, answers_of, issues_it, tells_fault}
 use Rattle.block_machine.specs.Histories.{IsReached}
 use Rattle.block_machine.specs.Left.{after}
 use Rattle.block_machine.specs.State.{Machine, Pending}
 use Rattle.block_machine.specs.Steps.{Answer, Issue, Step, at, issue}
 use Rattle.block_machine.specs.declared.due.Mode.{Mode}
-use Rattle.block_machine.proofs.EventLemmas.{after-append}
-use Rattle.block_machine.proofs.Members.{at_cases, contains_cases, contains_here, contains_none, contains_there, map_in}
+use Rattle.block_machine.proofs.Members.{at_cases, contains_cases, contains_here, contains_there, map_in}
 use Rattle.host_boot.specs.Taken.{found_of}
 use Rattle.port_boot.specs.States.{ShowsOwnDisk}
 use Rattle.error_log.specs.declared.Failure.{Failure}
@@ -54,14 +52,15 @@ use Rattle.server_history.proofs.Recovery.{evidence_by, fatal_of, until_issues}
 use Rattle.server_history.proofs.Rounds.{issued_late}
 use Rattle.server_history.proofs.Slots.{HasSlot, issued_has, of_ready, ready_found}
 use Rattle.server_history.proofs.Zips.{at_right}
+use Rattle.server_history.proofs.Lists.{nowhere, first_here}
 
 -- ---- requests that are issued
 
 -- Who is issued after steps that issue requests was issued by them, or was before.
-issued_before : (mode : Mode) (port : Port) (m : Machine) (steps : List Step) → IssuesOnly mode port steps → (e : Pending) → Contains (after m steps).book e → e.issued ≡ true
+issued_before : LawsBelow → (mode : Mode) (port : Port) (m : Machine) (steps : List Step) → IssuesOnly mode port steps → (e : Pending) → Contains (after m steps).book e → e.issued ≡ true
     → IsIssuedIn e.request.id steps ⊎ ((was : Pending) × Contains m.book was × (was.request ≡ e.request) × (was.issued ≡ true))
-issued_before mode port m [] only e here issued = inr (e, here, refl, issued)
-issued_before mode port m (Issue its x ∷ steps) only e here issued =
+issued_before laws mode port m [] only e here issued = inr (e, here, refl, issued)
+issued_before laws mode port m (Issue its x ∷ steps) only e here issued =
     let w = map_in (λ (y : Pending). at x.request.id issue y) (after m steps).book e here in ⊎_elim
     (λ (hit : (w.0.request.id.0 ≡ x.request.id.0) × (at x.request.id issue w.0 ≡ issue w.0)).
     let same : e.request.id.0 ≡ x.request.id.0 = ap (λ (y : Pending). y.request.id.0) (w.2 ∙ hit.1) ∙ hit.0 in
@@ -72,18 +71,18 @@ issued_before mode port m (Issue its x ∷ steps) only e here issued =
     (λ (before : IsIssuedIn w.0.request.id steps).
     inl (by (x.request.id.0 == e.request.id.0) (subst (λ (y : Pending). IsIssuedIn y.request.id steps) (sym same) before)))
     (λ was. inr (was.0, was.1, was.2 ∙ ap (λ (y : Pending). y.request) (sym same), was.3))
-    (issued_before mode port m steps only.2 w.0 w.1 (ap (λ (y : Pending). y.issued) (sym same) ∙ issued)))
+    (issued_before laws mode port m steps only.2 w.0 w.1 (ap (λ (y : Pending). y.issued) (sym same) ∙ issued)))
     (at_cases x.request.id issue w.0)
   where
     by : (b : Bool) → list_any (issues_it e.request.id) steps ≡ true → (b || list_any (issues_it e.request.id) steps) ≡ true
     by true is = refl
     by false is = is
-issued_before mode port m (step ∷ steps) only e here issued =
-    let l = found_before (after m steps).book (after m (step ∷ steps)).book e (steps_spare (after m steps) (step ∷ []) (tt, only.0)).book here in
+issued_before laws mode port m (step ∷ steps) only e here issued =
+    let l = laws.basic.found_before (after m steps).book (after m (step ∷ steps)).book e (laws.basic.spares (after m steps) (step ∷ []) (tt, only.0)).book here in
     ⊎_elim
     (λ (before : IsIssuedIn l.0.request.id steps). inl (by (issues_it e.request.id step) (subst (λ (id : RequestId). IsIssuedIn id steps) (sym (ap (λ q. q.id) l.2.request)) before)))
     (λ was. inr (was.0, was.1, was.2 ∙ sym l.2.request, was.3))
-    (issued_before mode port m steps only.1 l.0 l.1 (sym l.2.issued ∙ issued))
+    (issued_before laws mode port m steps only.1 l.0 l.1 (sym l.2.issued ∙ issued))
   where
     by : (b : Bool) → list_any (issues_it e.request.id) steps ≡ true → (b || list_any (issues_it e.request.id) steps) ≡ true
     by true is = refl
@@ -103,7 +102,7 @@ none_told port [] none = refl
 none_told port (Answer e o ∷ steps) none =
     let later = none_told port steps (λ y p there. none y p (contains_there (Answer e o) steps (Answer y p) there)) in
     let c : count_by (tells_fault port) (Answer e o ∷ steps) ≡ 0 + count_by (tells_fault port) steps =
-    count_cons (tells_fault port) (Answer e o) steps ∙ ap (λ (b : Bool). cond b 1 0 + count_by (tells_fault port) steps) (none e o (contains_here (Answer e o) steps (Answer e o) refl)) in
+    count_cons (tells_fault port) (Answer e o) steps ∙ ap (λ (b : Bool). cond b 1 0 + count_by (tells_fault port) steps) (none e o (first_here (Answer e o) steps)) in
     omega (arith, later, c)
 none_told port (step ∷ steps) none =
     let later = none_told port steps (λ y p there. none y p (contains_there step steps (Answer y p) there)) in
@@ -111,7 +110,7 @@ none_told port (step ∷ steps) none =
     omega (arith, later, c)
 
 there_answer : (steps : List Step) (e : Pending) (o : Outcome) → Contains steps (Answer e o) → Contains (answers_of steps) (e, o)
-there_answer [] e o here = absurd (contains_none (Answer e o) here)
+there_answer [] e o here = absurd (nowhere (Answer e o) here)
 there_answer (Answer y p ∷ steps) e o here = ⊎_elim
     (λ (is : Answer e o ≡ Answer y p). let a : e ≡ y = cc in let b : o ≡ p = cc in contains_here (y, p) (answers_of steps) (e, o) (λ i. (a i, b i)))
     (λ (there : Contains steps (Answer e o)). contains_there (y, p) (answers_of steps) (e, o) (there_answer steps e o there))
@@ -139,7 +138,7 @@ one_told port id (Answer e o ∷ steps) differ its =
     by : count_by (tells_fault port) steps ≤ 1 → (tells_fault port (Answer e o) ≡ true) ⊎ (tells_fault port (Answer e o) ≡ false) → count_by (tells_fault port) (Answer e o ∷ steps) ≤ 1
     by rest (inl tells) =
         let none = none_told port steps (λ y p there. ⊎_elim
-        (λ (too : tells_fault port (Answer y p) ≡ true). absurd (apart y p there (its y p (contains_there (Answer e o) steps (Answer y p) there) too ∙ sym (its e o (contains_here (Answer e o) steps (Answer e o) refl) tells))))
+        (λ (too : tells_fault port (Answer y p) ≡ true). absurd (apart y p there (its y p (contains_there (Answer e o) steps (Answer y p) there) too ∙ sym (its e o (first_here (Answer e o) steps) tells))))
         (λ other. other)
         (cases_Bool (tells_fault port (Answer y p)))) in
         let c : count_by (tells_fault port) (Answer e o ∷ steps) ≡ 1 + count_by (tells_fault port) steps = counted ∙ ap (λ (b : Bool). cond b 1 0 + count_by (tells_fault port) steps) tells in
@@ -190,11 +189,11 @@ module _ (laws : LawsBelow) (port : Port) (replies : List Reply) (old new : Serv
 
   anew : NoneKeepsIssue d.steps (after m d.steps) port
   anew e here own issued =
-      let all : after m d.steps ≡ after (after m base) d.issuing.steps = ap (after m) d.steps_are ∙ after-append m d.issuing.steps base in
+      let all : after m d.steps ≡ after (after m base) d.issuing.steps = ap (after m) d.steps_are ∙ laws.basic.joined m d.issuing.steps base in
       subst (IsIssuedIn e.request.id) (sym d.steps_are) (⊎_elim
       (λ now. issued_late e.request.id d.issuing.steps base now)
       (λ was. absurd (none_issued was.0 was.1 (ap (λ q. q.port) was.2 ∙ own) was.3))
-      (issued_before (mode_in r.mid port) port (after m base) d.issuing.steps d.issuing.only e (subst (λ (n : Machine). Contains n.book e) all here) issued))
+      (issued_before laws (mode_in r.mid port) port (after m base) d.issuing.steps d.issuing.only e (subst (λ (n : Machine). Contains n.book e) all here) issued))
 
   -- ---- one fault is told at most
 
@@ -266,7 +265,7 @@ module _ (laws : LawsBelow) (port : Port) (replies : List Reply) (old new : Serv
 
   fatal : Contains (fatal_of port a.recovered.look) port → count_by (tells_fault port) d.steps ≡ 0
   fatal here = ⊎_elim
-      (λ failed. absurd (contains_none port (subst (λ (l : Look). Contains (fatal_of port l) port) failed here)))
+      (λ failed. absurd (nowhere port (subst (λ (l : Look). Contains (fatal_of port l) port) failed here)))
       (λ broken. counted ∙ untold (nobody broken))
       (leads a.recovered.look port a.recovered.outstanding a.recovered.queued a.recovered.result a.recovered.mends.accesses a.mid.device a.device a.recovered.tells)
     where
@@ -280,12 +279,12 @@ module _ (laws : LawsBelow) (port : Port) (replies : List Reply) (old new : Serv
   pub serves_ready : ShowsOwnDisk (r.settled.recovered.seen.port port.0) → ServesReady (moment_of old m) (evidence_by a) d.steps (moment_of new (after m d.steps)) port
   serves_ready own = record {
     ended = heeding laws port replies old new k ready r looks kept evident m reached is d;
-    emptied = λ here. absurd (contains_none port here);
-    told = λ here. absurd (contains_none port here);
+    emptied = λ here. absurd (nowhere port here);
+    told = λ here. absurd (nowhere port here);
     interrupts = λ _. interrupted laws port replies old new k ready r looks kept;
     anew = λ _. anew;
     single = single;
-    fatal = λ here. (contains_here port [] port refl, fatal here);
+    fatal = λ here. (first_here port [], fatal here);
     disk = evident.had own m is d.steps d.backed;
-    calm = inl (inl (contains_here port [] port refl));
+    calm = inl (inl (first_here port []));
   }

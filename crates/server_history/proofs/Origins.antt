@@ -8,17 +8,16 @@ use Rattle.ata_types.specs.declared.request.Outcome.{Outcome}
 use Rattle.ata_types.specs.declared.request.RequestId.{RequestId}
 use Rattle.agreement.specs.Spares.{SparesBook}
 use Rattle.agreement.proofs.Deciding.{without_into}
-use Rattle.agreement.proofs.Sparing.{found_before, found_later, steps_spare}
 use Rattle.block_machine.specs.Events.{AllMay, IsDevices, IsIssuedIn, handles, issues_it}
 use Rattle.block_machine.specs.Histories.{IsReached}
 use Rattle.block_machine.specs.Left.{after}
 use Rattle.block_machine.specs.State.{Machine, Pending}
 use Rattle.block_machine.specs.Steps.{Step, Again, Answer, Issue, after_step, at, issue, requeued}
-use Rattle.block_machine.proofs.HistoryLemmas.{reached_more}
-use Rattle.block_machine.proofs.Members.{at_cases, contains_cases, contains_none, into_map, map_in, without_in}
-use Rattle.block_machine.proofs.Standing.{standing}
+use Rattle.block_machine.proofs.Members.{at_cases, contains_cases, into_map, map_in, without_in}
 use Rattle.server_history.specs.Turns.{IsOfTurn}
 use Rattle.server_history.proofs.Devices.{not_handled}
+use Rattle.server_history.specs.Below.{LawsBelow}
+use Rattle.server_history.proofs.Lists.{nowhere}
 
 -- the same request, issued as it was; and where it had ended, it has
 pub record IsSame (old new : Pending) : Type 0 where
@@ -45,19 +44,19 @@ Keeps change = (e : Pending) → (change e).request ≡ e.request
 changed_request : (id : RequestId) (change : Pending → Pending) → Keeps change → (e : Pending) → (at id change e).request ≡ e.request
 changed_request id change keeps e = ⊎_elim (λ q. ap (λ (x : Pending). x.request) q.1 ∙ keeps e) (λ q. ap (λ (x : Pending). x.request) q.1) (at_cases id change e)
 
-module _ (port : Port) (m : Machine) where
+module _ (laws : LawsBelow) (port : Port) (m : Machine) where
   -- ---- who stood before
 
   device_before : (step : Step) (before : List Step) → IsDevices step → (z : Pending) → Contains (after m (step ∷ before)).book z → (x : Pending) × Contains (after m before).book x × IsSame x z
   device_before step before is z here =
-      let spares : SparesBook (after m before) (after_step (after m before) step) = steps_spare (after m before) (step ∷ []) (tt, is) in
-      let l = found_before (after m before).book (after m (step ∷ before)).book z spares.book here in
+      let spares : SparesBook (after m before) (after_step (after m before) step) = laws.basic.spares (after m before) (step ∷ []) (tt, is) in
+      let l = laws.basic.found_before (after m before).book (after m (step ∷ before)).book z spares.book here in
       (l.0, l.1, record { request = l.2.request; issued = l.2.issued; ended = l.2.ended })
 
   device_later : (step : Step) (before : List Step) → IsDevices step → (y : Pending) → Contains (after m before).book y → (x : Pending) × Contains (after m (step ∷ before)).book x × IsSame y x
   device_later step before is y here =
-      let spares : SparesBook (after m before) (after_step (after m before) step) = steps_spare (after m before) (step ∷ []) (tt, is) in
-      let l = found_later (after m before).book (after m (step ∷ before)).book y spares.book here in
+      let spares : SparesBook (after m before) (after_step (after m before) step) = laws.basic.spares (after m before) (step ∷ []) (tt, is) in
+      let l = laws.basic.found_later (after m before).book (after m (step ∷ before)).book y spares.book here in
       (l.0, l.1, record { request = l.2.request; issued = l.2.issued; ended = l.2.ended })
 
   changed_before : (id : RequestId) (change : Pending → Pending) → Keeps change → (book : List Pending) (z : Pending) → Contains (map (at id change) book) z → StandsIn book z
@@ -87,7 +86,7 @@ module _ (port : Port) (m : Machine) where
     -- a request of the port, and one of another, differ in their ids
     apart : (steps : List Step) → AllMay m steps → (e y : Pending) → Contains (after m steps).book e → Contains (after m steps).book y → e.request.port ≡ port → y.request.port ≢ port → y.request.id.0 ≢ e.request.id.0
     apart steps may e y here there own other same =
-        other (ap (λ (x : Pending). x.request.port) ((standing (after m steps) (reached_more m steps reached may)).sound.one y e there here same) ∙ own)
+        other (ap (λ (x : Pending). x.request.port) (laws.basic.one (after m steps) (laws.basic.reached m steps reached may) y e there here same) ∙ own)
 
     left_by : (steps : List Step) (e : Pending) (change : Pending → Pending) → AllMay m steps → Contains (after m steps).book e → e.request.port ≡ port → (y : Pending) → Contains (after m steps).book y → y.request.port ≢ port → at e.request.id change y ≡ y
     left_by steps e change may here own y there other = ⊎_elim (λ q. absurd (apart steps may e y here there own other q.0)) (λ q. q.1) (at_cases e.request.id change y)
@@ -174,7 +173,7 @@ module _ (port : Port) (m : Machine) where
 
   -- so is what they answer
   pub answered_own : (steps : List Step) → All (IsOfTurn port) steps → AllMay m steps → (e : Pending) (o : Outcome) → Contains steps (Answer e o) → IsOwn e.request.id
-  answered_own [] own may e o here = absurd (contains_none (Answer e o) here)
+  answered_own [] own may e o here = absurd (nowhere (Answer e o) here)
   answered_own (step ∷ steps) own may e o here = ⊎_elim
       (λ (is : Answer e o ≡ step). handled_own step steps own may e.request.id (subst (λ (x : Step). handles e.request.id x ≡ true) is (eq-eqb e.request.id.0 e.request.id.0 refl)))
       (λ (there : Contains steps (Answer e o)). answered_own steps (All-tail (IsOfTurn port) step steps own) may.0 e o there)

@@ -18,7 +18,6 @@ use Rattle.host_boot.specs.declared.Found.{Found}
 use Rattle.host_boot.specs.declared.Found.TheVariants.{Unserved, Ready, Unready}
 use Rattle.identify.specs.declared.wanted.Wanted.{Wanted}
 use Rattle.port_look.specs.Services.{IsService}
-use Rattle.port_look.proofs.Serving.{services_controls}
 use Rattle.server_history.specs.Below.{LawsBelow}
 use Rattle.server_history.specs.Server.{IsPortOf, state_of}
 use Rattle.server_history.proofs.Behind.{left_on, ready_on}
@@ -69,7 +68,7 @@ port_on laws wanted found port old new same on by left silent halts is =
         → StillStandsBehind (wanted_of wanted port) f port old → StillStandsBehind (wanted_of wanted port) f port new
     behind Unserved left silent stays = left_on (wanted_of wanted port) Unserved port old new same (left (λ e. let z : Absent ≡ ReadyState = e in cc)) silent stays
     behind (Ready info) left silent stays =
-        let c = services_controls laws.looks port old new on by in
+        let c = laws.looking.services_controls port old new on by in
         ready_on (wanted_of wanted port) info port old new same c.0 c.1 c.2 (silent (λ e. let z : Ready info ≡ Unready Dead = e in cc)) stays
     behind (Unready ReadyState) left silent stays = absurd stays.1
     behind (Unready Absent) left silent stays = left_on (wanted_of wanted port) (Unready Absent) port old new same (left (λ e. let z : Absent ≡ ReadyState = e in cc)) silent stays

@@ -37,7 +37,8 @@ use Rattle.server_history.specs.Server.{Server, IsKept, IsMachineOf, IsSettled, 
 use Rattle.server_history.proofs.Asks.{none_issued}
 use Rattle.server_history.proofs.Told.{no_evidence}
 use Rattle.server_history.proofs.Turns.{AreTurns, all_of_ports, answered_of, no_turns, turns_more}
-use Rattle.server_history.proofs.Joined.{nowhere, NamesSome, names_more, same_at}
+use Rattle.server_history.proofs.Joined.{NamesSome, names_more, same_at}
+use Rattle.server_history.proofs.Lists.{nowhere}
 
 -- ---- what was done so far
 
@@ -112,7 +113,7 @@ module _ (laws : LawsBelow) (s : Server) (start : IsSettled s) (old : Moment) (r
     serving = All-nil (IsServing (TendsPort (ports_of s)));
     others = λ q none. All-nil (IsOfOther q);
     steps = [];
-    turns = no_turns old reached;
+    turns = no_turns laws old reached;
     stands = at;
     backed = laws.backed_none s.device old.machine;
     belong = tt;
@@ -213,7 +214,7 @@ module _ (laws : LawsBelow) (s : Server) (start : IsSettled s) (old : Moment) (r
     serving = p.serving;
     others = λ q none. p.others q (λ served. let small = served.0 in none (omega (arith, small), served.1));
     steps = p.steps;
-    turns = turns_more old reached n (n + 1) p.steps (omega arith) p.turns;
+    turns = turns_more laws old reached n (n + 1) p.steps (omega arith) p.turns;
     stands = p.stands;
     backed = p.backed;
     belong = p.belong;

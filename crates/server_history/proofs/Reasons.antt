@@ -15,7 +15,7 @@ use Rattle.block_machine.specs.Ports.{Evidence, Ports}
 use Rattle.block_machine.specs.State.{Pending}
 use Rattle.block_machine.specs.Steps.{Step, Again, Answer, Issue}
 use Rattle.block_machine.specs.declared.due.Mode.{Mode}
-use Rattle.block_machine.proofs.Members.{contains_cases, contains_here, contains_there}
+use Rattle.block_machine.proofs.Members.{contains_cases, contains_there}
 use Rattle.request_queue.specs.Entries.{Held}
 use Rattle.request_queue.specs.Fates.{Holdings, MeetFates, MeetsFate, fate_of, fate_on}
 use Rattle.request_queue.specs.declared.Entry.{Entry}
@@ -29,7 +29,7 @@ use Rattle.server_history.specs.Fates.{DecidesOn}
 use Rattle.server_history.specs.Served.{AnswersEach, IssuesOnly}
 use Rattle.server_history.specs.Server.{Server}
 use Rattle.server_history.specs.Turns.{IsOfTurn}
-use Rattle.server_history.proofs.Joined.{nowhere}
+use Rattle.server_history.proofs.Lists.{nowhere, first_here}
 
 -- ---- why
 
@@ -128,7 +128,7 @@ module _ (port : Port) where
   deciding_belong ports [] all again = tt
   deciding_belong ports (Again e ∷ steps) all again = (
     deciding_belong ports steps (All-tail (DecidesOn port) (Again e) steps all) (λ x there. again x (contains_there (Again e) steps (Again x) there)),
-    inr (again e (contains_here (Again e) steps (Again e) refl)),
+    inr (again e (first_here (Again e) steps)),
   )
   deciding_belong ports (Answer e o ∷ steps) all again =
       (deciding_belong ports steps (All-tail (DecidesOn port) (Answer e o) steps all) (λ x there. again x (contains_there (Answer e o) steps (Again x) there)), inr tt)
@@ -139,11 +139,11 @@ module _ (port : Port) where
   deciding_lawful old evidence ports [] all answer again = tt
   deciding_lawful old evidence ports (Again e ∷ steps) all answer again = (
     deciding_lawful old evidence ports steps (All-tail (DecidesOn port) (Again e) steps all) (λ x o there. answer x o (contains_there (Again e) steps (Answer x o) there)) (λ x there. again x (contains_there (Again e) steps (Again x) there)),
-    again e (contains_here (Again e) steps (Again e) refl),
+    again e (first_here (Again e) steps),
   )
   deciding_lawful old evidence ports (Answer e o ∷ steps) all answer again = (
     deciding_lawful old evidence ports steps (All-tail (DecidesOn port) (Answer e o) steps all) (λ x y there. answer x y (contains_there (Answer e o) steps (Answer x y) there)) (λ x there. again x (contains_there (Answer e o) steps (Again x) there)),
-    answer e o (contains_here (Answer e o) steps (Answer e o) refl),
+    answer e o (first_here (Answer e o) steps),
   )
   deciding_lawful old evidence ports (step ∷ steps) all answer again = absurd (All-head (DecidesOn port) step steps all)
 

@@ -9,13 +9,11 @@ use Rattle.ata_types.specs.declared.PortState.TheVariants.{Dead as DeadState, Re
 use Rattle.ata_types.specs.declared.request.Reply.{Reply}
 use Rattle.adapter.specs.Access.{Access}
 use Rattle.adapter.specs.Device.{Device}
-use Rattle.adapter.proofs.Calls.{does_append}
 use Rattle.agreement.specs.Driven.{AnyUse, IsFollowed}
 use Rattle.agreement.specs.Links.{SameAdapter}
 use Rattle.block_machine.specs.Events.{Served, Service}
 use Rattle.block_machine.specs.Ports.{SamePort}
 use Rattle.block_machine.specs.State.{Machine}
-use Rattle.block_machine.proofs.Members.{contains_none}
 use Rattle.driver_history.specs.Histories.{BootsAnew}
 use Rattle.driver_history.specs.Trace.{ResetsLink}
 use Rattle.error_recovery.specs.declared.Next.{Next}
@@ -39,6 +37,7 @@ use Rattle.server_history.proofs.Recovery.{fatal_of}
 use Rattle.server_history.proofs.Resetting.{resets_since}
 use Rattle.server_history.proofs.Slots.{ready_found}
 use Rattle.server_history.proofs.Stretching.{TurnParts}
+use Rattle.server_history.proofs.Lists.{nowhere}
 
 module _ (laws : LawsBelow) (port : Port) (replies : List Reply) (old new : Server) (k : IsKept old) (ready : state_of (found_of old.ports port.0) ≡ ReadyState) (r : RecoversPort port replies old new)
     (looks : IsFollowed (IsLooking port) AnyUse old.device r.settled.recovered.seen) (kept : IsKept r.mid) (evident : IsEvident port replies old new r) where
@@ -69,7 +68,7 @@ module _ (laws : LawsBelow) (port : Port) (replies : List Reply) (old new : Serv
   adapter : SameAdapter old.device a.device
   adapter = laws.recovery.any_same old.device a.device (record {
     accesses = until;
-    all = does_append t.early.accesses x.mends.accesses old.device a.mid.device a.device t.early.all t.does;
+    all = laws.basic.does_append t.early.accesses x.mends.accesses old.device a.mid.device a.device t.early.all t.does;
     only = λ i access small. tt;
   })
 
@@ -129,7 +128,7 @@ module _ (laws : LawsBelow) (port : Port) (replies : List Reply) (old new : Serv
   -- after a fatal error it doesn't run on
   broken_stops : Contains (fatal_of port x.look) port → Stopped
   broken_stops here = ⊎_elim
-      (λ failed. absurd (contains_none port (subst (λ (l : Look). Contains (fatal_of port l) port) failed here)))
+      (λ failed. absurd (nowhere port (subst (λ (l : Look). Contains (fatal_of port l) port) failed here)))
       (λ broken.
       let told : TellsMending Broken port x.outstanding x.queued x.result x.mends.accesses a.mid.device a.device =
       subst (λ (l : Look). TellsMending l port x.outstanding x.queued x.result x.mends.accesses a.mid.device a.device) broken x.tells in
@@ -141,7 +140,7 @@ module _ (laws : LawsBelow) (port : Port) (replies : List Reply) (old new : Serv
   reboots m = (
     (λ is_ready trouble. ⊎_elim
         (λ fatal. broken_stops ((evident.evidenced m).fatal_all is_ready fatal))
-        (λ loss. absurd (contains_none port ((evident.evidenced m).gone_all is_ready loss)))
+        (λ loss. absurd (nowhere port ((evident.evidenced m).gone_all is_ready loss)))
         trouble),
     ends,
   )

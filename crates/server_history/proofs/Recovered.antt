@@ -27,7 +27,7 @@ use Rattle.block_machine.specs.Due.{is_plain}
 use Rattle.block_machine.specs.Histories.{IsReached}
 use Rattle.block_machine.specs.State.{Machine}
 use Rattle.block_machine.specs.declared.due.Mode.{Mode}
-use Rattle.block_machine.proofs.Members.{contains_cases, contains_here, contains_none, contains_there}
+use Rattle.block_machine.proofs.Members.{contains_cases, contains_here, contains_there}
 use Rattle.driver_history.specs.Holds.{Runs}
 use Rattle.error_recovery.specs.Recovery.{EndsIn}
 use Rattle.error_recovery.specs.declared.Next.{Next}
@@ -61,6 +61,7 @@ use Rattle.server_history.proofs.Looking.{finding_kept, found_over, looking_kept
 use Rattle.server_history.proofs.Beside.{Passes, PassesTo, again_passes, recovery_passes}
 use Rattle.server_history.proofs.Settling.{answers_kept, answers_settings}
 use Rattle.server_history.proofs.Slots.{not_dead, not_own, ready_found}
+use Rattle.server_history.proofs.Lists.{nowhere}
 
 -- ---- a port
 
@@ -109,7 +110,7 @@ still_there port old new same there = (there.0, ap (λ (pi : ℕ). bit pi port) 
 
 -- what passes is kept
 kept_in : {X : Type 0} (passes : X → Bool) (xs : List X) (x : X) → Contains xs x → passes x ≡ true → Contains (filter passes xs) x
-kept_in passes [] x here is = absurd (contains_none x here)
+kept_in passes [] x here is = absurd (nowhere x here)
 kept_in {X} passes (y ∷ xs) x here is = ⊎_elim
     (λ (same : x ≡ y). subst (λ (list : List X). Contains list x) (sym (cond-true (passes y) (y ∷ filter passes xs) (filter passes xs) (ap passes (sym same) ∙ is))) (contains_here y (filter passes xs) x same))
     (λ (there : Contains xs x). by (passes y) (kept_in passes xs x there is))

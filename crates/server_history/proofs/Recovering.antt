@@ -16,7 +16,6 @@ use Rattle.adapter.specs.Access.Access.{Loading, Reading, Storing, Writing}
 use Rattle.adapter.specs.Device.{Device}
 use Rattle.adapter.specs.declared.command.Operation.{Operation}
 use Rattle.adapter.specs.declared.command.Operation.TheVariants.{Identify}
-use Rattle.adapter.proofs.Calls.{does_append}
 use Rattle.agreement.specs.Driven.{AnyUse, IsDrivenBy, IsFollowed, IsFollowedTo, IsOf, IsToldTo, NoneWrites, SendsNone, known}
 use Rattle.agreement.specs.Driver.{AllFree, Knows}
 use Rattle.agreement.specs.Links.{SparesRegister}
@@ -25,7 +24,6 @@ use Rattle.agreement.proofs.Driven.{followed_adds, followed_silent}
 use Rattle.block_machine.specs.Histories.{IsReached}
 use Rattle.block_machine.specs.Left.{after}
 use Rattle.block_machine.specs.State.{Machine}
-use Rattle.block_machine.proofs.HistoryLemmas.{reached_more}
 use Rattle.disk_page.specs.Asking.{IsAsking}
 use Rattle.driver_history.specs.Trace.{IsDriversOwn, LeavesCommand, ResetsLink}
 use Rattle.error_recovery.specs.Recovery.{IsRecovering}
@@ -125,7 +123,7 @@ module _ (laws : LawsBelow) (port : Port) (low : port.0 < 4) (wanted : Wanted) w
         let x = (followed_adds asks g.uses g.parked tt).adds g.machine g.reached g.knows in
         silent_more q.0 o old asked new
         (followed_silent asks g.uses g.parked g.machine tt g.reached g.knows q o own (survey_spares (Px q Ci)) (survey_spares (Px q Sact)) none)
-        (followed_silent boots g.uses g.parked (after g.machine x.0) g.free (reached_more g.machine x.0 g.reached x.1) x.2 q o own
+        (followed_silent boots g.uses g.parked (after g.machine x.0) g.free (laws.basic.reached g.machine x.0 g.reached x.1) x.2 q o own
         (λ access is. laws.of_spares port q Ci other access (laws.booting_of port access is)) (λ access is. laws.of_spares port q Sact other access (laws.booting_of port access is)) none)
 
     boot_list : (found : Found) (by : IsDrivenBy (IsOfBoot port) asked new) → (found ≡ Unready DeadState → Sticks port by.accesses) → (found ≡ Unready DeadState → (new.port port.0).notes.engine_count ≡ 64)
@@ -133,7 +131,7 @@ module _ (laws : LawsBelow) (port : Port) (low : port.0 < 4) (wanted : Wanted) w
     boot_list found by sticks stuck resets = record {
       driven = record {
         accesses = asks.driven.accesses ++ by.accesses;
-        all = does_append asks.driven.accesses by.accesses old asked new asks.driven.all by.all;
+        all = laws.basic.does_append asks.driven.accesses by.accesses old asked new asks.driven.all by.all;
         only = All-append (IsPart port) asks.driven.accesses by.accesses (All-weaker IsSurvey (IsPart port) (survey_part port) asks.driven.accesses asks.driven.only)
             (All-weaker (IsOfBoot port) (IsPart port) (booting_part laws port low) by.accesses by.only);
       };
@@ -160,15 +158,15 @@ module _ (laws : LawsBelow) (port : Port) (low : port.0 < 4) (wanted : Wanted) w
           (λ (told : IsToldTo (Sticks port) (IsOfBoot port) (λ uses. AllFree uses port.0) (λ uses. put uses port.0 0 (Own Identify)) b.asked new).
           boot_list token old b.asked new b.asks (λ uses. put uses port.0 0 (Own Identify)) told.followed (Unready DeadState) told.followed.driven (λ _. told.tells) (λ _. x.ended.1) (λ lives. absurd (lives refl)))
           x.boots
-      unready shown.Absent x = lives_list token old b.asked new b.asks (λ uses. uses) x.boots.followed (Unready shown.Absent) (lives shown.Absent (λ e. let z : shown.Absent ≡ DeadState = e in cc)) (early_resets port shown.Absent b.asked new (x.early tt))
-      unready shown.Foreign x = lives_list token old b.asked new b.asks (λ uses. uses) x.boots.followed (Unready shown.Foreign) (lives shown.Foreign (λ e. let z : shown.Foreign ≡ DeadState = e in cc)) (late_resets port b.asked new (x.late tt))
+      unready shown.Absent x = lives_list token old b.asked new b.asks (λ uses. uses) x.boots.followed (Unready shown.Absent) (lives shown.Absent (λ e. let z : shown.Absent ≡ DeadState = e in cc)) (early_resets laws port shown.Absent b.asked new (x.early tt))
+      unready shown.Foreign x = lives_list token old b.asked new b.asks (λ uses. uses) x.boots.followed (Unready shown.Foreign) (lives shown.Foreign (λ e. let z : shown.Foreign ≡ DeadState = e in cc)) (late_resets laws port b.asked new (x.late tt))
       unready (shown.Unfit n) x =
           lives_list token old b.asked new b.asks (λ uses. uses) x.boots.followed (Unready (shown.Unfit n)) (lives (shown.Unfit n) (λ e. let z : shown.Unfit n ≡ DeadState = e in cc))
           (⊎_elim
-          (λ (seven : n ≡ 7). early_resets port (shown.Unfit n) b.asked new (x.early (inl seven)))
+          (λ (seven : n ≡ 7). early_resets laws port (shown.Unfit n) b.asked new (x.early (inl seven)))
           (λ (not_seven : n ≢ 7). ⊎_elim
-          (λ (eight : n ≡ 8). early_resets port (shown.Unfit n) b.asked new (x.early (inr eight)))
-          (λ (not_eight : n ≢ 8). late_resets port b.asked new (x.late (not_seven, not_eight)))
+          (λ (eight : n ≡ 8). early_resets laws port (shown.Unfit n) b.asked new (x.early (inr eight)))
+          (λ (not_eight : n ≢ 8). late_resets laws port b.asked new (x.late (not_seven, not_eight)))
           (cases_eq n 8))
           (cases_eq n 7))
       unready shown.Ready x = absurd x.ended
@@ -177,7 +175,7 @@ module _ (laws : LawsBelow) (port : Port) (low : port.0 < 4) (wanted : Wanted) w
       by Unserved x = absurd x
       by (Ready info) x =
           let no : Ready info ≡ Unready DeadState → ⊥ = λ e. let z : Ready info ≡ Unready DeadState = e in cc in
-          lives_list token old b.asked new b.asks (λ uses. uses) x.boots.followed (Ready info) no (ready_resets port b.asked new x.way)
+          lives_list token old b.asked new b.asks (λ uses. uses) x.boots.followed (Ready info) no (ready_resets laws port b.asked new x.way)
       by (Unready state) x = unready state x
 
   pub after_list : (was : DiskInfo) (then : Next) (old new : Device) (found : Found) → IsFoundAfter wanted port was then old new found → AfterList port then found old new

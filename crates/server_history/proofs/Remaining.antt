@@ -9,7 +9,7 @@ use Rattle.ata_types.specs.declared.request.Outcome.{Outcome}
 use Rattle.ata_types.specs.declared.request.Outcome.TheVariants as outcome
 use Rattle.ata_types.specs.declared.request.Reply.{Reply}
 use Rattle.ata_types.specs.declared.request.RequestId.{RequestId}
-use Rattle.block_machine.proofs.Members.{contains_cases, contains_here, contains_none, contains_there, map_in}
+use Rattle.block_machine.proofs.Members.{contains_cases, contains_there, map_in}
 use Rattle.dma_frames.specs.Table.{Table}
 use Rattle.request_queue.specs.Entries.{HasIssuesLeft, Held, IsAccepted, IsEarlier, IsInOrder, at, has_id, requeued, without}
 use Rattle.request_queue.specs.Fates.{EndsLoan, Holdings, MeetFates, MeetsFate, fate_of, fate_on, keeps_loan}
@@ -20,6 +20,7 @@ use Rattle.request_queue.specs.declared.fate.Fate.TheVariants.{Ends, GoesAgain, 
 use Rattle.request_queue.specs.declared.fate.Prospect.{Prospect}
 use Rattle.request_queue.specs.declared.fate.Prospect.TheVariants.{Dead, DiskLost, SameDisk}
 use Rattle.server_history.specs.Below.{LawsBelow}
+use Rattle.server_history.proofs.Lists.{nowhere, first_here}
 
 -- ---- fates
 
@@ -114,7 +115,7 @@ module _ (laws : LawsBelow) (port : Port) (failed : Option Failed) (prospect : P
 
   module _ (request : Held) (rest : List Held) (old mid : Holdings) (may : MayDecide port rows (request ∷ rest) old) where
     its : Contains old.book request
-    its = (may.here request (contains_here request rest request refl)).0
+    its = (may.here request (first_here request rest)).0
 
     differs : (e : Held) → Contains rest e → e.entry.id ≢ request.entry.id
     differs e there same =
@@ -206,7 +207,7 @@ module _ (laws : LawsBelow) (port : Port) (failed : Option Failed) (prospect : P
     accepted = may.accepted;
     owners = refl;
     from = was_itself old.book;
-    gone = λ e o here. absurd (contains_none e here);
+    gone = λ e o here. absurd (nowhere e here);
   })
   fated (request ∷ rest) replies old new may (mid, told, later, split, meets, more) =
       let one : HasMet request rest old mid = meets_one request rest old mid may (fate_of failed prospect request.entry) refl told meets in

@@ -12,7 +12,6 @@ use Rattle.hba_regs.specs.declared.reg.Reg.TheVariants.{Px}
 use Rattle.adapter.specs.Access.{Access, Does, Reads, Writes}
 use Rattle.adapter.specs.Access.Access.{Loading, Reading, Storing, Writing}
 use Rattle.adapter.specs.Device.{Device}
-use Rattle.adapter.proofs.Calls.{does_append}
 use Rattle.agreement.specs.Driven.{IsControl, IsDrivenBy}
 use Rattle.agreement.specs.Links.{SparesRegister}
 use Rattle.agreement.proofs.Driven.{by_none, by_then, driven_as}
@@ -23,6 +22,7 @@ use Rattle.port_boot.specs.States.{EndsEarly, EndsLate, GetsReady, GetsUp, IsBoo
 use Rattle.port_control.specs.Ports.{ClearsErrors, FindsLink, FindsSignature, IsPlacing, Looks, ReadsNot, ReadsUntil, ReadsWithout, WritesCommand}
 use Rattle.port_control.specs.declared.PortFault.{PortFault}
 use Rattle.port_control.specs.declared.PortFault.TheVariants.{NoDevice, Busy, EngineStuck, NotAta}
+use Rattle.server_history.specs.Below.{LawsBelow}
 
 -- By these accesses, of a boot, the link was reset.
 pub record ResetsBy (port : Port) (old new : Device) : Type 0 where
@@ -60,7 +60,7 @@ IsBeside port access = IsOfBoot port access × SparesRegister (Px port Sctl) acc
 apart : (port at : Port) (r other : PortReg) → r ≢ other → Px at r ≢ Px port other
 apart port at r other ne same = ne cc
 
-module _ (port : Port) where
+module _ (laws : LawsBelow) (port : Port) where
   control_beside : (Such : PortReg → Type 0) → ((r : PortReg) → Such r → IsBooting r × (r ≢ Sctl)) → (access : Access) → IsControl Such port access → IsBeside port access
   control_beside Such each (Reading (Px at r) v) is = (inl is, tt)
   control_beside Such each (Reading r v) is = absurd is
@@ -139,7 +139,7 @@ module _ (port : Port) where
   resetting old placed sent ended new places sends ends rest = record {
     driven = record {
       accesses = places.accesses ++ list;
-      all = does_append places.accesses list old placed new places.all (sent, sends, (ended, ends, rest.all));
+      all = laws.basic.does_append places.accesses list old placed new places.all (sent, sends, (ended, ends, rest.all));
       only = All-append (IsOfBoot port) places.accesses list
           (All-weaker (IsControl IsPlacing port) (IsOfBoot port) (λ access is. (control_beside IsPlacing placing_beside access is).0) places.accesses places.only)
           (All-cons (IsOfBoot port) (Writing (Px port Sctl) 1) (Writing (Px port Sctl) 0 ∷ rest.accesses) (inl (refl, inr (inl (inl refl))))

@@ -9,7 +9,6 @@ use Rattle.ata_types.specs.declared.Port.{Port}
 use Rattle.ata_types.specs.declared.request.RequestId.{RequestId}
 use Rattle.ata_types.specs.declared.PortState.TheVariants.{Dead}
 use Rattle.adapter.specs.declared.command.Operation.{Operation}
-use Rattle.adapter.proofs.Calls.{does_append}
 use Rattle.agreement.specs.Driven.{IsDrivenBy, SendsNone}
 use Rattle.agreement.specs.Slots.{op_of}
 use Rattle.agreement.specs.Driver.{IsBacked}
@@ -23,9 +22,7 @@ use Rattle.block_machine.specs.State.{Machine, Pending, unanswered}
 use Rattle.block_machine.specs.Steps.{Step, Accept, Again, Answer, Issue}
 use Rattle.block_machine.specs.declared.due.Mode.{Mode}
 use Rattle.block_machine.specs.declared.due.Unanswered.{Unanswered}
-use Rattle.block_machine.proofs.EventLemmas.{after-append}
-use Rattle.block_machine.proofs.HistoryLemmas.{may-append, reached_more}
-use Rattle.block_machine.proofs.Members.{contains_cases, contains_here, contains_none, contains_there, into_map, map_in}
+use Rattle.block_machine.proofs.Members.{contains_cases, contains_here, contains_there, into_map, map_in}
 use Rattle.driver_history.specs.Histories.{IssuesDue, unissued}
 use Rattle.ncq.specs.Tasks.{IsIssuing}
 use Rattle.request_queue.specs.Entries.{Held, IsInOrder, IsWaiting, asks, asks_of, at, due_ids, has_id, issue}
@@ -38,6 +35,7 @@ use Rattle.server_history.proofs.Issuing.{IsIssue, issue_kept, issue_one, issue_
 use Rattle.server_history.proofs.Silent.{silent_more, silent_none}
 use Rattle.host_boot.specs.Taken.{found_of}
 use Rattle.host_boot.specs.declared.Found.TheVariants.{Unready}
+use Rattle.server_history.proofs.Lists.{nowhere, first_here}
 
 pub not_true : (b : Bool) → not b ≡ true → b ≡ false
 not_true false is = refl
@@ -138,7 +136,7 @@ same_id a b same = ap (λ (n : ℕ). record { 0 = n }) same
 module _ (laws : LawsBelow) (port : Port) where
   -- each waits until its turn comes
   each_waits : (ids : List RequestId) (old new : Server) → IsKept old → IssuesEach port ids old new → (id : RequestId) → Contains ids id → (e : Held) → Contains old.book e → e.entry.id ≡ id → e.entry.issued ≡ false
-  each_waits [] old new k none id there e here its = absurd (contains_none id there)
+  each_waits [] old new k none id there e here its = absurd (nowhere id there)
   each_waits (first ∷ ids) old new k (mid, one, more) id there e here its = ⊎_elim
       (λ (same : id ≡ first).
       let it : one.request ≡ e = laws.one old.book one.request e k.ordered one.here here (one.id_is ∙ sym same ∙ sym its) in
@@ -180,18 +178,18 @@ module _ (laws : LawsBelow) (port : Port) where
     stands = subst (λ (n : Server). IsMachineOf n m) (sym none) is;
     only = tt;
     named = λ id i. absurd (false≢true i);
-    all = λ id here. absurd (contains_none id here);
+    all = λ id here. absurd (nowhere id here);
     last = tt;
   }
   each_issued (first ∷ ids) old new k (mid, one, more) m reached is =
       let x : IsIssue port first old mid m = issue_one laws old mid port first k one m reached is in
       let early : List Step = Issue (mode_in old port) x.request ∷ x.steps in
-      let y : AreIssued port ids mid new (after m early) = each_issued ids mid new (issue_kept laws old mid port first k one) more (after m early) (reached_more m early reached x.may) x.stands in
+      let y : AreIssued port ids mid new (after m early) = each_issued ids mid new (issue_kept laws old mid port first k one) more (after m early) (laws.basic.reached m early reached x.may) x.stands in
       record {
         steps = y.steps ++ early;
-        may = may-append m y.steps early x.may y.may;
+        may = laws.basic.may m y.steps early x.may y.may;
         backed = laws.backed_parts old.device mid.device new.device m early y.steps x.backed y.backed;
-        stands = subst (IsMachineOf new) (sym (after-append m y.steps early)) y.stands;
+        stands = subst (IsMachineOf new) (sym (laws.basic.joined m y.steps early)) y.stands;
         only = only_append (mode_in old port) port y.steps early (subst (λ (modes : List Mode). IssuesOnly (mode_at modes port.0) port y.steps) (ap (λ (n : Server). n.modes) one.server) y.only) (refl, x.port_is, devices_only (mode_in old port) port x.steps x.only);
         named = λ id i. ⊎_elim
             (λ (late : IsIssuedIn id y.steps). contains_there first ids id (y.named id late))
@@ -239,7 +237,7 @@ module _ (laws : LawsBelow) (port : Port) where
       let early = driven_as (IsIssuing port one.slot) (IssuesIn port) old.device mid.device (λ access is. (one.slot, one.small, is)) one.issues.driven in
       record {
         accesses = early.accesses ++ late.accesses;
-        all = does_append early.accesses late.accesses old.device mid.device new.device early.all late.all;
+        all = laws.basic.does_append early.accesses late.accesses old.device mid.device new.device early.all late.all;
         only = All-append (IssuesIn port) early.accesses late.accesses early.only late.only;
       }
 
@@ -323,7 +321,7 @@ module _ (laws : LawsBelow) (port : Port) where
 
   -- what issuing these leaves of a request
   each_mark : (ids : List RequestId) (r : Unanswered) → ((mark_each ids r ≡ r) × (Contains ids r.id → ⊥)) ⊎ ((mark_each ids r ≡ record r { issued = true }) × Contains ids r.id)
-  each_mark [] r = inl (refl, λ here. contains_none r.id here)
+  each_mark [] r = inl (refl, λ here. nowhere r.id here)
   each_mark (id ∷ ids) r = ⊎_elim
       (λ (its : (r.id.0 == id.0) ≡ true).
       let same : r.id ≡ id = same_id r.id id (eqb-true r.id.0 id.0 its) in
@@ -355,7 +353,7 @@ module _ (laws : LawsBelow) (port : Port) where
   unmarked_all : (f g : Unanswered → Unanswered) (xs : List Unanswered) → ((r : Unanswered) → Contains xs r → f (g r) ≡ r) → map f (map g xs) ≡ xs
   unmarked_all f g [] each = refl
   unmarked_all f g (x ∷ xs) each =
-      ap (λ (y : Unanswered). y ∷ map f (map g xs)) (each x (contains_here x xs x refl)) ∙ ap (λ (ys : List Unanswered). x ∷ ys) (unmarked_all f g xs (λ r here. each r (contains_there x xs r here)))
+      ap (λ (y : Unanswered). y ∷ map f (map g xs)) (each x (first_here x xs)) ∙ ap (λ (ys : List Unanswered). x ∷ ys) (unmarked_all f g xs (λ r here. each r (contains_there x xs r here)))
 
   module _ (old new : Server) (k : IsKept old) (issues : IssuesAll port old new) (m : Machine) (x : AreIssued port (due_ids (mode_in old port) port (asks_of old.book)) old new m) where
     abbrev ids : List RequestId
@@ -397,7 +395,7 @@ module _ (laws : LawsBelow) (port : Port) where
 
 -- the requests of the port among these
 own_in : (q : Port) (xs : List Unanswered) (r : Unanswered) → Contains (of_port q xs) r → Contains xs r × (r.port ≡ q)
-own_in q [] r here = absurd (contains_none r here)
+own_in q [] r here = absurd (nowhere r here)
 own_in q (x ∷ xs) r here = ⊎_elim
     (λ (its : (x.port.0 == q.0) ≡ true). ⊎_elim
     (λ (same : r ≡ x). (contains_here x xs r same, ap (λ (u : Unanswered). u.port) same ∙ ap (λ (n : ℕ). record { 0 = n }) (eqb-true x.port.0 q.0 its)))
@@ -409,7 +407,7 @@ own_in q (x ∷ xs) r here = ⊎_elim
     (cases_Bool (x.port.0 == q.0))
 
 in_own : (q : Port) (xs : List Unanswered) (r : Unanswered) → Contains xs r → r.port ≡ q → Contains (of_port q xs) r
-in_own q [] r here own = absurd (contains_none r here)
+in_own q [] r here own = absurd (nowhere r here)
 in_own q (x ∷ xs) r here own = ⊎_elim
     (λ (its : (x.port.0 == q.0) ≡ true). subst (λ (us : List Unanswered). Contains us r) (sym (cond-true (x.port.0 == q.0) (x ∷ of_port q xs) (of_port q xs) its)) (⊎_elim
     (λ (same : r ≡ x). contains_here x (of_port q xs) r same)
@@ -435,7 +433,7 @@ own_map q f keeps (x ∷ xs) = ⊎_elim
 
 map_alike : (f g : Unanswered → Unanswered) (xs : List Unanswered) → ((r : Unanswered) → Contains xs r → f r ≡ g r) → map f xs ≡ map g xs
 map_alike f g [] each = refl
-map_alike f g (x ∷ xs) each = ap (λ (y : Unanswered). y ∷ map f xs) (each x (contains_here x xs x refl)) ∙ ap (λ (ys : List Unanswered). g x ∷ ys) (map_alike f g xs (λ r here. each r (contains_there x xs r here)))
+map_alike f g (x ∷ xs) each = ap (λ (y : Unanswered). y ∷ map f xs) (each x (first_here x xs)) ∙ ap (λ (ys : List Unanswered). g x ∷ ys) (map_alike f g xs (λ r here. each r (contains_there x xs r here)))
 
 mark_port : (steps : List Step) (r : Unanswered) → (if list_any (issues_it r.id) steps then record r { issued = false } else r).port ≡ r.port
 mark_port steps r = by (list_any (issues_it r.id) steps)

@@ -94,7 +94,7 @@ module _ (laws : LawsBelow) (s : Server) (k : IsKept s) (m : Machine) (is : IsMa
         same_some e = cc
 
         same : (says.command ≡ x.serves.command) × (says.places ≡ x.serves.places)
-        same = laws.one_said s.device.memory (s.device.port port).bases.clb slot says.command x.serves.command says.places x.serves.places says.told.says x.serves.told.says
+        same = laws.slots.one_said s.device.memory (s.device.port port).bases.clb slot says.command x.serves.command says.places x.serves.places says.told.says x.serves.told.says
 
         its_op : (x.serves.pending.request.asked.op ≡ Read) ⊎ (x.serves.pending.request.asked.op ≡ Write)
         its_op =

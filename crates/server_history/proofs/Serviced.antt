@@ -14,13 +14,12 @@ use Rattle.block_machine.specs.Left.{after}
 use Rattle.block_machine.specs.Ports.{Ports}
 use Rattle.block_machine.specs.State.{Pending}
 use Rattle.block_machine.specs.Steps.{Answer}
-use Rattle.block_machine.proofs.HistoryLemmas.{history_reaches}
 use Rattle.host_boot.specs.Taken.{found_of}
 use Rattle.host_boot.specs.declared.Found.{Found}
 use Rattle.host_boot.specs.declared.Found.TheVariants.{Unserved, Ready, Unready}
 use Rattle.driver_history.specs.Evidence.{IsEvidenced}
 use Rattle.driver_history.specs.Guard.{IsAskedOf}
-use Rattle.driver_history.specs.Histories.{Begins, TendsPort, Ties, TiesPort}
+use Rattle.driver_history.specs.Histories.{TendsPort, TiesPort}
 use Rattle.request_queue.specs.Machine.{IsEntry}
 use Rattle.driver_history.specs.Trace.{IsServing}
 use Rattle.server_history.specs.Histories.{Adds, Leads}
@@ -46,7 +45,7 @@ module _ (laws : LawsBelow) (s new : Server) (replies : List Reply) (start : IsS
   same = leads.stands.ports_are
 
   reached : IsReached old.machine
-  reached = history_reaches (Begins s.wanted) (Ties s.wanted) first past leads.history
+  reached = laws.basic.history_reached s.wanted first past leads.history
 
   ends : Whole laws s start old reached at same new replies
   ends = go laws s start old reached at same s.ports 0 (λ i. ap (λ (k : ℕ). found_of s.ports k) (omega arith)) s new [] replies (begun laws s start old reached at same) serves
@@ -124,7 +123,7 @@ module _ (laws : LawsBelow) (s new : Server) (replies : List Reply) (start : IsS
 
   pub service_event : (h : Happening Device DeviceStep) × (h.event.ask ≡ Service) × (h.event.said ≡ Served replies) × Leads first (h ∷ past) new
   service_event =
-      lead_with first past s new Service (Served replies) p.evidence p.steps p.wanted leads holds (kept_fit new holds)
+      lead_with laws first past s new Service (Served replies) p.evidence p.steps p.wanted leads holds (kept_fit new holds)
       p.turns.may p.belong p.turns.last p.lawful keeps all_answered
       p.accesses
       (p.does, subst (λ (ports : Ports). All (IsServing (TendsPort ports)) p.accesses) (sym same) p.serving)

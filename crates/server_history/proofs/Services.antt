@@ -20,7 +20,6 @@ use Rattle.adapter.specs.declared.command.Operation.TheVariants.{ReadLog}
 use Rattle.adapter.specs.declared.tape.Fault as tape_fault
 use Rattle.adapter.specs.Device.{Device}
 use Rattle.adapter.specs.Rules.{IsOn}
-use Rattle.adapter.proofs.Calls.{does_append}
 use Rattle.agreement.specs.Agrees.{port_at}
 use Rattle.agreement.specs.Driven.{IsDrivenBy, IsOf}
 use Rattle.agreement.specs.Slots.{IsMove, ServesRequest}
@@ -32,10 +31,7 @@ use Rattle.block_machine.specs.Due.{of_port}
 use Rattle.block_machine.specs.State.{Pending, Machine, unanswered}
 use Rattle.block_machine.specs.declared.due.Unanswered.{Unanswered}
 use Rattle.block_machine.specs.Steps.{Step}
-use Rattle.block_machine.proofs.EventLemmas.{after-append}
-use Rattle.block_machine.proofs.HistoryLemmas.{reached_more}
 use Rattle.block_machine.proofs.Members.{map_in}
-use Rattle.block_machine.proofs.Standing.{standing}
 use Rattle.host_boot.specs.Taken.{found_of}
 use Rattle.host_boot.specs.declared.Found.{Found}
 use Rattle.host_boot.specs.declared.Found.TheVariants.{Unserved, Ready, Unready}
@@ -94,7 +90,7 @@ module _ (laws : LawsBelow) (s : Server) (start : IsSettled s) (old : Moment) (r
     m = after old.machine p.steps
 
     m_reached : IsReached m
-    m_reached = reached_more old.machine p.steps reached p.turns.may
+    m_reached = laws.basic.reached old.machine p.steps reached p.turns.may
 
     abbrev x : MakesTurn (port_at n) its part.accesses c mid m
     x = part.makes m m_reached p.stands
@@ -133,10 +129,10 @@ module _ (laws : LawsBelow) (s : Server) (start : IsSettled s) (old : Moment) (r
     on_mid = laws.of_on (port_at n) c.device mid.device p.on its_driven
 
     its_turns : AreTurns old (n + 1) all
-    its_turns = turn_on old reached n p.steps x.steps p.turns x.own x.may x.last
+    its_turns = turn_on laws old reached n p.steps x.steps p.turns x.own x.may x.last
 
     whole_is : after old.machine all ≡ after m x.steps
-    whole_is = after-append old.machine x.steps p.steps
+    whole_is = laws.basic.joined old.machine x.steps p.steps
 
     -- a port that had its turn is another
     earlier : (q : Port) → q.0 < n → q ≢ port_at n
@@ -217,7 +213,7 @@ module _ (laws : LawsBelow) (s : Server) (start : IsSettled s) (old : Moment) (r
     evidenced_n : IsEvidencedOf Service (Served []) accesses began (ports_of mid) mid.device evidence (port_at n)
     unfolding turn_of
     evidenced_n = subst (λ (list : List Access). IsEvidencedOf Service (Served []) (p.accesses ++ list) began (ports_of mid) mid.device evidence (port_at n)) (append-nil part.accesses)
-        (laws.evidence (port_at n) began (moment_of c m) (ports_of mid) (ports_of mid) mid.device x.evidence evidence Service (Served []) kept.on (λ _. undue (port_at n) ready) turn_of on_mid same_n
+        (laws.calls.evidence (port_at n) began (moment_of c m) (ports_of mid) (ports_of mid) mid.device x.evidence evidence Service (Served []) kept.on (λ _. undue (port_at n) ready) turn_of on_mid same_n
         (same_self (ports_of mid) (port_at n)) alike_n
         (any_said its [] part.accesses (record { device = c.device; moment = moment_of c m }) (ports_of mid) mid.device x.evidence (port_at n) x.evidenced))
 
@@ -225,16 +221,16 @@ module _ (laws : LawsBelow) (s : Server) (start : IsSettled s) (old : Moment) (r
         → IsEvidencedOf Service (Served []) accesses began (ports_of mid) mid.device evidence q
     unfolding turn_before
     evidenced_before q lt is v =
-        laws.evidence q began old (ports_of c) (ports_of mid) mid.device p.evidence evidence Service (Served []) kept.on (λ _. undue q is) (turn_before q (λ same. omega (arith, lt, same))) p.on
+        laws.calls.evidence q began old (ports_of c) (ports_of mid) mid.device p.evidence evidence Service (Served []) kept.on (λ _. undue q is) (turn_before q (λ same. omega (arith, lt, same))) p.on
         (same_self old.ports q) (same_other q (λ same. omega (arith, lt, same))) (alike_other q (earlier q lt)) v
 
     -- ---- requests
 
     one_of : (e y : Pending) → Contains m.book e → Contains m.book y → e.request.id.0 ≡ y.request.id.0 → e ≡ y
-    one_of e y here there same = (standing m m_reached).sound.one e y here there same
+    one_of e y here there same = laws.basic.one m m_reached e y here there same
 
     one_old : (e y : Pending) → Contains old.machine.book e → Contains old.machine.book y → e.request.id.0 ≡ y.request.id.0 → e ≡ y
-    one_old e y here there same = (standing old.machine reached).sound.one e y here there same
+    one_old e y here there same = laws.basic.one old.machine reached e y here there same
 
     -- a request of the port that was issued when the turn began was so when the call began
     was_issued : (id : RequestId) → (o : Pending) → Contains m.book o → o.request.id.0 ≡ id.0 → o.request.port ≡ port_at n → WasIssued m id → WasIssued old.machine id
@@ -263,7 +259,7 @@ module _ (laws : LawsBelow) (s : Server) (start : IsSettled s) (old : Moment) (r
     other_alike : (q : Port) → q ≢ port_at n → (u : Unanswered) → Contains (map unanswered m.book) u → u.port ≡ q → list_any (issues_it u.id) p.steps ≡ list_any (issues_it u.id) all
     other_alike q ne u here own = ⊎_elim
         (λ (late : IsIssuedIn u.id x.steps).
-        let w = issued_before (port_at n) m x.steps x.own x.may u.id late in
+        let w = issued_before laws (port_at n) m x.steps x.own x.may u.id late in
         let y = map_in unanswered m.book u here in
         let same = one_of w.pending y.0 w.here y.1 (w.id_is ∙ ap (λ (v : Unanswered). v.id.0) y.2) in
         absurd (ne (sym own ∙ ap (λ (v : Unanswered). v.port) y.2 ∙ ap (λ (e : Pending). e.request.port) (sym same) ∙ w.port_is)))
@@ -290,7 +286,7 @@ module _ (laws : LawsBelow) (s : Server) (start : IsSettled s) (old : Moment) (r
         (lawful_on (moment_of c m) old x.evidence evidence (ports_of mid) (ports_of mid) x.steps
         (λ e o here.
         let own = answered_of (λ q. q ≡ port_at n) x.steps x.own e o here in
-        let w = answered_own (port_at n) m x.steps x.own x.may e o here in
+        let w = answered_own laws (port_at n) m x.steps x.own x.may e o here in
         lawful_lift (moment_of c m) old x.evidence evidence (ports_of mid) (ports_of mid) e o
         (was_issued e.request.id w.pending w.here w.id_is w.port_is)
         (λ told there. Contains-append_right p.evidence.faults x.evidence.faults told there)
@@ -370,7 +366,7 @@ module _ (laws : LawsBelow) (s : Server) (start : IsSettled s) (old : Moment) (r
       keeps = ⊎_elim
           (λ was. inl (same_disk old.ports old.ports (ports_of c) (ports_of mid) q (same_self old.ports q) same was))
           (λ none. inr (λ e here own.
-          let b = stood (port_at n) m x.steps x.own e (subst (λ (k : Machine). Contains k.book e) whole_is here) in
+          let b = stood laws (port_at n) m x.steps x.own e (subst (λ (k : Machine). Contains k.book e) whole_is here) in
           none b.was b.here (ap (λ r. r.port) b.request ∙ own)))
           d.keeps;
       evidenced = ⊎_elim
@@ -412,17 +408,17 @@ module _ (laws : LawsBelow) (s : Server) (start : IsSettled s) (old : Moment) (r
       kind_is : is_queued by.serves.command.operation ≡ f.used.queued
       kind_is =
           let h = kept.commands n f.slot f.used used_s in
-          let same = laws.one_said s.device.memory (s.device.port n).bases.clb f.slot by.serves.command h.command by.serves.places h.places by.serves.told.says h.stored.told.says in
+          let same = laws.slots.one_said s.device.memory (s.device.port n).bases.clb f.slot by.serves.command h.command by.serves.places h.places by.serves.told.says h.stored.told.says in
           ap (λ (y : Meaning). is_queued y.operation) same.0 ∙ h.kind
 
       -- what the turn had of a fault and of a page, the call had
       its_failed : (fault : tape_fault.Fault) → HasFailed (port_at n) part.accesses c.device mid.device fault → HasFailed (port_at n) accesses s.device mid.device fault
       unfolding turn_of
-      its_failed fault had = subst (λ (list : List Access). HasFailed (port_at n) (p.accesses ++ list) s.device mid.device fault) (append-nil part.accesses) (laws.failed (port_at n) s.device mid.device fault kept.on turn_of had)
+      its_failed fault had = subst (λ (list : List Access). HasFailed (port_at n) (p.accesses ++ list) s.device mid.device fault) (append-nil part.accesses) (laws.calls.failed (port_at n) s.device mid.device fault kept.on turn_of had)
 
       its_page : (page : List ℕ) → BringsLog (port_at n) c.device mid.device page → BringsLog (port_at n) s.device mid.device page
       unfolding turn_of
-      its_page page brings = laws.brings (port_at n) s.device mid.device page kept.on turn_of ([], sym (append-nil mid.device.tape), All-nil (λ e. IsMove n ReadLog e → ⊥)) brings
+      its_page page brings = laws.calls.brings (port_at n) s.device mid.device page kept.on turn_of ([], sym (append-nil mid.device.tape), All-nil (λ e. IsMove n ReadLog e → ⊥)) brings
 
       -- an issued request of the port has a slot, and a plain one's is the only one
       alone : f.used.queued ≡ false → (other : Pending) → Contains old.machine.book other → other.request.port ≡ port_at n → other.issued ≡ true → other.request.id ≡ by.serves.pending.request.id
@@ -488,11 +484,11 @@ module _ (laws : LawsBelow) (s : Server) (start : IsSettled s) (old : Moment) (r
 
       still_failed : (fault : tape_fault.Fault) → HasFailed its_port p.accesses s.device c.device fault → HasFailed its_port accesses s.device mid.device fault
       unfolding turn_before
-      still_failed fault had = laws.failed its_port s.device mid.device fault kept.on (turn_before its_port not_n) had
+      still_failed fault had = laws.calls.failed its_port s.device mid.device fault kept.on (turn_before its_port not_n) had
 
       still_brought : (page : List ℕ) → state_of (found_of c.ports its_port.0) ≢ Dead → BringsLog its_port s.device c.device page → BringsLog its_port s.device mid.device page
       unfolding turn_before
-      still_brought page lives brings = laws.brings its_port s.device mid.device page kept.on (turn_before its_port not_n) (part.silent its_port.0 not_n lives) brings
+      still_brought page lives brings = laws.calls.brings its_port s.device mid.device page kept.on (turn_before its_port not_n) (part.silent its_port.0 not_n lives) brings
 
       fault_before : HasTold (n + 1) mid accesses told
       fault_before = record {
@@ -522,7 +518,7 @@ module _ (laws : LawsBelow) (s : Server) (start : IsSettled s) (old : Moment) (r
       wanted = part.others.wanted ∙ p.wanted;
       on = on_mid;
       accesses = accesses;
-      does = does_append p.accesses part.accesses s.device c.device mid.device p.does part.does;
+      does = laws.basic.does_append p.accesses part.accesses s.device c.device mid.device p.does part.does;
       serving = All-append (IsServing (TendsPort (ports_of s))) p.accesses part.accesses p.serving
           (serving_of part.accesses part.of part.own);
       others = λ q none. All-append (IsOfOther q) p.accesses part.accesses
@@ -540,7 +536,7 @@ module _ (laws : LawsBelow) (s : Server) (start : IsSettled s) (old : Moment) (r
           (names_more (λ q. q ≡ port_at n) (HadTurn (n + 1)) (λ q is. subst (HadTurn (n + 1)) (sym is) (omega arith, ready)) x.evidence mine);
       lawful = joined_lawful;
       grounded = joined_grounded;
-      unplugs = unplugs_join old reached n p.steps x.steps p.turns x.own x.may x.last p.unplugs x.unplugs;
+      unplugs = unplugs_join laws old reached n p.steps x.steps p.turns x.own x.may x.last p.unplugs x.unplugs;
       answers = p.answers ++ x.tells.answers;
       permuted = permuted_all;
       ordered = ordered_all;

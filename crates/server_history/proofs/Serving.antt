@@ -22,20 +22,16 @@ use Rattle.block_machine.specs.Left.{after}
 use Rattle.block_machine.specs.State.{Machine, Pending}
 use Rattle.block_machine.specs.declared.due.Mode.{Mode}
 use Rattle.block_machine.specs.Steps.{Step, Answer}
-use Rattle.block_machine.proofs.EventLemmas.{after-append}
-use Rattle.block_machine.proofs.HistoryLemmas.{may-append, reached_more}
-use Rattle.block_machine.proofs.Members.{contains_cases, contains_here, contains_none, contains_there, into_map, map_in}
+use Rattle.block_machine.proofs.Members.{contains_cases, contains_there, into_map, map_in}
 use Rattle.host_boot.specs.Taken.{found_of}
 use Rattle.host_boot.specs.declared.Found.TheVariants.{Ready}
 use Rattle.driver_history.specs.Histories.{IssuesDue}
 use Rattle.identify.specs.declared.DiskInfo.{DiskInfo}
 use Rattle.ncq.specs.Masks.{ReadsDone, IsFinding, SeesClear}
 use Rattle.port_look.specs.Looks.{IsLooking, LooksAt}
-use Rattle.port_look.specs.Laws.{Laws}
 use Rattle.port_look.specs.Services.{IsService}
 use Rattle.port_look.specs.declared.Look.{Look}
 use Rattle.port_look.specs.declared.Look.TheVariants.{Lost, Undisturbed as Calm}
-use Rattle.port_look.proofs.Serving.{looking_service, looks_inactive}
 use Rattle.request_queue.specs.Entries.{Held, asks_of, due_ids}
 use Rattle.slots.specs.Uses.{Uses as PortSlots}
 use Rattle.slots.specs.declared.Use.{Use as SlotUse}
@@ -57,10 +53,11 @@ use Rattle.server_history.proofs.Plain.{finding_serves}
 use Rattle.server_history.proofs.Rounds.{AreIssued, any_append, devices_issue_none, dues, dues_carried, each_driven, each_issued, each_silent, last_on, or_none}
 use Rattle.server_history.proofs.Settling.{AreAnswered, answers_kept, answers_settings, each_answered, over_on, ready_on}
 use Rattle.server_history.proofs.Slots.{AreOver, ready_found, served_by, serves_used}
+use Rattle.server_history.proofs.Lists.{nowhere, first_here}
 
 -- accesses of a look, and of finding a transfer done, serve ports
-pub looks_serve : (port : Port) (old new : Device) → IsFollowed (IsLooking port) AnyUse old new → IsFollowed IsService AnyUse old new
-looks_serve port old new followed = followed_as (IsLooking port) IsService AnyUse AnyUse old new (looking_service port) (λ uses any. any) followed
+pub looks_serve : LawsBelow → (port : Port) (old new : Device) → IsFollowed (IsLooking port) AnyUse old new → IsFollowed IsService AnyUse old new
+looks_serve laws port old new followed = followed_as (IsLooking port) IsService AnyUse AnyUse old new (laws.looking.looking_service port) (λ uses any. any) followed
 
 pub finds_serve : LawsBelow → (port : Port) (mask done : ℕ) (old new : Device) → ReadsDone port mask done old new → IsFollowed IsService AnyUse old new
 finds_serve laws port mask done old new finds = followed_as (IsFinding port) IsService AnyUse AnyUse old new (finding_serves port) (λ uses any. any) (laws.finding_followed port mask done old new finds)
@@ -71,11 +68,11 @@ answers_issue_none id [] = refl
 answers_issue_none id (e ∷ ended) = any_append (issues_it id) (answers_in ended) (Answer e Ok ∷ []) ∙ ap (λ (b : Bool). b || false) (answers_issue_none id ended)
 
 -- the steps of a stretch in which nobody is answered
-pub followed_steps : (s : Server) (new : Device) → IsFollowed IsService AnyUse s.device new → (m : Machine) → IsReached m → IsMachineOf s m
+pub followed_steps : LawsBelow → (s : Server) (new : Device) → IsFollowed IsService AnyUse s.device new → (m : Machine) → IsReached m → IsMachineOf s m
     → (steps : List Step) × AllMay m steps × IsMachineOf (record s { device = new }) (after m steps) × IsBacked s.device new m steps × AllDevices steps
-followed_steps s new followed m reached is =
+followed_steps laws s new followed m reached is =
     let x = (followed_adds followed is.uses is.parked tt).adds m reached is.knows in
-    (x.0, x.1, machine_on s new m x.0 is x.3.only x.2, x.3.backed, x.3.only)
+    (x.0, x.1, machine_on laws s new m x.0 is x.3.only x.2, x.3.backed, x.3.only)
 
 nobody_answered : LawsBelow → (s : Server) (new : Device) (port : Port) → IsSettled s → state_of (found_of s.ports port.0) ≡ ReadyState → (turn : HasTurn port (slots_at s.slots port.0) [] s.device new) → IsFollowed IsService AnyUse s.device new
     → ((q : ℕ) → state_of (found_of s.ports q) ≢ Dead → SendsNone q ReadLog s.device new)
@@ -84,7 +81,7 @@ nobody_answered : LawsBelow → (s : Server) (new : Device) (port : Port) → Is
 nobody_answered laws s new port settled ready turn followed silent never =
     serves laws port [] s (record s { device = new }) settled ready turn (inl (refl, refl))
     (λ m reached is.
-    let x = followed_steps s new followed m reached is in
+    let x = followed_steps laws s new followed m reached is in
     record {
       steps = x.0;
       may = x.1;
@@ -134,11 +131,11 @@ module _ (s : Server) (port : Port) (k : IsKept s) (ready : state_of (found_of s
       by (inr (inr (inr d))) = record { issued = d.issued; free = d.free }
 
   -- and they are clear after a look
-  still_clear : Laws → (seen : Device) → IsDrivenBy (IsLooking port) s.device seen → (used : SlotUse) → used_for s.slots port.0 slot ≡ Some used → (s.device.port port.0).ci slot ≡ false
+  still_clear : LawsBelow → (seen : Device) → IsDrivenBy (IsLooking port) s.device seen → (used : SlotUse) → used_for s.slots port.0 slot ≡ Some used → (s.device.port port.0).ci slot ≡ false
       → (s.device.port port.0).sact slot ≡ false → ((seen.port port.0).ci slot ≡ false) × ((seen.port port.0).sact slot ≡ false)
   still_clear laws seen driven used its ci sact = (
     (still_over port slot s.device seen driven (clear_over used its ci sact)).issued,
-    looks_inactive laws port port.0 slot s.device seen driven sact,
+    laws.looking.looks_inactive port port.0 slot s.device seen driven sact,
   )
 
 -- ---- who is told
@@ -174,7 +171,7 @@ module _ (laws : LawsBelow) (port : Port) (low : port.0 < 4) (done : ℕ) where
   done_told (e ∷ requests) old new k ready over (mid, one, clear, more) free slot used small is its = ⊎_elim
       (λ (same : slot ≡ one.slot).
       let one_is : Some used ≡ Some one.used = sym its ∙ ap (used_for old.slots port.0) same ∙ one.served in
-      (e, contains_here e requests e refl, sym one.id_is ∙ sym (ap (λ (u : SlotUse). u.id) (same_some one_is))))
+      (e, first_here e requests, sym one.id_is ∙ sym (ap (λ (u : SlotUse). u.id) (same_some one_is))))
       (λ (other : slot ≢ one.slot).
       let rest = done_told requests mid new (answer_kept laws old mid port e k ready one (over one.slot one.small clear)) (ready_on laws port done e old mid one ready) (over_on laws port done e old mid one over) more free
       slot used small is (left_used port e old mid one k low slot other ∙ its) in
@@ -184,7 +181,7 @@ module _ (laws : LawsBelow) (port : Port) (low : port.0 < 4) (done : ℕ) where
   -- and each of these has a slot that was found done
   told_done : (requests : List Held) (old new : Server) → IsKept old → state_of (found_of old.ports port.0) ≡ ReadyState → AreOver port done old.device → AnswersEach port done requests old new
       → (e : Held) → Contains requests e → (slot : ℕ) × (slot < 32) × (bit done slot ≡ true) × ((used : SlotUse) × (used_for old.slots port.0 slot ≡ Some used) × (used.id ≡ e.entry.id))
-  told_done [] old new k ready over none e here = absurd (contains_none e here)
+  told_done [] old new k ready over none e here = absurd (nowhere e here)
   told_done (first ∷ requests) old new k ready over (mid, one, clear, more) e here = ⊎_elim
       (λ (same : e ≡ first). (one.slot, one.small, clear, (one.used, one.served, one.id_is ∙ ap (λ (x : Held). x.entry.id) (sym same))))
       (λ (there : Contains requests e).
@@ -213,7 +210,7 @@ module _ (s : Server) (seen : Device) (port : Port) (t : IsSettled s) (ready : s
   told_loss laws l =
       nobody_answered laws s seen port t ready
       (record { look = Lost; seen = seen; looks = l; quiet = inr refl; told = λ _. (refl, refl); calm = λ calm. absurd (let z : Lost ≡ Calm = calm in cc) })
-      (looks_serve port s.device seen looks)
+      (looks_serve laws port s.device seen looks)
       seen_silent
       (λ calm slot used small its ci sact. absurd (let z : Lost ≡ Calm = calm in cc))
 
@@ -230,7 +227,7 @@ module _ (s : Server) (seen : Device) (port : Port) (t : IsSettled s) (ready : s
           told = λ trouble. absurd (trouble refl);
           calm = λ _. record { mask = 0; its = its; idle = λ _. (refl, refl); checks = λ some. absurd (some (λ slot small. bit_zero slot)) };
         })
-        (looks_serve port s.device seen looks)
+        (looks_serve laws port s.device seen looks)
         seen_silent
         (λ calm slot used small is ci sact. false≢true (sym (bit_zero slot) ∙ its slot small ∙ ap is_used is))
 
@@ -266,16 +263,16 @@ module _ (s : Server) (seen : Device) (port : Port) (t : IsSettled s) (ready : s
                 done = done;
                 read = new;
                 reads = reads;
-                exact = λ slot used small is. ((λ found. absurd (false≢true (sym (none slot small) ∙ found))), (λ w. absurd (contains_none w.0 w.1)));
+                exact = λ slot used small is. ((λ found. absurd (false≢true (sym (none slot small) ∙ found))), (λ w. absurd (nowhere w.0 w.1)));
                 running = λ _. (refl, refl);
                 over = by_none (IssuesIn port) new;
               };
             };
           })
-          (followed_then IsService AnyUse s.device seen new (looks_serve port s.device seen looks) (finds_serve laws port mask done seen new reads))
+          (followed_then IsService AnyUse s.device seen new (looks_serve laws port s.device seen looks) (finds_serve laws port mask done seen new reads))
           (found_silent new done reads)
           (λ calm slot used small is ci sact.
-          let c = still_clear s port k ready slot laws.looks seen looks.driven used is ci sact in
+          let c = still_clear s port k ready slot laws seen looks.driven used is ci sact in
           false≢true (sym (none slot small) ∙ sees slot small (asked slot used small is) c.0 c.1))
 
       -- what was found done was answered
@@ -285,7 +282,7 @@ module _ (s : Server) (seen : Device) (port : Port) (t : IsSettled s) (ready : s
         from = record s { device = found }
 
         served : IsFollowed IsService AnyUse s.device found
-        served = followed_then IsService AnyUse s.device seen found (looks_serve port s.device seen looks) (finds_serve laws port mask done seen found reads)
+        served = followed_then IsService AnyUse s.device seen found (looks_serve laws port s.device seen looks) (finds_serve laws port mask done seen found reads)
 
         found_kept : IsKept from
         found_kept = finding_kept (record s { device = seen }) found port seen_kept ready laws mask done reads
@@ -309,8 +306,8 @@ module _ (s : Server) (seen : Device) (port : Port) (t : IsSettled s) (ready : s
         turn_adds : (m : Machine) → IsReached m → IsMachineOf s m → AddsTurn port replies s new m
         turn_adds m reached is = record {
           steps = z.steps ++ base;
-          may = may-append m z.steps base base_may z.may;
-          stands = subst (IsMachineOf new) (sym (after-append m z.steps base)) z.stands;
+          may = laws.basic.may m z.steps base base_may z.may;
+          stands = subst (IsMachineOf new) (sym (laws.basic.joined m z.steps base)) z.stands;
           backed = laws.backed_parts s.device a.mid.device new.device m base z.steps base_backed z.backed;
           answers = record {
             requests = a.requests;
@@ -325,17 +322,17 @@ module _ (s : Server) (seen : Device) (port : Port) (t : IsSettled s) (ready : s
             last = subst (λ (mode : Mode). IssuesOnly mode port z.steps) mode_is z.only;
           };
           last = last_on (mode_in a.mid port) port z.steps base z.only z.last (none_last base none_in_base) (λ id late early. false≢true (sym (none_in_base id) ∙ early));
-          issues = subst (λ (mode : Mode). IssuesDue mode (z.steps ++ base) (after m (z.steps ++ base)) port) mode_is (subst (λ (n : Machine). IssuesDue (mode_in a.mid port) (z.steps ++ base) n port) (sym (after-append m z.steps base))
+          issues = subst (λ (mode : Mode). IssuesDue mode (z.steps ++ base) (after m (z.steps ++ base)) port) mode_is (subst (λ (n : Machine). IssuesDue (mode_in a.mid port) (z.steps ++ base) n port) (sym (laws.basic.joined m z.steps base))
               (dues_carried laws (mode_in a.mid port) z.steps (z.steps ++ base) (after (after m base) z.steps) (after (after m base) z.steps) port refl
               (λ u here own. sym (any_append (issues_it u.id) z.steps base ∙ ap (λ (b : Bool). list_any (issues_it u.id) z.steps || b) (none_in_base u.id) ∙ or_none (list_any (issues_it u.id) z.steps)))
               (dues laws port a.mid new mid_kept a.issued (after m base) z port (λ ne. absurd (ne refl)))));
         }
           where
             x : (steps : List Step) × AllMay m steps × IsMachineOf from (after m steps) × IsBacked s.device found m steps × AllDevices steps
-            x = followed_steps s found served m reached is
+            x = followed_steps laws s found served m reached is
 
             reached_x : IsReached (after m x.0)
-            reached_x = reached_more m x.0 reached x.1
+            reached_x = laws.basic.reached m x.0 reached x.1
 
             y : AreAnswered port a.requests from a.mid (after m x.0)
             y = each_answered laws port done a.requests from a.mid found_kept ready over a.each (after m x.0) reached_x x.2
@@ -344,10 +341,10 @@ module _ (s : Server) (seen : Device) (port : Port) (t : IsSettled s) (ready : s
             base = answers_in y.ended ++ x.0
 
             base_is : after m base ≡ after (after m x.0) (answers_in y.ended)
-            base_is = after-append m (answers_in y.ended) x.0
+            base_is = laws.basic.joined m (answers_in y.ended) x.0
 
             base_may : AllMay m base
-            base_may = may-append m (answers_in y.ended) x.0 x.1 y.may
+            base_may = laws.basic.may m (answers_in y.ended) x.0 x.1 y.may
 
             base_backed : IsBacked s.device a.mid.device m base
             base_backed = laws.backed_parts s.device found a.mid.device m x.0 (answers_in y.ended) x.3 y.backed
@@ -356,7 +353,7 @@ module _ (s : Server) (seen : Device) (port : Port) (t : IsSettled s) (ready : s
             none_in_base id = any_append (issues_it id) (answers_in y.ended) x.0 ∙ ap (λ (b : Bool). b || list_any (issues_it id) x.0) (answers_issue_none id y.ended) ∙ devices_issue_none id x.0 x.4
 
             z : AreIssued port ids a.mid new (after m base)
-            z = each_issued laws port ids a.mid new mid_kept a.issued (after m base) (reached_more m base reached base_may) (subst (IsMachineOf a.mid) (sym base_is) y.stands)
+            z = each_issued laws port ids a.mid new mid_kept a.issued (after m base) (laws.basic.reached m base reached base_may) (subst (IsMachineOf a.mid) (sym base_is) y.stands)
 
         last_issues : IsDrivenBy (IssuesIn port) found new.device
         last_issues = subst (λ (d : Device). IsDrivenBy (IssuesIn port) d new.device) mid_device (each_driven laws port ids a.mid new a.issued)
@@ -417,6 +414,6 @@ module _ (s : Server) (seen : Device) (port : Port) (t : IsSettled s) (ready : s
             (inr (refl, some, a))
             turn_adds
             (λ calm slot used small is ci sact.
-            let c = still_clear s port k ready slot laws.looks seen looks.driven used is ci sact in
+            let c = still_clear s port k ready slot laws seen looks.driven used is ci sact in
             (exactly slot used small is).0 (sees slot small (asked slot used small is) c.0 c.1))
             whole_silent

@@ -15,8 +15,6 @@ use Rattle.block_machine.specs.Histories.{IsReached}
 use Rattle.block_machine.specs.Left.{after}
 use Rattle.block_machine.specs.State.{Machine, Pending}
 use Rattle.block_machine.specs.Steps.{Step, Answer}
-use Rattle.block_machine.proofs.EventLemmas.{after-append}
-use Rattle.block_machine.proofs.HistoryLemmas.{may-append, reached_more}
 use Rattle.block_machine.proofs.Members.{into_map}
 use Rattle.host_boot.specs.Taken.{found_of}
 use Rattle.host_boot.specs.declared.Found.{Found}
@@ -94,14 +92,14 @@ module _ (laws : LawsBelow) (port : Port) (done : ℕ) where
       let y : IsAnswer port e old mid m = answer_one laws old mid port e k ready one (over one.slot one.small its) m reached is in
       let first : List Step = Answer y.done Ok ∷ [] in
       let z : AreAnswered port requests mid new (after m first) = each_answered requests mid new (answer_kept laws old mid port e k ready one (over one.slot one.small its))
-      (ready_on e old mid one ready) (over_on e old mid one over) more (after m first) (reached_more m first reached (tt, y.here)) y.stands in
+      (ready_on e old mid one ready) (over_on e old mid one over) more (after m first) (laws.basic.reached m first reached (tt, y.here)) y.stands in
       record {
         ended = y.done ∷ z.ended;
         each = (y.has, z.each);
-        may = may-append m (answers_in z.ended) first (tt, y.here) z.may;
+        may = laws.basic.may m (answers_in z.ended) first (tt, y.here) z.may;
         backed = laws.backed_parts old.device mid.device new.device m first (answers_in z.ended)
             (subst (λ (d : Device). IsBacked old.device d m first) (sym (ap (λ (n : Server). n.device) one.server)) (laws.backed_own old.device m (Answer y.done Ok) (λ none. none))) z.backed;
-        stands = subst (IsMachineOf new) (sym (after-append m (answers_in z.ended) first)) z.stands;
+        stands = subst (IsMachineOf new) (sym (laws.basic.joined m (answers_in z.ended) first)) z.stands;
       }
 
   pub answers_settle : (replies : List Reply) (s new : Server) → IsSettled s → state_of (found_of s.ports port.0) ≡ Ready → AreOver port done s.device → AnswersDone port done replies s new → IsSettled new

@@ -17,7 +17,6 @@ use Rattle.agreement.specs.Driven.{Grows}
 use Rattle.agreement.specs.Errors.{IsFatalOf, NoneFails, NoneFatal}
 use Rattle.agreement.specs.Facts.{IsFaultOf}
 use Rattle.agreement.specs.Links.{IsPlugging, PlugsNone, SparesRegister}
-use Rattle.block_machine.proofs.Members.{contains_here}
 use Rattle.error_recovery.specs.Evidence.{GainsRunning, ShowsFatal, ShowsTrouble}
 use Rattle.server_history.specs.Below.{LawsBelow}
 
@@ -35,7 +34,7 @@ behind (f ∷ first) rest (x ∷ xs) ys is long =
 
 -- it stands in the first of two parts, or in the second
 split : {X : Type 0} (before : List X) (e : X) (later first rest : List X) → before ++ (e ∷ later) ≡ first ++ rest → ((last : List X) × (first ≡ before ++ (e ∷ last))) ⊎ Contains rest e
-split before e later [] rest is = inr (subst (λ (list : List _). Contains list e) is (Contains-append_right before (e ∷ later) e (contains_here e later e refl)))
+split before e later [] rest is = inr (subst (λ (list : List _). Contains list e) is (Contains-append_right before (e ∷ later) e ((0, omega arith, refl))))
 split [] e later (f ∷ first) rest is = inl (first, (let z : e ∷ later ≡ f ∷ (first ++ rest) = is in let same : e ≡ f = cc in ap (λ x. x ∷ first) (sym same)))
 split (b ∷ before) e later (f ∷ first) rest is =
     let z : b ∷ (before ++ (e ∷ later)) ≡ f ∷ (first ++ rest) = is in
@@ -79,7 +78,7 @@ module _ (Such : Entry → Type 0) (port : ℕ) where
   none_came start new later is none g =
       let here = split [] g.entry g.later [] (g.entry ∷ g.later) refl in
       let m = behind start.tape later (start.tape ++ g.before) (g.entry ∷ g.later) (append_assoc start.tape g.before (g.entry ∷ g.later) ∙ sym g.tape ∙ is) (let long = length-append start.tape g.before in omega (arith, long)) in
-      All-contains (λ e. Such e → ⊥) later g.entry none (subst (λ (list : List Entry). Contains list g.entry) (sym m.1) (Contains-append_right m.0 (g.entry ∷ g.later) g.entry (contains_here g.entry g.later g.entry refl))) g.is
+      All-contains (λ e. Such e → ⊥) later g.entry none (subst (λ (list : List Entry). Contains list g.entry) (sym m.1) (Contains-append_right m.0 (g.entry ∷ g.later) g.entry ((0, omega arith, refl)))) g.is
 
 -- ---- stretches that clear nothing
 

@@ -1,11 +1,11 @@
 -- What the slots of ports are used for, and how that of a ready port is given up.
-use Rattle.std.proofs.Common.{ℕ, Bool, ◌&&◌, ◌≡◌, ◌≢◌, ◌≤◌, ◌<◌, ◌+◌, ◌/◌, ◌%◌, ◌⊎◌, true, false, not, List, Option, None, Some, inl, inr, refl, sym, ap, ◌∙◌, subst, ⊎_elim, arith}
+use Rattle.std.proofs.Common.{ℕ, Bool, ◌&&◌, ◌≡◌, ◌≢◌, ◌≤◌, ◌<◌, ◌+◌, ◌/◌, ◌%◌, ◌⊎◌, true, false, not, List, Option, None, Some, inl, inr, refl, sym, ap, ◌∙◌, subst, ⊎_elim, arith, []}
 use Rattle.std.specs.List.{Contains}
 use Rattle.std.specs.Prelude.{if◌then◌else◌, min}
 use Rattle.std.proofs.Math.Nat.{min-eq_left, min-eq_right, min-le_left, min-le_right}
 use Rattle.identify.specs.declared.wanted.Wanted.{Wanted}
 use Rattle.std.proofs.lemmas.Bool.{cases_Bool, cases_eq, cases_lt, false≢true}
-use Rattle.std.proofs.lemmas.List.Elements.{All-contains}
+use Rattle.std.proofs.lemmas.List.Elements.{All-contains, All-nil}
 use Rattle.ata_types.specs.declared.Port.{Port}
 use Rattle.ata_types.specs.declared.PortState.TheVariants.{Absent, Dead, Ready as ReadyState}
 use Rattle.std.specs.Prelude.{IsSome}
@@ -22,7 +22,6 @@ use Rattle.block_machine.specs.State.{Machine, Pending, unanswered}
 use Rattle.block_machine.specs.Steps.{Issue, May, MayMove, NoneKept}
 use Rattle.block_machine.specs.declared.due.Mode.{Mode}
 use Rattle.block_machine.specs.declared.due.Unanswered.{Unanswered}
-use Rattle.block_machine.proofs.Members.{contains_none}
 use Rattle.agreement.specs.Driven.{AgreesWith, known}
 use Rattle.agreement.specs.Driver.{Knows, parking}
 use Rattle.agreement.specs.Slots.{Armed, Free, Own, Serves, Use, IsDropped, IsEnded, IsOver, IsServed, ServesRequest, Stage}
@@ -42,6 +41,7 @@ use Rattle.server_history.specs.Server.{Server, IsKept, IsMachineOf, IsUsedAs, i
 use Rattle.server_history.specs.Below.{LawsBelow}
 use Rattle.server_history.proofs.Asks.{asked_alike, same_book}
 use Rattle.server_history.proofs.Zips.{at_left, at_right}
+use Rattle.server_history.proofs.Lists.{nowhere}
 
 -- ---- ready ports
 
@@ -275,7 +275,7 @@ pub issued_has : (s : Server) (m : Machine) (port : Port) → (is : IsMachineOf 
     → e.request.port ≡ port → e.issued ≡ true → HasSlot s port e.request.id
 issued_has s m port is k ready e here own issued = ⊎_elim
     (λ (parked : Contains (is.parked port.0) e.request.id).
-    absurd (contains_none e.request.id (subst (λ (ids : List RequestId). Contains ids e.request.id) (is.unparked port.0 (not_dead s port.0 ready)) parked)))
+    absurd (nowhere e.request.id (subst (λ (ids : List RequestId). Contains ids e.request.id) (is.unparked port.0 (not_dead s port.0 ready)) parked)))
     (λ (w : (slot : ℕ) × (is.uses port.0 slot ≡ Serves e.request.id)).
     let x = used_serves s m port.0 is ready w.0 e.request.id w.1 in
     record { slot = w.0; small = used_small s port.0 w.0 x.0 k ready x.1; used = x.0; used_is = x.1; id_is = x.2 })
@@ -331,12 +331,12 @@ module _ (laws : LawsBelow) (s : Server) (e : Held) (k : IsKept s) (here : Conta
 
   -- a plain one finds slot 0 free
   pub plain_free : is_plain mode e.entry.op ≡ true → used_for s.slots port.0 0 ≡ None
-  plain_free plain = free_none (used_for s.slots port.0 0) (sym (use_known 0) ∙ laws.plain_free k.stands.uses k.machine s.device k.reached k.stands.knows.agrees mode p may own_none armed_none (ap (is_plain mode) x.2.op ∙ plain))
+  plain_free plain = free_none (used_for s.slots port.0 0) (sym (use_known 0) ∙ laws.slots.plain_free k.stands.uses k.machine s.device k.reached k.stands.knows.agrees mode p may own_none armed_none (ap (is_plain mode) x.2.op ∙ plain))
 
   -- and a queued one some usable slot
   pub queued_free : is_plain mode e.entry.op ≡ false → (slot : ℕ) × (slot < mode.usable) × (used_for s.slots port.0 slot ≡ None)
   queued_free queued =
-      let f = laws.queued_free k.stands.uses k.machine s.device k.reached k.stands.knows.agrees mode p may own_none armed_none (ap (is_plain mode) x.2.op ∙ queued) in
+      let f = laws.slots.queued_free k.stands.uses k.machine s.device k.reached k.stands.knows.agrees mode p may own_none armed_none (ap (is_plain mode) x.2.op ∙ queued) in
       (f.0, f.1, free_none (used_for s.slots port.0 f.0) (sym (use_known f.0) ∙ f.2))
 
   low : port.0 < 4

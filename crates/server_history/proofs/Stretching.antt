@@ -16,7 +16,6 @@ use Rattle.adapter.specs.Access.Access.{Reading}
 use Rattle.adapter.specs.Device.{Device}
 use Rattle.adapter.specs.declared.command.Operation.TheVariants.{ReadLog}
 use Rattle.adapter.specs.Memory.{changed}
-use Rattle.adapter.proofs.Calls.{does_append}
 use Rattle.adapter.proofs.Changed.{changed_other, changed_same}
 use Rattle.agreement.specs.Acts.{AnySlots, ByDeviceAlone, InSlots, Performs, at as at_slots, steps_of}
 use Rattle.agreement.specs.Agrees.{port_at}
@@ -27,8 +26,7 @@ use Rattle.agreement.specs.Slots.{Free, Own, Use}
 use Rattle.block_machine.specs.Due.{due_of}
 use Rattle.block_machine.specs.Left.{after}
 use Rattle.block_machine.specs.declared.due.Unanswered.{Unanswered}
-use Rattle.block_machine.proofs.HistoryLemmas.{reached_more}
-use Rattle.block_machine.proofs.Members.{contains_here, map_in}
+use Rattle.block_machine.proofs.Members.{map_in}
 use Rattle.driver_history.specs.Trace.{LeavesCommand, ReadsMasks, ResetsLink}
 use Rattle.error_recovery.specs.Recovery.{IsRecovering, LeavesSlots}
 use Rattle.error_recovery.specs.declared.Next.{Next}
@@ -52,6 +50,7 @@ use Rattle.server_history.proofs.Rounds.{each_driven, each_silent}
 use Rattle.server_history.proofs.Settling.{answers_kept, answers_settings}
 use Rattle.server_history.proofs.Silent.{silent_more}
 use Rattle.server_history.proofs.Slots.{AreOver, not_own, of_ready, ready_found}
+use Rattle.server_history.proofs.Lists.{first_here}
 
 -- recovery's accesses were made
 pub recovery_does : (port : ℕ) (then : Next) (accesses : List Access) (old new : Device) → LeavesSlots port then accesses old new → DoesAll accesses old new
@@ -81,7 +80,7 @@ accesses_in {port} {replies} {old} {new} {r} t = t.early.accesses ++ (r.settled.
 -- a list with nobody in it
 nobody : {X : Type 0} (xs : List X) → ((x : X) → Contains xs x → ⊥) → xs ≡ []
 nobody [] none = refl
-nobody (x ∷ xs) none = absurd (none x (contains_here x xs x refl))
+nobody (x ∷ xs) none = absurd (none x (first_here x xs))
 
 module _ (laws : LawsBelow) (port : Port) (replies : List Reply) (old new : Server) (k : IsKept old) (ready : state_of (found_of old.ports port.0) ≡ ReadyState) (r : RecoversPort port replies old new)
     (looks : IsFollowed (IsLooking port) AnyUse old.device r.settled.recovered.seen) (kept : IsKept r.mid) where
@@ -144,7 +143,7 @@ module _ (laws : LawsBelow) (port : Port) (replies : List Reply) (old new : Serv
   early : IsDrivenBy (IsEarlyPart port) old.device a.mid.device
   early = record {
     accesses = looking.accesses ++ finding.accesses;
-    all = subst (DoesAll (looking.accesses ++ finding.accesses) old.device) (sym mid_device) (does_append looking.accesses finding.accesses old.device x.seen x.found looking.all finding.all);
+    all = subst (DoesAll (looking.accesses ++ finding.accesses) old.device) (sym mid_device) (laws.basic.does_append looking.accesses finding.accesses old.device x.seen x.found looking.all finding.all);
     only = All-append (IsEarlyPart port) looking.accesses finding.accesses looking.only finding.only;
   }
 
@@ -217,13 +216,13 @@ module _ (laws : LawsBelow) (port : Port) (replies : List Reply) (old new : Serv
         let s : InSlots = record { uses = mid_kept.stands.uses; parked = mid_kept.stands.parked } in
         let p : Performs x.mends.accesses AnySlots (given_up port.0) ByDeviceAlone a.mid.device a.device = subst (λ (n : Next). LeavesSlots port.0 n x.mends.accesses a.mid.device a.device) is x.mends.does.slots in
         let c = p.comes s m mid_kept.reached mid_kept.stands.knows tt in
-        let g = laws.acts_go c.acts (at_slots s a.mid.device) (at_slots (given_up port.0 s) a.device) m mid_kept.stands.knows c.done in (
+        let g = laws.slots.acts_go c.acts (at_slots s a.mid.device) (at_slots (given_up port.0 s) a.device) m mid_kept.stands.knows c.done in (
           record {
             uses = changed s.uses port.0 (λ slot. Free);
             parked = (given_up port.0 s).parked;
             machine = after m (steps_of c.acts);
             free = λ slot. ap (λ (f : ℕ → Use). f slot) (changed_same s.uses port.0 (λ slot. Free));
-            reached = reached_more m (steps_of c.acts) mid_kept.reached g.may;
+            reached = laws.basic.reached m (steps_of c.acts) mid_kept.reached g.may;
             knows = g.knows;
           },
           λ own. none_own (ap (λ (f : ℕ → Use). f 0) (sym (changed_other s.uses port.0 (λ slot. Free) q other)) ∙ own),
@@ -253,7 +252,7 @@ module _ (laws : LawsBelow) (port : Port) (replies : List Reply) (old new : Serv
   late : IsDrivenBy (IsPart port) a.device new.device
   late = record {
     accesses = afterwards.driven.accesses ++ issuing.accesses;
-    all = does_append afterwards.driven.accesses issuing.accesses a.device r.mid.device new.device afterwards.driven.all issuing.all;
+    all = laws.basic.does_append afterwards.driven.accesses issuing.accesses a.device r.mid.device new.device afterwards.driven.all issuing.all;
     only = All-append (IsPart port) afterwards.driven.accesses issuing.accesses afterwards.driven.only issuing.only;
   }
 
@@ -284,7 +283,7 @@ module _ (laws : LawsBelow) (port : Port) (replies : List Reply) (old new : Serv
     resets = late_resets;
     unreset = λ never. All-append (SparesRegister (Px port Sctl)) early.accesses (x.mends.accesses ++ late.accesses) early_spares
         (All-append (SparesRegister (Px port Sctl)) x.mends.accesses late.accesses
-        (All-weaker (IsRecovering port) (SparesRegister (Px port Sctl)) (recovering_spares port) x.mends.accesses x.mends.does.only) (late_spares never));
+        (All-weaker (IsRecovering port) (SparesRegister (Px port Sctl)) (recovering_spares laws port) x.mends.accesses x.mends.does.only) (late_spares never));
     unissued = dead_unissued;
     silent = whole_silent;
     issuing_silent = λ lives. each_silent laws port (due_ids (mode_in r.mid port) port (asks_of r.mid.book)) r.mid new kept r.issued port.0 ReadLog refl (λ dead. lives (ap state_of dead));

@@ -16,10 +16,11 @@ use Rattle.block_machine.specs.Histories.{Instant}
 use Rattle.block_machine.specs.Ports.{Ports, Evidence, IsInterrupted}
 use Rattle.block_machine.specs.Steps.{Step, Again, Answer}
 use Rattle.ata_types.specs.declared.request.Outcome.TheVariants as outcome
-use Rattle.block_machine.proofs.Members.{contains_cases, contains_here, contains_none, contains_there}
+use Rattle.block_machine.proofs.Members.{contains_cases, contains_here, contains_there}
 use Rattle.error_recovery.specs.Evidence.{ShowsFatal}
 use Rattle.driver_history.specs.Evidence.{IsEvidenced, IsEvidencedOf, ShowsChange, ShowsFailure}
 use Rattle.driver_history.specs.Trace.{LeavesEngine}
+use Rattle.server_history.proofs.Lists.{nowhere}
 
 -- no item in any list
 abbrev pub no_evidence : Evidence
@@ -34,7 +35,7 @@ chosen is (port ∷ ports) = cond (is port) (port ∷ chosen is ports) (chosen i
 -- those that are chosen are so
 chosen_is : (is : Port → Bool) (ports : List Port) (port : Port) → Contains (chosen is ports) port → is port ≡ true
 unfolding chosen
-chosen_is is [] port here = absurd (contains_none port here)
+chosen_is is [] port here = absurd (nowhere port here)
 chosen_is is (first ∷ ports) port here = ⊎_elim
     (λ (its : is first ≡ true). ⊎_elim
     (λ (same : port ≡ first). ap is same ∙ its)
@@ -46,7 +47,7 @@ chosen_is is (first ∷ ports) port here = ⊎_elim
 -- and all that are so are chosen
 is_chosen : (is : Port → Bool) (ports : List Port) (port : Port) → Contains ports port → is port ≡ true → Contains (chosen is ports) port
 unfolding chosen
-is_chosen is [] port here so = absurd (contains_none port here)
+is_chosen is [] port here so = absurd (nowhere port here)
 is_chosen is (first ∷ ports) port here so = ⊎_elim
     (λ (its : is first ≡ true). subst (λ (list : List Port). Contains list port) (sym (cond-true (is first) (first ∷ chosen is ports) (chosen is ports) its)) (⊎_elim
     (λ (same : port ≡ first). contains_here first (chosen is ports) port same)
@@ -194,7 +195,7 @@ pub evidenced_of : (list : List Port) (ask : Ask DeviceStep) (said : Said) (acce
     → (old.moment.ports.state port ≡ Ready → Contains list port) → All (LeavesEngine port) accesses
     → IsEvidencedOf ask said accesses old ports new (told_of list old.device old.moment.ports) port
 evidenced_of list ask said accesses old ports new port there leaves = record {
-  lost = λ here. absurd (contains_none port here);
+  lost = λ here. absurd (nowhere port here);
   gone_all = λ ready loss. is_named list old.device old.moment.ports shows_loss port (there ready) ready (loss_shows (old.device.port port.0) (⊎_elim (λ change. inl change) (λ out. inr out.0) loss));
   gone_only = λ here.
       let x = named_is list old.device old.moment.ports shows_loss port here in
@@ -204,15 +205,15 @@ evidenced_of list ask said accesses old ports new port there leaves = record {
   fatal_all = λ ready fatal. is_named list old.device old.moment.ports shows_fatal port (there ready) ready (fatal_shows (old.device.port port.0) fatal);
   fatal_only = λ here. let x = named_is list old.device old.moment.ports shows_fatal port here in (x.0, inl (unfatal (old.device.port port.0) x.1));
   stopped_all = inl leaves;
-  stopped_only = λ here. absurd (contains_none port here);
-  stuck_only = λ here. absurd (contains_none port here);
+  stopped_only = λ here. absurd (nowhere port here);
+  stuck_only = λ here. absurd (nowhere port here);
 }
 
 pub evidenced : (ask : Ask DeviceStep) (said : Said) (accesses : List Access) (old : Instant Device) (ports : Ports) (new : Device)
     → ((port : Port) → old.moment.ports.state port ≡ Ready → port.0 < 4) → ((port : Port) → All (LeavesEngine port) accesses)
     → IsEvidenced ask said accesses old ports new (told_by old.device old.moment.ports)
 evidenced ask said accesses old ports new low leaves = record {
-  faults = λ told here. absurd (contains_none told here);
+  faults = λ told here. absurd (nowhere told here);
   port = λ port. evidenced_of four ask said accesses old ports new port (λ ready. in_four port (low port ready)) (leaves port);
 }
 
@@ -224,7 +225,7 @@ module _ (d : Device) (ports : Ports) where
 
   -- nothing interrupts a port in it
   pub uninterrupted : (port : Port) → IsInterrupted told port → ⊥
-  uninterrupted port i = ⊎_elim (contains_none port) (contains_none port) i
+  uninterrupted port i = ⊎_elim (nowhere port) (nowhere port) i
 
   pub lawful_told : (old : Moment) (after : Ports) (steps : List Step) → AllLawful old no_evidence after steps → AllLawful old told after steps
   lawful_told old after [] l = l

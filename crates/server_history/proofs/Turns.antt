@@ -14,20 +14,13 @@ use Rattle.block_machine.specs.Histories.{IsReached}
 use Rattle.block_machine.specs.Left.{after}
 use Rattle.block_machine.specs.Ports.{Evidence, Ports}
 use Rattle.block_machine.specs.State.{Machine, Pending}
-use Rattle.block_machine.specs.Steps.{Step, Again, Answer, Issue, May, Replace, Unplug}
-use Rattle.block_machine.proofs.EventLemmas.{after-append}
-use Rattle.block_machine.proofs.HistoryLemmas.{reached_more}
-use Rattle.block_machine.proofs.Standing.{standing}
+use Rattle.block_machine.specs.Steps.{Step, Again, Answer, Issue, Replace, Unplug}
 use Rattle.server_history.specs.Turns.{IsOfTurn, IsStepOf}
 use Rattle.server_history.proofs.Origins.{IsSame, StandsIn, handled_own, issued_before, others_left, others_were, same_as, same_more, stood}
 use Rattle.server_history.proofs.Rounds.{issued_parts}
+use Rattle.server_history.specs.Below.{LawsBelow}
 
 -- ---- lists of steps
-
-pub may_join : (m : Machine) (late early : List Step) → AllMay m early → AllMay (after m early) late → AllMay m (late ++ early)
-may_join m [] early a b = a
-may_join m (step ∷ late) early a b =
-    (may_join m late early a b.0, subst (λ (x : Machine). May x step) (sym (after-append m late early)) b.1)
 
 -- steps of ports of one kind are of ports of another
 of_ports : (One Other : Port → Type 0) → ((q : Port) → One q → Other q) → (step : Step) → IsStepOf One step → IsStepOf Other step
@@ -145,7 +138,7 @@ pub record AreTurns (old : Moment) (n : ℕ) (steps : List Step) : Type 0 where
   pub further : (e : Pending) → Contains old.machine.book e → n ≤ e.request.port.0 → (x : Pending) × Contains (after old.machine steps).book x × IsSame e x
   pub origin : (x : Pending) → Contains (after old.machine steps).book x → n ≤ x.request.port.0 → (e : Pending) × Contains old.machine.book e × IsSame e x
 
-module _ (old : Moment) (reached : IsReached old.machine) where
+module _ (laws : LawsBelow) (old : Moment) (reached : IsReached old.machine) where
   pub no_turns : AreTurns old 0 []
   no_turns = record {
     may = tt;
@@ -171,10 +164,10 @@ module _ (old : Moment) (reached : IsReached old.machine) where
 
   module _ (n : ℕ) (base late : List Step) (x : AreTurns old n base) (own : All (IsOfTurn (port_at n)) late) (may : AllMay (after old.machine base) late) (last : IssuesLast late) where
     m_reached : IsReached (after old.machine base)
-    m_reached = reached_more old.machine base reached x.may
+    m_reached = laws.basic.reached old.machine base reached x.may
 
     one_of : (e y : Pending) → Contains old.machine.book e → Contains old.machine.book y → e.request.id.0 ≡ y.request.id.0 → e ≡ y
-    one_of e y here there same = (standing old.machine reached).sound.one e y here there same
+    one_of e y here there same = laws.basic.one old.machine reached e y here there same
 
     -- what the turn handles wasn't issued before
     fresh : (e : Pending) → Contains (after old.machine base).book e → e.request.port ≡ port_at n → (id : RequestId) → e.request.id.0 ≡ id.0 → IsIssuedIn id base → ⊥
@@ -192,12 +185,12 @@ module _ (old : Moment) (reached : IsReached old.machine) where
       last_join steps (All-tail (IsOfTurn (port_at n)) step steps all) its_may.0 l.0,
       λ id h i. ⊎_elim
           (λ late_one. l.1 id h late_one)
-          (λ early. let o = handled_own (port_at n) (after old.machine base) step steps all its_may id h in fresh o.pending o.here o.port_is id o.id_is early)
+          (λ early. let o = handled_own laws (port_at n) (after old.machine base) step steps all its_may id h in fresh o.pending o.here o.port_is id o.id_is early)
           (issued_parts id steps base i),
     )
 
     whole_is : after old.machine (late ++ base) ≡ after (after old.machine base) late
-    whole_is = after-append old.machine late base
+    whole_is = laws.basic.joined old.machine late base
 
     in_whole : (z : Pending) → Contains (after old.machine (late ++ base)).book z → Contains (after (after old.machine base) late).book z
     in_whole z here = subst (λ (k : Machine). Contains k.book z) whole_is here
@@ -207,29 +200,29 @@ module _ (old : Moment) (reached : IsReached old.machine) where
 
     pub turn_on : AreTurns old (n + 1) (late ++ base)
     turn_on = record {
-      may = may_join old.machine late base x.may may;
+      may = laws.basic.may old.machine late base x.may may;
       last = last_join late own may last;
       below = All-append (IsStepOf (λ q. q.0 < n + 1)) late base
           (all_of_ports (λ q. q ≡ port_at n) (λ q. q.0 < n + 1) (λ q is. let same : q.0 ≡ n = ap (λ (r : Port). r.0) is in omega (arith, same)) late own)
           (all_of_ports (λ q. q.0 < n) (λ q. q.0 < n + 1) (λ q small. omega (arith, small)) base x.below);
       issued = λ id i. ⊎_elim
           (λ its.
-          let o = issued_before (port_at n) (after old.machine base) late own may id its in
+          let o = issued_before laws (port_at n) (after old.machine base) late own may id its in
           let b = x.from o.pending o.here in
           let is : b.was.request.port.0 ≡ n = ap (λ r. r.port.0) b.request ∙ ap (λ (q : Port). q.0) o.port_is in
           (b.was, b.here, ap (λ r. r.id.0) b.request ∙ o.id_is, omega (arith, is)))
           (λ early. let w = x.issued id early in let small = w.3 in (w.0, w.1, w.2, omega (arith, small)))
           (issued_parts id late base i);
       from = λ z here.
-          let b = stood (port_at n) (after old.machine base) late own z (in_whole z here) in
+          let b = stood laws (port_at n) (after old.machine base) late own z (in_whole z here) in
           let c = x.from b.was b.here in
           record { was = c.was; here = c.here; request = c.request ∙ b.request };
       further = λ e here far.
           let w = x.further e here (omega (arith, far)) in
-          let l = others_left (port_at n) (after old.machine base) m_reached late own may w.0 w.1 (λ same. not_own e.request.port far (sym (ap (λ r. r.port) w.2.request) ∙ same)) in
+          let l = others_left laws (port_at n) (after old.machine base) m_reached late own may w.0 w.1 (λ same. not_own e.request.port far (sym (ap (λ r. r.port) w.2.request) ∙ same)) in
           (l.0, subst (λ (k : Machine). Contains k.book l.0) (sym whole_is) l.1, same_more e w.0 l.0 w.2 l.2);
       origin = λ z here far.
-          let b = others_were (port_at n) (after old.machine base) m_reached late own may z (in_whole z here) (not_own z.request.port far) in
+          let b = others_were laws (port_at n) (after old.machine base) m_reached late own may z (in_whole z here) (not_own z.request.port far) in
           let c = x.origin b.0 b.1 (subst (λ (q : ℕ). n ≤ q) (ap (λ r. r.port.0) b.2.request) (omega (arith, far))) in
           (c.0, c.1, same_more c.0 b.0 z c.2 b.2);
     }
@@ -240,7 +233,7 @@ module _ (old : Moment) (reached : IsReached old.machine) where
       emptied = λ e other here there. ⊎_elim
           (λ i. its.emptied e other i (in_whole other there))
           (λ i same.
-          let b = stood (port_at n) (after old.machine base) late own other (in_whole other there) in
+          let b = stood laws (port_at n) (after old.machine base) late own other (in_whole other there) in
           early.emptied e b.was i b.here (ap (λ r. r.port) b.request ∙ same))
           (Contains-append_cases late base (Answer e Unplugged) here);
       alike = λ e other here there same. ⊎_elim

@@ -16,11 +16,8 @@ use Rattle.hba_regs.specs.declared.reg.PortReg.TheVariants.{Ci, Sact}
 use Rattle.adapter.specs.Access.{Reads}
 use Rattle.adapter.specs.Device.{Device}
 use Rattle.agreement.specs.Driven.{IsDrivenBy}
-use Rattle.agreement.specs.Slots.{IsFree, IsOver, IsServed, Serves, ServesRequest, Stage, Use}
-use Rattle.agreement.proofs.Finished.{steps_over}
-use Rattle.agreement.proofs.Unarmed.{reads_clear, steps_clear}
+use Rattle.agreement.specs.Slots.{IsFree, IsServed, Serves, ServesRequest, Stage, Use}
 use Rattle.agreement.proofs.Finding.{ended_is_clear}
-use Rattle.agreement.proofs.Sparing.{found_before, steps_spare}
 use Rattle.block_machine.specs.Events.{AllMay, AnswersEnded, ServesReady, tells_fault}
 use Rattle.block_machine.specs.Histories.{IsReached}
 use Rattle.block_machine.specs.Left.{after}
@@ -30,8 +27,6 @@ use Rattle.block_machine.specs.Steps.{Step, Answer}
 use Rattle.block_machine.specs.declared.due.Mode.{Mode}
 use Rattle.block_machine.proofs.Calm.{counts_none}
 use Rattle.block_machine.proofs.Members.{into_map, map_in}
-use Rattle.block_machine.proofs.Standing.{standing}
-use Rattle.block_machine.proofs.Started.{ended_issued}
 use Rattle.driver_history.specs.Evidence.{ShowsChange, ShowsFailure}
 use Rattle.driver_history.specs.Guard.{IsAskedOf}
 use Rattle.driver_history.specs.Histories.{FindsDone, HasBadDisk, IsAnsweredOk, IsIssuedOn}
@@ -39,8 +34,6 @@ use Rattle.driver_history.specs.Trace.{ReadsMasks}
 use Rattle.host_boot.specs.Taken.{found_of}
 use Rattle.port_look.specs.Looks.{IsLooking}
 use Rattle.port_look.specs.declared.Look.TheVariants.{Undisturbed as Calm}
-use Rattle.port_look.proofs.Seeing.{look_driven}
-use Rattle.port_look.proofs.Serving.{looks_inactive}
 use Rattle.slots.specs.declared.Use.{Use as SlotUse}
 use Rattle.server_history.specs.Below.{LawsBelow}
 use Rattle.server_history.specs.Served.{AnswersBy, Checks, HasEnded, HasTurn, IsAnsweredIn, IsMaskOf, answers_in, done_reply, is_used}
@@ -50,23 +43,13 @@ use Rattle.server_history.specs.Server.{Server, IsKept, IsMachineOf, IsSettled, 
 use Rattle.server_history.proofs.Answered.{answered_in, ended_stood, in_answered, may_parts, no_answer, no_answer_issuing}
 use Rattle.server_history.proofs.Coming.{TurnList}
 use Rattle.server_history.proofs.Heeding.{never_failed, told_nothing, trouble_shown}
-use Rattle.server_history.proofs.Joined.{nowhere}
-use Rattle.server_history.proofs.Looking.{still_over}
+use Rattle.server_history.proofs.Looking.{both_clear}
 use Rattle.server_history.proofs.Plain.{both_read}
 use Rattle.server_history.proofs.Said.{one_said}
 use Rattle.server_history.proofs.Slots.{HasSlot, free_unused, issued_has, not_true, ready_found, serves_used, still_booked, used_or_not}
 use Rattle.server_history.proofs.Told.{named_is, shows_failure, shows_fatal, shows_loss, told_of, unfailed, unfatal, unlost}
 use Rattle.server_history.proofs.Zips.{at_left, at_right}
-
--- ---- bits that are read
-
--- PxCI shows the bit of a slot clear whose command is over
-issued_clear : (port : Port) (slot v : ℕ) (old new : Device) → slot < 32 → Reads (Px port Ci) v old new → IsOver (old.port port.0) slot → bit v slot ≡ false
-issued_clear port slot v old new small r over = r.shows slot small ∙ (steps_over port.0 slot old r.mid r.steps over).issued
-
--- and PxSACT one that is clear
-active_clear : (port : Port) (slot v : ℕ) (old new : Device) → slot < 32 → Reads (Px port Sact) v old new → (old.port port.0).sact slot ≡ false → bit v slot ≡ false
-active_clear port slot v old new small r clear = r.shows slot small ∙ steps_clear port.0 slot old r.mid r.steps clear
+use Rattle.server_history.proofs.Lists.{nowhere}
 
 -- where each of the port's requests is answered Ok, no fault of it is told
 tells_none : (q : Port) (steps : List Step) → ((e : Pending) (o : Outcome) → Contains steps (Answer e o) → o ≡ Ok) → list_any (tells_fault q) steps ≡ false
@@ -97,7 +80,7 @@ module _ (laws : LawsBelow) (port : Port) (replies : List Reply) (old new : Serv
   takes = mode_in old port
 
   one_of : (e y : Pending) → Contains m.book e → Contains m.book y → e.request.id.0 ≡ y.request.id.0 → e ≡ y
-  one_of e y here there is = (standing m reached).sound.one e y here there is
+  one_of e y here there is = laws.basic.one m reached e y here there is
 
   -- who is answered in the turn is one of these
   turn_ended : (e : Pending) (o : Outcome) → Contains steps (Answer e o) → Contains b.ended e × (o ≡ Ok)
@@ -114,7 +97,7 @@ module _ (laws : LawsBelow) (port : Port) (replies : List Reply) (old new : Serv
 
   -- one that had ended was issued
   ended_on : (e : Pending) → Contains m.book e → e.request.port ≡ port → e.ended ≡ true → IsIssuedOn port m e
-  ended_on e there own ended = record { here = there; port_is = own; issued = ended_issued m e reached there ended }
+  ended_on e there own ended = record { here = there; port_is = own; issued = laws.basic.ended_issued m e reached there ended }
 
   -- and its command's bits are clear
   ended_clear : (e : Pending) → (own : IsIssuedOn port m e) → e.ended ≡ true → ((old.device.port port.0).ci (has_slot e own).slot ≡ false) × ((old.device.port port.0).sact (has_slot e own).slot ≡ false)
@@ -125,7 +108,7 @@ module _ (laws : LawsBelow) (port : Port) (replies : List Reply) (old new : Serv
       (clear.0.over.issued, clear.0.sact)
 
   early_may : AllMay m b.before × AllMay (after m b.before) (answers_in b.ended)
-  early_may = may_parts m (answers_in b.ended) b.before (may_parts m b.later (answers_in b.ended ++ b.before) (subst (AllMay m) b.steps_are may)).0
+  early_may = may_parts laws m (answers_in b.ended) b.before (may_parts laws m b.later (answers_in b.ended ++ b.before) (subst (AllMay m) b.steps_are may)).0
 
   -- who is told is answered, and who is answered is told
   module _ (e : Pending) (own : IsIssuedOn port m e) where
@@ -134,8 +117,8 @@ module _ (laws : LawsBelow) (port : Port) (replies : List Reply) (old new : Serv
         let r = map_in done_reply b.requests told.0 (subst (λ (list : List Reply). Contains list told.0) b.told told.1) in
         let d = at_left (HasEnded port) b.requests b.ended b.each r.0 r.1 in
         let id_is : d.0.request.id ≡ e.request.id = d.2.entry.id ∙ sym (ap (λ (y : Reply). y.id) r.2) ∙ told.2 ∙ (has_slot e own).id_is in
-        let w = ended_stood (after m b.before) b.ended early_may.1 d.0 d.1 in
-        let l = found_before m.book (after m b.before).book d.0 (steps_spare m b.before b.first).book w in
+        let w = ended_stood laws (after m b.before) b.ended early_may.1 d.0 d.1 in
+        let l = laws.basic.found_before m.book (after m b.before).book d.0 (laws.basic.spares m b.before b.first).book w in
         let one : e ≡ l.0 = one_of e l.0 own.here l.1 (ap (λ (i : RequestId). i.0) (sym id_is ∙ ap (λ r. r.id) l.2.request)) in (
           d.0,
           l.2.request ∙ ap (λ (y : Pending). y.request) (sym one),
@@ -173,7 +156,7 @@ module _ (laws : LawsBelow) (port : Port) (replies : List Reply) (old new : Serv
       k = read.2.0
 
       looks : IsDrivenBy (IsLooking port) old.device turn.seen
-      looks = look_driven port turn.look old.device turn.seen turn.looks
+      looks = laws.looking.looks_driven port turn.look old.device turn.seen turn.looks
 
       masks_read : (mid : Device) × Reads (Px port Ci) k.reads.issued turn.seen mid × Reads (Px port Sact) k.reads.active mid k.read
       masks_read = both_read port read.0 k.done turn.seen k.read k.reads
@@ -231,13 +214,8 @@ module _ (laws : LawsBelow) (port : Port) (replies : List Reply) (old new : Serv
               by (inr (inr (inr dropped))) = absurd (false≢true (sym dropped.stopped ∙ ((kept.behind port.0 low).runs ready).st))
 
           clear_there : AreClear slot
-          clear_there = (
-            issued_clear port slot k.reads.issued turn.seen masks_read.0 says.placed.slot_below masks_read.1
-                (still_over port slot old.device turn.seen looks (record { issued = free.issued; free = free.free })),
-            active_clear port slot k.reads.active masks_read.0 k.read says.placed.slot_below masks_read.2
-                (reads_clear port.0 slot (Px port Ci) k.reads.issued turn.seen masks_read.0 masks_read.1
-                (looks_inactive laws.looks port port.0 slot old.device turn.seen looks free.unarmed)),
-          )
+          clear_there = both_clear laws port slot k.reads.issued k.reads.active old.device turn.seen masks_read.0 k.read says.placed.slot_below looks masks_read.1 masks_read.2
+              (record { issued = free.issued; free = free.free }) free.unarmed
 
           apart_too : IsAnsweredOk other steps ↔ AreClear slot
           apart_too = (

@@ -1,5 +1,5 @@
--- A port that was recovered, or booted anew, runs well after the turn, unless there was new trouble.
-use Rattle.std.proofs.Common.{◌≡◌, ◌<◌, ◌++◌, true, false, List, [], ◌∷◌, refl, sym, ap, ◌∙◌, subst, ⊎_elim}
+-- A port that was recovered, or booted anew, runs well after the turn, unless trouble came since ST was set.
+use Rattle.std.proofs.Common.{◌≡◌, ◌<◌, ◌++◌, true, false, List, [], ◌∷◌, refl, sym, ap, ◌∙◌, subst, ⊎_elim, arith}
 use Rattle.std.specs.List.{All, Contains}
 use Rattle.std.specs.Prelude.{◌⊎◌}
 use Rattle.std.proofs.lemmas.Bool.{false≢true}
@@ -7,25 +7,27 @@ use Rattle.std.proofs.lemmas.List.Elements.{All-contains, All-contains_itself, A
 use Rattle.ata_types.specs.declared.Port.{Port}
 use Rattle.ata_types.specs.declared.PortState.TheVariants.{Dead as DeadState, Ready as ReadyState}
 use Rattle.ata_types.specs.declared.request.Reply.{Reply}
-use Rattle.hba_regs.specs.declared.reg.PortReg.TheVariants.{Cmd, Sctl}
+use Rattle.hba_regs.specs.declared.reg.PortReg.TheVariants.{Cmd, Ie, Sctl}
 use Rattle.hba_regs.specs.declared.reg.Reg.TheVariants.{Ghc, Px}
 use Rattle.adapter.specs.Access.{Access, DoesAll}
 use Rattle.adapter.specs.Access.Access.{Writing}
 use Rattle.adapter.specs.Device.{Device, PortState}
 use Rattle.adapter.specs.Rules.{IsOn}
 use Rattle.agreement.specs.Driven.{AnyUse, Grows, IsDrivenBy, IsFollowed}
-use Rattle.agreement.specs.Facts.{RunsWell, Undisturbed}
+use Rattle.agreement.specs.Errors.{IsFatalOf}
+use Rattle.agreement.specs.Facts.{IsFaultOf, RunsWell, Undisturbed}
 use Rattle.agreement.specs.Links.{PlugsNone, SparesRegister}
 use Rattle.agreement.specs.Recovering.{IsLinked, WorksPlainly}
 use Rattle.block_machine.specs.State.{Machine}
-use Rattle.block_machine.proofs.Members.{contains_here}
 use Rattle.driver_history.specs.Guard.{IsAskedOf}
-use Rattle.driver_history.specs.Histories.{RunsWellAnew}
+use Rattle.driver_history.specs.Histories.{RunsWellAnew, StayedUp}
 use Rattle.driver_history.specs.Trace.{ResetsLink}
+use Rattle.error_recovery.specs.Evidence.{GainsRunning}
 use Rattle.error_recovery.specs.declared.Next.{Next}
 use Rattle.error_recovery.specs.declared.Next.TheVariants as next
 use Rattle.host_boot.specs.Taken.{StillStandsBehind, found_of, wanted_of}
 use Rattle.host_boot.specs.declared.Found.{Found}
+use Rattle.port_boot.specs.States.{told_causes}
 use Rattle.port_look.specs.Looks.{IsLooking}
 use Rattle.server_history.specs.Below.{LawsBelow}
 use Rattle.server_history.specs.Recovered.{IsRecovered, HasMetFates, RecoversPort}
@@ -34,10 +36,11 @@ use Rattle.server_history.specs.Turns.{instant_of}
 use Rattle.server_history.proofs.Becoming.{next_dead, state_new}
 use Rattle.server_history.proofs.Evident.{IsEvident}
 use Rattle.server_history.proofs.Following.{mid_kept, mid_ready}
-use Rattle.server_history.proofs.Lasting.{again, again_booted, asked, ends_ready, issuing, recovered_on, then_issuing}
+use Rattle.server_history.proofs.Lasting.{again, again_booted, asked, ends_ready, issuing, recovered_on, since_up, then_issuing, up_on}
 use Rattle.server_history.proofs.Recovering.{IsEarlyPart}
 use Rattle.server_history.proofs.Recovery.{evidence_by}
-use Rattle.server_history.proofs.Showing.{LeavesTrouble, on_one}
+use Rattle.server_history.proofs.Resetting.{up_driven}
+use Rattle.server_history.proofs.Showing.{LeavesTrouble, on_one, shows_over}
 use Rattle.server_history.proofs.Slots.{ready_found}
 use Rattle.server_history.proofs.Stretching.{TurnParts}
 
@@ -85,7 +88,7 @@ never_reset : (port : Port) (accesses : List Access) → All (SparesRegister (Px
 never_reset port accesses all r = All-contains (SparesRegister (Px port Sctl)) accesses (Writing (Px port Sctl) r.sending) all
     (subst (λ (list : List Access). Contains list (Writing (Px port Sctl) r.sending)) (sym r.here)
     (Contains-append_right r.before (Writing (Px port Sctl) r.sending ∷ (r.between ++ (Writing (Px port Sctl) r.ending ∷ r.later))) (Writing (Px port Sctl) r.sending)
-    (contains_here (Writing (Px port Sctl) r.sending) (r.between ++ (Writing (Px port Sctl) r.ending ∷ r.later)) (Writing (Px port Sctl) r.sending) refl))) refl
+    (0, omega arith, refl))) refl
 
 -- ---- the whole
 
@@ -156,17 +159,24 @@ module _ (laws : LawsBelow) (port : Port) (replies : List Reply) (old new : Serv
             let f = ready_found a.mid port.0 then_kept then_ready in
             (subst (λ (f : Found). StillStandsBehind (wanted_of a.mid.wanted port.0) f port.0 a.mid.device) f.1.1 (then_kept.behind port.0 low).behind).1.det
 
-    runs_well : PlugsNone port.0 old.device new.device → (old.device.port port.0).ssts_det ≡ 3 → Undisturbed port.0 old.device new.device → ResetsLink port evident.accesses ⊎ ((old.device.port port.0).fresh ≡ true)
-        → RunsWell (new.device.port port.0)
-    runs_well none det calm how =
-        let rest = laws.looks.grows_more a.mid.device a.device new.device part_grows late_grows in
-        let one = laws.looks.calm_parts port.0 old.device a.mid.device new.device early_grows.0 rest.0 early_grows.1 rest.1 calm in
-        let two = laws.looks.calm_parts port.0 a.mid.device a.device new.device part_grows.0 late_grows.0 part_grows.1 late_grows.1 one.1 in
-        let fresh : (old.device.port port.0).fresh ≡ true = ⊎_elim
+    runs_well : PlugsNone port.0 old.device new.device → (old.device.port port.0).ssts_det ≡ 3 → (GainsRunning (IsFaultOf port.0) port.0 old.device new.device → ⊥) → (GainsRunning (IsFatalOf port.0) port.0 old.device new.device → ⊥)
+        → ResetsLink port evident.accesses ⊎ StayedUp port old.device new.device → RunsWell (new.device.port port.0)
+    runs_well none det unfailed unbroken how =
+        let stayed : StayedUp port old.device new.device = ⊎_elim
         (λ reset. absurd (never_reset port (t.early.accesses ++ (x.mends.accesses ++ t.late.accesses)) unreset (subst (ResetsLink port) evident.accesses_are reset)))
         (λ is. is) how in
-        let well = (again laws port replies old new k ready r looks kept t token is).well (laws.trouble.calm_plugs port.0 a.mid.device a.device two.0) (laws.trouble.calm_fatal port.0 a.mid.device a.device two.0) (linked none det fresh) plainly in
-        well_over laws port a.device new.device (recovered_on laws port replies old new k ready r looks kept t) (then_issuing laws port replies old new k ready r looks kept t token is) two.1 well
+        let rest = laws.looks.grows_more a.mid.device a.device new.device part_grows late_grows in
+        let plugs = laws.trouble.plugs_parts port.0 a.mid.device a.device new.device part_grows.0 late_grows.0 part_grows.1 late_grows.1
+        (laws.trouble.plugs_parts port.0 old.device a.mid.device new.device early_grows.0 rest.0 early_grows.1 rest.1 none).1 in
+        let fatal = laws.trouble.fatal_parts port.0 a.mid.device a.device new.device part_grows.0 late_grows.0 part_grows.1 late_grows.1
+        (laws.trouble.fatal_parts port.0 old.device a.mid.device new.device early_grows.0 rest.0 early_grows.1 rest.1 stayed.unbroken).1 in
+        let runs = again laws port replies old new k ready r looks kept t token is in
+        let on = recovered_on laws port replies old new k ready r looks kept t in
+        let last = then_issuing laws port replies old new k ready r looks kept t token is in
+        let same = (shows_over laws port last.accesses a.device new.device on last.only last.all).same in
+        let known = runs.recorded.known in
+        let calm = laws.calls.calm_since port.0 old.device a.device new.device (laws.looks.grows_more old.device a.mid.device a.device early_grows part_grows) late_grows (omega (arith, same, known)) none unfailed unbroken in
+        well_over laws port a.device new.device on last calm (runs.well plugs.0 fatal.0 (linked none det stayed.fresh) plainly)
 
   -- ---- one that was booted
 
@@ -174,25 +184,36 @@ module _ (laws : LawsBelow) (port : Port) (replies : List Reply) (old new : Serv
     abbrev then_asked : Device
     then_asked = asked laws port replies old new k ready r looks kept t token is is_ready
 
-    boots_well : Undisturbed port.0 old.device new.device → RunsWell (new.device.port port.0)
-    boots_well calm =
+    boots_well : PlugsNone port.0 old.device new.device → (GainsRunning (IsFaultOf port.0) port.0 old.device new.device → ⊥) → (GainsRunning (IsFatalOf port.0) port.0 old.device new.device → ⊥)
+        → RunsWell (new.device.port port.0)
+    boots_well none unfailed unbroken =
         let ready_then = ends_ready laws port replies old new k ready r looks kept t token is is_ready in
+        let way = ready_then.way in
         let issued = issuing laws port replies old new k ready r looks kept t in
+        let since = since_up laws port replies old new k ready r looks kept t token is is_ready in
         let first = laws.looks.grows_more old.device a.device then_asked (laws.looks.grows_more old.device a.mid.device a.device early_grows part_grows)
         (let asks = (again_booted laws port replies old new k ready r looks kept t token is is_ready).2.asks.driven in grows_over laws port asks.accesses a.device then_asked asks.all) in
         let booted = (let b = ready_then.boots.followed.driven in grows_over laws port b.accesses then_asked r.mid.device b.all) in
         let last = grows_over laws port issued.accesses r.mid.device new.device issued.all in
         let rest = laws.looks.grows_more then_asked r.mid.device new.device booted last in
-        let one = laws.looks.calm_parts port.0 old.device then_asked new.device first.0 rest.0 first.1 rest.1 calm in
-        let two = laws.looks.calm_parts port.0 then_asked r.mid.device new.device booted.0 last.0 booted.1 last.1 one.1 in
-        well_over laws port r.mid.device new.device kept.on issued two.1 (ready_then.news.well two.0)
+        let plugs = laws.trouble.plugs_parts port.0 then_asked r.mid.device new.device booted.0 last.0 booted.1 last.1
+        (laws.trouble.plugs_parts port.0 old.device then_asked new.device first.0 rest.0 first.1 rest.1 none).1 in
+        let up = (let b = up_driven laws port then_asked way.up way.first in grows_over laws port b.accesses then_asked way.up b.all) in
+        let told = laws.looks.grows_more way.up way.then.asked r.mid.device (grows_over laws port way.then.asks.accesses way.up way.then.asked way.then.asks.all)
+        (laws.looks.access_grows (Writing (Px port Ie) told_causes) way.then.asked r.mid.device way.then.tells) in
+        let same = (shows_over laws port since.accesses way.up new.device (up_on laws port replies old new k ready r looks kept t token is is_ready) since.only since.all).same in
+        let set = way.first.set in
+        let calm = laws.calls.calm_since port.0 old.device way.up new.device (laws.looks.grows_more old.device then_asked way.up first up) (grows_over laws port since.accesses way.up new.device since.all)
+        (omega (arith, same, set)) none unfailed unbroken in
+        let parts = laws.looks.calm_parts port.0 way.up r.mid.device new.device told.0 last.0 told.1 last.1 calm in
+        well_over laws port r.mid.device new.device kept.on issued parts.1 (way.well plugs.0 parts.0)
 
   pub going_well : (m : Machine) → IsAskedOf port (instant_of old m) new.device → RunsWellAnew (evidence_by a) evident.accesses (instant_of old m) (ports_of new) new.device port
-  going_well m asked_of _ is_ready calm how = by x.result.next refl
+  going_well m asked_of _ is_ready none unfailed unbroken how = by x.result.next refl
     where
       by : (n : Next) → x.result.next ≡ n → RunsWell (new.device.port port.0)
-      by (next.Running token) is = runs_well token is asked_of.plugged asked_of.device calm how
-      by (next.Restart token) is = boots_well token is is_ready calm
+      by (next.Running token) is = runs_well token is none asked_of.device unfailed unbroken how
+      by (next.Restart token) is = boots_well token is is_ready none unfailed unbroken
       by next.Dead is =
           let dead = state_new laws port replies old new k ready r looks kept ∙ ap state_of (next_dead laws port replies old new k ready r looks kept is) in
           let z : DeadState ≡ ReadyState = sym dead ∙ is_ready in absurd cc

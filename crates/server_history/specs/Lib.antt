@@ -4,5 +4,7 @@ pub mod Served
 pub mod Recovered
 pub mod Turns
 pub mod After
+pub mod Basics
+pub mod Calls
 pub mod Below
 pub mod Fates

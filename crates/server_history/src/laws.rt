@@ -41,7 +41,6 @@ ghost use Rattle.request_queue.specs.declared.fate.Prospect.{Prospect};
 ghost use Rattle.server_history.specs.Fates.{MayMeet, MeetsInMachine};
 ghost use Rattle.agreement.specs.Driver.{Known};
 ghost use Rattle.block_machine.specs.State.{Machine};
-ghost use Rattle.server_history.specs.Below.{LawsBelow};
 ghost use Rattle.server_history.specs.Histories.{Adds, HasBegun, load_said, store_said};
 ghost use Rattle.server_history.specs.Served.{Accepts, AnswersDone, AnswersOne, HasNone, IsMaskOf, IssuesAll, IssuesOne, accepting};
 ghost use Rattle.server_history.specs.Turns.{ServePorts, ServesPort};
@@ -57,112 +56,9 @@ ghost use Rattle.port_control.specs.Ports.{IsStopped};
 ghost use Rattle.port_control.specs.declared.Stopped.{Stopped};
 ghost use Rattle.server_history.specs.Recovered.{AreQueued, IsRecovered, HasMetFates, RecoversPort, requests_of};
 
-use adapter::laws::saying_is_one;
-use agreement::acts::acts_give;
-use agreement::disks::none_comes_in;
-use agreement::facts::{
-    disk_stays, errors_are_shown, fatal_errors_compose, faults_compose, link_stays,
-    plugging_composes, plugging_is_found,
-};
-use agreement::giving_up::{fault_is_outstanding, slots_are_given_up};
-use agreement::laws::{
-    answering_agrees, backing_composes, disks_are_told, due_finds_free_slot, going_again_agrees,
-    going_composes, keeping_agrees, own_steps_are_backed, putting_is_of_one_slot,
-    slots_are_counted, waiting_has_no_slot,
-};
-use agreement::readying::{readied_stays, stored_stays_over_acts};
-use agreement::recovering::halts_are_of_taken_commands;
-use agreement::stretches::other_ports_are_left;
-use block_machine::laws::{
-    due_in_turn, due_is_exact, limits_hold, living_was_accepted, one_id_is_one_request,
-    other_ports_stay, own_requests_count,
-};
-use driver_history::laws::a_turns_evidence_is_the_calls;
-use driver_history::troubles::{
-    a_port_that_was_stopped_was_set_since, a_turns_trouble_is_the_calls,
-    ordinary_accesses_lose_no_trouble, what_is_asked_of_a_call_is_asked_of_a_turn,
-};
-use error_recovery::laws::{recovery_is_of_its_port, what_stands_behind_a_fault_stays};
-use host_boot::laws::{what_was_booted_again_may_be_served, what_was_taken_over_may_be_served};
-use ncq::laws::{calls_are_of_one_port, finding_is_followed, issuing_performs};
-use port_boot::laws::{a_boot_is_of_its_port, a_disk_is_in_where_one_shows, a_port_runs_on};
-use port_control::laws::what_is_told_of_engines_stays;
-use port_look::lawful::laws_hold;
-use port_look::laws::{answers_tell, failures_are_found, trouble_is_heeded, trouble_is_seen};
-use request_queue::laws::{
-    accepted_requests_stay, an_id_is_one_request, clients_have_as_many,
-    operations_change_one_request, operations_change_what_is_due, steps_change_the_book,
-    the_book_stays_in_order,
-};
-
-/// What requests and transfers do, as the laws of the crates below have it.
-fn the_laws_below_hold()
-    ensures { LawsBelow }
-{
-    steps_change_the_book();
-    clients_have_as_many();
-    an_id_is_one_request();
-    operations_change_one_request();
-    operations_change_what_is_due();
-    the_book_stays_in_order();
-    accepted_requests_stay();
-    due_is_exact();
-    due_in_turn();
-    own_requests_count();
-    other_ports_stay();
-    answering_agrees();
-    backing_composes();
-    going_again_agrees();
-    keeping_agrees();
-    acts_give();
-    slots_are_given_up();
-    putting_is_of_one_slot();
-    waiting_has_no_slot();
-    own_steps_are_backed();
-    due_finds_free_slot();
-    saying_is_one();
-    stored_stays_over_acts();
-    readied_stays();
-    laws_hold();
-    failures_are_found();
-    issuing_performs();
-    calls_are_of_one_port();
-    finding_is_followed();
-    other_ports_are_left();
-    slots_are_counted();
-    acts_give();
-    going_composes();
-    putting_is_of_one_slot();
-    recovery_is_of_its_port();
-    a_boot_is_of_its_port();
-    a_disk_is_in_where_one_shows();
-    what_was_booted_again_may_be_served();
-    a_port_runs_on();
-    a_turns_evidence_is_the_calls();
-    trouble_is_seen();
-    answers_tell();
-    trouble_is_heeded();
-    recovery_is_of_its_port();
-    a_boot_is_of_its_port();
-    what_is_told_of_engines_stays();
-    what_stands_behind_a_fault_stays();
-    acts_give();
-    none_comes_in();
-    disks_are_told();
-    ordinary_accesses_lose_no_trouble();
-    what_is_asked_of_a_call_is_asked_of_a_turn();
-    a_turns_trouble_is_the_calls();
-    a_port_that_was_stopped_was_set_since();
-    fault_is_outstanding();
-    errors_are_shown();
-    plugging_is_found();
-    faults_compose();
-    fatal_errors_compose();
-    plugging_composes();
-    disk_stays();
-    link_stays();
-    halts_are_of_taken_commands();
-}
+use super::lawful::the_laws_below_hold;
+use block_machine::laws::{limits_hold, living_was_accepted, one_id_is_one_request};
+use host_boot::laws::what_was_taken_over_may_be_served;
 
 /// A ready port of a new server runs well, if nothing went wrong on it since the adapter was idle.
 pub fn new_ready_ports_run_well()

@@ -2,4 +2,5 @@
 //! calls, and what each call adds to its histories. It has definitions and laws, and no program code.
 #![tactic(auto)]
 
+mod lawful;
 pub mod laws;

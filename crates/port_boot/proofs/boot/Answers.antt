@@ -24,9 +24,12 @@ returns-clause-boots_to g c =
 
 pub returns-clause-way : goal.returns-clause-way
 returns-clause-way g c =
+    let at = c.port.ensures ∙ c.in_ok-running.ensures.names in
     let P : Port → Type 0 = λ p. OnOk c.identify_disk.result (GetsAsked p (g.A.Adapter.device c.bring_up.new.adapter) (g.A.Adapter.device c.identify_disk.new.adapter)) in
+    let F : Port → Type 0 = λ p. OnOk c.identify_disk.result (IsFollowed (IsOfBoot p) (λ uses. AllFree uses p.0) (g.A.Adapter.device c.bring_up.new.adapter) (g.A.Adapter.device c.identify_disk.new.adapter)) in
+    let R : Port → Type 0 = λ p. OnOk c.identify_disk.result (RunsOn p.0 (g.A.Adapter.device c.bring_up.new.adapter) (g.A.Adapter.device c.identify_disk.new.adapter)) in
     let early = driven_grows c.laws_hold.ensures (IsControl IsBooting c.args.stopped.port) _ _ c.in_ok-running.ensures.boots.followed.driven in
-    whole_way c.laws_hold.ensures c.args.stopped.port _ _ _ early c.identify_disk.result c.in_ok-running.ensures.up (subst P (c.port.ensures ∙ c.in_ok-running.ensures.names) c.identify_disk.ensures.asked)
+    whole_way c.laws_hold.ensures c.args.stopped.port _ _ _ early c.identify_disk.result c.in_ok-running.ensures.up (subst P at c.identify_disk.ensures.asked) (subst F at c.identify_disk.ensures.boots) (subst R at c.identify_disk.ensures.runs_on)
 
 pub returns-clause-news : goal.returns-clause-news
 returns-clause-news g c =

@@ -10,5 +10,5 @@ returns-clause-boots c port old begun ended ports new one other on undue t on_th
     boots_are_the_calls c.laws_hold.ensures port old begun new on undue t on_then ready asked ended ports stays one other was its
 
 pub returns-clause-well : goal.returns-clause-well
-returns-clause-well c port old begun ended ports new turn call on undue t on_then ready asked stays alike its =
-    well_is_the_calls c.laws_hold.ensures port old begun new on undue t on_then ready asked ended ports stays turn call alike its
+returns-clause-well c port old begun ended ports new turn call on undue t on_then ready asked stays alike known its =
+    well_is_the_calls c.laws_hold.ensures port old begun new on undue t on_then ready asked ended ports stays turn call alike known its

@@ -1,0 +1,86 @@
+-- What laws of the crates below say of steps one after another, and of slots and the requests in them.
+use Rattle.std.specs.Prelude.{ℕ, true, false, ◌≡◌, ◌≢◌, ◌<◌, List, ◌++◌, All, Contains, length}
+use Rattle.ata_types.specs.declared.Port.{Port}
+use Rattle.ata_types.specs.declared.request.Outcome.{Outcome}
+use Rattle.ata_types.specs.declared.request.RequestId.{RequestId}
+use Rattle.adapter.specs.Device.{Device}
+use Rattle.adapter.specs.declared.access.DeviceStep.{DeviceStep}
+use Rattle.adapter.specs.declared.command.Operation.{Operation}
+use Rattle.adapter.specs.declared.tape.Entry.{Entry as TapeEntry}
+use Rattle.adapter.specs.Commands.{Meaning}
+use Rattle.adapter.specs.Rules.{IsOn}
+use Rattle.agreement.specs.Acts.{Act, AreDone, accesses_of, steps_of}
+use Rattle.agreement.specs.Agrees.{Agrees, AreApart}
+use Rattle.agreement.specs.Readying.{IsStored, LeavesStored}
+use Rattle.adapter.specs.Access.{Access, Does, DoesAll}
+use Rattle.adapter.specs.Access.Access.{Storing}
+use Rattle.adapter.specs.Says.{Says}
+use Rattle.agreement.specs.Driver.{MissesTable, Forgets, Goes, HasNoSlot, Known, Knows}
+use Rattle.agreement.specs.Links.{SparesRegister}
+use Rattle.agreement.specs.Started.{ClearsNoStart}
+use Rattle.hba_regs.specs.declared.reg.PortReg.TheVariants.{Clb}
+use Rattle.hba_regs.specs.declared.reg.Reg.TheVariants.{Px}
+use Rattle.agreement.specs.GivingUp.{parking_all, served_ids}
+use Rattle.agreement.specs.Slots.{Armed, Free, Own, Serves, Use, Uses, put}
+use Rattle.block_machine.specs.Due.{is_plain}
+use Rattle.block_machine.specs.State.{Machine, Pending}
+use Rattle.block_machine.specs.Steps.{Step, Again, Issue, Answer, May, after_step, stays}
+use Rattle.block_machine.specs.declared.due.Mode.{Mode}
+use Rattle.agreement.specs.Facts.{ShowsFault}
+use Rattle.block_machine.specs.Left.{after}
+use Rattle.block_machine.specs.Histories.{Instant, IsReached, Happening, now}
+use Rattle.block_machine.specs.Events.{AllDevices, AllMay}
+use Rattle.agreement.specs.Spares.{AllFurther, IsFurther, SparesBook}
+use Rattle.driver_history.specs.Histories.{IsHistory}
+use Rattle.identify.specs.declared.wanted.Wanted.{Wanted}
+
+pub record BasicLaws : Type 0 where
+  -- steps one after another
+  pub joined : (m : Machine) (late early : List Step) → after m (late ++ early) ≡ after (after m early) late
+  pub may : (m : Machine) (late early : List Step) → AllMay m early → AllMay (after m early) late → AllMay m (late ++ early)
+  pub reached : (m : Machine) (steps : List Step) → IsReached m → AllMay m steps → IsReached (after m steps)
+  pub history_reached : (wanted : List Wanted) (first : Instant Device) (past : List (Happening Device DeviceStep)) → IsHistory wanted first past → IsReached (now first past).moment.machine
+  -- the book
+  pub one : (m : Machine) → IsReached m → (a b : Pending) → Contains m.book a → Contains m.book b → a.request.id.0 ≡ b.request.id.0 → a ≡ b
+  pub ended_issued : (m : Machine) (e : Pending) → IsReached m → Contains m.book e → e.ended ≡ true → e.issued ≡ true
+  -- what the device's own steps leave of it
+  pub spares : (m : Machine) (steps : List Step) → AllDevices steps → SparesBook m (after m steps)
+  pub found_later : (old new : List Pending) (e : Pending) → AllFurther old new → Contains old e → (x : Pending) × Contains new x × IsFurther e x
+  pub found_before : (old new : List Pending) (e : Pending) → AllFurther old new → Contains new e → (x : Pending) × Contains old x × IsFurther x e
+  -- accesses one after another
+  pub does_append : (early late : List Access) (old mid new : Device) → DoesAll early old mid → DoesAll late mid new → DoesAll (early ++ late) old new
+
+-- what becomes of slots, and of the requests in them
+pub record SlotLaws : Type 0 where
+  -- what becomes of requests that no slot serves
+  pub answered_agrees : (k : Known) (m : Machine) (e : Pending) (outcome : Outcome) (later : ℕ → List RequestId) → IsReached m → Knows m k → Contains m.book e → stays e outcome ≡ false
+      → HasNoSlot k.uses e.request.id → Forgets e.request.id k.parked later → Knows (after_step m (Answer e outcome)) (record k { parked = later })
+  pub again_agrees : (k : Known) (m : Machine) (e : Pending) (later : ℕ → List RequestId) → IsReached m → Knows m k → Contains m.book e → HasNoSlot k.uses e.request.id
+      → Forgets e.request.id k.parked later → Knows (after_step m (Again e)) (record k { parked = later })
+  -- and of one that is kept, in its slot or without one
+  pub kept_agrees : (k : Known) (m : Machine) (e : Pending) (outcome : Outcome) → IsReached m → Knows m k → Contains m.book e → stays e outcome ≡ true → Knows (after_step m (Answer e outcome)) k
+  -- what acts give
+  pub acts_go : (acts : List Act) (k later : Known) (m : Machine) → Knows m k → AreDone acts k m later → Goes k m (steps_of acts) later
+  -- slots that are given up, or put to another use, and requests that have none
+  pub served : (uses : Uses) (port n : ℕ) (id : RequestId) → Contains (served_ids uses port n) id → (slot : ℕ) × (slot < n) × (uses port slot ≡ Serves id)
+  pub frees : (k : Known) (port slot : ℕ) (id : RequestId) → AreApart k.uses → k.uses port slot ≡ Serves id → HasNoSlot (parking_all k port).uses id
+  pub put_unserved : (uses : Uses) (port slot : ℕ) (u : Use) (id : RequestId) → HasNoSlot uses id → ((other : RequestId) → u ≡ Serves other → other ≢ id) → HasNoSlot (put uses port slot u) id
+  pub waiting : (uses : Uses) (m : Machine) (d : Device) → IsReached m → Agrees uses m d → (e : Pending) → Contains m.book e → e.issued ≡ false → HasNoSlot uses e.request.id
+  -- a request that is due finds a free slot
+  pub plain_free : (uses : Uses) (m : Machine) (d : Device) → IsReached m → Agrees uses m d → (mode : Mode) (e : Pending) → May m (Issue mode e)
+      → ((o : Operation) → uses e.request.port.0 0 ≡ Own o → ⊥) → ((slot : ℕ) → uses e.request.port.0 slot ≡ Armed → ⊥) → is_plain mode e.request.asked.op ≡ true → uses e.request.port.0 0 ≡ Free
+  pub queued_free : (uses : Uses) (m : Machine) (d : Device) → IsReached m → Agrees uses m d → (mode : Mode) (e : Pending) → May m (Issue mode e)
+      → ((o : Operation) → uses e.request.port.0 0 ≡ Own o → ⊥) → ((slot : ℕ) → uses e.request.port.0 slot ≡ Armed → ⊥) → is_plain mode e.request.asked.op ≡ false
+      → (slot : ℕ) × (slot < mode.usable) × (uses e.request.port.0 slot ≡ Free)
+  -- the bytes of a slot say one command
+  pub one_said : (memory : ℕ → ℕ) (list slot : ℕ) (m n : Meaning) (xs ys : List ℕ) → Says memory list slot m xs → Says memory list slot n ys → (m ≡ n) × (xs ≡ ys)
+  -- what is stored for a slot stays so over acts that leave it
+  pub stored : (port : Port) (slot : ℕ) (c : Meaning) (places : List ℕ) (acts : List Act) (k later : Known) (m : Machine) → IsReached m → Knows m k → AreDone acts k m later
+      → All (LeavesStored port slot) (accesses_of acts) → IsOn k.device → IsStored k.device port.0 slot c places → IsStored later.device port.0 slot c places
+  -- and over an access that leaves it
+  pub stored_access : (uses : Uses) (m : Machine) (port : Port) (slot : ℕ) (c : Meaning) (places : List ℕ) (access : Access) (old new : Device) → IsReached m → Agrees uses m old → old.hr ≡ false
+      → ClearsNoStart port access → SparesRegister (Px port Clb) access → ((at : ℕ) (bytes : List ℕ) → access ≡ Storing at bytes → MissesTable port.0 slot at (length bytes)) → Does access old new
+      → IsStored old port.0 slot c places → IsStored new port.0 slot c places
+  -- a fault that is shown is of the slot that alone is used
+  pub fault_sole : (uses : Uses) (m : Machine) (d : Device) (port slot : ℕ) (entries : List TapeEntry) → Agrees uses m d → (s : ShowsFault entries (d.port port) port)
+      → ((other : ℕ) → other ≢ slot → uses port other ≡ Free) → s.fault.slot.0 ≡ slot

@@ -1,0 +1,106 @@
+-- What laws of the crates below say of looks at ports, and of a port's turn in a call.
+use Rattle.std.specs.Prelude.{ℕ, true, false, ◌≡◌, ◌≢◌, ◌⊎◌, ◌≤◌, ◌%◌, List, All, Contains, length}
+use Rattle.ata_types.specs.declared.Port.{Port}
+use Rattle.ata_types.specs.declared.PortState.TheVariants.{Ready}
+use Rattle.adapter.specs.Device.{Device}
+use Rattle.adapter.specs.declared.access.DeviceStep.{DeviceStep}
+use Rattle.adapter.specs.declared.command.Operation.TheVariants.{ReadLog}
+use Rattle.adapter.specs.declared.tape.Fault.{Fault}
+use Rattle.adapter.specs.Rules.{IsOn}
+use Rattle.adapter.specs.Steps.{Steps}
+use Rattle.adapter.specs.Access.{Access, DoesAll, Reads}
+use Rattle.agreement.specs.Links.{PlugsNone, SparesRegister, SameAdapter}
+use Rattle.hba_regs.specs.Bits.{bit}
+use Rattle.hba_regs.specs.declared.reg.PortReg.{PortReg}
+use Rattle.hba_regs.specs.declared.reg.PortReg.TheVariants.{Ssts}
+use Rattle.hba_regs.specs.declared.reg.Reg.TheVariants.{Ghc, Px}
+use Rattle.agreement.specs.Driven.{IsDrivenBy, IsOf, SendsNone, Grows}
+use Rattle.agreement.specs.Errors.{NoneComes, NoneFails, NoneFatal, IsFatalOf}
+use Rattle.agreement.specs.Facts.{IsFaulted, IsRecorded, RunsWell, ShowsNoTrouble, TellsNoTrouble, Undisturbed, IsFaultOf}
+use Rattle.block_machine.specs.Events.{Ask, Moment, Said, Service}
+use Rattle.block_machine.specs.Histories.{Instant}
+use Rattle.block_machine.specs.Ports.{Evidence, IsInterrupted, Ports, SamePort}
+use Rattle.driver_history.specs.Evidence.{IsEvidencedOf, ShowsFailure}
+use Rattle.error_recovery.specs.Evidence.{BringsLog, HasFailed, GainsRunning}
+use Rattle.driver_history.specs.Guard.{IsAskedOf}
+use Rattle.driver_history.specs.Histories.{BootsAnew, HasFaultAlone, LosesNoTrouble, RunsWellAnew}
+use Rattle.driver_history.specs.Parts.{HasTurnIn, NamesAlike, all_of}
+use Rattle.driver_history.specs.Trace.{ClearsNone}
+use Rattle.port_control.specs.Engines.{Stops}
+use Rattle.port_look.specs.Looks.{LooksAt, look_of, IsLooking}
+use Rattle.port_look.specs.Services.{HasLoss, IsOrdinary, IsService, ShowsDisks, ShowsFatals, ShowsFaults}
+use Rattle.port_look.specs.declared.Look.{Look}
+use Rattle.port_look.specs.declared.Look.TheVariants.{Broken, Failed, Lost, Undisturbed as Calm}
+
+pub record LookLaws : Type 0 where
+  -- a command that failed
+  pub fails_look : (port : Port) (old new : Device) → IsOn old → LooksAt port Failed old new → (old.port port.0).st ≡ true → IsRecorded old.tape (old.port port.0) port.0
+      → IsFaulted (new.port port.0).halt × ((new.port port.0).notes.last_ssts % 16 ≡ 3)
+  pub fails_reads : (port : Port) (r : PortReg) (v : ℕ) (old new : Device) → IsOn old → Reads (Px port r) v old new → r ≢ Ssts → (old.port port.0).st ≡ true → IsRecorded old.tape (old.port port.0) port.0
+      → IsFaulted (old.port port.0).halt → IsFaulted (new.port port.0).halt × ((new.port port.0).notes.last_ssts ≡ (old.port port.0).notes.last_ssts)
+  -- what a look tells of trouble
+  pub looks_changed : (port : Port) (result : Look) (old new : Device) → IsOn old → LooksAt port result old new → ((old.port port.0).serr_n ≡ true) ⊎ ((old.port port.0).serr_x ≡ true) → result ≡ Lost
+  pub looks_unlinked : (port : Port) (result : Look) (old new : Device) → IsOn old → LooksAt port result old new → (old.port port.0).ssts_det ≢ 3 → (old.port port.0).link_due ≡ false → NoneComes port.0 old new → result ≡ Lost
+  pub looks_failed : (causes status : ℕ) → look_of causes status ≡ Failed
+      → (bit causes 30 ≡ true) × (bit causes 6 ≡ false) × (bit causes 22 ≡ false) × ((place : ℕ) → 27 ≤ place → place ≤ 29 → bit causes place ≡ false) × (status % 16 ≡ 3)
+  pub looks_undisturbed : (causes status : ℕ) → look_of causes status ≡ Calm → TellsNoTrouble causes × (status % 16 ≡ 3)
+  pub looks_calm : (port : Port) (result : Look) (old new : Device) → IsOn old → (l : LooksAt port result old new) → result ≡ Calm → ShowsNoTrouble (old.port port.0) × Undisturbed port.0 old l.seen
+  -- a command that fails is heeded
+  pub looks_broken : (causes status : ℕ) → look_of causes status ≡ Broken
+      → ((bit causes 28 ≡ true) ⊎ (bit causes 29 ≡ true) ⊎ (bit causes 27 ≡ true)) × (bit causes 6 ≡ false) × (bit causes 22 ≡ false) × (status % 16 ≡ 3)
+  -- trouble is heeded
+  pub looks_fault : (port : Port) (result : Look) (old new : Device) → IsOn old → (l : LooksAt port result old new) → bit l.causes 30 ≡ false → ShowsFaults port.0 old new
+  pub looks_fatal : (port : Port) (result : Look) (old new : Device) → IsOn old → (l : LooksAt port result old new) → ((place : ℕ) → 27 ≤ place → place ≤ 29 → bit l.causes place ≡ false) → ShowsFatals port.0 old new
+  pub looks_disk : (port : Port) (result : Look) (old new : Device) → IsOn old → LooksAt port result old new → ShowsDisks port.0 old new
+  pub ordinary_faults : (port : Port) (old new : Device) → IsOn old → IsDrivenBy (IsOrdinary port) old new → ShowsFaults port.0 old new
+  pub ordinary_fatals : (port : Port) (old new : Device) → IsOn old → IsDrivenBy (IsOrdinary port) old new → ShowsFatals port.0 old new
+  pub ordinary_disks : (port : Port) (old new : Device) → IsOn old → IsDrivenBy (IsOrdinary port) old new → ShowsDisks port.0 old new
+  pub looks_loss : (port : Port) (old new : Device) → IsOn old → LooksAt port Lost old new → (old.port port.0).link_due ≡ false → HasLoss port.0 old new
+  -- accesses that serve ports
+  pub looking_service : (port : Port) (access : Access) → IsLooking port access → IsService access
+  pub looking_of : (port : Port) (access : Access) → IsLooking port access → IsOf port access
+  pub looks_driven : (port : Port) (result : Look) (old new : Device) → LooksAt port result old new → IsDrivenBy (IsLooking port) old new
+  pub looks_well : (port : Port) (result : Look) (old new : Device) → IsOn old → LooksAt port result old new → RunsWell (old.port port.0) → Undisturbed port.0 old new
+      → (result ≡ Calm) × RunsWell (new.port port.0)
+  -- what serving ports leaves
+  pub services_on : (old new : Device) → IsOn old → IsDrivenBy IsService old new → IsOn new
+  pub services_same : (old new : Device) → IsDrivenBy IsService old new → SameAdapter old new
+  pub services_controls : (port : ℕ) (old new : Device) → IsOn old → IsDrivenBy IsService old new
+      → ((new.port port).sctl_det ≡ (old.port port).sctl_det) × ((new.port port).ie ≡ (old.port port).ie)
+      × ((new.port port).notes.sctl_written_at ≡ (old.port port).notes.sctl_written_at) × ((new.port port).notes.st_set_at ≡ (old.port port).notes.st_set_at)
+  pub services_recorded : (port : ℕ) (old new : Device) → IsDrivenBy IsService old new → IsRecorded old.tape (old.port port) port → IsRecorded new.tape (new.port port) port
+  pub looks_inactive : (port : Port) (q slot : ℕ) (old new : Device) → IsDrivenBy (IsLooking port) old new → (old.port q).sact slot ≡ false → (new.port q).sact slot ≡ false
+
+pub record CallLaws : Type 0 where
+  -- a port's turn in a call
+  pub evidence : (port : Port) (old : Instant Device) (begun : Moment) (ended ports : Ports) (new : Device) (turn call : Evidence) (ask : Ask DeviceStep) (said : Said) → IsOn old.device
+      → ((old.moment.ports.state port ≡ Ready) ⊎ Contains turn.lost port → (old.device.port port.0).link_due ≡ false)
+      → (t : HasTurnIn port old.device new) → IsOn t.end → SamePort old.moment.ports begun.ports port → SamePort ended ports port → NamesAlike port turn call
+      → IsEvidencedOf ask said t.turn (record { device = t.start; moment = begun }) ended t.end turn port → IsEvidencedOf ask said (all_of t) old ports new call port
+  pub failed : (port : Port) (old new : Device) (fault : Fault) → IsOn old → (t : HasTurnIn port old new) → HasFailed port t.turn t.start t.end fault → HasFailed port (all_of t) old new fault
+  pub brings : (port : Port) (old new : Device) (page : List ℕ) → IsOn old → (t : HasTurnIn port old new) → SendsNone port.0 ReadLog t.end new → BringsLog port t.start t.end page → BringsLog port old new page
+  -- a port of which a call's part is asked, and its turn in the call
+  pub ordinary : (port : Port) (old : Instant Device) (new : Device) (accesses : List Access) (evidence : Evidence) (ports : Ports) → IsOn old.device → IsAskedOf port old new
+      → DoesAll accesses old.device new → All (SparesRegister Ghc) accesses → All (ClearsNone port) accesses → LosesNoTrouble evidence old ports new port
+  pub ordinary_steps : (port : Port) (old : Instant Device) (new : Device) (evidence : Evidence) (ports : Ports) → IsOn old.device → IsAskedOf port old new → Steps old.device new
+      → LosesNoTrouble evidence old ports new port
+  pub asked_then : (port : Port) (old : Instant Device) (begun : Moment) (new : Device) → IsOn old.device → (old.device.port port.0).link_due ≡ false → (t : HasTurnIn port old.device new) → IsOn t.end
+      → begun.ports.state port ≡ Ready → IsAskedOf port old new → IsAskedOf port (record { device = t.start; moment = begun }) t.end
+  pub alone_then : (port : Port) (old : Instant Device) (begun : Moment) (new : Device) → IsOn old.device → (old.device.port port.0).link_due ≡ false → (t : HasTurnIn port old.device new) → IsOn t.end
+      → begun.ports.state port ≡ Ready → HasFaultAlone port old new → HasFaultAlone port (record { device = t.start; moment = begun }) t.end
+  pub call_trouble : (port : Port) (old : Instant Device) (begun : Moment) (ended ports : Ports) (new : Device) (turn call : Evidence) → IsOn old.device → (old.device.port port.0).link_due ≡ false
+      → (t : HasTurnIn port old.device new) → IsOn t.end → begun.ports.state port ≡ Ready → IsAskedOf port old new → SamePort ended ports port → NamesAlike port turn call
+      → (ended.state port ≡ Ready → IsInterrupted turn port → length t.start.tape ≤ (t.end.port port.0).notes.st_set_at) → (ShowsFailure (t.start.port port.0) → IsInterrupted turn port)
+      → LosesNoTrouble turn (record { device = t.start; moment = begun }) ended t.end port → LosesNoTrouble call old ports new port
+  pub call_boots : (port : Port) (old : Instant Device) (begun : Moment) (ended ports : Ports) (new : Device) (one other : Said) → IsOn old.device → (old.device.port port.0).link_due ≡ false
+      → (t : HasTurnIn port old.device new) → IsOn t.end → begun.ports.state port ≡ Ready → IsAskedOf port old new → SamePort ended ports port → SamePort old.moment.ports begun.ports port
+      → BootsAnew Service one t.turn (record { device = t.start; moment = begun }) ended t.end port → BootsAnew Service other (all_of t) old ports new port
+  pub call_well : (port : Port) (old : Instant Device) (begun : Moment) (ended ports : Ports) (new : Device) (turn call : Evidence) → IsOn old.device → (old.device.port port.0).link_due ≡ false
+      → (t : HasTurnIn port old.device new) → IsOn t.end → begun.ports.state port ≡ Ready → IsAskedOf port old new → SamePort ended ports port → NamesAlike port turn call
+      → (ended.state port ≡ Ready → (t.end.port port.0).notes.st_set_at ≤ length t.end.tape)
+      → RunsWellAnew turn t.turn (record { device = t.start; moment = begun }) ended t.end port → RunsWellAnew call (all_of t) old ports new port
+  pub set_since : (port : Port) (accesses : List Access) (old new : Device) → IsOn old → All (SparesRegister Ghc) accesses → DoesAll accesses old new → Stops port accesses → (new.port port.0).st ≡ true
+      → length old.tape ≤ (new.port port.0).notes.st_set_at
+  -- what came since ST was set
+  pub calm_since : (port : ℕ) (old mid new : Device) → Grows old mid → Grows mid new → (new.port port).notes.st_set_at ≤ length mid.tape → PlugsNone port old new
+      → (GainsRunning (IsFaultOf port) port old new → ⊥) → (GainsRunning (IsFatalOf port) port old new → ⊥) → Undisturbed port mid new

@@ -1,0 +1,165 @@
+// What laws of the crates below say, for this crate's proofs. Nothing comes of calling these functions.
+ghost use Rattle.server_history.specs.After.{RecoveryLaws, TroubleLaws};
+ghost use Rattle.server_history.specs.Basics.{BasicLaws, SlotLaws};
+ghost use Rattle.server_history.specs.Below.{LawsBelow};
+ghost use Rattle.server_history.specs.Calls.{CallLaws, LookLaws};
+
+use adapter::laws::{accesses_compose, saying_is_one};
+use agreement::acts::acts_give;
+use agreement::disks::none_comes_in;
+use agreement::facts::{
+    disk_stays, errors_are_shown, fatal_errors_compose, faults_compose, link_stays,
+    plugging_composes, plugging_is_found,
+};
+use agreement::giving_up::{fault_is_outstanding, slots_are_given_up};
+use agreement::laws::{
+    answering_agrees, backing_composes, disks_are_told, due_finds_free_slot, going_again_agrees,
+    going_composes, keeping_agrees, own_steps_are_backed, putting_is_of_one_slot,
+    slots_are_counted, steps_spare_the_book, waiting_has_no_slot,
+};
+use agreement::readying::{readied_stays, stored_stays_over_acts};
+use agreement::recovering::halts_are_of_taken_commands;
+use agreement::stretches::other_ports_are_left;
+use block_machine::laws::{
+    due_in_turn, due_is_exact, ended_is_issued, one_id_is_in_the_book_once, other_ports_stay,
+    own_requests_count, steps_go_on,
+};
+use driver_history::laws::{a_turns_evidence_is_the_calls, histories_reach_their_machines};
+use driver_history::troubles::{
+    a_port_that_was_stopped_was_set_since, a_turns_trouble_is_the_calls,
+    ordinary_accesses_lose_no_trouble, what_is_asked_of_a_call_is_asked_of_a_turn,
+    what_is_untroubled_since_st_was_set_is_calm,
+};
+use error_recovery::laws::{recovery_is_of_its_port, what_stands_behind_a_fault_stays};
+use host_boot::laws::what_was_booted_again_may_be_served;
+use ncq::laws::{calls_are_of_one_port, finding_is_followed, issuing_performs};
+use port_boot::laws::{a_boot_is_of_its_port, a_disk_is_in_where_one_shows, a_port_runs_on};
+use port_control::laws::what_is_told_of_engines_stays;
+use port_look::lawful::laws_hold;
+use port_look::laws::{
+    answers_tell, failures_are_found, looks_are_of_one_port, looks_are_services, services_leave,
+    trouble_is_heeded, trouble_is_seen,
+};
+use request_queue::laws::{
+    accepted_requests_stay, an_id_is_one_request, clients_have_as_many,
+    operations_change_one_request, operations_change_what_is_due, steps_change_the_book,
+    the_book_stays_in_order,
+};
+
+/// What steps and accesses do, one after another.
+fn basic_laws_hold()
+    ensures { BasicLaws }
+{
+    steps_go_on();
+    histories_reach_their_machines();
+    one_id_is_in_the_book_once();
+    ended_is_issued();
+    steps_spare_the_book();
+    accesses_compose();
+}
+
+/// What becomes of slots, and of the requests in them.
+fn slot_laws_hold()
+    ensures { SlotLaws }
+{
+    answering_agrees();
+    going_again_agrees();
+    keeping_agrees();
+    acts_give();
+    slots_are_given_up();
+    putting_is_of_one_slot();
+    waiting_has_no_slot();
+    due_finds_free_slot();
+    saying_is_one();
+    stored_stays_over_acts();
+    readied_stays();
+    fault_is_outstanding();
+}
+
+/// What looks at ports tell, and what they leave.
+fn look_laws_hold()
+    ensures { LookLaws }
+{
+    failures_are_found();
+    trouble_is_seen();
+    answers_tell();
+    trouble_is_heeded();
+    looks_are_services();
+    looks_are_of_one_port();
+    services_leave();
+}
+
+/// What a port's recovery leaves.
+fn recovery_laws_hold()
+    ensures { RecoveryLaws }
+{
+    slots_are_counted();
+    going_composes();
+    putting_is_of_one_slot();
+    other_ports_are_left();
+    a_disk_is_in_where_one_shows();
+    what_was_booted_again_may_be_served();
+}
+
+/// What is shown of a port's trouble.
+fn trouble_laws_hold()
+    ensures { TroubleLaws }
+{
+    errors_are_shown();
+    plugging_is_found();
+    faults_compose();
+    fatal_errors_compose();
+    plugging_composes();
+    disk_stays();
+    link_stays();
+    halts_are_of_taken_commands();
+}
+
+/// What a port's turn is to the whole call.
+fn call_laws_hold()
+    ensures { CallLaws }
+{
+    a_turns_evidence_is_the_calls();
+    ordinary_accesses_lose_no_trouble();
+    what_is_asked_of_a_call_is_asked_of_a_turn();
+    a_turns_trouble_is_the_calls();
+    a_port_that_was_stopped_was_set_since();
+    what_is_untroubled_since_st_was_set_is_calm();
+}
+
+/// The laws of the crates below that the proofs of this crate rest on.
+pub fn the_laws_below_hold()
+    ensures { LawsBelow }
+{
+    basic_laws_hold();
+    slot_laws_hold();
+    look_laws_hold();
+    recovery_laws_hold();
+    trouble_laws_hold();
+    call_laws_hold();
+    steps_change_the_book();
+    clients_have_as_many();
+    an_id_is_one_request();
+    the_book_stays_in_order();
+    operations_change_one_request();
+    accepted_requests_stay();
+    backing_composes();
+    own_steps_are_backed();
+    operations_change_what_is_due();
+    due_is_exact();
+    due_in_turn();
+    own_requests_count();
+    other_ports_stay();
+    laws_hold();
+    issuing_performs();
+    calls_are_of_one_port();
+    finding_is_followed();
+    other_ports_are_left();
+    a_port_runs_on();
+    recovery_is_of_its_port();
+    a_boot_is_of_its_port();
+    what_is_told_of_engines_stays();
+    what_stands_behind_a_fault_stays();
+    none_comes_in();
+    disks_are_told();
+}
