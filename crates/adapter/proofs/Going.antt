@@ -2,12 +2,12 @@
 use Rattle.std.proofs.Common.{ℕ, Bool, true, false, zero, suc, ◌≡◌, ◌⊎◌, refl, sym, subst, inl, inr}
 use Rattle.adapter.specs.Device.{Device}
 use Rattle.adapter.specs.Steps.{Steps}
-use Rattle.adapter.specs.Steps.Step.{Fetch, FetchFault, Move, Clear, Done, Fault, Unplug, Plug, Scribble}
+use Rattle.adapter.specs.Steps.Step.{Fetch, FetchFault, Move, Clear, Done, Fault, Fatal, Unplug, Plug, Scribble}
 use Rattle.adapter.specs.declared.command.Operation.{Operation}
 use Rattle.adapter.specs.declared.access.DeviceStep.{DeviceStep}
 use Rattle.adapter.specs.declared.access.DeviceStep.TheVariants as asked
 use Rattle.adapter.proofs.Runs.{Steps-refl, Steps-one, Steps-trans}
-use Rattle.adapter.specs.Asked.{DoesClear, DoesFault, DoesOne, DoesSome, FailsAfter, FailsOf, GoesOn, MayPost, Asked, DoneOf}
+use Rattle.adapter.specs.Asked.{DoesClear, DoesFault, DoesOne, DoesSome, FailsAfter, FailsOf, GoesOn, MayPost, Asked, DoneOf, fatal_bit}
 
 module _ (Posts : (port flag : ℕ) → Operation → Device → Device → Type 0) where
   pub goes_one : (port slot : ℕ) (old new : Device) → DoesOne Posts port slot old new → GoesOn Posts port slot old new
@@ -65,6 +65,7 @@ done_steps (asked.Clear p slot most) old new did = clear_steps p.0 slot.0 most o
 done_steps (asked.Done p slot) old new did = one_steps p.0 slot.0 old new (inr (inr (inl did)))
 done_steps (asked.Finish p slot) old new did = goes_steps p.0 slot.0 old new did
 done_steps (asked.Fault p slot error) old new did = fault_steps p.0 slot.0 error old new did
+done_steps (asked.Fatal p error) old new did = Steps-one (Fatal p.0 (fatal_bit error)) old new did.can did.effect
 done_steps (asked.Lie p page offset bits) old new did = let P : Device → Type 0 = λ d. Steps old d in subst P (sym did) (Steps-refl old)
 done_steps (asked.Truth p) old new did = let P : Device → Type 0 = λ d. Steps old d in subst P (sym did) (Steps-refl old)
 done_steps (asked.Hold p) old new did = let P : Device → Type 0 = λ d. Steps old d in subst P (sym did) (Steps-refl old)
@@ -79,6 +80,7 @@ failed_steps (asked.Clear p slot most) old new f = fails_steps (DoesClear p.0 sl
 failed_steps (asked.Finish p slot) old new f = fails_steps (GoesOn MayPost p.0 slot.0) (goes_steps p.0 slot.0) p.0 slot.0 old new f
 failed_steps (asked.Done p slot) old new f = absurd f
 failed_steps (asked.Fault p slot error) old new f = absurd f
+failed_steps (asked.Fatal p error) old new f = absurd f
 failed_steps (asked.Lie p page offset bits) old new f = absurd f
 failed_steps (asked.Truth p) old new f = absurd f
 failed_steps (asked.Hold p) old new f = absurd f

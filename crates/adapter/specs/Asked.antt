@@ -6,10 +6,12 @@ use Rattle.adapter.specs.Commands.{Meaning}
 use Rattle.adapter.specs.Device.{Disk, Taken, Device}
 use Rattle.adapter.specs.Memory.{patched}
 use Rattle.adapter.specs.Steps.{Can, after}
-use Rattle.adapter.specs.Steps.Step.{Fetch, FetchFault, Move, Clear, Done, Fault, Unplug, Plug}
+use Rattle.adapter.specs.Steps.Step.{Fetch, FetchFault, Move, Clear, Done, Fault, Fatal, Unplug, Plug}
 use Rattle.adapter.specs.declared.command.Operation.{Operation}
 use Rattle.adapter.specs.declared.access.DeviceStep.{DeviceStep}
 use Rattle.adapter.specs.declared.access.DeviceStep.TheVariants as asked
+use Rattle.adapter.specs.declared.access.FatalError.{FatalError}
+use Rattle.adapter.specs.declared.access.FatalError.TheVariants.{Interface, HostBus}
 
 -- the command that is issued in the slot was taken
 pub record DoesFetch (port slot : ℕ) (old new : Device) : Type 0 where
@@ -97,6 +99,16 @@ pub record FailsAfter (Some : Device → Device → Type 0) (port slot : ℕ) (o
   pub error : ℕ
   pub fault : DoesFault port slot error mid new
 
+-- the bit of PxIS that tells of a fatal error: IFS or HBFS (AHCI 1.3.1, 3.3.5)
+abbrev pub fatal_bit : FatalError → ℕ
+fatal_bit Interface = 27
+fatal_bit HostBus = 29
+
+-- the port met this fatal error
+pub record DoesFatal (port : ℕ) (error : FatalError) (old new : Device) : Type 0 where
+  pub can : Can (Fatal port (fatal_bit error)) old
+  pub effect : new ≡ after (Fatal port (fatal_bit error)) old
+
 -- the disk was taken out
 pub record DoesUnplug (port : ℕ) (old new : Device) : Type 0 where
   pub can : Can (Unplug port) old
@@ -118,6 +130,7 @@ DoneOf Posts (asked.Clear p s most) old new = DoesClear p.0 s.0 most old new
 DoneOf Posts (asked.Done p s) old new = Ends Posts p.0 s.0 old new
 DoneOf Posts (asked.Finish p s) old new = GoesOn Posts p.0 s.0 old new
 DoneOf Posts (asked.Fault p s error) old new = DoesFault p.0 s.0 error old new
+DoneOf Posts (asked.Fatal p error) old new = DoesFatal p.0 error old new
 DoneOf Posts (asked.Lie p page offset bits) old new = new ≡ old
 DoneOf Posts (asked.Truth p) old new = new ≡ old
 DoneOf Posts (asked.Hold p) old new = new ≡ old

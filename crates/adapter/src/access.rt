@@ -55,6 +55,15 @@ pub enum DiskPage {
 #[derive(Clone, Copy, Debug, PartialEq, Eq)]
 pub struct DiskNumber(pub u8);
 
+/// A fatal error of a port, which stops it until its driver starts it anew (AHCI 1.3.1, 6.1 and 6.2.2).
+#[derive(Clone, Copy, Debug, PartialEq, Eq)]
+pub enum FatalError {
+    /// An error on the interface to the disk: PxIS.IFS (AHCI 1.3.1, 3.3.5).
+    Interface,
+    /// A fatal error of the host's bus, as of a bad pointer: PxIS.HBFS (AHCI 1.3.1, 3.3.5).
+    HostBus,
+}
+
 /// What a device can be told to do.
 #[derive(Clone, Copy, Debug, PartialEq, Eq)]
 pub enum DeviceStep {
@@ -71,6 +80,8 @@ pub enum DeviceStep {
     Finish(Port, Slot),
     /// Fail the slot's command, which is taken, with this error (ACS-3, 6.2). The port is halted then.
     Fault(Port, Slot, u8),
+    /// Meet this fatal error on the port, whose engine runs. The port does nothing more for its commands until it is started anew.
+    Fatal(Port, FatalError),
     /// Tell lies: from now on the disk of the port sends the byte of this page at this offset, below 512, with these bits turned. This
     /// is for tests; nothing changes until the page is sent.
     Lie(Port, DiskPage, u16, u8),

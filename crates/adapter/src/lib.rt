@@ -7,6 +7,6 @@ mod command;
 pub mod laws;
 mod tape;
 
-pub use access::{Adapter, DeviceStep, DiskNumber, DiskPage, Stepped};
+pub use access::{Adapter, DeviceStep, DiskNumber, DiskPage, FatalError, Stepped};
 pub use command::{Command, Direction, Operation, Prd};
 pub use tape::{Clear, Done, Entry, Fault, Move};

@@ -22,7 +22,7 @@ use Rattle.port_look.specs.declared.Look.{Look}
 use Rattle.port_look.specs.declared.Look.TheVariants.{Failed as Fails}
 use Rattle.request_queue.specs.Entries.{Held}
 use Rattle.request_queue.specs.declared.fate.Failed.{Failed}
-use Rattle.server_history.specs.Recovered.{AreQueued, IsFailed, TellsMending}
+use Rattle.server_history.specs.Mended.{AreQueued, IsFailed, TellsMending}
 use Rattle.server_history.specs.Served.{IsMaskOf, is_used}
 use Rattle.server_history.specs.Server.{Server, IsKept, slots_at, state_of, used_for}
 use Rattle.slots.specs.Uses.{Uses as PortSlots, IsTaken, use_at}
@@ -132,7 +132,7 @@ module _ (laws : FailureLaws) (s : Server) (device : Device) (table : Table) (bo
           mends_rest failed names = record {
             mid = mid;
             kept = lent.kept;
-            recovered = record {
+            mended = record {
               look = look;
               seen = device;
               looks = l.sees.looks;

@@ -30,7 +30,7 @@ use Rattle.request_queue.specs.Entries.{Held, is_of}
 use Rattle.request_queue.specs.Fates.{Holdings, MeetFates, fate_of}
 use Rattle.request_queue.specs.declared.fate.Failed.{Failed}
 use Rattle.request_queue.specs.declared.fate.Prospect.{Prospect}
-use Rattle.server_history.specs.Recovered.{IsFailed, IsFoundAfter, IsProspect, IsRecovered, HasMetFates, RecoversPort, requests_of}
+use Rattle.server_history.specs.Mended.{IsFailed, IsFoundAfter, IsProspect, IsMended, HasMetFates, MendsPort, requests_of}
 use Rattle.server_history.specs.Served.{IssuesAll, done_reply}
 use Rattle.server_history.specs.Server.{Server, IsKept, IsSettled, kept_at, mode_at, mode_found, mode_in, no_slots, plain_mode, slots_at, state_of}
 use Rattle.server_history.specs.Turns.{ServesPort}
@@ -42,16 +42,16 @@ use Rattle.block_server.proofs.Sending.{served_ready, slots_said}
 
 -- what laws say of what comes after a recovery
 pub record RestoringLaws : Type 0 where
-  pub bootable : (s mid : Server) (device : Device) (port : Port) (token : Stopped) → IsKept s → state_of (found_of s.ports port.0) ≡ ReadyState → (r : IsRecovered port s mid device)
+  pub bootable : (s mid : Server) (device : Device) (port : Port) (token : Stopped) → IsKept s → state_of (found_of s.ports port.0) ≡ ReadyState → (r : IsMended port s mid device)
       → IsFollowed (IsLooking port) AnyUse s.device r.seen → r.result.next ≡ Restart token → IsBootable port device × IsStopped (device.port port.0)
-  pub mode : (s mid : Server) (device : Device) (port : Port) → IsKept s → state_of (found_of s.ports port.0) ≡ ReadyState → (r : IsRecovered port s mid device)
+  pub mode : (s mid : Server) (device : Device) (port : Port) → IsKept s → state_of (found_of s.ports port.0) ≡ ReadyState → (r : IsMended port s mid device)
       → IsFollowed (IsLooking port) AnyUse s.device r.seen → mode_in s port ≡ mode_found device.cap (found_of s.ports port.0)
   pub places : (s : Server) (port : Port) → IsKept s → state_of (found_of s.ports port.0) ≡ ReadyState
       → (kept_at s.kept port.0 ≡ []) × (count_by (λ (e : Held). e.entry.issued) (requests_of port s.book) ≤ 32)
   pub settled : (s new : Server) (port : Port) (later : List Reply) → IsKept s → state_of (found_of s.ports port.0) ≡ ReadyState → (a : HasMetFates port later s new)
-      → IsFollowed (IsLooking port) AnyUse s.device a.recovered.seen → IsKept new
-  pub recovered : (s new : Server) (port : Port) (replies : List Reply) → IsSettled s → state_of (found_of s.ports port.0) ≡ ReadyState → (r : RecoversPort port replies s new)
-      → IsFollowed (IsLooking port) AnyUse s.device r.settled.recovered.seen → ServesPort port replies s new × IsSettled new
+      → IsFollowed (IsLooking port) AnyUse s.device a.mended.seen → IsKept new
+  pub mended : (s new : Server) (port : Port) (replies : List Reply) → IsSettled s → state_of (found_of s.ports port.0) ≡ ReadyState → (r : MendsPort port replies s new)
+      → IsFollowed (IsLooking port) AnyUse s.device r.settled.mended.seen → ServesPort port replies s new × IsSettled new
 
 -- what is lent of a server whose port was seen to have failed
 pub lends_troubled : (s : Server) (port : Port) (look : Look) (device : Device) → SeesTrouble s port look device → (table : Table) → table ≡ s.table → (number : ℕ) → number ≡ port.0 → (default : PortSlots)
@@ -82,22 +82,22 @@ module _ (laws : RestoringLaws) (s : Server) (port : Port) (look : Look) (first 
   low = (sees.kept.there port.0 (served_ready (found_of s.ports port.0) sees.ready)).0
 
   abbrev mid_as : Server
-  mid_as = with_answers (record s { device = r.recovered.found }) t b u port
+  mid_as = with_answers (record s { device = r.mended.found }) t b u port
 
   mid_ready : state_of (found_of r.mid.ports port.0) ≡ ReadyState
   mid_ready = ap (λ (n : Server). state_of (found_of n.ports port.0)) r.mid_is ∙ sees.ready
 
   pub mode_then : (mode : Mode) → mode ≡ mode_at s.modes port.0 → mode ≡ mode_found one.cap (Ready was)
-  mode_then mode said = said ∙ laws.mode s r.mid one port sees.kept sees.ready r.recovered r.followed ∙ ap (mode_found one.cap) is_ready
+  mode_then mode said = said ∙ laws.mode s r.mid one port sees.kept sees.ready r.mended r.followed ∙ ap (mode_found one.cap) is_ready
 
   -- the token is of the port
   pub token_of : (stopped : Stopped) → next ≡ Restart stopped → stopped.port ≡ port
-  token_of stopped is = (subst (λ (way : Next). EndsIn r.recovered.queued port way r.mid.device one) (r.next_is ∙ is) r.recovered.mends.leaves.ends).0
+  token_of stopped is = (subst (λ (way : Next). EndsIn r.mended.queued port way r.mid.device one) (r.next_is ∙ is) r.mended.mends.leaves.ends).0
 
   pub bootable : (stopped : Stopped) → next ≡ Restart stopped → IsBootable stopped.port one × IsStopped (one.port stopped.port.0)
   bootable stopped is =
       subst (λ (q : Port). IsBootable q one × IsStopped (one.port q.0)) (sym (token_of stopped is))
-      (laws.bootable s r.mid one port stopped sees.kept sees.ready r.recovered r.followed (r.next_is ∙ is))
+      (laws.bootable s r.mid one port stopped sees.kept sees.ready r.mended r.followed (r.next_is ∙ is))
 
   pub sound : IsSound t b
   sound = subst (λ (n : Server). IsSound n.table n.book) r.mid_is (record { ordered = r.kept.ordered; rows = r.mid.grants; accepted = r.kept.accepted })
@@ -126,7 +126,7 @@ module _ (laws : RestoringLaws) (s : Server) (port : Port) (look : Look) (first 
       ready = is_ready;
       mid = r.mid;
       device = one;
-      recovered = r.recovered;
+      mended = r.mended;
       found = found;
       is = subst (λ (way : Next). IsFoundAfter (wanted_of s.wanted port.0) port was way one two found) (sym r.next_is) is_found;
       mode = mode;
@@ -134,7 +134,7 @@ module _ (laws : RestoringLaws) (s : Server) (port : Port) (look : Look) (first 
       slots = fresh;
       unused = record { usable = usable; places = as_many; free = free };
       failed = failed;
-      names = subst (λ (n : PortSlots). IsFailed n r.recovered.result.failed failed) (sym slots_mid) r.names;
+      names = subst (λ (n : PortSlots). IsFailed n r.mended.result.failed failed) (sym slots_mid) r.names;
       prospect = prospect;
       expects = expects;
       now = now;
@@ -187,34 +187,34 @@ module _ (laws : RestoringLaws) (s : Server) (port : Port) (look : Look) (first 
     -- what is due was issued, and the replies stand in order
     module _ (settled : IsSettled s) (three : Device) (book : List Held) (slots : PortSlots) (issues : IssuesAll port then (with_part then three book slots port)) (all its after : List Reply) (all_is : all ≡ told ++ later)
         (sorted : after ≡ take (length before) all ++ its) (moved : IsPermutation its (drop (length before) all)) (ordered : AllPairs (λ (x y : Reply). x.id.0 ≤ y.id.0) its) where
-      told_all : all ≡ before ++ (map done_reply r.recovered.requests ++ later)
-      told_all = all_is ∙ ap (λ (list : List Reply). list ++ later) r.told ∙ append_assoc before (map done_reply r.recovered.requests) later
+      told_all : all ≡ before ++ (map done_reply r.mended.requests ++ later)
+      told_all = all_is ∙ ap (λ (list : List Reply). list ++ later) r.told ∙ append_assoc before (map done_reply r.mended.requests) later
 
       pub replies_are : after ≡ before ++ its
-      replies_are = sorted ∙ ap (λ (list : List Reply). take (length before) list ++ its) told_all ∙ ap (λ (list : List Reply). list ++ its) (take-append_seam before (map done_reply r.recovered.requests ++ later))
+      replies_are = sorted ∙ ap (λ (list : List Reply). take (length before) list ++ its) told_all ∙ ap (λ (list : List Reply). list ++ its) (take-append_seam before (map done_reply r.mended.requests ++ later))
 
       pub as_many_replies : length after ≡ length all
       as_many_replies =
           let a = ap length replies_are ∙ length-append before its in
-          let n = ap length (ap (drop (length before)) told_all ∙ drop-append_seam before (map done_reply r.recovered.requests ++ later)) in
+          let n = ap length (ap (drop (length before)) told_all ∙ drop-append_seam before (map done_reply r.mended.requests ++ later)) in
           let p = length_permutation its (drop (length before) all) moved in
-          let w = ap length told_all ∙ length-append before (map done_reply r.recovered.requests ++ later) in
+          let w = ap length told_all ∙ length-append before (map done_reply r.mended.requests ++ later) in
           omega (arith, a, n, p, w)
 
-      pub recovers_port : RecoversPort port its s (with_part then three book slots port)
+      pub recovers_port : MendsPort port its s (with_part then three book slots port)
       unfolding settled_after
       recovers_port = record {
         later = later;
         mid = then;
         settled = settled_after;
         issued = issues;
-        told = subst (IsPermutation its) (ap (drop (length before)) told_all ∙ drop-append_seam before (map done_reply r.recovered.requests ++ later)) moved;
+        told = subst (IsPermutation its) (ap (drop (length before)) told_all ∙ drop-append_seam before (map done_reply r.mended.requests ++ later)) moved;
         ordered = ordered;
       }
 
       pub served : ServesPort port its s (with_part then three book slots port) × IsSettled (with_part then three book slots port)
       unfolding settled_after recovers_port
-      served = laws.recovered s (with_part then three book slots port) port its settled sees.ready recovers_port r.followed
+      served = laws.mended s (with_part then three book slots port) port its settled sees.ready recovers_port r.followed
 
     -- so it is with its lists at that place
     pub placed : (three : Device) (book : List Held) (slots : PortSlots) (number : ℕ) → number ≡ port.0 → record s {

@@ -12,7 +12,7 @@ use Rattle.port_look.specs.Looks.{IsLooking, LooksAt}
 use Rattle.port_look.specs.declared.Look.{Look}
 use Rattle.request_queue.specs.Entries.{Held}
 use Rattle.request_queue.specs.declared.fate.Failed.{Failed}
-use Rattle.server_history.specs.Recovered.{IsFailed, IsRecovered, LeadsToMending}
+use Rattle.server_history.specs.Mended.{IsFailed, IsMended, LeadsToMending}
 use Rattle.server_history.specs.Served.{done_reply}
 use Rattle.server_history.specs.Server.{Server, IsKept, slots_at, state_of}
 use Rattle.slots.specs.Uses.{Uses as PortSlots}
@@ -39,10 +39,10 @@ pub record MendsRest (port : Port) (look : Look) (before after : List Reply) (fa
     (slots : PortSlots) (new : Device) : Type 0 where
   pub mid : Server
   pub kept : IsKept mid
-  pub recovered : IsRecovered port s mid new
-  pub look_is : recovered.look ≡ look
-  pub followed : IsFollowed (IsLooking port) AnyUse s.device recovered.seen
-  pub mid_is : mid ≡ with_answers (record s { device = recovered.found }) table book slots port
-  pub next_is : recovered.result.next ≡ next
-  pub names : IsFailed slots recovered.result.failed failed
-  pub told : after ≡ before ++ map done_reply recovered.requests
+  pub mended : IsMended port s mid new
+  pub look_is : mended.look ≡ look
+  pub followed : IsFollowed (IsLooking port) AnyUse s.device mended.seen
+  pub mid_is : mid ≡ with_answers (record s { device = mended.found }) table book slots port
+  pub next_is : mended.result.next ≡ next
+  pub names : IsFailed slots mended.result.failed failed
+  pub told : after ≡ before ++ map done_reply mended.requests

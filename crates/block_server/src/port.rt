@@ -23,7 +23,7 @@ use request_queue::Book;
 use request_queue::laws::{
     an_id_is_one_request, operations_change_what_is_due, the_book_stays_in_order,
 };
-use server_history::laws::{a_due_request_may_issue, a_recovered_port_goes_on, requests_keep};
+use server_history::laws::{a_due_request_may_issue, a_mended_port_goes_on, requests_keep};
 use slots::Slots;
 
 /// Issues a task in a slot that it may go in: the slot's command then says the task.
@@ -116,7 +116,7 @@ pub(crate) fn issue_where_ready<A: Adapter>(
         → IssuesAll port s (with_part s (A.device adapter.new) book.new slots.new port) }
     ensures as_many { length book.new ≡ length book.old }
 {
-    a_recovered_port_goes_on();
+    a_mended_port_goes_on();
     if let Found::Ready(_) = found {
         issue_due(adapter, book, slots, port, mode);
     }

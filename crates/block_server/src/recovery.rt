@@ -13,7 +13,7 @@ ghost use Rattle.host_boot.specs.declared.Found.TheVariants.{Ready};
 ghost use Rattle.port_boot.specs.States.{IsBootable};
 ghost use Rattle.port_control.specs.Ports.{IsStopped};
 ghost use Rattle.port_control.specs.declared.Stopped as stopped_token;
-ghost use Rattle.server_history.specs.Recovered.{AreQueued, IsFailed, IsFoundAfter, IsProspect, IsSameDisk, LeadsToMending, TellsMending};
+ghost use Rattle.server_history.specs.Mended.{AreQueued, IsFailed, IsFoundAfter, IsProspect, IsSameDisk, LeadsToMending, TellsMending};
 ghost use Rattle.server_history.specs.Server.{mode_found};
 ghost use Rattle.slots.specs.Uses.{use_at};
 ghost use Rattle.slots.specs.declared.Use.{Use as SlotUse};
@@ -30,7 +30,7 @@ use identify::{DiskInfo, Wanted};
 use ncq::done;
 use port_look::Look;
 use request_queue::{Book, Failed, Prospect};
-use server_history::laws::{a_failed_port_may_be_recovered, looks_keep};
+use server_history::laws::{a_troubled_port_may_be_mended, looks_keep};
 use slots::Slots;
 
 /// Mends a port of which a look told an error, and of which the masks were read: recovers it where a command had failed (AHCI 1.3.1, 6.2.2), and stops it to be
@@ -79,7 +79,7 @@ pub(crate) fn mend_rest<A: Adapter>(
     ensures room { length replies.new.items + length book.new ≤ 128 }
 {
     looks_keep();
-    a_failed_port_may_be_recovered();
+    a_troubled_port_may_be_mended();
     let used = slots.taken();
     let finished = done(adapter, port, used);
     answer_done(book, table, slots, finished, replies);

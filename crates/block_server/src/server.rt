@@ -25,7 +25,7 @@ use port_look::{Look, look_at};
 use request_queue::laws::the_book_stays_in_order;
 use request_queue::{Book, Entry};
 use server_history::laws::{
-    a_finished_port_settles, a_new_server_has_begun, a_port_is_served, a_recovered_port_goes_on,
+    a_finished_port_settles, a_new_server_has_begun, a_port_is_served, a_mended_port_goes_on,
     acceptances_add, client_bytes_add, device_steps_add, kept_loans_are_lent, looks_keep,
     open_bytes_are_free, refusals_add, requests_keep, services_add,
 };
@@ -332,7 +332,7 @@ impl<A: Adapter> Server<A> {
         ensures ports { (q : ℕ) → q ≢ port.0 → found_of self.new.ports q ≡ found_of self.old.ports q }
         ensures room { length replies.new.items + length self.new.book ≤ 128 }
     {
-        a_recovered_port_goes_on();
+        a_mended_port_goes_on();
         a_port_is_served();
         let place = usize::from(port.0);
         let first = replies.len();

@@ -1,6 +1,6 @@
 -- What a model makes of a step that it is told.
 use Rattle.std.proofs.Common.{ℕ, Bool, true, false, ◌≡◌, ◌<◌, ◌≤◌, ◌^◌, ◌⊎◌, ◌∙◌, List, Option, Some, refl, sym, ap, subst, inl, inr}
-use Rattle.adapter.specs.Asked.{DoesClear, DoesFault, GoesOn}
+use Rattle.adapter.specs.Asked.{DoesFault, GoesOn}
 use Rattle.adapter.specs.declared.access.DeviceStep.TheVariants as asked
 use Rattle.ata_types.specs.declared.Port.{Port}
 use Rattle.ata_types.specs.declared.Slot.{Slot}

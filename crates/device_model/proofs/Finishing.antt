@@ -278,7 +278,7 @@ holds h o port slot t works =
             present = works.working.present;
             fresh = works.working.fresh;
             admitted = subst (λ (x : Taken). admits (halt_of p.halting) x.meaning.operation ≡ true) w.2 works.working.admitted;
-            whole = refl;
+            whole = works.working.whole;
           };
         };
       },

@@ -3,10 +3,11 @@ use Rattle.std.proofs.Common.{ℕ, Bool, zero, suc, true, false, ◌≡◌, ◌+
 use Rattle.std.proofs.lemmas.Bool.Decides.{eqb_tells}
 use Rattle.std.proofs.lemmas.List.Elements.{All-append, All-nil}
 use Rattle.std.specs.Prelude.{if◌then◌else◌, slice_index_or}
-use Rattle.adapter.specs.Asked.{DoesFault, DoesOne, DoesSome, GoesOn}
+use Rattle.adapter.specs.Asked.{DoesFatal, DoesFault, DoesOne, DoesSome, GoesOn, fatal_bit}
 use Rattle.adapter.specs.Commands.{Meaning, is_queued}
 use Rattle.adapter.specs.Device.{PortState, Device, Taken}
 use Rattle.adapter.specs.Memory.{changed}
+use Rattle.adapter.specs.declared.access.FatalError.{FatalError}
 use Rattle.adapter.specs.declared.command.Operation.{Operation}
 use Rattle.device_model.proofs.Absurd.{some-none, some_one, true-false}
 use Rattle.adapter.proofs.Changed.{changed_other, changed_same}
@@ -80,6 +81,11 @@ pub fault_keeps_present : (port slot error : ℕ) (old new : Device) → DoesFau
 fault_keeps_present port slot error old new f =
     ap (λ (d : Device). (d.port 0).present) f.effect
     ∙ present_with old.port port (with_fault (old.port port) (is_queued f.t.meaning.operation) error 0) refl
+
+pub fatal_keeps_present : (port : ℕ) (error : FatalError) (old new : Device) → DoesFatal port error old new → (new.port 0).present ≡ (old.port 0).present
+fatal_keeps_present port error old new f =
+    ap (λ (d : Device). (d.port 0).present) f.effect
+    ∙ present_with old.port port (record (old.port port) { is = changed (old.port port).is (fatal_bit error) true; broken = true }) refl
 
 pub senseless_keeps_present : (port slot : ℕ) (old new : Device) → new ≡ after (FetchFault port slot false 0) old → (new.port 0).present ≡ (old.port 0).present
 senseless_keeps_present port slot old new effect =

@@ -100,6 +100,7 @@ done_may (asked.Clear p slot most) old new did = did
 done_may (asked.Done p slot) old new did = ends_may p.0 slot.0 old new did
 done_may (asked.Finish p slot) old new did = (did.0, some_may (suc did.0) p.0 slot.0 old new did.1)
 done_may (asked.Fault p slot error) old new did = did
+done_may (asked.Fatal p error) old new did = did
 done_may (asked.Lie p page offset bits) old new did = did
 done_may (asked.Truth p) old new did = did
 done_may (asked.Hold p) old new did = did
@@ -136,6 +137,7 @@ fails_may (asked.Finish p s) was now says later old new (mid, before, inr f) =
     (clearing_fails p.0 s.0 was now says later mid new f))
 fails_may (asked.Done p s) was now says later old new f = absurd f
 fails_may (asked.Fault p s error) was now says later old new f = absurd f
+fails_may (asked.Fatal p error) was now says later old new f = absurd f
 fails_may (asked.Lie p page offset bits) was now says later old new f = absurd f
 fails_may (asked.Truth p) was now says later old new f = absurd f
 fails_may (asked.Hold p) was now says later old new f = absurd f

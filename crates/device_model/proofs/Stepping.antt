@@ -4,17 +4,19 @@ use Rattle.std.specs.Prelude.{slice_set, slice_index_or, IfSome, if◌then◌els
 use Rattle.std.specs.Global.{Vec}
 use Rattle.adapter.specs.Commands.{Meaning, direction_of, is_queued, is_ranged, reads_memory}
 use Rattle.adapter.specs.Device.{Disk, Device, IsSector}
-use Rattle.adapter.specs.Memory.{patched, bytes_at}
+use Rattle.adapter.specs.Memory.{changed, patched, bytes_at}
 use Rattle.adapter.specs.Says.{Says}
 use Rattle.adapter.specs.Steps.{admits, after, IsFinished, MayBeDone, MayFault, MayFetch, MayFetchFault, MayMove, Brings, recorded, with_clear, with_fault, with_fetch, with_move, with_done, clear_entry, done_entry, fault_entry, move_of, noted_bytes, memory_after, next_place, next_sector}
 use Rattle.adapter.specs.Steps.Step.{Clear, FetchFault, Move, Unplug, Plug}
+use Rattle.adapter.specs.declared.access.FatalError.{FatalError}
+use Rattle.adapter.specs.declared.access.FatalError.TheVariants.{Interface, HostBus}
 use Rattle.adapter.specs.declared.command.Direction.{Direction}
 use Rattle.adapter.specs.declared.command.Operation.{Operation}
 use Rattle.adapter.specs.declared.command.Operation.TheVariants.{Identify}
 use Rattle.adapter.specs.declared.tape.Entry.{Entry}
 use Rattle.adapter.specs.declared.tape.Entry.TheVariants as entry
 use Rattle.adapter.specs.declared.tape.Move as tape_move
-use Rattle.adapter.specs.Asked.{DoesFault, DoesFetch, Ends}
+use Rattle.adapter.specs.Asked.{DoesFatal, DoesFault, DoesFetch, Ends, fatal_bit}
 use Rattle.device_model.specs.Fetched.{bytes_of}
 use Rattle.device_model.specs.Sent.{SendsEnd}
 use Rattle.device_model.specs.Slots.{HasUntaken, MayTake, HoldsAt, IsNext}
@@ -172,6 +174,25 @@ port_fails h o p port slot error new t queued tape e small byte held cr kind is 
   },
   kind,
 )
+
+-- a fatal error that there is
+pub is_fatal : (error : FatalError) → (fatal_bit error ≡ 27) ⊎ (fatal_bit error ≡ 29)
+is_fatal Interface = inl refl
+is_fatal HostBus = inr refl
+
+-- a port meets one, while its engine runs
+pub port_breaks : (h : Hardware) (o : Outside) (p port : ℕ) (error : FatalError) (new : PortModel) (tape : Vec Entry) → p ≡ port → p < length h.ports →
+    (slice_index_or h.ports p blank).cr ≡ true →
+    port_of new (o.media p) ≡ (let state = port_of (slice_index_or h.ports p blank) (o.media p) in record state { is = changed state.is (fatal_bit error) true; broken = true }) →
+    tape.items ≡ h.tape.items ++ entry.Fatal (record { 0 = port }) ∷ [] →
+    DoesFatal port error (device_of h o) (device_of (record h { ports = slice_set h.ports p new; tape = tape }) o)
+port_breaks h o p port error new tape e small runs is more =
+    let P : ℕ → Type 0 = λ q. DoesFatal q error (device_of h o) (device_of (record h { ports = slice_set h.ports p new; tape = tape }) o) in
+    subst P e
+    (record {
+      can = (runs, is_fatal error);
+      effect = set_port_recorded h o p new _ tape (entry.Fatal (record { 0 = p })) small is (rw (← e) at more);
+    })
 
 -- the next piece of a command is moved
 pub port_moves : (h : Hardware) (o : Outside) (p port slot : ℕ) (next : NextMove) (new : PortModel) (t : TakenCommand) (tape : Vec Entry) (memory : Vec ℕ)

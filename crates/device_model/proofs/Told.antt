@@ -1,22 +1,25 @@
 -- Steps of the hardware, as a model answers them.
-use Rattle.std.proofs.Common.{ℕ, Bool, true, false, ◌≡◌, ◌<◌, ◌∙◌, List, Option, Some, refl, sym, ap, subst, inl, inr}
+use Rattle.std.proofs.Common.{ℕ, Bool, true, false, ◌≡◌, ◌<◌, ◌∙◌, List, [], ◌∷◌, ◌++◌, Option, Some, refl, sym, ap, subst, inl, inr}
 use Rattle.std.specs.Global.{Vec}
-use Rattle.adapter.specs.Asked.{DoesFault, DoesFetch, DoesUnplug, Ends}
+use Rattle.adapter.specs.Asked.{DoesFatal, DoesFault, DoesFetch, DoesUnplug, DoneOf, Ends, fatal_bit}
 use Rattle.adapter.specs.Commands.{Meaning}
 use Rattle.adapter.specs.Device.{Device, Taken}
 use Rattle.adapter.specs.Steps.{Can, after, fault_entry}
-use Rattle.adapter.specs.Steps.Step.{Fetch, FetchFault, Done, Fault, Unplug}
+use Rattle.adapter.specs.Steps.Step.{Fetch, FetchFault, Done, Fault, Fatal, Unplug}
 use Rattle.adapter.specs.declared.access.DeviceStep.{DeviceStep}
 use Rattle.adapter.specs.declared.access.DeviceStep.TheVariants as asked
+use Rattle.adapter.specs.declared.access.FatalError.{FatalError}
 use Rattle.adapter.specs.declared.tape.Entry.{Entry}
 use Rattle.adapter.specs.declared.tape.Entry.TheVariants as entry
+use Rattle.adapter.specs.declared.tape.Move.{Move}
 use Rattle.ata_types.specs.declared.Port.{Port}
 use Rattle.ata_types.specs.declared.Slot.{Slot}
 use Rattle.sector_store.specs.declared.store.Failures.{Failures}
-use Rattle.device_model.specs.Does.{AnswersStep, IsLeftOut, MayBeFetched, StepKeeps, LacksMemory, Possible, says_failed}
+use Rattle.device_model.specs.Does.{AnswersStep, EndsIt, IsLeftOut, MayBeFetched, StepKeeps, LacksMemory, Possible, says_after, says_failed, which_after}
 use Rattle.device_model.specs.Finishing.{HasRoom, IsPassed}
+use Rattle.device_model.specs.Held.{held_after}
 use Rattle.device_model.specs.Modelled.{device_at, outside_at}
-use Rattle.device_model.specs.Sent.{SendsEnd}
+use Rattle.device_model.specs.Sent.{Sends, SendsEnd}
 use Rattle.device_model.specs.Whole.{Outside, device_of}
 use Rattle.device_model.specs.declared.hardware.Hardware.{Hardware}
 use Rattle.device_model.specs.declared.model.Description.{Description}
@@ -179,23 +182,45 @@ module _ {S : Type 0} (size : S → ℕ) (told : S → Option (ℕ → List ℕ)
       passed_left (asked.Fault p s error) ((t : Taken) × Can (Fault p.0 s.0 error 0 t) (device_of m.hardware behind)) (λ may. (may.2, may.3))
       (λ may. (port, slot, may.0, may.1)) (λ none. none) same passed
 
-  pub unplug_answers : (p : Port) (did : Bool) → p.0 ≡ 0 →
-      (did ≡ true → Can (Unplug 0) (device_of m.hardware behind) × (device_of h behind ≡ after (Unplug 0) (device_of m.hardware behind))) →
-      (did ≡ false → device_of h behind ≡ device_of m.hardware behind) → (did ≡ false → IsPassed m.hardware h (Can (Unplug 0) (device_of m.hardware behind))) →
-      (did ≡ true → h.starved ≡ m.hardware.starved) → AnswersStep size told failures (asked.Unplug p) did m new
-  unplug_answers p true zero done same passed starved =
-      let d = done refl in
-      let P : ℕ → Type 0 = λ q. DoesUnplug q (device_of m.hardware behind) (device_of h behind) in (
-        (zero, d.0),
+  -- a step that notes one entry, which is no move, and changes nothing of the model but the device, was done, or wasn't
+  noted_answers : (s : DeviceStep) (did : Bool) (possible : Type 0) (note : Entry) → ((x : Move) → note ≡ entry.Move x → ⊥) →
+      (Possible s (device_at size told m) → possible) → (possible → Possible s (device_at size told m)) →
+      ((HasRoom m.hardware 1 → ⊥) → LacksMemory s (device_at size told m) m.hardware m.plugged) → m.says ≡ says_after s (device_at size told m) m.says →
+      m.held ≡ held_after s m.held → m.which ≡ which_after s m.which → EndsIt s (device_of m.hardware behind) (device_of h behind) →
+      (did ≡ true → possible × DoneOf (Sends s) s (device_of m.hardware behind) (device_of h behind) × (h.tape.items ≡ m.hardware.tape.items ++ note ∷ [])) →
+      (did ≡ false → device_of h behind ≡ device_of m.hardware behind) → (did ≡ false → IsPassed m.hardware h possible) →
+      (did ≡ true → h.starved ≡ m.hardware.starved) → AnswersStep size told failures s did m new
+  noted_answers s true possible note no_move forth back lacks says held which ends done same passed starved =
+      let d = done refl in (
+        back d.0,
         record {
-          came = inl (record { asked = subst P (sym zero) (record { can = d.0; effect = d.1 }); fine = λ _. refl; says = refl; ends = λ _. tt });
-          held = refl;
-          which = refl;
-          pages = gains_one size m new (entry.Unplug (record { 0 = 0 })) (ap (λ (x : Device). x.tape) d.1) (λ x e. absurd (cc e));
+          came = inl (record { asked = d.1; fine = λ _. refl; says = says; ends = λ _. ends });
+          held = held;
+          which = which;
+          pages = gains_one size m new note d.2 (λ x e. absurd (no_move x e));
           disks = λ _ _. refl;
           keeps = on_hardware;
           starved = starved refl;
         },
       )
-  unplug_answers p false zero done same passed starved =
-      passed_left (asked.Unplug p) (Can (Unplug 0) (device_of m.hardware behind)) (λ may. may.1) (λ may. (zero, may)) (λ none. none) (same refl) (passed refl)
+  noted_answers s false possible note no_move forth back lacks says held which ends done same passed starved =
+      passed_left s possible forth back lacks (same refl) (passed refl)
+
+  pub fatal_answers : (p : Port) (error : FatalError) (did : Bool) → p.0 < 4 → (did ≡ true → DoesFatal p.0 error (device_of m.hardware behind) (device_of h behind)) →
+      (did ≡ false → device_of h behind ≡ device_of m.hardware behind) →
+      (did ≡ false → IsPassed m.hardware h (Can (Fatal p.0 (fatal_bit error)) (device_of m.hardware behind))) →
+      (did ≡ true → h.starved ≡ m.hardware.starved) → AnswersStep size told failures (asked.Fatal p error) did m new
+  fatal_answers p error did port done same passed starved =
+      noted_answers (asked.Fatal p error) did (Can (Fatal p.0 (fatal_bit error)) (device_of m.hardware behind)) (entry.Fatal p) (λ x e. absurd (cc e))
+      (λ may. may.1) (λ may. (port, may)) (λ none. none) refl refl refl tt
+      (λ e. let d = done e in (d.can, d, ap (λ (x : Device). x.tape) d.effect)) same passed starved
+
+  pub unplug_answers : (p : Port) (did : Bool) → p.0 ≡ 0 →
+      (did ≡ true → Can (Unplug 0) (device_of m.hardware behind) × (device_of h behind ≡ after (Unplug 0) (device_of m.hardware behind))) →
+      (did ≡ false → device_of h behind ≡ device_of m.hardware behind) → (did ≡ false → IsPassed m.hardware h (Can (Unplug 0) (device_of m.hardware behind))) →
+      (did ≡ true → h.starved ≡ m.hardware.starved) → AnswersStep size told failures (asked.Unplug p) did m new
+  unplug_answers p did zero done same passed starved =
+      let P : ℕ → Type 0 = λ q. DoesUnplug q (device_of m.hardware behind) (device_of h behind) in
+      noted_answers (asked.Unplug p) did (Can (Unplug 0) (device_of m.hardware behind)) (entry.Unplug (record { 0 = 0 })) (λ x e. absurd (cc e))
+      (λ may. may.1) (λ may. (zero, may)) (λ none. none) refl refl refl tt
+      (λ e. let d = done e in (d.0, subst P (sym zero) (record { can = d.0; effect = d.1 }), ap (λ (x : Device). x.tape) d.1)) same passed starved

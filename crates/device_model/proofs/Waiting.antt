@@ -3,7 +3,7 @@ use Rattle.std.proofs.Common.{ℕ, zero, suc, Bool, true, false, ◌≡◌, ◌�
 use Rattle.std.proofs.lemmas.Bool.Decides.{eqb_tells}
 use Rattle.std.proofs.lemmas.List.Elements.{All-head, All-tail}
 use Rattle.std.specs.Prelude.{if◌then◌else◌, nat_eq}
-use Rattle.adapter.specs.Asked.{DoesClear, DoneOf, GoesOn}
+use Rattle.adapter.specs.Asked.{DoneOf, GoesOn}
 use Rattle.adapter.specs.Device.{Device, Taken}
 use Rattle.adapter.specs.Steps.{Can, WorksOn, begun}
 use Rattle.adapter.specs.Steps.Step.{Fetch}
@@ -21,7 +21,7 @@ use Rattle.device_model.specs.declared.disks.Which.{Which}
 use Rattle.device_model.specs.declared.disks.Which.TheVariants.{Disk0, Disk1}
 use Rattle.device_model.specs.declared.model.Description.{Description}
 use Rattle.device_model.specs.declared.model.Model.{Model}
-use Rattle.device_model.proofs.Own.{fault_keeps_present, one_keeps_present, senseless_keeps_present, some_keep_present}
+use Rattle.device_model.proofs.Own.{fatal_keeps_present, fault_keeps_present, one_keeps_present, senseless_keeps_present, some_keep_present}
 
 named_by : (w : Which) (number : ℕ) → number < 2 → w ≡ (if nat_eq number 0 then Disk0 else Disk1) → number ≡ disk_number w
 named_by w zero small e = sym (ap disk_number e)
@@ -36,6 +36,7 @@ still_out (asked.Clear p s n) d w v out never may = out
 still_out (asked.Done p s) d w v out never may = out
 still_out (asked.Finish p s) d w v out never may = out
 still_out (asked.Fault p s error) d w v out never may = out
+still_out (asked.Fatal p error) d w v out never may = out
 still_out (asked.Lie p page offset bits) d w v out never may = out
 still_out (asked.Truth p) d w v out never may = out
 still_out (asked.Hold p) d w v out never may = out
@@ -51,6 +52,7 @@ still_empty (asked.Clear p s n) old new w v is empty never may did same = one_ke
 still_empty (asked.Done p s) old new w v is empty never may did same = one_keeps_present p.0 s.0 old new (inr (inr (inl did))) ∙ empty
 still_empty (asked.Finish p s) old new w v is empty never may did same = some_keep_present (suc did.0) p.0 s.0 old new did.1 ∙ empty
 still_empty (asked.Fault p s error) old new w v is empty never may did same = fault_keeps_present p.0 s.0 error old new did ∙ empty
+still_empty (asked.Fatal p error) old new w v is empty never may did same = fatal_keeps_present p.0 error old new did ∙ empty
 still_empty (asked.Lie p page offset bits) old new w v is empty never may did same = ap (λ (d : Device). (d.port 0).present) did ∙ empty
 still_empty (asked.Truth p) old new w v is empty never may did same = ap (λ (d : Device). (d.port 0).present) did ∙ empty
 still_empty (asked.Hold p) old new w v is empty never may did same = ap (λ (d : Device). (d.port 0).present) did ∙ empty
@@ -90,6 +92,7 @@ still_failed (asked.Finish p s) was now says later old new empty (mid, before, f
 still_failed (asked.Fetch p s) was now says later old new empty f = senseless_keeps_present p.0 s.0 old new f.effect ∙ empty
 still_failed (asked.Done p s) was now says later old new empty f = absurd f
 still_failed (asked.Fault p s error) was now says later old new empty f = absurd f
+still_failed (asked.Fatal p error) was now says later old new empty f = absurd f
 still_failed (asked.Lie p page offset bits) was now says later old new empty f = absurd f
 still_failed (asked.Truth p) was now says later old new empty f = absurd f
 still_failed (asked.Hold p) was now says later old new empty f = absurd f
@@ -156,6 +159,7 @@ module _ {S : Type 0} (size : S → ℕ) (told : S → Option (ℕ → List ℕ)
   none_moves (asked.Clear p s most) m empty moves = none_clears m p.0 s.0 most moves.1 empty moves.2
   none_moves (asked.Done p s) m empty moves = moves
   none_moves (asked.Fault p s error) m empty moves = moves
+  none_moves (asked.Fatal p error) m empty moves = moves
   none_moves (asked.Lie p page offset bits) m empty moves = moves
   none_moves (asked.Truth p) m empty moves = moves
   none_moves (asked.Hold p) m empty moves = moves

@@ -3,11 +3,11 @@
 use Rattle.std.specs.Prelude.{ℕ, Bool, true, false, ◌≡◌, ◌≢◌, ◌+◌, ◌^◌, ◌<◌, ◌≤◌, ◌⊎◌, List, [], ◌∷◌, ◌++◌, Option, None, Some, if◌then◌else◌, nat_eq}
 use Rattle.std.specs.Global.{Vec}
 use Rattle.std.specs.Vec.{vec_len, vec_capacity}
-use Rattle.adapter.specs.Asked.{DoesClear, DoneOf, GoesOn}
+use Rattle.adapter.specs.Asked.{DoesClear, DoneOf, GoesOn, fatal_bit}
 use Rattle.adapter.specs.Commands.{Meaning, is_queued, is_ranged, reads_memory}
 use Rattle.adapter.specs.Device.{Device, Taken}
 use Rattle.adapter.specs.Steps.{Can, after, done_entry, next_sector}
-use Rattle.adapter.specs.Steps.Step.{Fetch, FetchFault, Done, Fault, Unplug}
+use Rattle.adapter.specs.Steps.Step.{Fetch, FetchFault, Done, Fault, Fatal, Unplug}
 use Rattle.adapter.specs.declared.access.DeviceStep.{DeviceStep}
 use Rattle.adapter.specs.declared.access.DeviceStep.TheVariants as asked
 use Rattle.adapter.specs.declared.command.Operation.{Operation}
@@ -47,6 +47,7 @@ Possible (asked.Clear p s most) d = (s.0 < 32) × (t : Taken) × HasClear d p.0 
 Possible (asked.Done p s) d = (p.0 < 4) × (s.0 < 32) × (flag : ℕ) × (t : Taken) × Can (Done p.0 s.0 flag t) d
 Possible (asked.Finish p s) d = (p.0 ≡ 0) × (s.0 < 32) × (left clears : ℕ) × MayFinish d p.0 s.0 left clears
 Possible (asked.Fault p s error) d = (p.0 < 4) × (s.0 < 32) × (t : Taken) × Can (Fault p.0 s.0 error 0 t) d
+Possible (asked.Fatal p error) d = (p.0 < 4) × Can (Fatal p.0 (fatal_bit error)) d
 Possible (asked.Lie p page offset bits) d = offset < 512
 Possible (asked.Truth p) d = Unit {0}
 Possible (asked.Hold p) d = p.0 < 4
@@ -64,6 +65,7 @@ LacksMemory (asked.Done p s) d h plugged = HasRoom h 1 → ⊥
 LacksMemory (asked.Finish p s) d h plugged =
     (left clears : ℕ) × MayFinish d p.0 s.0 left clears × (HasRoom h (left + clears + 1) → ⊥)
 LacksMemory (asked.Fault p s error) d h plugged = HasRoom h 1 → ⊥
+LacksMemory (asked.Fatal p error) d h plugged = HasRoom h 1 → ⊥
 LacksMemory (asked.Unplug p) d h plugged = HasRoom h 1 → ⊥
 LacksMemory (asked.Plug p number) d h plugged = HasRoom h 1 → vec_len plugged < vec_capacity plugged → ⊥
 LacksMemory step d h plugged = ⊥

@@ -26,7 +26,7 @@ abbrev pub cap_of : ℕ → ℕ → Bool → ℕ
 cap_of pi slots ncq = (count_ones pi - 1) + 256 * (slots - 1) + (if ncq then 2 ^ 30 else 0)
 
 -- A port's registers as a reset of the adapter leaves them: no device is seen, no link is due to come up, no first FIS came,
--- no error and no cause is told (AHCI 1.3.1, 3.3 and 10.4.3); and no fault has halted it. Nothing was read or written yet, PxCLB and PxFB neither.
+-- no error and no cause is told (AHCI 1.3.1, 3.3 and 10.4.3); and neither a fault nor a fatal error has stopped it. Nothing was read or written yet, PxCLB and PxFB neither.
 pub record IsReset (p : PortState) : Type 0 where
   pub addresses : p.bases ≡ record { clb = 0; fb = 0; clb_set = false; clbu_set = false; fb_set = false; fbu_set = false }
   pub tfd : p.tfd ≡ 0x7f
@@ -40,6 +40,7 @@ pub record IsReset (p : PortState) : Type 0 where
   pub fresh : p.fresh ≡ false
   pub link_due : p.link_due ≡ false
   pub halt : p.halt ≡ NotHalted
+  pub whole : p.broken ≡ false
   pub notes : p.notes ≡ no_notes
 
 -- A new adapter has what its configuration says, its ports too, and a disk in port 0 alone, disk 0, which was never out. It is switched off, its

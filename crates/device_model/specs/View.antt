@@ -128,7 +128,7 @@ port_of p m =
       fresh = p.fresh;
       link_due = p.link_due;
       halt = halt_of p.halting;
-      broken = false;
+      broken = p.broken;
       taken = slots_of (held_in p.taken);
       notes = notes_of p.readings;
     }
@@ -160,6 +160,7 @@ blank =
       fresh = false;
       link_due = false;
       halting = halting.Running;
+      broken = false;
       taken = [];
       readings = record {
         st_set_at = 0;

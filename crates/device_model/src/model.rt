@@ -28,7 +28,7 @@ use crate::disks::{Inserted, Which};
 use crate::hardware::{Hardware, PORTS};
 use crate::port::{PortModel, Transfer};
 use crate::steps::{Begun, NextMove};
-use adapter::{Adapter, DeviceStep, DiskNumber, DiskPage, Entry, Stepped};
+use adapter::{Adapter, DeviceStep, DiskNumber, DiskPage, Entry, FatalError, Stepped};
 use ata_types::{FEWEST_FRAMES, FRAME_BYTES, MOST_FRAMES, Port, Slot};
 use hba_regs::Reg;
 use sector_store::SectorStore;
@@ -235,6 +235,13 @@ impl<S: SectorStore> Model<S> {
             self.says.log = Some(FailedCommand { tag, error });
         }
         true
+    }
+
+    /// Has a port meet a fatal error, while its engine runs.
+    fn meet(&mut self, port: Port, error: FatalError) -> bool
+        ensures { AnswersStep S.size S.told S.failures (DeviceStep.Fatal port error) result self.old self.new }
+    {
+        port.0 < 4 && self.hardware.meet(port.0, error)
     }
 
     /// Takes the disk out of port 0, which alone has one.
@@ -494,6 +501,7 @@ impl<S: SectorStore> Model<S> {
             DeviceStep::Done(port, slot) => self.done(port, slot),
             DeviceStep::Finish(port, slot) => slot.0 < 32 && self.finish(port, slot),
             DeviceStep::Fault(port, slot, error) => self.fail(port, slot, error),
+            DeviceStep::Fatal(port, error) => self.meet(port, error),
             DeviceStep::Lie(port, page, offset, bits) => self.lie(port, page, offset, bits),
             DeviceStep::Truth(port) => self.tell_truth(port),
             DeviceStep::Hold(port) => self.hold(port, true),

@@ -238,6 +238,8 @@ pub struct PortModel {
     pub fresh: bool,
     pub link_due: bool,
     pub halting: Halting,
+    /// A fatal error stopped it.
+    pub broken: bool,
     pub taken: TakenCommands,
     pub readings: Readings,
 }
@@ -270,6 +272,7 @@ impl PortModel {
             fresh: false,
             link_due: false,
             halting: Halting::Running,
+            broken: false,
             taken,
             readings: Readings::default(),
         })

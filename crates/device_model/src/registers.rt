@@ -1,10 +1,13 @@
 // What the registers of a port show, and what a write does.
 ghost use Rattle.std.specs.Prelude.{◌≡◌, ℕ, true, false};
+ghost use Rattle.adapter.specs.Asked.{fatal_bit};
+ghost use Rattle.adapter.specs.Memory.{changed};
 ghost use Rattle.adapter.specs.Access.{PortShows, note, port_written, unacknowledged, counted as count_after, link_counted as link_count_after};
 ghost use Rattle.device_model.specs.View.{Media, port_of};
 
 use crate::bits::{bit_if, with_bit_as, without_ones};
 use crate::port::PortModel;
+use adapter::FatalError;
 use hba_regs::{PortReg, is_set};
 
 /// One more reading in a row.
@@ -19,6 +22,21 @@ fn link_counted(det: u32, count: u32) -> u32
     ensures { result ≡ link_count_after det count }
 {
     if det == 3 { 64 } else { count.min(63) + 1 }
+}
+
+/// The bits of PxIS that tell of fatal errors (AHCI 1.3.1, 3.3.5).
+const IFS: u32 = 27;
+
+const HBFS: u32 = 29;
+
+/// The bit of PxIS that tells of a fatal error.
+fn cause_of(error: FatalError) -> u32
+    ensures { result ≡ fatal_bit error }
+{
+    match error {
+        FatalError::Interface => IFS,
+        FatalError::HostBus => HBFS,
+    }
 }
 
 impl PortModel {
@@ -90,6 +108,7 @@ impl PortModel {
         if st && !self.st {
             self.cr = true;
             self.halting = self.halting.after_start();
+            self.broken = false;
             self.readings.st_set_at = tape;
         }
         if !st && self.st {
@@ -167,6 +186,14 @@ impl PortModel {
         ensures { (m : Media) → port_of self.new m ≡ unacknowledged (port_of self.old m) }
     {
         self.readings.acknowledged = false;
+    }
+
+    /// A fatal error stops the port, and PxIS tells of it (AHCI 1.3.1, 6.2.2).
+    pub fn break_down(&mut self, error: FatalError)
+        ensures { (m : Media) → port_of self.new m ≡ record (port_of self.old m) { is = changed (port_of self.old m).is (fatal_bit error) true; broken = true } }
+    {
+        self.is = with_bit_as(self.is, cause_of(error), true);
+        self.broken = true;
     }
 
     /// The disk is taken out (AHCI 1.3.1, 3.3.10 and 3.3.12).

@@ -46,6 +46,7 @@ impl PortModel {
         self.detected = true;
         self.fresh = true;
         self.halting = Halting::Running;
+        self.broken = false;
         self.tfd = Some(self.task_file() & 0xff77);
         self.sig = Some(0x101);
         self.serr_x = true;
@@ -99,5 +100,6 @@ impl PortModel {
         self.sig = None;
         self.taken.clear();
         self.fresh = false;
+        self.broken = false;
     }
 }

@@ -91,7 +91,7 @@ impl PortModel {
         ensures works { result ≡ true → (m : Media) → IsWorking (port_of self.now m) (operation_of transfer) }
         ensures only { result ≡ false → (m : Media) → IsWorking (port_of self.now m) (operation_of transfer) → ⊥ }
     {
-        self.cr && self.present && self.fresh && self.halting.admits(transfer)
+        self.cr && self.present && self.fresh && !self.broken && self.halting.admits(transfer)
     }
 
     /// Whether such a command may be taken now, if the port works: no fault keeps it waiting, and it goes beside those that are taken.
@@ -129,6 +129,7 @@ pub fn has_untaken(ports: &[PortModel; 4], port: usize, slot: u8) -> bool
         && ports[port].cr
         && ports[port].present
         && ports[port].fresh
+        && !ports[port].broken
         && is_set(ports[port].ci, u32::from(slot))
         && ports[port].taken.get(slot).is_none()
 }

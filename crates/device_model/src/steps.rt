@@ -6,8 +6,8 @@ ghost use Rattle.adapter.specs.Device.{Disk, Taken};
 ghost use Rattle.adapter.specs.Memory.{patched};
 ghost use Rattle.adapter.specs.Says.{pieces};
 ghost use Rattle.adapter.specs.Steps.{Can, IsFinished, after, next_sector};
-ghost use Rattle.adapter.specs.Steps.Step.{Fetch as FetchStep, FetchFault as FetchFaultStep, Move as MoveStep, Done as DoneStep, Fault as FaultStep, Unplug as UnplugStep, Plug as PlugStep};
-ghost use Rattle.adapter.specs.Asked.{DoesFault, DoesFetch, Ends};
+ghost use Rattle.adapter.specs.Steps.Step.{Fetch as FetchStep, FetchFault as FetchFaultStep, Move as MoveStep, Done as DoneStep, Fault as FaultStep, Fatal as FatalStep, Unplug as UnplugStep, Plug as PlugStep};
+ghost use Rattle.adapter.specs.Asked.{DoesFatal, DoesFault, DoesFetch, Ends, fatal_bit};
 ghost use Rattle.device_model.specs.Block.{brought};
 ghost use Rattle.device_model.specs.Fetched.{bytes_of};
 ghost use Rattle.device_model.specs.Finishing.{HasRoom, FindsPage, IsInside, AreInside, IsBegun, IsCovered, IsPassed, IsRest, IsUnbegun};
@@ -22,7 +22,7 @@ use crate::hardware::{Hardware, put};
 use crate::port::{TakenCommand, Transfer};
 use crate::slots::{FAILED_STATUS, has_untaken, working_on};
 use crate::trims::{clears_of, is_finished};
-use adapter::{Done, Entry, Fault, Move, Prd};
+use adapter::{Done, Entry, FatalError, Fault, Move, Prd};
 use ata_types::{Port, Slot};
 use std::snapshot::Snapshot;
 
@@ -500,6 +500,25 @@ impl Hardware {
             rest,
             was_taken: false,
         })
+    }
+
+    /// A port meets a fatal error; `false` says that its engine has fallen, or that the tape found no memory.
+    pub fn meet(&mut self, port: u8, error: FatalError) -> bool
+        requires { port < 4 }
+        ensures did { result ≡ true → (o : Outside) → DoesFatal port error (device_of self.old o) (device_of self.new o) }
+        ensures refused { result ≡ false → (o : Outside) → device_of self.new o ≡ device_of self.old o }
+        ensures left { result ≡ false → (o : Outside) → IsPassed self.old self.new (Can (FatalStep port (fatal_bit error)) (device_of self.old o)) }
+        ensures fed { result ≡ true → self.new.starved ≡ self.old.starved }
+    {
+        let place = usize::from(port);
+        if !self.ports[place].cr {
+            return false;
+        }
+        if !record(&mut self.tape, &mut self.starved, Entry::Fatal(Port(port))) {
+            return false;
+        }
+        self.ports[place].break_down(error);
+        true
     }
 
     /// The disk is taken out of port 0; `false` says that there was none, or that the tape found no memory.

@@ -17,9 +17,11 @@ use Rattle.adapter.specs.declared.access.DiskPage.{DiskPage}
 use Rattle.adapter.specs.declared.access.DiskPage.TheVariants.{Identity, Log}
 use Rattle.adapter.specs.declared.access.DeviceStep.{DeviceStep}
 use Rattle.adapter.specs.declared.access.DeviceStep.TheVariants as step
+use Rattle.adapter.specs.declared.access.FatalError.{FatalError}
+use Rattle.adapter.specs.declared.access.FatalError.TheVariants.{Interface, HostBus}
 use Rattle.script.specs.declared.line.Line.{Line}
 use Rattle.script.specs.declared.line.Line.TheVariants.{Submit, Store, Load, Service, State, Device}
-use Rattle.script.specs.Fields.{Word, frames_word}
+use Rattle.script.specs.Fields.{Word, fatal_word, frames_word}
 use Rattle.script.specs.Line.{IsLine, IsPlace, IsRequest, IsStep, line_text, line_words, op_word, page_word, place_words, request_words, step_words}
 use Rattle.script.proofs.FrameLemmas.{IsFrame, decimals}
 use Rattle.script.proofs.FrameLemmas as frame
@@ -59,6 +61,10 @@ page_is : (page : DiskPage) → IsWord (page_word page)
 page_is Identity = fixed (page_word Identity) refl
 page_is Log = fixed (page_word Log) refl
 
+fatal_is : (error : FatalError) → IsWord (fatal_word error)
+fatal_is Interface = fixed (fatal_word Interface) refl
+fatal_is HostBus = fixed (fatal_word HostBus) refl
+
 by_are : (r : Request) (words : List Word) → IsRequest r → AreWords words → AreWords (decimal r.client.0 ∷ decimal r.grant ∷ words)
 by_are r words h rest = more (number r.client.0 (omega (arith, h.client))) (more (number r.grant (omega (arith, h.grant))) rest)
 
@@ -93,6 +99,8 @@ step_are (step.Fault port slot error) h =
 step_are (step.Lie port page offset bits) h =
     more (fixed (codes "lie") refl) (more (number port.0 (omega (arith, h.0))) (more (page_is page)
     (more (number offset (omega (arith, h.1))) (more (pairs (bits ∷ []) (All-cons (λ b. b < 256) bits [] h.2 (All-nil (λ b. b < 256)))) none))))
+step_are (step.Fatal port error) h =
+    more (fixed (codes "fatal") refl) (more (number port.0 (omega (arith, h))) (more (fatal_is error) none))
 step_are (step.Truth port) h = port_are (codes "truth") port (fixed (codes "truth") refl) h
 step_are (step.Hold port) h = port_are (codes "hold") port (fixed (codes "hold") refl) h
 step_are (step.Release port) h = port_are (codes "release") port (fixed (codes "release") refl) h
@@ -124,6 +132,7 @@ step_few (step.Done port slot) = omega arith
 step_few (step.Finish port slot) = omega arith
 step_few (step.Fault port slot error) = omega arith
 step_few (step.Lie port page offset bits) = omega arith
+step_few (step.Fatal port error) = omega arith
 step_few (step.Truth port) = omega arith
 step_few (step.Hold port) = omega arith
 step_few (step.Release port) = omega arith

@@ -59,6 +59,7 @@ as_lie (step.Clear p s n) page port offset bits h e = absurd (omega (arith, ap l
 as_lie (step.Done p s) page port offset bits h e = absurd (omega (arith, ap length e))
 as_lie (step.Finish p s) page port offset bits h e = absurd (omega (arith, ap length e))
 as_lie (step.Fault p s x) page port offset bits h e = absurd (omega (arith, ap length e))
+as_lie (step.Fatal p x) page port offset bits h e = absurd (omega (arith, ap length e))
 as_lie (step.Truth p) page port offset bits h e = absurd (omega (arith, ap length e))
 as_lie (step.Hold p) page port offset bits h e = absurd (omega (arith, ap length e))
 as_lie (step.Release p) page port offset bits h e = absurd (omega (arith, ap length e))

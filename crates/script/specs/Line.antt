@@ -12,7 +12,7 @@ use Rattle.adapter.specs.declared.access.DiskPage.{DiskPage}
 use Rattle.adapter.specs.declared.access.DiskPage.TheVariants.{Identity, Log}
 use Rattle.adapter.specs.declared.access.DeviceStep.{DeviceStep}
 use Rattle.adapter.specs.declared.access.DeviceStep.TheVariants as step
-use Rattle.script.specs.Fields.{Word, frames_word}
+use Rattle.script.specs.Fields.{Word, fatal_word, frames_word}
 use Rattle.script.specs.declared.line.Line.{Line}
 use Rattle.script.specs.declared.line.Line.TheVariants.{Submit, Store, Load, Service, State, Device}
 
@@ -49,6 +49,7 @@ step_words (step.Clear port slot count) = codes "clear" ∷ decimal port.0 ∷ d
 step_words (step.Done port slot) = codes "done" ∷ place_words port slot
 step_words (step.Finish port slot) = codes "finish" ∷ place_words port slot
 step_words (step.Fault port slot error) = codes "fault" ∷ decimal port.0 ∷ decimal slot.0 ∷ encode_lower (error ∷ []) ∷ []
+step_words (step.Fatal port error) = codes "fatal" ∷ decimal port.0 ∷ fatal_word error ∷ []
 step_words (step.Lie port page offset bits) =
     codes "lie" ∷ decimal port.0 ∷ page_word page ∷ decimal offset ∷ encode_lower (bits ∷ []) ∷ []
 step_words (step.Truth port) = codes "truth" ∷ decimal port.0 ∷ []
@@ -99,6 +100,7 @@ IsStep (step.Clear port slot count) = (port.0 < 4) × (slot.0 < 32) × (count < 
 IsStep (step.Done port slot) = IsPlace port slot
 IsStep (step.Finish port slot) = IsPlace port slot
 IsStep (step.Fault port slot error) = (port.0 < 4) × (slot.0 < 32) × (error < 256)
+IsStep (step.Fatal port error) = port.0 < 4
 IsStep (step.Lie port page offset bits) = (port.0 < 4) × (offset < 512) × (bits < 256)
 IsStep (step.Truth port) = port.0 < 4
 IsStep (step.Hold port) = port.0 < 4

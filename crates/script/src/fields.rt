@@ -4,9 +4,10 @@ ghost use Rattle.std.specs.List.{All};
 ghost use Rattle.std.specs.Fmt.{decimal};
 ghost use Rattle.arrayvec.specs.ArrayVec.{ArrayVec as Items};
 ghost use Rattle.hex.specs.Hex.{encode_lower};
-ghost use Rattle.script.specs.Fields.{frames_word};
+ghost use Rattle.script.specs.Fields.{fatal_word, frames_word};
+ghost use Rattle.adapter.specs.declared.access.FatalError.{FatalError};
 
-use adapter::DiskNumber;
+use adapter::{DiskNumber, FatalError};
 use arrayvec::ArrayVec;
 use ata_types::{ClientId, Frame, Port, Slot};
 
@@ -98,6 +99,18 @@ pub(crate) fn disk(word: &str) -> Option<DiskNumber>
     ensures only { (d : DiskNumber) → d.0 < 2 → decimal d.0 ≡ word.now → result ≡ Some d }
 {
     Some(DiskNumber(number(word, 1)? as u8))
+}
+
+/// A fatal error, by the name of its bit of PxIS: `ifs` or `hbfs`.
+pub(crate) fn fatal_error(word: &str) -> Option<FatalError>
+    ensures spelled { IfSome result (λ e. fatal_word e ≡ word.now) }
+    ensures only { (e : FatalError) → fatal_word e ≡ word.now → result ≡ Some e }
+{
+    match word {
+        "ifs" => Some(FatalError::Interface),
+        "hbfs" => Some(FatalError::HostBus),
+        _ => None,
+    }
 }
 
 /// Frames by their numbers, at most 32, parted by commas; `-` is none.

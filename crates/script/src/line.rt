@@ -123,6 +123,10 @@ fn step(words: &[&str]) -> Option<DeviceStep>
         ["release", port] => DeviceStep::Release(fields::port(port)?),
         ["truth", port] => DeviceStep::Truth(fields::port(port)?),
         ["fault", port, slot, error] => fault(port, slot, error)?,
+        ["fatal", port, error] => DeviceStep::Fatal(
+            fields::port(port)?,
+            fields::fatal_error(error)?,
+        ),
         ["lie", port, "id", offset, bits] => lie(port, DiskPage::Identity, offset, bits)?,
         ["lie", port, "log", offset, bits] => lie(port, DiskPage::Log, offset, bits)?,
         _ => return None,

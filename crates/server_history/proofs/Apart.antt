@@ -17,7 +17,7 @@ use Rattle.request_queue.specs.declared.Entry.{Entry}
 use Rattle.request_queue.specs.declared.fate.Fate.{Fate}
 use Rattle.request_queue.specs.declared.fate.Fate.TheVariants.{Ends, GoesAgain, Waits}
 use Rattle.server_history.specs.Below.{LawsBelow}
-use Rattle.server_history.specs.Recovered.{IsRecovered, HasMetFates, RecoversPort, holdings_of, requests_of}
+use Rattle.server_history.specs.Mended.{IsMended, HasMetFates, MendsPort, holdings_of, requests_of}
 use Rattle.server_history.specs.Server.{Server, IsKept, mode_in, no_slots, plain_mode, slots_at}
 use Rattle.server_history.specs.Turns.{LeavesOthers}
 use Rattle.server_history.proofs.Rounds.{each_apart, each_settings, each_slots}
@@ -138,12 +138,12 @@ module _ (laws : LawsBelow) (q : Port) where
 
 -- ---- the whole
 
-module _ (laws : LawsBelow) (port : Port) (replies : List Reply) (old new : Server) (k : IsKept old) (r : RecoversPort port replies old new) (kept : IsKept r.mid) where
+module _ (laws : LawsBelow) (port : Port) (replies : List Reply) (old new : Server) (k : IsKept old) (r : MendsPort port replies old new) (kept : IsKept r.mid) where
   abbrev a : HasMetFates port r.later old r.mid
   a = r.settled
 
-  abbrev x : IsRecovered port old a.mid a.device
-  x = a.recovered
+  abbrev x : IsMended port old a.mid a.device
+  x = a.mended
 
   abbrev from : Server
   from = record old { device = x.found }

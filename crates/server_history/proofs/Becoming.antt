@@ -26,7 +26,7 @@ use Rattle.request_queue.specs.declared.fate.Prospect.TheVariants.{Dead, DiskLos
 use Rattle.port_look.specs.declared.Look.{Look}
 use Rattle.port_look.specs.declared.Look.TheVariants as look_is
 use Rattle.server_history.specs.Below.{LawsBelow}
-use Rattle.server_history.specs.Recovered.{IsFoundAfter, IsProspect, IsRecovered, IsSameDisk, HasMetFates, RecoversPort}
+use Rattle.server_history.specs.Mended.{IsFoundAfter, IsProspect, IsMended, IsSameDisk, HasMetFates, MendsPort}
 use Rattle.server_history.specs.Server.{Server, IsKept, disk_in, disk_of, is_served, mode_in, ports_of, remembered_at, sectors_of, serial_of, state_of}
 use Rattle.server_history.specs.Turns.{NamesOnly}
 use Rattle.server_history.proofs.Recovery.{evidence_by, evidence_of, fatal_of, lost_of, stopped_of, stuck_of}
@@ -125,13 +125,13 @@ names_only port look failed prospect then = record {
 
 -- ---- the port
 
-module _ (laws : LawsBelow) (port : Port) (replies : List Reply) (old new : Server) (k : IsKept old) (ready : state_of (found_of old.ports port.0) ≡ ReadyState) (r : RecoversPort port replies old new)
-    (looks : IsFollowed (IsLooking port) AnyUse old.device r.settled.recovered.seen) (kept : IsKept r.mid) where
+module _ (laws : LawsBelow) (port : Port) (replies : List Reply) (old new : Server) (k : IsKept old) (ready : state_of (found_of old.ports port.0) ≡ ReadyState) (r : MendsPort port replies old new)
+    (looks : IsFollowed (IsLooking port) AnyUse old.device r.settled.mended.seen) (kept : IsKept r.mid) where
   abbrev a : HasMetFates port r.later old r.mid
   a = r.settled
 
-  abbrev x : IsRecovered port old a.mid a.device
-  x = a.recovered
+  abbrev x : IsMended port old a.mid a.device
+  x = a.mended
 
   abbrev pub its : Evidence
   its = evidence_by a

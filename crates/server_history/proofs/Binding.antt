@@ -17,7 +17,7 @@ use Rattle.port_look.specs.Looks.{IsLooking}
 use Rattle.port_look.specs.declared.Look.{Look}
 use Rattle.port_look.specs.declared.Look.TheVariants.{Failed}
 use Rattle.server_history.specs.Below.{LawsBelow}
-use Rattle.server_history.specs.Recovered.{AreQueued, RecoversPort}
+use Rattle.server_history.specs.Mended.{AreQueued, MendsPort}
 use Rattle.server_history.specs.Server.{Server, IsKept, IsMachineOf, ports_of, slots_at, state_of}
 use Rattle.server_history.specs.Turns.{TiesTurn, instant_of}
 use Rattle.server_history.proofs.Deciding.{DecidesTurn}
@@ -37,13 +37,13 @@ use Rattle.server_history.proofs.Slots.{ready_found}
 use Rattle.server_history.proofs.Welling.{going_well}
 use Rattle.server_history.proofs.Lists.{first_here}
 
-module _ (laws : LawsBelow) (port : Port) (replies : List Reply) (old new : Server) (k : IsKept old) (ready : state_of (found_of old.ports port.0) ≡ ReadyState) (r : RecoversPort port replies old new)
-    (looks : IsFollowed (IsLooking port) AnyUse old.device r.settled.recovered.seen) (kept : IsKept r.mid) (evident : IsEvident port replies old new r)
+module _ (laws : LawsBelow) (port : Port) (replies : List Reply) (old new : Server) (k : IsKept old) (ready : state_of (found_of old.ports port.0) ≡ ReadyState) (r : MendsPort port replies old new)
+    (looks : IsFollowed (IsLooking port) AnyUse old.device r.settled.mended.seen) (kept : IsKept r.mid) (evident : IsEvident port replies old new r)
     (m : Machine) (reached : IsReached m) (is : IsMachineOf old m)
     (d : DecidesTurn port replies old new r (evidence_by r.settled) m) where
   -- where the port showed a device when it was looked at, a disk was in
-  own : ShowsOwnDisk (r.settled.recovered.seen.port port.0)
-  own = ((looking_kept old r.settled.recovered.seen port k ready laws looks).behind port.0 (ready_found old port.0 k ready).0).own ready
+  own : ShowsOwnDisk (r.settled.mended.seen.port port.0)
+  own = ((looking_kept old r.settled.mended.seen port k ready laws looks).behind port.0 (ready_found old port.0 k ready).0).own ready
 
   -- the port was ready when the turn began
   not_absent : (ports_of old).state port ≡ shown.Absent → ⊥
@@ -62,17 +62,17 @@ module _ (laws : LawsBelow) (port : Port) (replies : List Reply) (old new : Serv
   then_ready = mid_ready laws port r.later old r.mid k ready r.settled looks
 
   -- with plain commands outstanding, it has worked on plain ones alone
-  plainly : r.settled.recovered.queued ≡ false → WorksPlainly (r.settled.mid.device.port port.0)
-  plainly plain = works_plainly laws r.settled.mid then_kept port then_ready (subst (λ (queued : Bool). AreQueued queued (slots_at r.settled.mid.slots port.0)) plain r.settled.recovered.alike) ((then_kept.behind port.0 (ready_found old port.0 k ready).0).halts then_ready)
+  plainly : r.settled.mended.queued ≡ false → WorksPlainly (r.settled.mid.device.port port.0)
+  plainly plain = works_plainly laws r.settled.mid then_kept port then_ready (subst (λ (queued : Bool). AreQueued queued (slots_at r.settled.mid.slots port.0)) plain r.settled.mended.alike) ((then_kept.behind port.0 (ready_found old port.0 k ready).0).halts then_ready)
 
   -- where TFES alone was shown, and no fatal error came, the look told that a command had failed
-  failing : HasFaultAlone port (instant_of old m) new.device → r.settled.recovered.look ≡ Failed
+  failing : HasFaultAlone port (instant_of old m) new.device → r.settled.mended.look ≡ Failed
   failing alone = ⊎_elim
       (λ failed. failed)
       (λ broken.
-      let here : Contains (fatal_of port r.settled.recovered.look) port = subst (λ (l : Look). Contains (fatal_of port l) port) (sym broken) (first_here port []) in
+      let here : Contains (fatal_of port r.settled.mended.look) port = subst (λ (l : Look). Contains (fatal_of port l) port) (sym broken) (first_here port []) in
       absurd (⊎_elim alone.shows.fatal (gains_none (IsFatalOf port.0) old.device new.device alone.fatal.gained alone.fatal.tape alone.fatal.none) ((evident.evidenced m).fatal_only here).1))
-      (leads r.settled.recovered.look port r.settled.recovered.outstanding r.settled.recovered.queued r.settled.recovered.result r.settled.recovered.mends.accesses r.settled.mid.device r.settled.device r.settled.recovered.tells)
+      (leads r.settled.mended.look port r.settled.mended.outstanding r.settled.mended.queued r.settled.mended.result r.settled.mended.mends.accesses r.settled.mid.device r.settled.device r.settled.mended.tells)
 
   pub ties_recovered : TiesTurn port replies evident.accesses old new m (evidence_by r.settled) d.steps
   ties_recovered asked = record {

@@ -13,7 +13,7 @@ use Rattle.host_boot.specs.Taken.{found_of}
 use Rattle.host_boot.specs.declared.Found.TheVariants.{Unready}
 use Rattle.request_queue.specs.Entries.{Held, asks, asks_of, is_of}
 use Rattle.server_history.specs.Below.{LawsBelow}
-use Rattle.server_history.specs.Recovered.{requests_of}
+use Rattle.server_history.specs.Mended.{requests_of}
 use Rattle.server_history.specs.Server.{Server, IsKept, kept_at, state_of}
 use Rattle.server_history.proofs.Asks.{same_book}
 use Rattle.server_history.proofs.Keeping.{none_alive}

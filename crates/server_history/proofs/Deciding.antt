@@ -45,7 +45,7 @@ use Rattle.request_queue.specs.declared.fate.Prospect.TheVariants.{SameDisk as S
 use Rattle.slots.specs.Uses.{Uses as PortSlots, use_at}
 use Rattle.slots.specs.declared.Use.{Use as SlotUse}
 use Rattle.server_history.specs.Below.{LawsBelow}
-use Rattle.server_history.specs.Recovered.{IsFailed, IsProspect, HasMetFates, RecoversPort, holdings_of, requests_of}
+use Rattle.server_history.specs.Mended.{IsFailed, IsProspect, HasMetFates, MendsPort, holdings_of, requests_of}
 use Rattle.server_history.specs.Served.{HasEnded, answers_in, done_reply}
 use Rattle.server_history.specs.Server.{IsKept, IsMachineOf, Server, disk_in, disk_of, mode_in, ports_of, remembered_at, sectors_of, serial_of, slots_at, state_of}
 use Rattle.server_history.specs.Turns.{IsOfTurn, moment_of}
@@ -67,7 +67,7 @@ use Rattle.server_history.proofs.Lists.{first_here}
 
 -- What a machine that stands for the server makes of the turn by its steps, with this evidence. (That a disk was in, `had_disk` has of them.) They are those
 -- up to the fates of its requests, and then those that issue what is due.
-pub record DecidesTurn (port : Port) (replies : List Reply) (old new : Server) (r : RecoversPort port replies old new) (evidence : Evidence) (m : Machine) : Type 0 where
+pub record DecidesTurn (port : Port) (replies : List Reply) (old new : Server) (r : MendsPort port replies old new) (evidence : Evidence) (m : Machine) : Type 0 where
   pub steps : List Step
   pub fates : AddsFates port r.later old r.mid r.settled m
   pub issuing : AreIssued port (due_ids (mode_in r.mid port) port (asks_of r.mid.book)) r.mid new (after m (until_issues fates))
@@ -100,8 +100,8 @@ failed_used slots (Some its) failed x (used, at, names) is =
     let same : record { id = used.id; status = its.status; error = its.error } ≡ x = cc in
     (its.slot.0, used, at, ap (λ (f : Failed). f.id) (sym same))
 
-module _ (laws : LawsBelow) (port : Port) (replies : List Reply) (old new : Server) (k : IsKept old) (ready : state_of (found_of old.ports port.0) ≡ ReadyState) (r : RecoversPort port replies old new)
-    (looks : IsFollowed (IsLooking port) AnyUse old.device r.settled.recovered.seen) (k_mid : IsKept r.mid) where
+module _ (laws : LawsBelow) (port : Port) (replies : List Reply) (old new : Server) (k : IsKept old) (ready : state_of (found_of old.ports port.0) ≡ ReadyState) (r : MendsPort port replies old new)
+    (looks : IsFollowed (IsLooking port) AnyUse old.device r.settled.mended.seen) (k_mid : IsKept r.mid) where
   abbrev a : HasMetFates port r.later old r.mid
   a = r.settled
 
@@ -157,7 +157,7 @@ module _ (laws : LawsBelow) (port : Port) (replies : List Reply) (old new : Serv
     ap sectors_of (disk_new ∙ is) ∙ sectors ∙ sym (ap sectors_of disk_old),
   )
 
-  no_way : a.recovered.result.next ≡ Stuck → (a.found ≡ Unready Dead) × (a.failed ≡ None)
+  no_way : a.mended.result.next ≡ Stuck → (a.found ≡ Unready Dead) × (a.failed ≡ None)
   no_way = unnamed laws port r.later old r.mid k ready a looks
 
   -- the same disk
@@ -172,12 +172,12 @@ module _ (laws : LawsBelow) (port : Port) (replies : List Reply) (old new : Serv
     same_shown = same_disk info.0 (ap (λ (f : Found). disk_of f (Some a.was)) info.1) info.2.0 info.2.1
 
     same_stopped : Contains evidence.stopped port
-    same_stopped = stopped_named port a.recovered.result.next (λ stuck. let z : Ready info.0 ≡ Unready Dead = sym info.1 ∙ (no_way stuck).0 in absurd cc)
+    same_stopped = stopped_named port a.mended.result.next (λ stuck. let z : Ready info.0 ≡ Unready Dead = sym info.1 ∙ (no_way stuck).0 in absurd cc)
 
   -- another one
   module _ (is : a.prospect ≡ DiskLost) where
     other_stopped : Contains evidence.stopped port
-    other_stopped = stopped_named port a.recovered.result.next (λ stuck. (subst (IsProspect a.was a.found) is a.expects).0 (no_way stuck).0)
+    other_stopped = stopped_named port a.mended.result.next (λ stuck. (subst (IsProspect a.was a.found) is a.expects).0 (no_way stuck).0)
 
     other_lost : Contains evidence.lost port
     other_lost = subst (λ (p : Prospect). Contains (lost_of port p) port) (sym is) (first_here port [])
@@ -223,14 +223,14 @@ module _ (laws : LawsBelow) (port : Port) (replies : List Reply) (old new : Serv
 
     was_issued : (e : Held) → Contains a.mid.book e → e.entry.issued ≡ true → WasIssued m e.entry.id
     was_issued e here issued =
-        let there = (answered_left laws port a.recovered.done a.recovered.requests _ a.mid a.recovered.each e here).0 in
+        let there = (answered_left laws port a.mended.done a.mended.requests _ a.mid a.mended.each e here).0 in
         let p = at_left IsEntry old.book m.book is.book e there in
         record { pending = p.0; here = p.1; id_is = p.2.id; issued = p.2.issued ∙ issued }
 
     -- the one that failed was issued
     failed_issued : (x : Failed) → a.failed ≡ Some x → (e : Held) → Contains a.mid.book e → x.id.0 ≡ e.entry.id.0 → e.entry.issued ≡ true
     failed_issued x some e here same =
-        let u = failed_used (slots_at a.mid.slots port.0) a.recovered.result.failed a.failed x a.names some in
+        let u = failed_used (slots_at a.mid.slots port.0) a.mended.result.failed a.failed x a.names some in
         let s = served_request a.mid k_then.machine port.0 u.0 k_then.stands then_ready u.1.id (serves_used a.mid k_then.machine port.0 k_then.stands then_ready u.0 u.1 u.2) in
         let one : s.request ≡ e = laws.one a.mid.book s.request e k_then.ordered s.there here (s.id_is ∙ sym u.3 ∙ ap (λ (n : ℕ). record { 0 = n }) same) in
         subst (λ (y : Held). y.entry.issued ≡ true) one (sym s.entry.issued ∙ s.issued)
@@ -260,7 +260,7 @@ module _ (laws : LawsBelow) (port : Port) (replies : List Reply) (old new : Serv
               w.2.issued ∙ issued,
               subst (λ (failed : Option Failed). Contains (faults_of failed) (record { id = e.request.id; status = x.0.status; error = x.0.error })) (sym x.1)
                   (contains_here _ [] _ (λ i. record { id = (w.2.id ∙ ap (λ (n : ℕ). record { 0 = n }) (sym x.2)) i; status = x.0.status; error = x.0.error })),
-              subst (Contains evidence.stopped) (sym its_port) (stopped_named port a.recovered.result.next (λ stuck. let y : None ≡ Some x.0 = sym (no_way stuck).1 ∙ x.1 in absurd cc)),
+              subst (Contains evidence.stopped) (sym its_port) (stopped_named port a.mended.result.next (λ stuck. let y : None ≡ Some x.0 = sym (no_way stuck).1 ∙ x.1 in absurd cc)),
             )
         by (inr (inl x)) =
             subst (IsLawful began evidence (ports_of new) e) (sym x.3) (
@@ -280,8 +280,8 @@ module _ (laws : LawsBelow) (port : Port) (replies : List Reply) (old new : Serv
     early_may : AllMay m f.first × AllMay (after m f.first) (answers_in f.ended)
     early_may = may_parts laws m (answers_in f.ended) f.first (may_parts laws m f.middle (answers_in f.ended ++ f.first) (may_parts laws m f.fates (f.middle ++ (answers_in f.ended ++ f.first)) f.may).0).0
 
-    ended_by : (e : Pending) → Contains f.ended e → (request : Held) × Contains a.recovered.requests request × HasEnded port request e
-    ended_by e here = at_right (HasEnded port) a.recovered.requests f.ended f.each e here
+    ended_by : (e : Pending) → Contains f.ended e → (request : Held) × Contains a.mended.requests request × HasEnded port request e
+    ended_by e here = at_right (HasEnded port) a.mended.requests f.ended f.each e here
 
     ended_port : (e : Pending) → Contains f.ended e → e.request.port ≡ port
     ended_port e here = let y = ended_by e here in y.2.entry.port ∙ y.2.port_is
@@ -371,17 +371,17 @@ module _ (laws : LawsBelow) (port : Port) (replies : List Reply) (old new : Serv
 
     apart : AreDifferent (map with_ok f.ended ++ f.tells.answers)
     apart = all_pairs_append (λ x y. answered_id x ≢ answered_id y) (map with_ok f.ended) f.tells.answers
-        (told_differ port (map with_ok f.ended) ended_of (told_ordered port a.recovered.requests f.ended f.each a.recovered.ordered))
+        (told_differ port (map with_ok f.ended) ended_of (told_ordered port a.mended.requests f.ended f.each a.mended.ordered))
         (told_differ port f.tells.answers fates_of f.tells.ordered)
         (λ x y here there same.
         let e = map_in with_ok f.ended x here in
         let d = ended_by e.0 e.1 in
         let w = f.answered y.0 y.1 (told_fate y there) in
-        (answered_left laws port a.recovered.done a.recovered.requests _ a.mid a.recovered.each w.0 (of_its w.0 w.1).0).1 d.0 d.1
+        (answered_left laws port a.mended.done a.mended.requests _ a.mid a.mended.each w.0 (of_its w.0 w.1).0).1 d.0 d.1
         (ap (λ (n : ℕ). record { 0 = n }) (ap (λ (i : RequestId). i.0) (sym w.2.id) ∙ sym same ∙ ap (λ (q : Pending × Outcome). q.0.request.id.0) e.2 ∙ ap (λ (i : RequestId). i.0) d.2.entry.id)))
 
-    replies_are : map done_reply a.recovered.requests ++ r.later ≡ map reply_of (map with_ok f.ended ++ f.tells.answers)
-    replies_are = ap (λ (list : List Reply). list ++ r.later) (told_so port a.recovered.requests f.ended f.each) ∙ ap (λ (list : List Reply). map reply_of (map with_ok f.ended) ++ list) f.tells.told
+    replies_are : map done_reply a.mended.requests ++ r.later ≡ map reply_of (map with_ok f.ended ++ f.tells.answers)
+    replies_are = ap (λ (list : List Reply). list ++ r.later) (told_so port a.mended.requests f.ended f.each) ∙ ap (λ (list : List Reply). map reply_of (map with_ok f.ended) ++ list) f.tells.told
         ∙ sym (map-append reply_of (map with_ok f.ended) f.tells.answers)
 
     in_order : (list : List (Pending × Outcome)) × IsPermutation list (map with_ok f.ended ++ f.tells.answers) × AllPairs IsToldBefore list × (replies ≡ map reply_of list)
@@ -491,8 +491,8 @@ module _ (laws : LawsBelow) (port : Port) (replies : List Reply) (old new : Serv
 -- ---- the whole
 
 -- So it is from each machine that stands for the server.
-pub recovered_decides : LawsBelow → (port : Port) (replies : List Reply) (old new : Server) → IsKept old → state_of (found_of old.ports port.0) ≡ ReadyState → (r : RecoversPort port replies old new)
-    → IsFollowed (IsLooking port) AnyUse old.device r.settled.recovered.seen → IsKept r.mid → (m : Machine) → IsReached m → IsMachineOf old m
+pub recovered_decides : LawsBelow → (port : Port) (replies : List Reply) (old new : Server) → IsKept old → state_of (found_of old.ports port.0) ≡ ReadyState → (r : MendsPort port replies old new)
+    → IsFollowed (IsLooking port) AnyUse old.device r.settled.mended.seen → IsKept r.mid → (m : Machine) → IsReached m → IsMachineOf old m
     → DecidesTurn port replies old new r (evidence_by r.settled) m
 recovered_decides laws port replies old new k ready r looks k_mid m reached is =
     decides_turn laws port replies old new k ready r looks k_mid m reached is (adds_fates laws port r.later old r.mid k ready r.settled looks m reached is)

@@ -42,7 +42,7 @@ use Rattle.request_queue.specs.declared.fate.Prospect.TheVariants.{DiskLost}
 use Rattle.slots.specs.Uses.{use_at}
 use Rattle.slots.specs.declared.Use.{Use as SlotUse}
 use Rattle.server_history.specs.Below.{LawsBelow}
-use Rattle.server_history.specs.Recovered.{IsFailed, IsFoundAfter, IsProspect, IsRecovered, HasMetFates, LeadsToMending, RecoversPort}
+use Rattle.server_history.specs.Mended.{IsFailed, IsFoundAfter, IsProspect, IsMended, HasMetFates, LeadsToMending, MendsPort}
 use Rattle.server_history.specs.Served.{AnswersEach}
 use Rattle.server_history.specs.Server.{Server, IsKept, IsMachineOf, ports_of, slots_at, state_of, used_for}
 use Rattle.server_history.specs.Turns.{IsOfCommand, LeavesOthers, NamesOnly, TellsFault, instant_of, moment_of}
@@ -94,7 +94,7 @@ slots_were laws port low done (e ∷ requests) old new k ready over (mid, one, i
 -- ---- the whole
 
 -- What stands behind the turn, but for its steps: its accesses, what it leaves of the other ports, and its evidence. (Where a disk is in when the look shows a device, the machine had one in the port, or one went or came.)
-pub record IsEvident (port : Port) (replies : List Reply) (old new : Server) (r : RecoversPort port replies old new) : Type 0 where
+pub record IsEvident (port : Port) (replies : List Reply) (old new : Server) (r : MendsPort port replies old new) : Type 0 where
   pub parts : TurnParts port replies old new r
   pub accesses : List Access
   pub accesses_are : accesses ≡ accesses_in parts
@@ -107,16 +107,16 @@ pub record IsEvident (port : Port) (replies : List Reply) (old new : Server) (r 
   pub becomes : IsServiced (ports_of old) (evidence_by r.settled) (ports_of new) port
   pub evidenced : (m : Machine) → IsEvidencedOf Service (Served replies) accesses (instant_of old m) (ports_of new) new.device (evidence_by r.settled) port
   pub faults : (told : Fault) → Contains (evidence_by r.settled).faults told → TellsFault port accesses old new told
-  pub had : ((r.settled.recovered.seen.port port.0).ssts_det ≡ 3 → (r.settled.recovered.seen.port port.0).present ≡ true) → (m : Machine) → IsMachineOf old m → (steps : List Step) → IsBacked old.device new.device m steps
+  pub had : ((r.settled.mended.seen.port port.0).ssts_det ≡ 3 → (r.settled.mended.seen.port port.0).present ≡ true) → (m : Machine) → IsMachineOf old m → (steps : List Step) → IsBacked old.device new.device m steps
       → HadDisk (moment_of old m) steps (moment_of new (after m steps)) port
 
-module _ (laws : LawsBelow) (port : Port) (replies : List Reply) (old new : Server) (k : IsKept old) (ready : state_of (found_of old.ports port.0) ≡ ReadyState) (r : RecoversPort port replies old new)
-    (looks : IsFollowed (IsLooking port) AnyUse old.device r.settled.recovered.seen) (kept : IsKept r.mid) where
+module _ (laws : LawsBelow) (port : Port) (replies : List Reply) (old new : Server) (k : IsKept old) (ready : state_of (found_of old.ports port.0) ≡ ReadyState) (r : MendsPort port replies old new)
+    (looks : IsFollowed (IsLooking port) AnyUse old.device r.settled.mended.seen) (kept : IsKept r.mid) where
   abbrev a : HasMetFates port r.later old r.mid
   a = r.settled
 
-  abbrev x : IsRecovered port old a.mid a.device
-  x = a.recovered
+  abbrev x : IsMended port old a.mid a.device
+  x = a.mended
 
   abbrev part : List Access
   part = x.mends.accesses

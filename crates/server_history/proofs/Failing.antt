@@ -20,7 +20,7 @@ use Rattle.port_look.specs.declared.Look.TheVariants.{Failed}
 use Rattle.slots.specs.declared.Use.{Use as SlotUse}
 use Rattle.server_history.specs.Below.{LawsBelow}
 use Rattle.server_history.specs.Server.{Server, IsKept, StandsAlone, slots_at, state_of, used_for}
-use Rattle.server_history.specs.Recovered.{AreQueued}
+use Rattle.server_history.specs.Mended.{AreQueued}
 use Rattle.server_history.specs.Served.{IsMaskOf}
 use Rattle.server_history.proofs.Looking.{finding_kept, looking_kept}
 use Rattle.server_history.proofs.Plain.{both_read}

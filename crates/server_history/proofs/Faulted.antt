@@ -27,7 +27,7 @@ use Rattle.port_look.specs.Looks.{LooksAt, look_of}
 use Rattle.port_look.specs.declared.Look.{Look}
 use Rattle.port_look.specs.declared.Look.TheVariants.{Broken, Failed, Lost, Undisturbed}
 use Rattle.server_history.specs.Below.{LawsBelow}
-use Rattle.server_history.specs.Recovered.{LeadsToMending, TellsMending}
+use Rattle.server_history.specs.Mended.{LeadsToMending, TellsMending}
 use Rattle.server_history.proofs.Told.{fatal_shows}
 use Rattle.server_history.proofs.Lists.{first_here}
 

@@ -41,7 +41,7 @@ use Rattle.request_queue.specs.declared.fate.Fate.TheVariants.{Ends}
 use Rattle.request_queue.specs.declared.fate.Prospect.{Prospect}
 use Rattle.slots.specs.declared.Use.{Use as SlotUse}
 use Rattle.server_history.specs.Below.{LawsBelow}
-use Rattle.server_history.specs.Recovered.{IsFailed, IsRecovered, HasMetFates, RecoversPort, holdings_of, requests_of, TellsMending}
+use Rattle.server_history.specs.Mended.{IsFailed, IsMended, HasMetFates, MendsPort, holdings_of, requests_of, TellsMending}
 use Rattle.server_history.specs.Served.{AnswersEach, is_used}
 use Rattle.server_history.specs.Server.{Server, IsKept, IsMachineOf, ports_of, slots_at, state_of, used_for}
 use Rattle.server_history.specs.Turns.{IsOfTurn}
@@ -103,14 +103,14 @@ failed_fate its failed prospect e is same =
 
 -- ---- the whole
 
-module _ (laws : LawsBelow) (port : Port) (replies : List Reply) (old new : Server) (k : IsKept old) (ready : state_of (found_of old.ports port.0) ≡ ReadyState) (r : RecoversPort port replies old new)
-    (looks : IsFollowed (IsLooking port) AnyUse old.device r.settled.recovered.seen) (kept : IsKept r.mid) (m : Machine) (reached : IsReached m) (is : IsMachineOf old m)
+module _ (laws : LawsBelow) (port : Port) (replies : List Reply) (old new : Server) (k : IsKept old) (ready : state_of (found_of old.ports port.0) ≡ ReadyState) (r : MendsPort port replies old new)
+    (looks : IsFollowed (IsLooking port) AnyUse old.device r.settled.mended.seen) (kept : IsKept r.mid) (m : Machine) (reached : IsReached m) (is : IsMachineOf old m)
     (d : DecidesTurn port replies old new r (evidence_by r.settled) m) where
   abbrev a : HasMetFates port r.later old r.mid
   a = r.settled
 
-  abbrev x : IsRecovered port old a.mid a.device
-  x = a.recovered
+  abbrev x : IsMended port old a.mid a.device
+  x = a.mended
 
   abbrev from : Server
   from = record old { device = x.found }

@@ -44,7 +44,7 @@ use Rattle.request_queue.specs.declared.fate.Prospect.TheVariants.{SameDisk, Dis
 use Rattle.slots.specs.Uses.{Uses as PortSlots, use_at}
 use Rattle.server_history.specs.Below.{LawsBelow}
 use Rattle.server_history.specs.Fates.{DecidesOn, MayMeet, MeetsInMachine, keeps_fate, loan_of, loans_of}
-use Rattle.server_history.specs.Recovered.{AreUnused, IsFailed, IsFoundAfter, IsProspect, HasMetFates, holdings_of, requests_of, with_port}
+use Rattle.server_history.specs.Mended.{AreUnused, IsFailed, IsFoundAfter, IsProspect, HasMetFates, holdings_of, requests_of, with_port}
 use Rattle.server_history.specs.Served.{answers_in}
 use Rattle.server_history.specs.Server.{AreKept, AreOfTwo, AreUsesOf, IsKept, IsMachineOf, IsUsedAs, Server, kept_at, no_slots, slots_at, state_of, use_of, used_for}
 use Rattle.server_history.proofs.Going.{book_on, still_kept}
@@ -342,33 +342,33 @@ module _ (laws : LawsBelow) (port : Port) (mid : Server) (k : IsKept mid) (ready
 -- ---- the whole
 
 module _ (laws : LawsBelow) (port : Port) (later : List Reply) (old new : Server) (k : IsKept old) (ready : state_of (found_of old.ports port.0) ≡ ReadyState) (a : HasMetFates port later old new)
-    (looks : IsFollowed (IsLooking port) AnyUse old.device a.recovered.seen) where
+    (looks : IsFollowed (IsLooking port) AnyUse old.device a.mended.seen) where
   abbrev from : Server
-  from = record old { device = a.recovered.found }
+  from = record old { device = a.mended.found }
 
-  seen_kept : IsKept (record old { device = a.recovered.seen })
-  seen_kept = looking_kept old a.recovered.seen port k ready laws looks
+  seen_kept : IsKept (record old { device = a.mended.seen })
+  seen_kept = looking_kept old a.mended.seen port k ready laws looks
 
   pub found_kept : IsKept from
-  found_kept = finding_kept (record old { device = a.recovered.seen }) a.recovered.found port seen_kept ready laws a.recovered.mask a.recovered.done a.recovered.reads
+  found_kept = finding_kept (record old { device = a.mended.seen }) a.mended.found port seen_kept ready laws a.mended.mask a.mended.done a.mended.reads
 
-  pub over : AreOver port a.recovered.done a.recovered.found
-  over = found_over (record old { device = a.recovered.seen }) a.recovered.found port seen_kept ready laws a.recovered.mask a.recovered.done a.recovered.reads a.recovered.its
+  pub over : AreOver port a.mended.done a.mended.found
+  over = found_over (record old { device = a.mended.seen }) a.mended.found port seen_kept ready laws a.mended.mask a.mended.done a.mended.reads a.mended.its
 
   pub mid_kept : IsKept a.mid
-  mid_kept = answers_kept laws port a.recovered.done a.recovered.requests from a.mid found_kept ready over a.recovered.each
+  mid_kept = answers_kept laws port a.mended.done a.mended.requests from a.mid found_kept ready over a.mended.each
 
   pub settings : a.mid ≡ record from { table = a.mid.table; slots = a.mid.slots; book = a.mid.book }
-  settings = answers_settings laws port a.recovered.done a.recovered.requests from a.mid a.recovered.each
+  settings = answers_settings laws port a.mended.done a.mended.requests from a.mid a.mended.each
 
   pub mid_ready : state_of (found_of a.mid.ports port.0) ≡ ReadyState
   mid_ready = ap (λ (s : Server). state_of (found_of s.ports port.0)) settings ∙ ready
 
   -- nobody is named on a port whose engine is stuck
-  pub unnamed : a.recovered.result.next ≡ Stuck → (a.found ≡ Unready Dead) × (a.failed ≡ None)
+  pub unnamed : a.mended.result.next ≡ Stuck → (a.found ≡ Unready Dead) × (a.failed ≡ None)
   unnamed stuck = (
     (subst (λ (way : Next). IsFoundAfter (wanted_of old.wanted port.0) port a.was way a.device new.device a.found) stuck a.is).0,
-    subst (λ (its : Option _). IsFailed (slots_at a.mid.slots port.0) its a.failed) (a.recovered.mends.tells.dead stuck) a.names,
+    subst (λ (its : Option _). IsFailed (slots_at a.mid.slots port.0) its a.failed) (a.mended.mends.tells.dead stuck) a.names,
   )
 
   pub adds_fates : (m : Machine) → IsReached m → IsMachineOf old m → AddsFates port later old new a m
@@ -386,34 +386,34 @@ module _ (laws : LawsBelow) (port : Port) (later : List Reply) (old new : Server
         (laws.backed_parts old.device a.mid.device new.device m base p.passes.steps base_backed p.passes.backed) (subst (λ (s : Machine). IsBacked new.device new.device s f.steps) (sym then_is) (f.backed new.device));
     stands = subst (IsMachineOf new) (sym (laws.basic.joined m f.steps (p.passes.steps ++ base) ∙ ap (λ (s : Machine). after s f.steps) then_is))
         (subst (λ (s : Server). IsMachineOf s (after (after n p.passes.steps) f.steps)) (sym a.server)
-        (stands laws port a.mid mid_kept mid_ready n n_reached is_mid a.recovered.result.next a.found new.device p a.failed a.prospect a.was a.expects unnamed later a.now a.meets a.mode a.slots a.unused));
+        (stands laws port a.mid mid_kept mid_ready n n_reached is_mid a.mended.result.next a.found new.device p a.failed a.prospect a.was a.expects unnamed later a.now a.meets a.mode a.slots a.unused));
     own = f.own;
     answered = f.answered;
     again = f.again;
     tells = f.tells;
   }
     where
-      looked : (steps : List Step) × AllMay m steps × IsMachineOf (record old { device = a.recovered.seen }) (after m steps) × IsBacked old.device a.recovered.seen m steps × AllDevices steps
-      looked = followed_steps laws old a.recovered.seen (looks_serve laws port old.device a.recovered.seen looks) m reached is
+      looked : (steps : List Step) × AllMay m steps × IsMachineOf (record old { device = a.mended.seen }) (after m steps) × IsBacked old.device a.mended.seen m steps × AllDevices steps
+      looked = followed_steps laws old a.mended.seen (looks_serve laws port old.device a.mended.seen looks) m reached is
 
-      finding : (steps : List Step) × AllMay (after m looked.0) steps × IsMachineOf from (after (after m looked.0) steps) × IsBacked a.recovered.seen a.recovered.found (after m looked.0) steps × AllDevices steps
-      finding = followed_steps laws (record old { device = a.recovered.seen }) a.recovered.found (finds_serve laws port a.recovered.mask a.recovered.done a.recovered.seen a.recovered.found a.recovered.reads)
+      finding : (steps : List Step) × AllMay (after m looked.0) steps × IsMachineOf from (after (after m looked.0) steps) × IsBacked a.mended.seen a.mended.found (after m looked.0) steps × AllDevices steps
+      finding = followed_steps laws (record old { device = a.mended.seen }) a.mended.found (finds_serve laws port a.mended.mask a.mended.done a.mended.seen a.mended.found a.mended.reads)
           (after m looked.0) (laws.basic.reached m looked.0 reached looked.1) looked.2
 
-      x : (steps : List Step) × AllMay m steps × IsMachineOf from (after m steps) × IsBacked old.device a.recovered.found m steps × AllDevices steps
+      x : (steps : List Step) × AllMay m steps × IsMachineOf from (after m steps) × IsBacked old.device a.mended.found m steps × AllDevices steps
       x = (
         finding.0 ++ looked.0,
         laws.basic.may m finding.0 looked.0 looked.1 finding.1,
         subst (IsMachineOf from) (sym (laws.basic.joined m finding.0 looked.0)) finding.2,
-        laws.backed_parts old.device a.recovered.seen a.recovered.found m looked.0 finding.0 looked.3 finding.3,
+        laws.backed_parts old.device a.mended.seen a.mended.found m looked.0 finding.0 looked.3 finding.3,
         devices_both finding.0 looked.0 finding.4 looked.4,
       )
 
       reached_x : IsReached (after m x.0)
       reached_x = laws.basic.reached m x.0 reached x.1
 
-      y : AreAnswered port a.recovered.requests from a.mid (after m x.0)
-      y = each_answered laws port a.recovered.done a.recovered.requests from a.mid found_kept ready over a.recovered.each (after m x.0) reached_x x.2
+      y : AreAnswered port a.mended.requests from a.mid (after m x.0)
+      y = each_answered laws port a.mended.done a.mended.requests from a.mid found_kept ready over a.mended.each (after m x.0) reached_x x.2
 
       base : List Step
       base = answers_in y.ended ++ x.0
@@ -425,7 +425,7 @@ module _ (laws : LawsBelow) (port : Port) (later : List Reply) (old new : Server
       base_may = laws.basic.may m (answers_in y.ended) x.0 x.1 y.may
 
       base_backed : IsBacked old.device a.mid.device m base
-      base_backed = laws.backed_parts old.device a.recovered.found a.mid.device m x.0 (answers_in y.ended) x.3 y.backed
+      base_backed = laws.backed_parts old.device a.mended.found a.mid.device m x.0 (answers_in y.ended) x.3 y.backed
 
       n_reached : IsReached n
       n_reached = laws.basic.reached m base reached base_may
@@ -433,12 +433,12 @@ module _ (laws : LawsBelow) (port : Port) (later : List Reply) (old new : Server
       is_mid : IsMachineOf a.mid n
       is_mid = subst (IsMachineOf a.mid) (sym (laws.basic.joined m (answers_in y.ended) x.0)) y.stands
 
-      p : IsPassed port.0 a.recovered.result.next a.found a.mid.device new.device (record { uses = is_mid.uses; parked = is_mid.parked }) n
-      p = passed laws (wanted_of old.wanted port.0) port a.was a.recovered.result.next a.recovered.mends.accesses a.mid.device a.device new.device a.found a.recovered.mends.does.slots a.is
+      p : IsPassed port.0 a.mended.result.next a.found a.mid.device new.device (record { uses = is_mid.uses; parked = is_mid.parked }) n
+      p = passed laws (wanted_of old.wanted port.0) port a.was a.mended.result.next a.mended.mends.accesses a.mid.device a.device new.device a.found a.mended.mends.does.slots a.is
           (record { uses = is_mid.uses; parked = is_mid.parked }) n n_reached is_mid.knows
 
       f : MeetsInMachine port (fate_of a.failed a.prospect) (requests_of port a.mid.book) later (holdings_of port a.mid) a.now (at_slots p.slots new.device) (after n p.passes.steps)
-      f = met laws port a.mid mid_kept mid_ready n n_reached is_mid a.recovered.result.next a.found new.device p a.failed a.prospect a.was a.expects unnamed later a.now a.meets
+      f = met laws port a.mid mid_kept mid_ready n n_reached is_mid a.mended.result.next a.found new.device p a.failed a.prospect a.was a.expects unnamed later a.now a.meets
 
       then_is : after m (p.passes.steps ++ base) ≡ after n p.passes.steps
       then_is = laws.basic.joined m p.passes.steps base

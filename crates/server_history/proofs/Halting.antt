@@ -22,7 +22,7 @@ use Rattle.block_machine.specs.State.{Pending}
 use Rattle.error_recovery.specs.Recovery.{RunsAgain}
 use Rattle.host_boot.specs.Taken.{found_of}
 use Rattle.server_history.specs.Below.{LawsBelow}
-use Rattle.server_history.specs.Recovered.{AreQueued}
+use Rattle.server_history.specs.Mended.{AreQueued}
 use Rattle.server_history.specs.Server.{Server, IsKept, slots_at, state_of, used_for}
 use Rattle.server_history.proofs.Slots.{IsServedBy, free_unused, served_request, serves_used, used_or_not}
 use Rattle.slots.specs.declared.Use.{Use as SlotUse}

@@ -36,7 +36,7 @@ use Rattle.port_boot.specs.States.{IsBoot, IsBootTo, IsOfBoot, StopsOnWay}
 use Rattle.port_control.specs.Engines.{Sticks}
 use Rattle.host_boot.specs.Taken.{IsSurvey}
 use Rattle.server_history.specs.Below.{LawsBelow}
-use Rattle.server_history.specs.Recovered.{IsFoundAfter}
+use Rattle.server_history.specs.Mended.{IsFoundAfter}
 
 -- ---- steps of the device
 

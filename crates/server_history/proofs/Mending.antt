@@ -19,7 +19,7 @@ use Rattle.port_boot.specs.States.{ShowsOwnDisk}
 use Rattle.port_look.specs.Looks.{IsLooking}
 use Rattle.request_queue.specs.Entries.{Held, asks, asks_of, due_ids}
 use Rattle.server_history.specs.Below.{LawsBelow}
-use Rattle.server_history.specs.Recovered.{HasMetFates, RecoversPort}
+use Rattle.server_history.specs.Mended.{HasMetFates, MendsPort}
 use Rattle.server_history.specs.Server.{IsKept, IsMachineOf, IsSettled, Server, mode_in, state_of}
 use Rattle.server_history.specs.Turns.{MakesTurn, ServesPort}
 use Rattle.server_history.proofs.Binding.{ties_recovered}
@@ -34,7 +34,7 @@ use Rattle.server_history.proofs.Slots.{of_ready, ready_found}
 
 -- once its requests met their fates, the server keeps what it keeps
 pub goes_on : LawsBelow → (port : Port) (later : List Reply) (old new : Server) → IsKept old → state_of (found_of old.ports port.0) ≡ ReadyState → (a : HasMetFates port later old new)
-    → IsFollowed (IsLooking port) AnyUse old.device a.recovered.seen → IsKept new
+    → IsFollowed (IsLooking port) AnyUse old.device a.mended.seen → IsKept new
 goes_on laws port later old new k ready a looks =
     let f = adds_fates laws port later old new k ready a looks k.machine k.reached k.stands in
     recovered_kept laws port later old new k ready a looks _ (laws.basic.reached k.machine _ k.reached f.may) f.stands
@@ -52,7 +52,7 @@ unready_undue laws s k port unready = ap (map (λ (r : Unanswered). r.id)) (nobo
         unready found.0 found.1
 
 module _ (laws : LawsBelow) (port : Port) (replies : List Reply) (old new : Server) (t : IsSettled old) (ready : state_of (found_of old.ports port.0) ≡ ReadyState)
-    (r : RecoversPort port replies old new) (looks : IsFollowed (IsLooking port) AnyUse old.device r.settled.recovered.seen) where
+    (r : MendsPort port replies old new) (looks : IsFollowed (IsLooking port) AnyUse old.device r.settled.mended.seen) where
   abbrev k : IsKept old
   k = t.kept
 
@@ -63,8 +63,8 @@ module _ (laws : LawsBelow) (port : Port) (replies : List Reply) (old new : Serv
   e = evident laws port replies old new k ready r looks kept
 
   -- where the port showed a device when it was looked at, a disk was in
-  own : ShowsOwnDisk (r.settled.recovered.seen.port port.0)
-  own = ((looking_kept old r.settled.recovered.seen port k ready laws looks).behind port.0 (ready_found old port.0 k ready).0).own ready
+  own : ShowsOwnDisk (r.settled.mended.seen.port port.0)
+  own = ((looking_kept old r.settled.mended.seen port k ready laws looks).behind port.0 (ready_found old port.0 k ready).0).own ready
 
   makes : (m : Machine) → IsReached m → IsMachineOf old m → MakesTurn port replies e.accesses old new m
   makes m reached is =

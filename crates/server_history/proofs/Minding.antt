@@ -34,7 +34,7 @@ use Rattle.request_queue.specs.declared.fate.Failed.{Failed}
 use Rattle.request_queue.specs.declared.fate.Fate.TheVariants.{Ends}
 use Rattle.slots.specs.Uses.{Uses as PortSlots, use_at}
 use Rattle.server_history.specs.Below.{LawsBelow}
-use Rattle.server_history.specs.Recovered.{HasMetFates, IsFailed, RecoversPort, TellsMending, requests_of}
+use Rattle.server_history.specs.Mended.{HasMetFates, IsFailed, MendsPort, TellsMending, requests_of}
 use Rattle.server_history.specs.Served.{IssuesOnly, answers_in}
 use Rattle.server_history.specs.Server.{Server, IsKept, IsMachineOf, mode_in, no_slots, slots_at, state_of, used_for}
 use Rattle.server_history.specs.Turns.{IsOfTurn, moment_of}
@@ -157,8 +157,8 @@ abbrev failed_id : Option Failed → ℕ
 failed_id None = 0
 failed_id (Some failed) = failed.id.0
 
-module _ (laws : LawsBelow) (port : Port) (replies : List Reply) (old new : Server) (k : IsKept old) (ready : state_of (found_of old.ports port.0) ≡ ReadyState) (r : RecoversPort port replies old new)
-    (looks : IsFollowed (IsLooking port) AnyUse old.device r.settled.recovered.seen) (kept : IsKept r.mid) (evident : IsEvident port replies old new r) (m : Machine) (reached : IsReached m) (is : IsMachineOf old m)
+module _ (laws : LawsBelow) (port : Port) (replies : List Reply) (old new : Server) (k : IsKept old) (ready : state_of (found_of old.ports port.0) ≡ ReadyState) (r : MendsPort port replies old new)
+    (looks : IsFollowed (IsLooking port) AnyUse old.device r.settled.mended.seen) (kept : IsKept r.mid) (evident : IsEvident port replies old new r) (m : Machine) (reached : IsReached m) (is : IsMachineOf old m)
     (d : DecidesTurn port replies old new r (evidence_by r.settled) m) where
   abbrev a : HasMetFates port r.later old r.mid
   a = r.settled
@@ -263,20 +263,20 @@ module _ (laws : LawsBelow) (port : Port) (replies : List Reply) (old new : Serv
   single : count_by (tells_fault port) d.steps ≤ 1
   single = let one = one_told port (failed_id a.failed) d.fates.fates differ named in let c = counted in omega (arith, one, c)
 
-  fatal : Contains (fatal_of port a.recovered.look) port → count_by (tells_fault port) d.steps ≡ 0
+  fatal : Contains (fatal_of port a.mended.look) port → count_by (tells_fault port) d.steps ≡ 0
   fatal here = ⊎_elim
       (λ failed. absurd (nowhere port (subst (λ (l : Look). Contains (fatal_of port l) port) failed here)))
       (λ broken. counted ∙ untold (nobody broken))
-      (leads a.recovered.look port a.recovered.outstanding a.recovered.queued a.recovered.result a.recovered.mends.accesses a.mid.device a.device a.recovered.tells)
+      (leads a.mended.look port a.mended.outstanding a.mended.queued a.mended.result a.mended.mends.accesses a.mid.device a.device a.mended.tells)
     where
-      nobody : a.recovered.look ≡ Broken → a.failed ≡ None
+      nobody : a.mended.look ≡ Broken → a.failed ≡ None
       nobody broken =
-          let none = (subst (λ (l : Look). TellsMending l port a.recovered.outstanding a.recovered.queued a.recovered.result a.recovered.mends.accesses a.mid.device a.device) broken a.recovered.tells).0 in
+          let none = (subst (λ (l : Look). TellsMending l port a.mended.outstanding a.mended.queued a.mended.result a.mended.mends.accesses a.mid.device a.device) broken a.mended.tells).0 in
           subst (λ (f : Option Failure). IsFailed (slots_at a.mid.slots port.0) f a.failed) none a.names
 
   -- ---- all of it
 
-  pub serves_ready : ShowsOwnDisk (r.settled.recovered.seen.port port.0) → ServesReady (moment_of old m) (evidence_by a) d.steps (moment_of new (after m d.steps)) port
+  pub serves_ready : ShowsOwnDisk (r.settled.mended.seen.port port.0) → ServesReady (moment_of old m) (evidence_by a) d.steps (moment_of new (after m d.steps)) port
   serves_ready own = record {
     ended = heeding laws port replies old new k ready r looks kept evident m reached is d;
     emptied = λ here. absurd (nowhere port here);

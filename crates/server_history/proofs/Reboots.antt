@@ -26,7 +26,7 @@ use Rattle.port_look.specs.Looks.{IsLooking}
 use Rattle.port_look.specs.declared.Look.{Look}
 use Rattle.port_look.specs.declared.Look.TheVariants.{Broken}
 use Rattle.server_history.specs.Below.{LawsBelow}
-use Rattle.server_history.specs.Recovered.{IsFoundAfter, IsRecovered, HasMetFates, RecoversPort, TellsMending}
+use Rattle.server_history.specs.Mended.{IsFoundAfter, IsMended, HasMetFates, MendsPort, TellsMending}
 use Rattle.server_history.specs.Server.{Server, IsKept, disk_in, disk_of, is_served, mode_found, mode_in, plain_mode, ports_of, sectors_of, serial_of, state_of, trims_of}
 use Rattle.server_history.specs.Turns.{instant_of}
 use Rattle.server_history.proofs.Becoming.{disk_new, disk_old, found_new, issued_as, next_dead, state_new}
@@ -39,13 +39,13 @@ use Rattle.server_history.proofs.Slots.{ready_found}
 use Rattle.server_history.proofs.Stretching.{TurnParts}
 use Rattle.server_history.proofs.Lists.{nowhere}
 
-module _ (laws : LawsBelow) (port : Port) (replies : List Reply) (old new : Server) (k : IsKept old) (ready : state_of (found_of old.ports port.0) ≡ ReadyState) (r : RecoversPort port replies old new)
-    (looks : IsFollowed (IsLooking port) AnyUse old.device r.settled.recovered.seen) (kept : IsKept r.mid) (evident : IsEvident port replies old new r) where
+module _ (laws : LawsBelow) (port : Port) (replies : List Reply) (old new : Server) (k : IsKept old) (ready : state_of (found_of old.ports port.0) ≡ ReadyState) (r : MendsPort port replies old new)
+    (looks : IsFollowed (IsLooking port) AnyUse old.device r.settled.mended.seen) (kept : IsKept r.mid) (evident : IsEvident port replies old new r) where
   abbrev a : HasMetFates port r.later old r.mid
   a = r.settled
 
-  abbrev x : IsRecovered port old a.mid a.device
-  x = a.recovered
+  abbrev x : IsMended port old a.mid a.device
+  x = a.mended
 
   abbrev t : TurnParts port replies old new r
   t = evident.parts

@@ -52,7 +52,7 @@ use Rattle.request_queue.specs.declared.fate.Prospect.TheVariants.{SameDisk, Dis
 use Rattle.slots.specs.Uses.{Uses as PortSlots, use_at}
 use Rattle.slots.specs.declared.Use.{Use as SlotUse}
 use Rattle.server_history.specs.Below.{LawsBelow}
-use Rattle.server_history.specs.Recovered.{AreQueued, IsFoundAfter, IsProspect, IsRecovered, HasMetFates, holdings_of, requests_of, with_port}
+use Rattle.server_history.specs.Mended.{AreQueued, IsFoundAfter, IsProspect, IsMended, HasMetFates, holdings_of, requests_of, with_port}
 use Rattle.server_history.specs.Server.{HasSlots, Server, IsKept, IsMachineOf, IsPortOf, is_served, mode_at, mode_found, mode_in, no_slots, plain_mode, slots_at, state_of, usable_of, used_for}
 use Rattle.server_history.proofs.Behind.{left_on, ready_on}
 use Rattle.server_history.proofs.Halting.{again_halts, works_plainly}
@@ -122,7 +122,7 @@ kept_in {X} passes (y ∷ xs) x here is = ⊎_elim
 
 -- ---- a recovery
 
-module _ (laws : LawsBelow) (port : Port) (old mid : Server) (device : Device) (k : IsKept old) (ready : state_of (found_of old.ports port.0) ≡ ReadyState) (r : IsRecovered port old mid device)
+module _ (laws : LawsBelow) (port : Port) (old mid : Server) (device : Device) (k : IsKept old) (ready : state_of (found_of old.ports port.0) ≡ ReadyState) (r : IsMended port old mid device)
     (looks : IsFollowed (IsLooking port) AnyUse old.device r.seen) where
   seen_kept : IsKept (record old { device = r.seen })
   seen_kept = looking_kept old r.seen port k ready laws looks
@@ -178,9 +178,9 @@ module _ (laws : LawsBelow) (port : Port) (old mid : Server) (device : Device) (
 -- ---- what it is then
 
 module _ (laws : LawsBelow) (port : Port) (later : List Reply) (old new : Server) (k : IsKept old) (ready : state_of (found_of old.ports port.0) ≡ ReadyState) (a : HasMetFates port later old new)
-    (looks : IsFollowed (IsLooking port) AnyUse old.device a.recovered.seen) where
-  abbrev r : IsRecovered port old a.mid a.device
-  r = a.recovered
+    (looks : IsFollowed (IsLooking port) AnyUse old.device a.mended.seen) where
+  abbrev r : IsMended port old a.mid a.device
+  r = a.mended
 
   abbrev mid : Server
   mid = a.mid

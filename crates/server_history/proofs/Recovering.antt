@@ -40,7 +40,7 @@ use Rattle.port_boot.specs.States.{IsBoot, IsOfBoot}
 use Rattle.port_control.specs.Engines.{Sticks}
 use Rattle.port_control.specs.declared.Stopped.{Stopped}
 use Rattle.server_history.specs.Below.{LawsBelow}
-use Rattle.server_history.specs.Recovered.{IsFoundAfter}
+use Rattle.server_history.specs.Mended.{IsFoundAfter}
 use Rattle.server_history.proofs.Coming.{table_own}
 use Rattle.server_history.proofs.Resetting.{ResetsBy, early_resets, late_resets, ready_resets, resets_since}
 use Rattle.server_history.proofs.Silent.{silent_more, silent_none}

@@ -23,7 +23,7 @@ use Rattle.request_queue.specs.declared.fate.Fate.TheVariants.{Ends, GoesAgain}
 use Rattle.request_queue.specs.declared.fate.Prospect.{Prospect}
 use Rattle.request_queue.specs.declared.fate.Prospect.TheVariants.{SameDisk, DiskLost, Dead}
 use Rattle.server_history.specs.Fates.{DecidesOn}
-use Rattle.server_history.specs.Recovered.{IsRecovered, HasMetFates, requests_of}
+use Rattle.server_history.specs.Mended.{IsMended, HasMetFates, requests_of}
 use Rattle.server_history.specs.Served.{HasEnded, answers_in}
 use Rattle.server_history.specs.Server.{Server, IsMachineOf}
 
@@ -66,12 +66,12 @@ evidence_of port look failed prospect next = record {
 
 -- that of such a turn
 abbrev pub evidence_by : {port : Port} {later : List Reply} {old new : Server} → HasMetFates port later old new → Evidence
-evidence_by {port} a = evidence_of port a.recovered.look a.failed a.prospect a.recovered.result.next
+evidence_by {port} a = evidence_of port a.mended.look a.failed a.prospect a.mended.result.next
 
 -- ---- its steps, but for those that issue
 
 -- The device's steps until the masks were read: those while the port was looked at, and then the others.
-pub record AddsFirst (port : Port) (old mid : Server) (new : Device) (r : IsRecovered port old mid new) (m : Machine) (first : List Step) : Type 0 where
+pub record AddsFirst (port : Port) (old mid : Server) (new : Device) (r : IsMended port old mid new) (m : Machine) (first : List Step) : Type 0 where
   pub looked : List Step
   pub later : List Step
   pub first_is : first ≡ later ++ looked
@@ -88,8 +88,8 @@ pub record AddsFates (port : Port) (later : List Reply) (old new : Server) (a : 
   pub middle : List Step
   pub fates : List Step
   pub first_only : AllDevices first
-  pub early : AddsFirst port old a.mid a.device a.recovered m first
-  pub each : AllZip (HasEnded port) a.recovered.requests ended
+  pub early : AddsFirst port old a.mid a.device a.mended m first
+  pub each : AllZip (HasEnded port) a.mended.requests ended
   pub middle_only : AllDevices middle
   pub may : AllMay m (fates ++ (middle ++ (answers_in ended ++ first)))
   pub backed : IsBacked old.device new.device m (fates ++ (middle ++ (answers_in ended ++ first)))

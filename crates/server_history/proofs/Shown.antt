@@ -25,7 +25,7 @@ use Rattle.block_machine.specs.Steps.{Step}
 use Rattle.port_look.specs.Looks.{LooksAt}
 use Rattle.port_look.specs.declared.Look.{Look}
 use Rattle.server_history.specs.Below.{LawsBelow}
-use Rattle.server_history.specs.Recovered.{LeadsToMending}
+use Rattle.server_history.specs.Mended.{LeadsToMending}
 use Rattle.server_history.specs.Server.{Server, IsMachineOf}
 use Rattle.server_history.proofs.Faulted.{one_or_none, shows_link}
 

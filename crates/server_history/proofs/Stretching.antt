@@ -38,7 +38,7 @@ use Rattle.port_control.specs.declared.Stopped.{Stopped}
 use Rattle.port_look.specs.Looks.{IsLooking}
 use Rattle.request_queue.specs.Entries.{Held, asks, asks_of, due_ids}
 use Rattle.server_history.specs.Below.{LawsBelow}
-use Rattle.server_history.specs.Recovered.{IsRecovered, HasMetFates, RecoversPort}
+use Rattle.server_history.specs.Mended.{IsMended, HasMetFates, MendsPort}
 use Rattle.server_history.specs.Served.{IssuesEach, IssuesIn}
 use Rattle.server_history.specs.Server.{Server, IsKept, mode_in, state_of, used_for}
 use Rattle.server_history.proofs.Coming.{issuing_leaves, issuing_turns, look_does, look_list, look_turns, turn_leaves}
@@ -60,35 +60,35 @@ recovery_does port next.Dead accesses old new p = ⊎_elim (λ a. a.does) (λ b.
 
 -- The accesses of the turn: those until the masks were read, after which requests were answered; recovery's; and those after it, of a boot and of issues.
 -- No page of the log comes on another port that isn't dead.
-pub record TurnParts (port : Port) (replies : List Reply) (old new : Server) (r : RecoversPort port replies old new) : Type 0 where
+pub record TurnParts (port : Port) (replies : List Reply) (old new : Server) (r : MendsPort port replies old new) : Type 0 where
   pub early : IsDrivenBy (IsEarlyPart port) old.device r.settled.mid.device
-  pub masks : ReadsMasks port r.settled.recovered.reads.issued r.settled.recovered.reads.active early.accesses
-  pub does : DoesAll r.settled.recovered.mends.accesses r.settled.mid.device r.settled.device
-  pub kinds : All (IsPart port) r.settled.recovered.mends.accesses
+  pub masks : ReadsMasks port r.settled.mended.reads.issued r.settled.mended.reads.active early.accesses
+  pub does : DoesAll r.settled.mended.mends.accesses r.settled.mid.device r.settled.device
+  pub kinds : All (IsPart port) r.settled.mended.mends.accesses
   pub late : IsDrivenBy (IsPart port) r.settled.device new.device
-  pub sticks : r.settled.found ≡ Unready DeadState → r.settled.recovered.result.next ≢ next.Dead → Sticks port late.accesses
-  pub stuck : r.settled.found ≡ Unready DeadState → r.settled.recovered.result.next ≢ next.Dead → (new.device.port port.0).notes.engine_count ≡ 64
-  pub resets : (token : Stopped) → r.settled.recovered.result.next ≡ next.Restart token → r.settled.found ≢ Unready DeadState → ResetsLink port late.accesses
-  pub unreset : ((token : Stopped) → r.settled.recovered.result.next ≢ next.Restart token) → All (SparesRegister (Px port Sctl)) (early.accesses ++ (r.settled.recovered.mends.accesses ++ late.accesses))
+  pub sticks : r.settled.found ≡ Unready DeadState → r.settled.mended.result.next ≢ next.Dead → Sticks port late.accesses
+  pub stuck : r.settled.found ≡ Unready DeadState → r.settled.mended.result.next ≢ next.Dead → (new.device.port port.0).notes.engine_count ≡ 64
+  pub resets : (token : Stopped) → r.settled.mended.result.next ≡ next.Restart token → r.settled.found ≢ Unready DeadState → ResetsLink port late.accesses
+  pub unreset : ((token : Stopped) → r.settled.mended.result.next ≢ next.Restart token) → All (SparesRegister (Px port Sctl)) (early.accesses ++ (r.settled.mended.mends.accesses ++ late.accesses))
   pub unissued : r.settled.found ≡ Unready DeadState → new ≡ r.mid
   pub silent : (q : ℕ) → q ≢ port.0 → state_of (found_of old.ports q) ≢ DeadState → SendsNone q ReadLog old.device new.device
   pub issuing_silent : state_of (found_of r.mid.ports port.0) ≢ DeadState → SendsNone port.0 ReadLog r.mid.device new.device
 
-abbrev pub accesses_in : {port : Port} {replies : List Reply} {old new : Server} {r : RecoversPort port replies old new} → TurnParts port replies old new r → List Access
-accesses_in {port} {replies} {old} {new} {r} t = t.early.accesses ++ (r.settled.recovered.mends.accesses ++ t.late.accesses)
+abbrev pub accesses_in : {port : Port} {replies : List Reply} {old new : Server} {r : MendsPort port replies old new} → TurnParts port replies old new r → List Access
+accesses_in {port} {replies} {old} {new} {r} t = t.early.accesses ++ (r.settled.mended.mends.accesses ++ t.late.accesses)
 
 -- a list with nobody in it
 nobody : {X : Type 0} (xs : List X) → ((x : X) → Contains xs x → ⊥) → xs ≡ []
 nobody [] none = refl
 nobody (x ∷ xs) none = absurd (none x (first_here x xs))
 
-module _ (laws : LawsBelow) (port : Port) (replies : List Reply) (old new : Server) (k : IsKept old) (ready : state_of (found_of old.ports port.0) ≡ ReadyState) (r : RecoversPort port replies old new)
-    (looks : IsFollowed (IsLooking port) AnyUse old.device r.settled.recovered.seen) (kept : IsKept r.mid) where
+module _ (laws : LawsBelow) (port : Port) (replies : List Reply) (old new : Server) (k : IsKept old) (ready : state_of (found_of old.ports port.0) ≡ ReadyState) (r : MendsPort port replies old new)
+    (looks : IsFollowed (IsLooking port) AnyUse old.device r.settled.mended.seen) (kept : IsKept r.mid) where
   abbrev a : HasMetFates port r.later old r.mid
   a = r.settled
 
-  abbrev x : IsRecovered port old a.mid a.device
-  x = a.recovered
+  abbrev x : IsMended port old a.mid a.device
+  x = a.mended
 
   low : port.0 < 4
   low = (ready_found old port.0 k ready).0

@@ -30,7 +30,7 @@ use Rattle.host_boot.specs.declared.Found.{Found}
 use Rattle.port_boot.specs.States.{told_causes}
 use Rattle.port_look.specs.Looks.{IsLooking}
 use Rattle.server_history.specs.Below.{LawsBelow}
-use Rattle.server_history.specs.Recovered.{IsRecovered, HasMetFates, RecoversPort}
+use Rattle.server_history.specs.Mended.{IsMended, HasMetFates, MendsPort}
 use Rattle.server_history.specs.Server.{Server, IsKept, ports_of, state_of}
 use Rattle.server_history.specs.Turns.{instant_of}
 use Rattle.server_history.proofs.Becoming.{next_dead, state_new}
@@ -92,14 +92,14 @@ never_reset port accesses all r = All-contains (SparesRegister (Px port Sctl)) a
 
 -- ---- the whole
 
-module _ (laws : LawsBelow) (port : Port) (replies : List Reply) (old new : Server) (k : IsKept old) (ready : state_of (found_of old.ports port.0) ≡ ReadyState) (r : RecoversPort port replies old new)
-    (looks : IsFollowed (IsLooking port) AnyUse old.device r.settled.recovered.seen) (kept : IsKept r.mid) (evident : IsEvident port replies old new r)
-    (plainly : r.settled.recovered.queued ≡ false → WorksPlainly (r.settled.mid.device.port port.0)) where
+module _ (laws : LawsBelow) (port : Port) (replies : List Reply) (old new : Server) (k : IsKept old) (ready : state_of (found_of old.ports port.0) ≡ ReadyState) (r : MendsPort port replies old new)
+    (looks : IsFollowed (IsLooking port) AnyUse old.device r.settled.mended.seen) (kept : IsKept r.mid) (evident : IsEvident port replies old new r)
+    (plainly : r.settled.mended.queued ≡ false → WorksPlainly (r.settled.mid.device.port port.0)) where
   abbrev a : HasMetFates port r.later old r.mid
   a = r.settled
 
-  abbrev x : IsRecovered port old a.mid a.device
-  x = a.recovered
+  abbrev x : IsMended port old a.mid a.device
+  x = a.mended
 
   abbrev t : TurnParts port replies old new r
   t = evident.parts

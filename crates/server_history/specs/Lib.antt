@@ -1,7 +1,7 @@
 pub mod Server
 pub mod Histories
 pub mod Served
-pub mod Recovered
+pub mod Mended
 pub mod Turns
 pub mod After
 pub mod Basics

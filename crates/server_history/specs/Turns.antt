@@ -30,7 +30,7 @@ use Rattle.host_boot.specs.Taken.{found_of}
 use Rattle.host_boot.specs.declared.Found.{Found}
 use Rattle.host_boot.specs.declared.Found.TheVariants.{Ready}
 use Rattle.request_queue.specs.Entries.{asks_of}
-use Rattle.server_history.specs.Recovered.{RecoversPort}
+use Rattle.server_history.specs.Mended.{MendsPort}
 use Rattle.server_history.specs.Served.{AnswersTurn, HasTurn}
 use Rattle.server_history.specs.Server.{Server, IsMachineOf, IsSettled, mode_at, mode_in, ports_of, remembered_at, slots_at, state_of, used_for}
 use Rattle.slots.specs.declared.Use.{Use as SlotUse}
@@ -155,7 +155,7 @@ pub record HasPart (port : Port) (replies : List Reply) (old new : Server) : Typ
 abbrev pub DoesTurn : Port → List Reply → Server → Server → Type 0
 DoesTurn port replies old new =
     ((turn : HasTurn port (slots_at old.slots port.0) replies old.device new.device) × AnswersTurn port replies old new turn)
-    ⊎ RecoversPort port replies old new
+    ⊎ MendsPort port replies old new
 
 -- What serving a port does: the port has its turn, which is a part of a service.
 pub record ServesPort (port : Port) (replies : List Reply) (old new : Server) : Type 0 where

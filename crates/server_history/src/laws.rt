@@ -54,7 +54,7 @@ ghost use Rattle.error_recovery.specs.declared.Next.TheVariants.{Restart};
 ghost use Rattle.port_boot.specs.States.{IsBootable};
 ghost use Rattle.port_control.specs.Ports.{IsStopped};
 ghost use Rattle.port_control.specs.declared.Stopped.{Stopped};
-ghost use Rattle.server_history.specs.Recovered.{AreQueued, IsRecovered, HasMetFates, RecoversPort, requests_of};
+ghost use Rattle.server_history.specs.Mended.{AreQueued, IsMended, HasMetFates, MendsPort, requests_of};
 
 use super::lawful::the_laws_below_hold;
 use block_machine::laws::{limits_hold, living_was_accepted, one_id_is_one_request};
@@ -215,8 +215,8 @@ pub fn a_port_is_served()
         → LooksAt port Calm s.device seen → IsFollowed (IsLooking port) AnyUse s.device seen → IsMaskOf (slots_at s.slots port.0) mask
         → (HasNone mask → ⊥) → ReadsDone port mask done seen found → SeesClear port mask done seen → (HasNone done → ⊥)
         → AnswersDone port done replies (record s { device = found }) new → ServesPort port replies s new }
-    ensures recovered { (s new : Server) (port : Port) (replies : List Reply) → IsSettled s → state_of (found_of s.ports port.0) ≡ ReadyState
-        → (r : RecoversPort port replies s new) → IsFollowed (IsLooking port) AnyUse s.device r.settled.recovered.seen
+    ensures mended { (s new : Server) (port : Port) (replies : List Reply) → IsSettled s → state_of (found_of s.ports port.0) ≡ ReadyState
+        → (r : MendsPort port replies s new) → IsFollowed (IsLooking port) AnyUse s.device r.settled.mended.seen
         → ServesPort port replies s new × IsSettled new }
 {
     the_laws_below_hold();
@@ -224,7 +224,7 @@ pub fn a_port_is_served()
 
 /// A ready port that a look tells a failure of may be recovered once its masks were read: a fault has halted it, and it shows a device. On no ready port is
 /// COMRESET being sent. Of plain commands a port has one alone, in slot 0.
-pub fn a_failed_port_may_be_recovered()
+pub fn a_troubled_port_may_be_mended()
     ensures may { (s : Server) (seen found : Device) (port : Port) (mask done : ℕ) → IsKept s → state_of (found_of s.ports port.0) ≡ ReadyState
         → LooksAt port Fails s.device seen → IsFollowed (IsLooking port) AnyUse s.device seen → ReadsDone port mask done seen found
         → MayRecover port.0 found }
@@ -242,16 +242,16 @@ pub fn a_failed_port_may_be_recovered()
 /// What comes after a recovery. A port that has to be booted may be; how it takes commands is what it was, by what the adapter is capable of; there is a
 /// place for the loan of each request of the port that is issued; once its requests met their fates, the server goes on; and nothing is due on a port
 /// that isn't ready.
-pub fn a_recovered_port_goes_on()
+pub fn a_mended_port_goes_on()
     ensures bootable { (s mid : Server) (device : Device) (port : Port) (token : Stopped) → IsKept s → state_of (found_of s.ports port.0) ≡ ReadyState
-        → (r : IsRecovered port s mid device) → IsFollowed (IsLooking port) AnyUse s.device r.seen → r.result.next ≡ Restart token
+        → (r : IsMended port s mid device) → IsFollowed (IsLooking port) AnyUse s.device r.seen → r.result.next ≡ Restart token
         → IsBootable port device × IsStopped (device.port port.0) }
     ensures mode { (s mid : Server) (device : Device) (port : Port) → IsKept s → state_of (found_of s.ports port.0) ≡ ReadyState
-        → (r : IsRecovered port s mid device) → IsFollowed (IsLooking port) AnyUse s.device r.seen → mode_in s port ≡ mode_found device.cap (found_of s.ports port.0) }
+        → (r : IsMended port s mid device) → IsFollowed (IsLooking port) AnyUse s.device r.seen → mode_in s port ≡ mode_found device.cap (found_of s.ports port.0) }
     ensures places { (s : Server) (port : Port) → IsKept s → state_of (found_of s.ports port.0) ≡ ReadyState
         → (kept_at s.kept port.0 ≡ []) × (count_by (λ (e : Held). e.entry.issued) (requests_of port s.book) ≤ 32) }
     ensures settled { (s new : Server) (port : Port) (later : List Reply) → IsKept s → state_of (found_of s.ports port.0) ≡ ReadyState
-        → (a : HasMetFates port later s new) → IsFollowed (IsLooking port) AnyUse s.device a.recovered.seen → IsKept new }
+        → (a : HasMetFates port later s new) → IsFollowed (IsLooking port) AnyUse s.device a.mended.seen → IsKept new }
     ensures undue { (s : Server) (port : Port) → IsKept s → ((info : DiskInfo) → found_of s.ports port.0 ≡ Ready info → ⊥)
         → due_ids (mode_in s port) port (asks_of s.book) ≡ [] }
 {

@@ -2,7 +2,7 @@ use Rattle.std.proofs.Common.{sym, subst, ⊎_elim, ◌≡◌}
 use Rattle.port_look.specs.declared.Look.{Look}
 use Rattle.port_look.specs.declared.Look.TheVariants.{Broken}
 use Rattle.error_recovery.specs.Recovery.{Mends}
-use Rattle.server_history.specs.Recovered.{TellsMending}
+use Rattle.server_history.specs.Mended.{TellsMending}
 use Rattle.block_server.proofs.recovery.mend.Goals as goal
 
 pub returns-in-Failed-clause-mends : goal.returns-in-Failed-clause-mends

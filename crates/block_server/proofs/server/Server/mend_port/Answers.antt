@@ -9,7 +9,7 @@ use Rattle.block_server.specs.Recovery.{SeesTrouble}
 use Rattle.block_server.specs.Fates.{holding}
 use Rattle.host_boot.specs.Taken.{found_of, wanted_of}
 use Rattle.host_boot.specs.declared.Found.TheVariants.{Ready}
-use Rattle.server_history.specs.Recovered.{IsFoundAfter, requests_of}
+use Rattle.server_history.specs.Mended.{IsFoundAfter, requests_of}
 use Rattle.server_history.specs.Served.{done_reply}
 use Rattle.server_history.specs.Server.{IsSettled, Server, mode_at}
 use Rattle.dma_frames.specs.Loan.{Lending}
@@ -41,11 +41,11 @@ mend_rest-failed-requires-clause-lends g c =
 pub find_after-found-requires-clause-mode : goal.find_after-found-requires-clause-mode
 find_after-found-requires-clause-mode g c =
     let laws : RestoringLaws = record {
-      bootable = c.a_recovered_port_goes_on.ensures.bootable;
-      mode = c.a_recovered_port_goes_on.ensures.mode;
-      places = c.a_recovered_port_goes_on.ensures.places;
-      settled = c.a_recovered_port_goes_on.ensures.settled;
-      recovered = c.a_port_is_served.ensures.recovered;
+      bootable = c.a_mended_port_goes_on.ensures.bootable;
+      mode = c.a_mended_port_goes_on.ensures.mode;
+      places = c.a_mended_port_goes_on.ensures.places;
+      settled = c.a_mended_port_goes_on.ensures.settled;
+      mended = c.a_port_is_served.ensures.mended;
     } in
     let device = g.A.Adapter.device in
     let v = seen c.self.inside in
@@ -68,11 +68,11 @@ find_after-found-requires-clause-mode g c =
 pub find_after-found-requires-clause-bootable : goal.find_after-found-requires-clause-bootable
 find_after-found-requires-clause-bootable g c =
     let laws : RestoringLaws = record {
-      bootable = c.a_recovered_port_goes_on.ensures.bootable;
-      mode = c.a_recovered_port_goes_on.ensures.mode;
-      places = c.a_recovered_port_goes_on.ensures.places;
-      settled = c.a_recovered_port_goes_on.ensures.settled;
-      recovered = c.a_port_is_served.ensures.recovered;
+      bootable = c.a_mended_port_goes_on.ensures.bootable;
+      mode = c.a_mended_port_goes_on.ensures.mode;
+      places = c.a_mended_port_goes_on.ensures.places;
+      settled = c.a_mended_port_goes_on.ensures.settled;
+      mended = c.a_port_is_served.ensures.mended;
     } in
     let device = g.A.Adapter.device in
     let v = seen c.self.inside in
@@ -93,11 +93,11 @@ find_after-found-requires-clause-bootable g c =
 pub settle-requires-clause-sound : goal.settle-requires-clause-sound
 settle-requires-clause-sound g c =
     let laws : RestoringLaws = record {
-      bootable = c.a_recovered_port_goes_on.ensures.bootable;
-      mode = c.a_recovered_port_goes_on.ensures.mode;
-      places = c.a_recovered_port_goes_on.ensures.places;
-      settled = c.a_recovered_port_goes_on.ensures.settled;
-      recovered = c.a_port_is_served.ensures.recovered;
+      bootable = c.a_mended_port_goes_on.ensures.bootable;
+      mode = c.a_mended_port_goes_on.ensures.mode;
+      places = c.a_mended_port_goes_on.ensures.places;
+      settled = c.a_mended_port_goes_on.ensures.settled;
+      mended = c.a_port_is_served.ensures.mended;
     } in
     let device = g.A.Adapter.device in
     let v = seen c.self.inside in
@@ -118,11 +118,11 @@ settle-requires-clause-sound g c =
 pub settle-requires-clause-places : goal.settle-requires-clause-places
 settle-requires-clause-places g c =
     let laws : RestoringLaws = record {
-      bootable = c.a_recovered_port_goes_on.ensures.bootable;
-      mode = c.a_recovered_port_goes_on.ensures.mode;
-      places = c.a_recovered_port_goes_on.ensures.places;
-      settled = c.a_recovered_port_goes_on.ensures.settled;
-      recovered = c.a_port_is_served.ensures.recovered;
+      bootable = c.a_mended_port_goes_on.ensures.bootable;
+      mode = c.a_mended_port_goes_on.ensures.mode;
+      places = c.a_mended_port_goes_on.ensures.places;
+      settled = c.a_mended_port_goes_on.ensures.settled;
+      mended = c.a_port_is_served.ensures.mended;
     } in
     let device = g.A.Adapter.device in
     let v = seen c.self.inside in
@@ -157,18 +157,18 @@ order_from-requires g c =
     let r = c.mend_rest-failed.ensures.mends s lends in
     let then = c.mend_rest-failed.new in
     let all = ap length c.settle.ensures.meet.1 ∙ length-append then.replies.items c.settle.ensures.meet.0 in
-    let told = ap length r.told ∙ length-append c.args.replies.now.items (map done_reply r.recovered.requests) in
+    let told = ap length r.told ∙ length-append c.args.replies.now.items (map done_reply r.mended.requests) in
     let first = c.len-first.ensures.value in
     omega (arith, all, told, first)
 
 pub issue_where_ready-requires : goal.issue_where_ready-requires
 issue_where_ready-requires g c =
     let laws : RestoringLaws = record {
-      bootable = c.a_recovered_port_goes_on.ensures.bootable;
-      mode = c.a_recovered_port_goes_on.ensures.mode;
-      places = c.a_recovered_port_goes_on.ensures.places;
-      settled = c.a_recovered_port_goes_on.ensures.settled;
-      recovered = c.a_port_is_served.ensures.recovered;
+      bootable = c.a_mended_port_goes_on.ensures.bootable;
+      mode = c.a_mended_port_goes_on.ensures.mode;
+      places = c.a_mended_port_goes_on.ensures.places;
+      settled = c.a_mended_port_goes_on.ensures.settled;
+      mended = c.a_port_is_served.ensures.mended;
     } in
     let device = g.A.Adapter.device in
     let v = seen c.self.inside in
@@ -220,11 +220,11 @@ served : (g : Over) (c : goal.After-issue_where_ready g) (before : Device) → S
     × (length c.order_from.new.replies.items ≡ length c.settle.new.replies.items)
 served g c before sees_now settled_now =
     let laws : RestoringLaws = record {
-      bootable = c.a_recovered_port_goes_on.ensures.bootable;
-      mode = c.a_recovered_port_goes_on.ensures.mode;
-      places = c.a_recovered_port_goes_on.ensures.places;
-      settled = c.a_recovered_port_goes_on.ensures.settled;
-      recovered = c.a_port_is_served.ensures.recovered;
+      bootable = c.a_mended_port_goes_on.ensures.bootable;
+      mode = c.a_mended_port_goes_on.ensures.mode;
+      places = c.a_mended_port_goes_on.ensures.places;
+      settled = c.a_mended_port_goes_on.ensures.settled;
+      mended = c.a_port_is_served.ensures.mended;
     } in
     let device = g.A.Adapter.device in
     let v = seen c.self.inside in

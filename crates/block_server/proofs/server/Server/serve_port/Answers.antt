@@ -4,7 +4,7 @@ use Rattle.block_server.specs.Seen.{seen}
 use Rattle.block_server.specs.View.{ServerView, server_of}
 use Rattle.port_look.specs.declared.Look.{Look}
 use Rattle.port_look.specs.declared.Look.TheVariants.{Broken, Failed}
-use Rattle.server_history.specs.Recovered.{LeadsToMending}
+use Rattle.server_history.specs.Mended.{LeadsToMending}
 use Rattle.server_history.specs.Served.{IsMaskOf}
 use Rattle.server_history.specs.Turns.{ServesPort}
 use Rattle.server_history.specs.Server.{slots_at}

@@ -37,6 +37,7 @@ returns-clause-reset c = λ m. record {
   fresh = refl;
   link_due = refl;
   halt = refl;
+  whole = refl;
   notes = λ i. record {
     st_set_at = c.default-2.ensures.0 i;
     sctl_written_at = c.default-2.ensures.1.0 i;

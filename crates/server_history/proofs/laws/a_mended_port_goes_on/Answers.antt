@@ -1,7 +1,7 @@
 use Rattle.server_history.proofs.Mending.{goes_on, unready_undue}
 use Rattle.server_history.proofs.Counted.{places}
 use Rattle.server_history.proofs.Recovered.{bootable, mode_still}
-use Rattle.server_history.proofs.laws.a_recovered_port_goes_on.Goals as goal
+use Rattle.server_history.proofs.laws.a_mended_port_goes_on.Goals as goal
 
 pub returns-clause-places : goal.returns-clause-places
 returns-clause-places c = places c.the_laws_below_hold.ensures

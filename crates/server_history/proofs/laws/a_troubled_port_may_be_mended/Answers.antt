@@ -1,5 +1,5 @@
 use Rattle.server_history.proofs.Failing.{are_alike, fits_for, is_alone, may_recover, released}
-use Rattle.server_history.proofs.laws.a_failed_port_may_be_recovered.Goals as goal
+use Rattle.server_history.proofs.laws.a_troubled_port_may_be_mended.Goals as goal
 
 pub returns-clause-may : goal.returns-clause-may
 returns-clause-may c s seen found port mask done k ready l looks finds = may_recover c.the_laws_below_hold.ensures s seen found port mask done k ready l looks finds

@@ -40,7 +40,7 @@ use Rattle.server_history.specs.Server.{Server, kept_at, mode_found, slots_at, u
 abbrev pub LeadsToMending : Look → Type 0
 LeadsToMending told = (told ≡ look.Failed) ⊎ (told ≡ look.Broken)
 
--- What is told after such a look. Where a command had failed, the port was recovered. Where its link or the host's memory had failed, the port was given up: nobody is named, and it
+-- What is told after such a look. Where a command had failed, the port was mended. Where its link or the host's memory had failed, the port was given up: nobody is named, and it
 -- doesn't run. Other looks lead to neither.
 abbrev pub TellsMending : Look → Port → ℕ → Bool → Recovered → List Access → Device → Device → Type 0
 TellsMending look.Failed port outstanding queued result accesses old new = TellsRecovery port outstanding queued result accesses old new
@@ -54,7 +54,7 @@ AreQueued queued slots = (slot : ℕ) (used : SlotUse) → use_at slots slot ≡
 
 -- A look told of trouble. The masks were read; what was done was answered, in order of acceptance, and no slot of it is in use any more;
 -- and the port was mended, with the commands of the other used slots outstanding. So it came to this server, and then to this device.
-pub record IsRecovered (port : Port) (old mid : Server) (new : Device) : Type 0 where
+pub record IsMended (port : Port) (old mid : Server) (new : Device) : Type 0 where
   pub look : Look
   pub seen : Device
   pub looks : LooksAt port look old.device seen
@@ -135,15 +135,15 @@ pub record HasMetFates (port : Port) (later : List Reply) (old new : Server) : T
   pub ready : found_of old.ports port.0 ≡ Ready was
   pub mid : Server
   pub device : Device
-  pub recovered : IsRecovered port old mid device
+  pub mended : IsMended port old mid device
   pub found : Found
-  pub is : IsFoundAfter (wanted_of old.wanted port.0) port was recovered.result.next device new.device found
+  pub is : IsFoundAfter (wanted_of old.wanted port.0) port was mended.result.next device new.device found
   pub mode : Mode
   pub mode_is : mode ≡ mode_found new.device.cap found
   pub slots : PortSlots
   pub unused : AreUnused mode slots
   pub failed : Option Failed
-  pub names : IsFailed (slots_at mid.slots port.0) recovered.result.failed failed
+  pub names : IsFailed (slots_at mid.slots port.0) mended.result.failed failed
   pub prospect : Prospect
   pub expects : IsProspect was found prospect
   pub now : Holdings
@@ -154,10 +154,10 @@ pub record HasMetFates (port : Port) (later : List Reply) (old new : Server) : T
 
 -- A port's turn in which a look told of trouble: it was mended, its requests met their fates, and then what is due on it was issued. The replies stand in
 -- order of acceptance.
-pub record RecoversPort (port : Port) (replies : List Reply) (old new : Server) : Type 0 where
+pub record MendsPort (port : Port) (replies : List Reply) (old new : Server) : Type 0 where
   pub later : List Reply
   pub mid : Server
   pub settled : HasMetFates port later old mid
   pub issued : IssuesAll port mid new
-  pub told : IsPermutation replies (map done_reply settled.recovered.requests ++ later)
+  pub told : IsPermutation replies (map done_reply settled.mended.requests ++ later)
   pub ordered : AllPairs (λ (a b : Reply). a.id.0 ≤ b.id.0) replies
