@@ -1,5 +1,5 @@
 -- Lists of calls serve ports on which nothing goes wrong.
-use Rattle.std.proofs.Common.{ℕ, true, ◌≡◌, ◌≢◌, ◌<◌, ◌∙◌, List, [], ◌∷◌, ◌++◌, refl, sym, ap, subst}
+use Rattle.std.proofs.Common.{ℕ, true, false, ◌≡◌, ◌≢◌, ◌<◌, ◌∙◌, List, [], ◌∷◌, ◌++◌, refl, sym, ap, subst}
 use Rattle.std.proofs.lemmas.List.{append_assoc, append_cancel_left, append-nil}
 use Rattle.std.proofs.lemmas.List.Elements.{All-cons, All-head, All-nil, All-tail}
 use Rattle.std.specs.List.{All, Contains}
@@ -7,17 +7,20 @@ use Rattle.ata_types.specs.declared.Port.{Port}
 use Rattle.ata_types.specs.declared.PortState.{PortState}
 use Rattle.ata_types.specs.declared.PortState.TheVariants.{Absent, Ready}
 use Rattle.ata_types.specs.declared.request.Outcome.{Outcome}
+use Rattle.ata_types.specs.declared.request.Outcome.TheVariants.{Ok}
+use Rattle.ata_types.specs.declared.request.RequestId.{RequestId}
 use Rattle.adapter.specs.Device.{Device}
 use Rattle.adapter.specs.Idle.{IsIdle}
 use Rattle.adapter.specs.declared.access.DeviceStep.{DeviceStep}
 use Rattle.adapter.specs.declared.tape.Entry.{Entry}
 use Rattle.agreement.specs.Facts.{IsDisturbance, RunsWell, Undisturbed}
+use Rattle.agreement.specs.Slots.{ServesRequest}
 use Rattle.block_machine.specs.Events.{Ask, Submit as AskSubmit, StoreAt, Service as AskService, State as AskState, Device as AskDevice, Tick, Reset, EveryReadHolds, HeedsAt, IsRun, moment_after, steps_of}
 use Rattle.block_machine.specs.Histories.{Happening, Instant, events_of, now}
 use Rattle.block_machine.specs.Ports.{AreFit, Ports}
 use Rattle.block_machine.specs.State.{Pending}
 use Rattle.block_machine.specs.Steps.{Answer}
-use Rattle.driver_history.specs.Claims.{AnswerRests, GoesWellFor, HeedsFault, IsHealthyFor}
+use Rattle.driver_history.specs.Claims.{AnswerRests, GoesWellFor, HeedsFailure, IsHealthyFor}
 use Rattle.driver_history.specs.Evidence.{ShowsFailure, StaysHealthy}
 use Rattle.driver_history.specs.Guard.{IsAskedOf}
 use Rattle.driver_history.specs.Histories.{IsHistory}
@@ -44,9 +47,14 @@ use Rattle.block_server.proofs.Running.{run_adds}
 pub record HistoryLaws : Type 0 where
   pub asked : (port : Port) (old : Instant Device) (new : Device) → old.moment.ports.state port ≡ Ready → StaysHealthy port.0 old.device new
       → IsAskedOf port old new
+  pub seen : (wanted : List Wanted) (first : Instant Device) (past : List (Happening Device DeviceStep)) (h : Happening Device DeviceStep) (port : Port) (slot : ℕ) (id : RequestId)
+      → IsHistory wanted first (h ∷ past) → h.event.ask ≡ AskService → IsAskedOf port (now first past) h.device
+      → ServesRequest (now first past).moment.machine (now first past).device.memory ((now first past).device.port port.0) port.0 slot id
+      → ((now first past).device.port port.0).ci slot ≡ false → ((now first past).device.port port.0).sact slot ≡ false
+      → (done : Pending) × (done.request.id ≡ id) × Contains h.event.steps (Answer done Ok)
   pub heeded : (wanted : List Wanted) (first : Instant Device) (past : List (Happening Device DeviceStep)) (h : Happening Device DeviceStep) (port : Port)
       → IsHistory wanted first (h ∷ past) → h.event.ask ≡ AskService → IsAskedOf port (now first past) h.device
-      → ShowsFailure ((now first past).device.port port.0) → HeedsFault port (now first past) h
+      → ShowsFailure ((now first past).device.port port.0) → HeedsFailure port (now first past) h
   pub well : (wanted : List Wanted) (first : Instant Device) (past : List (Happening Device DeviceStep)) (h : Happening Device DeviceStep) (port : Port)
       → IsHistory wanted first (h ∷ past) → IsHealthyFor (now first past) h port → GoesWellFor (now first past) h port
   pub rest : (wanted : List Wanted) (first : Instant Device) (past : List (Happening Device DeviceStep)) (h : Happening Device DeviceStep)
@@ -142,6 +150,7 @@ module _ (laws : HistoryLaws) where
         moves = laws.moves wanted first past h history;
         served = λ port healthy. served_well wanted first past h port history healthy;
         part = λ port asked. (history.2.accesses, history.2.came, history.2.port port asked);
+        seen = λ port slot id asks asked serves clear inactive. laws.seen wanted first past h port slot id history asks asked serves clear inactive;
         heeded = λ port asks asked failure. laws.heeded wanted first past h port history asks asked failure;
       })
 

@@ -39,7 +39,6 @@ pub record FailureLaws : Type 0 where
       → ReadsDone port mask done s.device new → bit done slot ≡ true → IsOver (new.port port.0) slot
   pub may : (s : Server) (seen found : Device) (port : Port) (mask done : ℕ) → IsKept s → state_of (found_of s.ports port.0) ≡ ReadyState → LooksAt port Fails s.device seen
       → IsFollowed (IsLooking port) AnyUse s.device seen → ReadsDone port mask done seen found → MayRecover port.0 found
-  pub released : (s : Server) (port : Port) → IsKept s → state_of (found_of s.ports port.0) ≡ ReadyState → (s.device.port port.0).sctl_det ≡ 0
   pub agreed : (s : Server) (port : Port) (queued : Bool) → IsKept s → state_of (found_of s.ports port.0) ≡ ReadyState → AreQueued queued (slots_at s.slots port.0) → AgreesWith (FitsFor queued port.0) s.device
   pub alike : (s : Server) (port : Port) (slot : ℕ) (used : SlotUse) → IsKept s → used_for s.slots port.0 slot ≡ Some used → AreQueued used.queued (slots_at s.slots port.0)
   pub alone : (s : Server) (port : Port) (queued : Bool) (outstanding : ℕ) → IsKept s → IsMaskOf (slots_at s.slots port.0) outstanding → AreQueued queued (slots_at s.slots port.0) → IsAloneIn queued outstanding
@@ -96,9 +95,6 @@ module _ (laws : FailureLaws) (s : Server) (device : Device) (table : Table) (bo
 
       pub mid_there : HasPort found port.0
       mid_there = ready_there mid port lent.kept lent.ready
-
-      pub released : (found.port port.0).sctl_det ≡ 0
-      released = laws.released mid port lent.kept lent.ready
 
       pub alike : (slot : ℕ) (used : SlotUse) → use_at u slot ≡ Some used → AreQueued used.queued u
       alike slot used taken = subst (AreQueued used.queued) lent.slots_are (laws.alike mid port slot used lent.kept (ap (λ (x : PortSlots). use_at x slot) lent.slots_are ∙ taken))

@@ -1,19 +1,21 @@
 -- Lists of calls, on ports where nothing goes wrong, and on ports where commands fail or fatal errors come (this project's own).
-use Rattle.std.specs.Prelude.{true, ◌≡◌, List, [], ◌∷◌, Contains}
+use Rattle.std.specs.Prelude.{ℕ, true, false, ◌≡◌, List, [], ◌∷◌, Contains}
 use Rattle.ata_types.specs.declared.Port.{Port}
 use Rattle.ata_types.specs.declared.PortState.TheVariants.{Ready}
 use Rattle.ata_types.specs.declared.request.Outcome.{Outcome}
 use Rattle.ata_types.specs.declared.request.Outcome.TheVariants as outcome
+use Rattle.ata_types.specs.declared.request.RequestId.{RequestId}
 use Rattle.adapter.specs.Access.{Access}
 use Rattle.adapter.specs.Device.{Device}
 use Rattle.adapter.specs.declared.access.DeviceStep.{DeviceStep}
 use Rattle.agreement.specs.Facts.{RunsWell}
+use Rattle.agreement.specs.Slots.{ServesRequest}
 use Rattle.block_machine.specs.Events.{Event as Call, Moment, Service, AnswersEnded, EveryReadHolds, IsRun, WasIssued, moment_after, steps_of}
 use Rattle.block_machine.specs.Histories.{Happening, Instant, events_of, now}
 use Rattle.block_machine.specs.Ports.{SamePort}
 use Rattle.block_machine.specs.State.{Pending}
 use Rattle.block_machine.specs.Steps.{Answer, AllTouched}
-use Rattle.driver_history.specs.Claims.{GoesWellFor, HeedsFault, IsHealthyFor}
+use Rattle.driver_history.specs.Claims.{GoesWellFor, HeedsFailure, IsHealthyFor}
 use Rattle.driver_history.specs.Evidence.{ShowsFailure, StaysHealthy}
 use Rattle.driver_history.specs.Guard.{IsAskedOf}
 use Rattle.driver_history.specs.Histories.{CameBy, Issues, TiesPort}
@@ -54,14 +56,18 @@ DoesItsPart port old h =
     (accesses : List Access) × CameBy old.moment h.event.ask h.event.said accesses old.device h.device × TiesPort old h accesses port
 
 -- In a call after these ones, moves and clears keep to their places; and each port is served well that the call is healthy for. On each port that is ready when the
--- call begins, and keeps its disk in it (IsAskedOf), the call does its part, whether or not commands fail or fatal errors come; and a service heeds the failure that such a port
--- showed when it began, a fault or a fatal error.
+-- call begins, and keeps its disk in it (IsAskedOf), the call does its part, whether or not commands fail or fatal errors come; and a service answers each request of such a
+-- port of which the bits of PxCI and PxSACT were clear when it began, and heeds the failure that the port showed then, a fault or a fatal error.
 pub record IsSound (first : Instant Device) (past : List (Happening Device DeviceStep)) (h : Happening Device DeviceStep) : Type 0 where
   pub moves : KeepsMoves first.moment.machine (steps_of (events_of past)) h.event.steps (now first past).device h.device
   pub served : (port : Port) → IsHealthyFor (now first past) h port → IsServedWell port (now first past) h
   pub part : (port : Port) → IsAskedOf port (now first past) h.device → DoesItsPart port (now first past) h
+  pub seen : (port : Port) (slot : ℕ) (id : RequestId) → h.event.ask ≡ Service → IsAskedOf port (now first past) h.device
+      → ServesRequest (now first past).moment.machine (now first past).device.memory ((now first past).device.port port.0) port.0 slot id
+      → ((now first past).device.port port.0).ci slot ≡ false → ((now first past).device.port port.0).sact slot ≡ false
+      → (done : Pending) × (done.request.id ≡ id) × Contains h.event.steps (Answer done outcome.Ok)
   pub heeded : (port : Port) → h.event.ask ≡ Service → IsAskedOf port (now first past) h.device → ShowsFailure ((now first past).device.port port.0)
-      → HeedsFault port (now first past) h
+      → HeedsFailure port (now first past) h
 
 -- What a list of calls is that said this, after a history that leads to the server before them. Each call adds an event with what was asked and
 -- said, and what is so longer leads to the server after it. All calls together are a run of the block machine (so replies stand in the

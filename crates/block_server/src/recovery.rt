@@ -34,7 +34,7 @@ use server_history::laws::{a_troubled_port_may_be_mended, looks_keep};
 use slots::Slots;
 
 /// Mends a port of which a look told an error, and of which the masks were read: recovers it where a command had failed (AHCI 1.3.1, 6.2.2), and stops it to be
-/// booted where its link or the host's memory had.
+/// booted where its link or the host's bus had.
 fn mend<A: Adapter>(
     adapter: &mut A,
     port: Port,
@@ -46,7 +46,6 @@ fn mend<A: Adapter>(
     requires there { HasPort (A.device adapter.old) port.0 }
     requires room { DRIVER_BYTES ≤ (A.device adapter.old).size }
     requires agreed { AgreesWith (FitsFor queued port.0) (A.device adapter.old) }
-    requires released { ((A.device adapter.old).port port.0).sctl_det ≡ 0 }
     requires alone { IsAloneIn queued outstanding }
     requires leads { LeadsToMending look }
     requires may { look ≡ Look.Failed → MayRecover port.0 (A.device adapter.old) }

@@ -44,7 +44,7 @@ pub struct Server<A: Adapter> {
     table: Box<FrameTable>,
     wanted: [Wanted; PORTS],
     ports: [Found; PORTS],
-    /// Of a port that isn't ready, the disk that it was last ready with, if it ever was.
+    /// Of a port that isn't ready, or was mended, the disk that it was ready with before, if it ever was.
     remembered: [Option<DiskInfo>; PORTS],
     modes: [Mode; PORTS],
     slots: [Slots; PORTS],
@@ -316,7 +316,7 @@ impl<A: Adapter> Server<A> {
     }
 
     /// Mends a ready port of which a look told an error. What is done is answered. Where a command had failed, it is found out which one, and the port is had to
-    /// run again, by a boot where that is needed; where its link or the host's memory had, it is booted anew. The request whose command failed is told so. The
+    /// run again, by a boot where that is needed; where its link or the host's bus had, it is booted anew. The request whose command failed is told so. The
     /// others wait again where their disk is there still, and are `Aborted` after the fourth issue; where it isn't they are `Unplugged`, and where the port is
     /// dead `PortDead`. Then what is due is issued.
     fn mend_port(&mut self, port: Port, was: DiskInfo, look: Look, replies: &mut Replies)
@@ -404,8 +404,9 @@ impl<A: Adapter> Server<A> {
     /// Serves each ready port, in rising number: requests that are done are answered, in order of acceptance, their frames are given back, and
     /// what is due then is issued. A port of which the look tells that a command had failed is recovered (AHCI 1.3.1, 6.2.2): what is done is answered; the request
     /// whose command failed is told `DeviceError`, with the disk's status and error; each other one that had been issued goes again, or is `Aborted` after the fourth issue.
-    /// Where the port has to be booted for that and its disk isn't the same then, they are `Unplugged`, and where its engine gets stuck `PortDead`. Where the
-    /// look tells of a lost disk, or of an error of the link or the adapter, nobody is answered there. A recovery waits for the disk at most so often as
+    /// Where the port has to be booted for that and its disk isn't the same then, they are `Unplugged`, and where its engine gets stuck `PortDead`. A port
+    /// whose link or host bus met a fatal error (IFS, HBDS, HBFS) is stopped and booted anew: what is done is answered, nobody is told `DeviceError`, and the
+    /// other requests meet the same fates. Where the look tells of a lost disk, nobody is answered there. A recovery waits for the disk at most so often as
     /// its parts tell, and meanwhile for all ports.
     pub fn service(&mut self) -> Replies
         ensures services { Services A.device self.old self.new result.items }

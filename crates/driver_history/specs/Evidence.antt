@@ -41,7 +41,7 @@ pub record StaysHealthy (port : ℕ) (old new : Device) : Type 0 where
 abbrev pub ShowsChange : PortState → Type 0
 ShowsChange p = (p.serr_n ≡ true) ⊎ (p.serr_x ≡ true)
 
--- an error that a COMRESET alone ends is shown, or TFES is set
+-- an error of the interface or of the host's bus is shown (IFS, HBDS or HBFS), or TFES is set
 abbrev pub ShowsFailure : PortState → Type 0
 ShowsFailure p = ShowsFatal p ⊎ (p.is 30 ≡ true)
 

@@ -190,7 +190,7 @@ Tries ask accesses old ports new port = Unit {0}
 -- ---- boots are made anew
 
 -- A reset that ends boots each served port, unless that gets stuck; so does a tick with each that is hung; and a service with each ready one that
--- met a fatal error or lost its disk, and with each that it shows anew, but as absent or dead.
+-- showed a fatal error when the call began or has lost its disk, and with each that it shows anew, but as absent or dead.
 abbrev pub BootsAnew : Ask DeviceStep → Said → List Access → Instant Device → Ports → Device → Port → Type 0
 BootsAnew Reset (WasReset (Some replies)) accesses old ports new port =
     old.moment.ports.served port ≡ true → (ports.state port ≡ Dead) ⊎ ResetsLink port accesses
@@ -218,7 +218,7 @@ pub record LosesNoTrouble (evidence : Evidence) (old : Instant Device) (ports : 
   pub fatal : ports.state port ≡ Ready → GainsRunning (IsFatalOf port.0) port.0 old.device new → ShowsFatal (new.port port.0)
   pub disk : ports.state port ≡ Ready → GainsRunning (IsPlugging port.0) port.0 old.device new → (new.port port.0).serr_n ≡ true
 
--- Its disk's first FIS had come when the call began, and no fatal error came in the call, which a COMRESET alone would end.
+-- Its disk's first FIS had come when the call began, and no fatal error came in the call.
 pub record StayedUp (port : Port) (old new : Device) : Type 0 where
   pub fresh : (old.port port.0).fresh ≡ true
   pub unbroken : NoneFatal port.0 old new

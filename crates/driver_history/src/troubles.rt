@@ -16,7 +16,7 @@ ghost use Rattle.block_machine.specs.Events.{Moment, Said, Service};
 ghost use Rattle.block_machine.specs.Histories.{Happening, Instant, now};
 ghost use Rattle.block_machine.specs.Ports.{Evidence, IsInterrupted, Ports, SamePort};
 ghost use Rattle.error_recovery.specs.Evidence.{GainsRunning};
-ghost use Rattle.driver_history.specs.Claims.{HeedsFault};
+ghost use Rattle.driver_history.specs.Claims.{HeedsFailure};
 ghost use Rattle.driver_history.specs.Evidence.{ShowsFailure, StaysHealthy};
 ghost use Rattle.driver_history.specs.Guard.{IsAskedOf};
 ghost use Rattle.driver_history.specs.Histories.{BootsAnew, HasFaultAlone, IsHistory, LosesNoTrouble, RunsWellAnew};
@@ -39,7 +39,7 @@ pub fn healthy_ports_are_asked_of()
 pub fn shown_faults_are_heeded()
     ensures { (wanted : List Wanted) (first : Instant Device) (past : List (Happening Device DeviceStep)) (h : Happening Device DeviceStep)
         (port : Port) → IsHistory wanted first (h ∷ past) → h.event.ask ≡ Service → IsAskedOf port (now first past) h.device
-        → ShowsFailure ((now first past).device.port port.0) → HeedsFault port (now first past) h }
+        → ShowsFailure ((now first past).device.port port.0) → HeedsFailure port (now first past) h }
 {}
 
 /// Accesses that leave the adapter on, and clear no bit that tells of a port's trouble, lose none of it; nor does the device by itself: of a port of

@@ -93,9 +93,9 @@ module _ (laws : Laws) where
 
   -- ---- the port wasn't even stopped
 
-  pub mends_stuck : (port : Port) (outstanding : ℕ) (queued : Bool) (old new : Device) → IsOn old → (old.port port.0).sctl_det ≡ 0 → GetsStuck port old new →
+  pub mends_stuck : (port : Port) (outstanding : ℕ) (queued : Bool) (old new : Device) → IsOn old → GetsStuck port old new →
       Mends port outstanding queued (record { failed = None; again = outstanding; next = Dead }) old new
-  mends_stuck port outstanding queued old new on det g =
+  mends_stuck port outstanding queued old new on g =
       let made = g.told.followed.driven in
       let went : Goes port old new = goes_over laws port made.accesses old new on made.only made.all in
       record {
@@ -104,7 +104,7 @@ module _ (laws : Laws) where
         tells = record { parts = all_go_again outstanding; rests = tt; dead = λ e. refl; unnamed = λ token is run. absurd cc };
         leaves = record {
           ends = (g.st, g.stuck);
-          det = went.det ∙ det;
+          det = went.det;
           written = went.written;
           enabled = went.enabled;
           silent = g.silent;
@@ -113,10 +113,16 @@ module _ (laws : Laws) where
         };
       }
 
+  -- and its accesses are those by which it got stuck
+  pub accesses_stuck : (port : Port) (outstanding : ℕ) (queued : Bool) (old new : Device) (on : IsOn old) (g : GetsStuck port old new) →
+      (mends_stuck port outstanding queued old new on g).accesses ≡ g.told.followed.driven.accesses
+  unfolding mends_stuck
+  accesses_stuck port outstanding queued old new on g = refl
+
   pub is_stuck : (port : Port) (outstanding : ℕ) (queued : Bool) (old new : Device) → IsOn old → MayRecover port.0 old → GetsStuck port old new →
       Recovers port outstanding queued (record { failed = None; again = outstanding; next = Dead }) old new
   is_stuck port outstanding queued old new on may g = record {
-    mends = mends_stuck port outstanding queued old new on may.det g;
+    mends = mends_stuck port outstanding queued old new on g;
     tells = record { named = λ token is run. absurd cc; told = λ is set alive. absurd (alive refl); restarts = λ token run. absurd cc };
   }
 
@@ -127,7 +133,7 @@ module _ (laws : Laws) where
     -- what a recovery leaves, however it ends
     leaves : (next : Next) (new : Device) → Goes port old new → EndsIn queued port next old new → (AgreesWith (λ uses. uses port.0 0 ≡ Own Identify → ⊥) old → SendsNone port.0 Identify old new) →
         ((q : Port) (o : Operation) → q.0 ≢ port.0 → op_of o ≡ None → AgreesWith (λ uses. uses q.0 0 ≡ Own o → ⊥) old → SendsNone q.0 o old new) → LeavesRecovery port queued next old new
-    leaves next new w ends silent others = record { ends = ends; det = w.det ∙ r.may.det; written = w.written; enabled = w.enabled; silent = silent; others = others }
+    leaves next new w ends silent others = record { ends = ends; det = w.det; written = w.written; enabled = w.enabled; silent = silent; others = others }
 
     -- ---- its disk is busy
 

@@ -1,6 +1,7 @@
 -- A port is given up: it is stopped, and so it has to be booted, or it is dead.
 use Rattle.std.proofs.Common.{ℕ, Bool, ◌≡◌, ◌≢◌, ◌++◌, List, [], Option, None, inl, refl, sym, ◌∙◌, ap, append-nil, subst}
-use Rattle.std.proofs.lemmas.List.Elements.{All-append}
+use Rattle.std.specs.Prelude.{All}
+use Rattle.std.proofs.lemmas.List.Elements.{All-append, All-nil}
 use Rattle.ata_types.specs.declared.Port.{Port}
 use Rattle.hba_regs.specs.declared.reg.PortReg.TheVariants.{Ci, Sact}
 use Rattle.adapter.specs.Access.{Access}
@@ -18,27 +19,33 @@ use Rattle.error_recovery.specs.Laws.RegisterSet.{Commanding}
 use Rattle.error_recovery.specs.Laws.Stretch.{Controlling, Recovering}
 use Rattle.error_recovery.specs.Parts.{GetsStuck}
 use Rattle.error_recovery.specs.Recovery.{GivesUp, IsRecovering}
-use Rattle.error_recovery.proofs.Finishing.{all_go_again, mends_stuck}
+use Rattle.error_recovery.proofs.Finishing.{accesses_stuck, all_go_again, mends_stuck}
 use Rattle.error_recovery.proofs.Going.{Goes, goes_over}
 use Rattle.error_recovery.proofs.Quieting.{commands_silent}
-use Rattle.error_recovery.proofs.Stretching.{told_commands, told_wider}
+use Rattle.error_recovery.proofs.Stretching.{only_commands, told_commands, told_wider}
 use Rattle.error_recovery.proofs.Whole.{spares_other}
 
-module _ (laws : Laws) (port : Port) (outstanding : ℕ) (queued : Bool) (old new : Device) (on : IsOn old) (det : (old.port port.0).sctl_det ≡ 0) where
+module _ (laws : Laws) (port : Port) (outstanding : ℕ) (queued : Bool) (old new : Device) (on : IsOn old) where
   -- its engine is stuck
   pub gives_up_stuck : HasStopped (old.port port.0) (new.port port.0) → FailsToHalt port old new → GivesUp port outstanding queued (record { failed = None; again = outstanding; next = Dead }) old new
   gives_up_stuck has fails = record {
-    mends = mends_stuck laws port outstanding queued old new on det (record {
-      told = told_commands laws (Sticks port) AnyUses port old new
-          (told_wider laws (Sticks port) (Controlling Commanding AnyUses port) (Controlling Commanding AnyUses port) (λ uses. uses) old new (λ access is. is) (λ uses fits. fits)
-          (record { followed = fails.told.followed; tells = laws.failing_sticks port fails.told.followed.driven.accesses fails.told.tells }));
-      st = has.st;
-      stuck = fails.stuck;
-      silent = λ (uses, none, agreed). commands_silent laws port uses old new fails.told.followed agreed none;
-    });
+    mends = mends_stuck laws port outstanding queued old new on gets;
+    only = subst (All (IsControl WritesCommand port)) (sym (accesses_stuck laws port outstanding queued old new on gets)) (only_commands laws (Sticks port) AnyUses port old new sticks);
     nobody = refl;
     halts = λ token run. absurd cc;
   }
+    where
+      sticks : IsTold (Sticks port) (IsControl WritesCommand port) AnyUse old new
+      sticks = told_wider laws (Sticks port) (Controlling Commanding AnyUses port) (Controlling Commanding AnyUses port) (λ uses. uses) old new (λ access is. is) (λ uses fits. fits)
+          (record { followed = fails.told.followed; tells = laws.failing_sticks port fails.told.followed.driven.accesses fails.told.tells })
+
+      gets : GetsStuck port old new
+      gets = record {
+        told = told_commands laws (Sticks port) AnyUses port old new sticks;
+        st = has.st;
+        stuck = fails.stuck;
+        silent = λ (uses, none, agreed). commands_silent laws port uses old new fails.told.followed agreed none;
+      }
 
   -- or it was stopped
   pub gives_up_stopped : (token : stopped_token.Stopped) → token.port ≡ port → Halts port old new → GivesUp port outstanding queued (record { failed = None; again = outstanding; next = Restart token }) old new
@@ -53,7 +60,7 @@ module _ (laws : Laws) (port : Port) (outstanding : ℕ) (queued : Bool) (old ne
       tells = record { parts = all_go_again outstanding; rests = tt; dead = λ e. absurd cc; unnamed = λ at is run. refl };
       leaves = record {
         ends = (names, halts.stopped);
-        det = went.det ∙ det;
+        det = went.det;
         written = went.written;
         enabled = went.enabled;
         silent = λ (uses, none, agreed). commands_silent laws port uses old new halts.told.followed agreed none;
@@ -61,6 +68,8 @@ module _ (laws : Laws) (port : Port) (outstanding : ℕ) (queued : Bool) (old ne
             laws.silent (Recovering AnyUses port) (λ uses. uses) uses q o old new tt (spares_other laws port q Ci apart) (spares_other laws port q Sact apart) own none t.followed agreed;
       };
     };
+    only = All-append (IsControl WritesCommand port) t.followed.driven.accesses rest.followed.driven.accesses (only_commands laws (Stops port) AnyUses port old new halts.told)
+        (subst (All (IsControl WritesCommand port)) (sym rest.tells) (All-nil (IsControl WritesCommand port)));
     nobody = refl;
     halts = λ at run. absurd cc;
   }

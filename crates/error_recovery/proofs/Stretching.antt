@@ -1,5 +1,6 @@
 -- Stretches of this crate's kinds: one after another, and of the one kind of recovery.
 use Rattle.std.proofs.Common.{ℕ, ◌++◌, List, inl, inr, sym, ◌∙◌, ap, subst, arith}
+use Rattle.std.specs.Prelude.{All}
 use Rattle.std.proofs.lemmas.List.Elements.{All-weaker}
 use Rattle.ata_types.specs.declared.Port.{Port}
 use Rattle.hba_regs.specs.Bits.{bit}
@@ -60,6 +61,14 @@ module _ (laws : Laws) where
   pub told_commands : (Tells : List Access → Type 0) (fitting : Fitting) (port : Port) (old new : Device) → IsTold Tells (IsControl WritesCommand port) (uses_of fitting port) old new →
       IsTold Tells (IsRecovering port) (uses_of fitting port) old new
   told_commands Tells fitting port old new a = told_wider Tells (Controlling Commanding fitting port) (Recovering fitting port) (λ uses. uses) old new (commands_recover port) (λ uses fits. fits) a
+
+  -- PxCMD alone is accessed then, as before
+  pub only_commands : (Tells : List Access → Type 0) (fitting : Fitting) (port : Port) (old new : Device) → (a : IsTold Tells (IsControl WritesCommand port) (uses_of fitting port) old new) →
+      All (IsControl WritesCommand port) (told_commands Tells fitting port old new a).followed.driven.accesses
+  unfolding told_commands told_wider
+  only_commands Tells fitting port old new a =
+      let f = laws.wider (Controlling Commanding fitting port) (Recovering fitting port) (λ uses. uses) (commands_recover port) (λ uses fits. fits) old new a.followed in
+      subst (All (IsControl WritesCommand port)) (sym f.tells) a.followed.driven.only
 
   pub followed_commands : (fitting : Fitting) (port : Port) (old new : Device) → IsFollowed (IsControl WritesCommand port) (uses_of fitting port) old new → IsFollowed (IsRecovering port) (uses_of fitting port) old new
   followed_commands fitting port old new a = (told_commands (λ made. Unit {0}) fitting port old new (record { followed = a; tells = tt })).followed

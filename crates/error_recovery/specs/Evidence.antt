@@ -56,7 +56,7 @@ pub record GainsRunning (Is : Entry → Type 0) (port : ℕ) (old new : Device) 
   pub is : Is entry
   pub since : (new.port port).notes.st_set_at ≤ length old.tape + length before
 
--- IFS, HBDS or HBFS is set: an error that a COMRESET alone ends
+-- IFS, HBDS or HBFS is set: an error of the interface or of the host's bus, which ST ends when it is set anew
 pub record ShowsFatal (p : PortState) : Type 0 where
   pub place : ℕ
   pub from : 27 ≤ place

@@ -202,7 +202,7 @@ pub record TellsRecovery (port : Port) (outstanding : ℕ) (queued : Bool) (resu
 -- DEVICE, the disk has sent no page of it; nor has another port's disk sent a page for a command that its slot 0 hadn't.
 pub record LeavesRecovery (port : Port) (queued : Bool) (next : Next) (old new : Device) : Type 0 where
   pub ends : EndsIn queued port next old new
-  pub det : (new.port port.0).sctl_det ≡ 0
+  pub det : (new.port port.0).sctl_det ≡ (old.port port.0).sctl_det
   pub written : (new.port port.0).notes.sctl_written_at ≡ (old.port port.0).notes.sctl_written_at
   pub enabled : (new.port port.0).ie ≡ (old.port port.0).ie
   pub silent : AgreesWith (λ uses. uses port.0 0 ≡ Own Identify → ⊥) old → SendsNone port.0 Identify old new
@@ -220,9 +220,10 @@ pub record Recovers (port : Port) (outstanding : ℕ) (queued : Bool) (result : 
   pub mends : Mends port outstanding queued result old new
   pub tells : TellsRecovery port outstanding queued result mends.accesses old new
 
--- All that is promised of a port that is given up: nobody is named, and it doesn't run.
+-- All that is promised of a port that is given up: PxCMD alone was accessed, nobody is named, and it doesn't run.
 pub record GivesUp (port : Port) (outstanding : ℕ) (queued : Bool) (result : Recovered) (old new : Device) : Type 0 where
   pub mends : Mends port outstanding queued result old new
+  pub only : All (IsControl WritesCommand port) mends.accesses
   pub nobody : result.failed ≡ None
   pub halts : (token : running_token.Running) → result.next ≢ Running token
 

@@ -1,5 +1,5 @@
 //! Recovery of a port that told the error of a command by TFES: which command failed, and how the port runs again without
-//! COMRESET, where it can (AHCI 1.3.1, 6.2.2; ACS-3, 7.24 and A.14).
+//! COMRESET, where it can; and how one that told a fatal error is stopped, to be booted (AHCI 1.3.1, 6.2.2; ACS-3, 7.24 and A.14).
 #![tactic(auto)]
 
 ghost use Rattle.std.specs.Prelude.{ℕ, Bool, true, false, None, Some, ◌≡◌, ◌≢◌, ◌<◌, ◌≤◌, ◌%◌, ◌/◌, ◌+◌, ◌||◌, IfSome, IfNone};
@@ -248,14 +248,13 @@ pub fn recover<A: Adapter>(adapter: &mut A, port: Port, outstanding: u32, queued
     }
 }
 
-/// Stops a port that an error of its link or of the host's memory has broken, or whose device has gone, so that it can be booted with COMRESET (AHCI 1.3.1,
-/// 6.2.2 and 10.4.2). `outstanding` are the slots whose commands aren't done, bit k for slot k. Nobody is named. Where its engine is stuck for 64 readings of
-/// PxCMD, the port is dead.
+/// Stops a port that an error of its link or of the host's bus has broken, so that it can be booted with COMRESET (AHCI 1.3.1, 6.2.2 and 10.4.2); it may also be
+/// one whose device has gone. Of the port's registers PxCMD alone is accessed. `outstanding` are the slots whose commands aren't done, bit k for slot k. Nobody
+/// is named. Where its engine is stuck for 64 readings of PxCMD, the port is dead.
 pub fn give_up<A: Adapter>(adapter: &mut A, port: Port, outstanding: u32) -> Recovered
     requires on { IsOn (A.device adapter.old) }
     requires there { HasPort (A.device adapter.old) port.0 }
     requires agreed { AgreesWith AnyUse (A.device adapter.old) }
-    requires det { ((A.device adapter.old).port port.0).sctl_det ≡ 0 }
     ensures on { IsOn (A.device adapter.new) }
     ensures gives_up { (queued : Bool) → GivesUp port outstanding queued result (A.device adapter.old) (A.device adapter.new) }
 {

@@ -13,7 +13,7 @@ use Rattle.port_look.specs.declared.Look.{Look}
 use Rattle.port_look.specs.declared.Look.TheVariants.{Lost, Broken, Failed, Undisturbed}
 
 -- What PxIS and PxSSTS tell, first things first: the device went or came, or isn't there (PCS, PRCS, or DET other than 3); an error that
--- a restart alone ends (HBDS, HBFS or IFS); a command that failed (TFES); or none of these.
+-- the driver ends with a boot (HBDS, HBFS or IFS); a command that failed (TFES); or none of these.
 abbrev pub look_of : ℕ → ℕ → Look
 look_of causes status =
     if bit causes 6 || bit causes 22 || not (status % 16 == 3) then Lost

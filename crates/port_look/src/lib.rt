@@ -20,7 +20,7 @@ pub mod laws;
 pub enum Look {
     /// The device went or came, or it isn't there.
     Lost,
-    /// An error of the link or of the host's memory, which a restart alone ends.
+    /// An error of the interface or of the host's bus (HBDS, HBFS or IFS), after which the port is booted anew.
     Broken,
     /// A command failed.
     Failed,

@@ -1,4 +1,4 @@
--- What a turn in which a command had failed leaves of the other ports.
+-- What a turn that mends its port leaves of the other ports.
 use Rattle.std.proofs.Common.{ℕ, ◌≡◌, ◌≢◌, ◌==◌, Bool, true, false, not, cond, List, [], ◌∷◌, filter, get_or, set, None, Some, refl, sym, ap, ◌∙◌, subst, ⊎_elim}
 use Rattle.std.specs.List.{All, Contains}
 use Rattle.std.proofs.lemmas.Bool.{cases_Bool, cond-false, cond-true, eqb-true, ne_eqb}

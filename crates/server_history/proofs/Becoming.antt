@@ -1,4 +1,4 @@
--- What a turn in which a command had failed makes of its port, as clients see it, and which ports its evidence names.
+-- What a turn that mends its port makes of its port, as clients see it, and which ports its evidence names.
 use Rattle.std.proofs.Common.{◌≡◌, ◌≢◌, ◌<◌, true, List, [], ◌∷◌, length, Option, Some, None, refl, sym, ap, ap₂, ◌∙◌, subst, inl, inr, arith}
 use Rattle.std.specs.List.{All, Contains}
 use Rattle.std.proofs.lemmas.List.{get_or-set_same}

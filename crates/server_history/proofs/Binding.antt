@@ -1,4 +1,4 @@
--- A turn in which a command had failed does of its port what a call does of a port.
+-- A turn that mends its port does of its port what a call does of a port.
 use Rattle.std.proofs.Common.{◌≡◌, Bool, false, subst, List, [], refl, sym, ◌∙◌, ⊎_elim}
 use Rattle.std.specs.List.{Contains}
 use Rattle.ata_types.specs.declared.Port.{Port}

@@ -1,4 +1,4 @@
--- The evidence of a turn in which a command had failed: what stands behind each port and each fault that it names.
+-- The evidence of a turn that mends its port: what stands behind each port and each fault that it names.
 use Rattle.std.proofs.Common.{ℕ, ◌≡◌, ◌≢◌, ◌<◌, ◌++◌, Bool, true, false, List, [], ◌∷◌, Option, Some, None, refl, sym, ap, ◌∙◌, subst, inl, inr, arith, ⊎_elim}
 use Rattle.std.specs.List.{All, Contains}
 use Rattle.std.proofs.lemmas.List.Elements.{All-append, All-weaker}

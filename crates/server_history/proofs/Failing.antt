@@ -27,7 +27,7 @@ use Rattle.server_history.proofs.Plain.{both_read}
 use Rattle.server_history.proofs.Slots.{busy_used, free_unused, ready_found, used_or_not}
 
 -- COMRESET isn't being sent
-pub released : (s : Server) (port : Port) → IsKept s → state_of (found_of s.ports port.0) ≡ ReadyState → (s.device.port port.0).sctl_det ≡ 0
+released : (s : Server) (port : Port) → IsKept s → state_of (found_of s.ports port.0) ≡ ReadyState → (s.device.port port.0).sctl_det ≡ 0
 released s port k ready =
     let r = ready_found s port.0 k ready in
     (subst (λ (f : Found). StillStandsBehind (wanted_of s.wanted port.0) f port.0 s.device) r.1.1 (k.behind port.0 r.0).behind).1.det

@@ -133,7 +133,7 @@ module _ (laws : LawsBelow) (port : Port) (look : Look) (old seen : Device) (l :
         (one_or_none (IsFaultOf port.0) (is_fault port.0) grows.0)))
         (cases_Bool ((old.port port.0).is 30))
 
-  -- ---- the link or the host's memory had failed
+  -- ---- the link or the host's bus had failed
 
   module _ (broken : look ≡ Broken) where
     -- one of those three was shown then, or a fatal error came before PxIS was read

@@ -1,4 +1,4 @@
--- A turn in which a command had failed loses no trouble: what came since ST was set is shown, where the port is ready then.
+-- A turn that mends its port loses no trouble: what came since ST was set is shown, where the port is ready then.
 use Rattle.std.proofs.Common.{ℕ, ◌≡◌, List, [], ◌∷◌, refl, sym, ap, ◌∙◌, subst, inl, ⊎_elim}
 use Rattle.std.proofs.lemmas.List.Elements.{All-cons, All-nil, All-weaker}
 use Rattle.ata_types.specs.declared.Port.{Port}

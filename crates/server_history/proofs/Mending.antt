@@ -1,4 +1,4 @@
--- A port's turn in which a command had failed is a part of a service, and leaves the server settled.
+-- A port's turn that mends it is a part of a service, and leaves the server settled.
 use Rattle.std.proofs.Common.{ℕ, List, [], map, ◌≡◌, ◌≢◌, inr, sym, ap, ◌∙◌, subst}
 use Rattle.ata_types.specs.declared.Port.{Port}
 use Rattle.ata_types.specs.declared.PortState.TheVariants.{Ready as ReadyState}

@@ -1,4 +1,4 @@
--- A turn in which a command had failed heeds what it finds of the port: no request keeps its issue, and one fault is told at most.
+-- A turn that mends its port heeds what it finds of the port: no request keeps its issue, and one fault is told at most.
 use Rattle.std.proofs.Common.{ℕ, ◌≡◌, ◌≢◌, ◌<◌, ◌≤◌, ◌+◌, ◌++◌, ◌==◌, ◌||◌, Bool, true, false, cond, suc, eq-eqb, List, [], ◌∷◌, Option, Some, None, refl, sym, ap, ◌∙◌, subst, inl, inr, arith, ⊎_elim}
 use Rattle.std.specs.List.{Contains, list_any}
 use Rattle.std.specs.Prelude.{◌⊎◌, count_by}

@@ -1,4 +1,4 @@
--- The accesses of a port's turn in which a command had failed: one by one, of what kind they are, and what they tell of the port's engines.
+-- The accesses of a port's turn that mends it: one by one, of what kind they are, and what they tell of the port's engines.
 use Rattle.std.proofs.Common.{ℕ, ◌≡◌, ◌≢◌, ◌<◌, ◌++◌, List, [], None, refl, sym, ◌∙◌, subst, inl, inr, arith, ⊎_elim}
 use Rattle.std.specs.List.{All}
 use Rattle.std.proofs.lemmas.Bool.{cases_eq}

@@ -1,4 +1,4 @@
--- A port's turn in which a command had failed: what it adds to a machine, and its evidence.
+-- A port's turn that mends it: what it adds to a machine, and its evidence.
 use Rattle.std.proofs.Common.{◌≡◌, ◌++◌, List, [], ◌∷◌, Option, Some, None}
 use Rattle.std.specs.List.{All, AllZip, Contains}
 use Rattle.ata_types.specs.declared.Port.{Port}

@@ -1,4 +1,4 @@
--- The accesses of a whole turn in which a command had failed: those before the port was recovered, recovery's, and those after it.
+-- The accesses of a whole turn that mends its port: those before the port was recovered, recovery's, and those after it.
 use Rattle.std.proofs.Common.{ℕ, ◌≡◌, ◌≢◌, ◌<◌, ◌++◌, List, [], ◌∷◌, length, map, refl, sym, ap, ◌∙◌, subst, arith, ⊎_elim}
 use Rattle.std.specs.List.{All, Contains}
 use Rattle.std.proofs.lemmas.Bool.Decides.{leb_tells}

@@ -1,4 +1,4 @@
--- How a port on which a command failed is recovered, and what becomes of its requests (this project's own).
+-- How a port on which a command failed, or whose link or host bus did, is mended, and what becomes of its requests (this project's own).
 use Rattle.std.specs.Prelude.{ℕ, Bool, true, ◌≡◌, ◌≢◌, ◌⊎◌, ◌<◌, ◌≤◌, ◌++◌, List, Option, Some, None, AllPairs, IsPermutation, filter, length, map, slice_set}
 use Rattle.ata_types.specs.declared.Port.{Port}
 use Rattle.ata_types.specs.declared.PortState.TheVariants.{Dead as DeadState}
@@ -36,11 +36,11 @@ use Rattle.server_history.specs.Server.{Server, kept_at, mode_found, slots_at, u
 
 -- ---- a port is mended
 
--- The look leads to mending: it told that a command had failed, or that the link or the host's memory had.
+-- The look leads to mending: it told that a command had failed, or that the link or the host's bus had.
 abbrev pub LeadsToMending : Look → Type 0
 LeadsToMending told = (told ≡ look.Failed) ⊎ (told ≡ look.Broken)
 
--- What is told after such a look. Where a command had failed, the port was mended. Where its link or the host's memory had failed, the port was given up: nobody is named, and it
+-- What is told after such a look. Where a command had failed, the port was recovered. Where its link or the host's bus had failed, the port was given up: nobody is named, and it
 -- doesn't run. Other looks lead to neither.
 abbrev pub TellsMending : Look → Port → ℕ → Bool → Recovered → List Access → Device → Device → Type 0
 TellsMending look.Failed port outstanding queued result accesses old new = TellsRecovery port outstanding queued result accesses old new

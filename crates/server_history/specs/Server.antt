@@ -41,7 +41,7 @@ use Rattle.slots.specs.declared.Use.{Use as SlotUse}
 use Rattle.driver_history.specs.Holds.{Runs, mode_of}
 
 -- The device behind the adapter; the grants; by frame its owner and the request that it is lent to; by port the disk that is wanted,
--- what it was found to be, which disk it was ready with when it was last recovered, how it takes commands, what its slots are used for, and what is still lent
+-- what it was found to be, which disk it was ready with when it was last mended, how it takes commands, what its slots are used for, and what is still lent
 -- to requests of it that were answered; the unanswered requests in order of acceptance, with what is lent to them; and the id that was handed out
 -- last, or 0.
 pub record Server : Type 0 where

@@ -222,13 +222,12 @@ pub fn a_port_is_served()
     the_laws_below_hold();
 }
 
-/// A ready port that a look tells a failure of may be recovered once its masks were read: a fault has halted it, and it shows a device. On no ready port is
-/// COMRESET being sent. Of plain commands a port has one alone, in slot 0.
+/// A ready port that a look tells a failure of may be recovered once its masks were read: a fault has halted it, and it shows a device.
+/// Of plain commands a port has one alone, in slot 0.
 pub fn a_troubled_port_may_be_mended()
     ensures may { (s : Server) (seen found : Device) (port : Port) (mask done : ℕ) → IsKept s → state_of (found_of s.ports port.0) ≡ ReadyState
         → LooksAt port Fails s.device seen → IsFollowed (IsLooking port) AnyUse s.device seen → ReadsDone port mask done seen found
         → MayRecover port.0 found }
-    ensures released { (s : Server) (port : Port) → IsKept s → state_of (found_of s.ports port.0) ≡ ReadyState → (s.device.port port.0).sctl_det ≡ 0 }
     ensures agreed { (s : Server) (port : Port) (queued : Bool) → IsKept s → state_of (found_of s.ports port.0) ≡ ReadyState
         → AreQueued queued (slots_at s.slots port.0) → AgreesWith (FitsFor queued port.0) s.device }
     ensures alike { (s : Server) (port : Port) (slot : ℕ) (used : SlotUse) → IsKept s → used_for s.slots port.0 slot ≡ Some used

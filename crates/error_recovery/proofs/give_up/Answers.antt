@@ -7,9 +7,9 @@ use Rattle.error_recovery.proofs.give_up.Goals as goal
 pub returns-in-Ok-clause-gives_up : goal.returns-in-Ok-clause-gives_up
 returns-in-Ok-clause-gives_up g c = λ queued.
     let R : recovered.Recovered → Type 0 = λ result. GivesUp c.args.port c.args.outstanding queued result (g.A.Adapter.device c.args.adapter.now) (g.A.Adapter.device c.stop.new.adapter) in
-    subst R (sym c.unnamed.ensures) (gives_up_stopped c.laws_hold.ensures c.args.port c.args.outstanding queued _ _ c.requires.on c.requires.det _ c.in-Ok.ensures.names c.in-Ok.ensures.halts)
+    subst R (sym c.unnamed.ensures) (gives_up_stopped c.laws_hold.ensures c.args.port c.args.outstanding queued _ _ c.requires.on _ c.in-Ok.ensures.names c.in-Ok.ensures.halts)
 
 pub returns-in-Err-clause-gives_up : goal.returns-in-Err-clause-gives_up
 returns-in-Err-clause-gives_up g c = λ queued.
     let R : recovered.Recovered → Type 0 = λ result. GivesUp c.args.port c.args.outstanding queued result (g.A.Adapter.device c.args.adapter.now) (g.A.Adapter.device c.stop.new.adapter) in
-    subst R (sym c.unnamed-in-Err.ensures) (gives_up_stuck c.laws_hold.ensures c.args.port c.args.outstanding queued _ _ c.requires.on c.requires.det c.in-Err.ensures.has c.in-Err.ensures.fails)
+    subst R (sym c.unnamed-in-Err.ensures) (gives_up_stuck c.laws_hold.ensures c.args.port c.args.outstanding queued _ _ c.requires.on c.in-Err.ensures.has c.in-Err.ensures.fails)

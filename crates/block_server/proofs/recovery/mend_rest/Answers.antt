@@ -1,4 +1,4 @@
-use Rattle.block_server.proofs.Lent.{FailureLaws, agreed, alike, alone, lends_done, may, mid_kept, mends_rest, mid_there, named, places, released, seen_kept, seen_there}
+use Rattle.block_server.proofs.Lent.{FailureLaws, agreed, alike, alone, lends_done, may, mid_kept, mends_rest, mid_there, named, places, seen_kept, seen_there}
 use Rattle.block_server.proofs.recovery.mend_rest.Goals as goal
 
 pub done-finished-requires-clause-on : goal.done-finished-requires-clause-on
@@ -8,7 +8,6 @@ done-finished-requires-clause-on g c =
       finding = c.looks_keep.ensures.finding;
       over = c.looks_keep.ensures.found;
       may = c.a_troubled_port_may_be_mended.ensures.may;
-      released = c.a_troubled_port_may_be_mended.ensures.released;
       agreed = c.a_troubled_port_may_be_mended.ensures.agreed;
       alike = c.a_troubled_port_may_be_mended.ensures.alike;
       alone = c.a_troubled_port_may_be_mended.ensures.alone;
@@ -23,7 +22,6 @@ done-finished-requires-clause-there g c =
       finding = c.looks_keep.ensures.finding;
       over = c.looks_keep.ensures.found;
       may = c.a_troubled_port_may_be_mended.ensures.may;
-      released = c.a_troubled_port_may_be_mended.ensures.released;
       agreed = c.a_troubled_port_may_be_mended.ensures.agreed;
       alike = c.a_troubled_port_may_be_mended.ensures.alike;
       alone = c.a_troubled_port_may_be_mended.ensures.alone;
@@ -38,7 +36,6 @@ answer_done-requires-clause-lends g c =
       finding = c.looks_keep.ensures.finding;
       over = c.looks_keep.ensures.found;
       may = c.a_troubled_port_may_be_mended.ensures.may;
-      released = c.a_troubled_port_may_be_mended.ensures.released;
       agreed = c.a_troubled_port_may_be_mended.ensures.agreed;
       alike = c.a_troubled_port_may_be_mended.ensures.alike;
       alone = c.a_troubled_port_may_be_mended.ensures.alone;
@@ -53,7 +50,6 @@ are_queued-queued-requires g c =
       finding = c.looks_keep.ensures.finding;
       over = c.looks_keep.ensures.found;
       may = c.a_troubled_port_may_be_mended.ensures.may;
-      released = c.a_troubled_port_may_be_mended.ensures.released;
       agreed = c.a_troubled_port_may_be_mended.ensures.agreed;
       alike = c.a_troubled_port_may_be_mended.ensures.alike;
       alone = c.a_troubled_port_may_be_mended.ensures.alone;
@@ -72,7 +68,6 @@ mend-recovered-requires-clause-there g c =
       finding = c.looks_keep.ensures.finding;
       over = c.looks_keep.ensures.found;
       may = c.a_troubled_port_may_be_mended.ensures.may;
-      released = c.a_troubled_port_may_be_mended.ensures.released;
       agreed = c.a_troubled_port_may_be_mended.ensures.agreed;
       alike = c.a_troubled_port_may_be_mended.ensures.alike;
       alone = c.a_troubled_port_may_be_mended.ensures.alone;
@@ -91,7 +86,6 @@ mend-recovered-requires-clause-room g c =
       finding = c.looks_keep.ensures.finding;
       over = c.looks_keep.ensures.found;
       may = c.a_troubled_port_may_be_mended.ensures.may;
-      released = c.a_troubled_port_may_be_mended.ensures.released;
       agreed = c.a_troubled_port_may_be_mended.ensures.agreed;
       alike = c.a_troubled_port_may_be_mended.ensures.alike;
       alone = c.a_troubled_port_may_be_mended.ensures.alone;
@@ -110,7 +104,6 @@ mend-recovered-requires-clause-agreed g c =
       finding = c.looks_keep.ensures.finding;
       over = c.looks_keep.ensures.found;
       may = c.a_troubled_port_may_be_mended.ensures.may;
-      released = c.a_troubled_port_may_be_mended.ensures.released;
       agreed = c.a_troubled_port_may_be_mended.ensures.agreed;
       alike = c.a_troubled_port_may_be_mended.ensures.alike;
       alone = c.a_troubled_port_may_be_mended.ensures.alone;
@@ -129,32 +122,12 @@ mend-recovered-requires-clause-may g c =
       finding = c.looks_keep.ensures.finding;
       over = c.looks_keep.ensures.found;
       may = c.a_troubled_port_may_be_mended.ensures.may;
-      released = c.a_troubled_port_may_be_mended.ensures.released;
       agreed = c.a_troubled_port_may_be_mended.ensures.agreed;
       alike = c.a_troubled_port_may_be_mended.ensures.alike;
       alone = c.a_troubled_port_may_be_mended.ensures.alone;
     } in
     let l = c.requires.lends in
     may laws l.0 (g.A.Adapter.device c.args.adapter.now) c.args.table.now c.args.book.now c.args.slots.now c.args.port c.args.look l.1 c.taken-used.result c.taken-used.ensures c.done-finished.result (g.A.Adapter.device c.done-finished.new.adapter) c.done-finished.ensures.finds
-
-pub mend-recovered-requires-clause-released : goal.mend-recovered-requires-clause-released
-mend-recovered-requires-clause-released g c =
-    let laws : FailureLaws = record {
-      looking = c.looks_keep.ensures.looking;
-      finding = c.looks_keep.ensures.finding;
-      over = c.looks_keep.ensures.found;
-      may = c.a_troubled_port_may_be_mended.ensures.may;
-      released = c.a_troubled_port_may_be_mended.ensures.released;
-      agreed = c.a_troubled_port_may_be_mended.ensures.agreed;
-      alike = c.a_troubled_port_may_be_mended.ensures.alike;
-      alone = c.a_troubled_port_may_be_mended.ensures.alone;
-    } in
-    let l = c.requires.lends in
-    let done = lends_done laws l.0 (g.A.Adapter.device c.args.adapter.now) c.args.table.now c.args.book.now c.args.slots.now c.args.port c.args.look l.1 c.taken-used.result c.taken-used.ensures c.done-finished.result (g.A.Adapter.device c.done-finished.new.adapter) c.done-finished.ensures.finds in
-    let from = record l.0 { device = g.A.Adapter.device c.done-finished.new.adapter } in
-    let answers = c.answer_done.ensures.answers from c.args.port done in
-    let lent = c.answer_done.ensures.lends from c.args.port done in
-    released laws l.0 (g.A.Adapter.device c.args.adapter.now) c.args.table.now c.args.book.now c.args.slots.now c.args.port c.args.look l.1 c.taken-used.result c.taken-used.ensures c.done-finished.result (g.A.Adapter.device c.done-finished.new.adapter) c.done-finished.ensures.finds c.args.replies.now.items c.answer_done.new.replies.items c.answer_done.new.table c.answer_done.new.book c.answer_done.new.slots answers lent
 
 pub mend-recovered-requires-clause-leads : goal.mend-recovered-requires-clause-leads
 mend-recovered-requires-clause-leads g c = let l = c.requires.lends in l.1.sees.mends
@@ -166,7 +139,6 @@ mend-recovered-requires-clause-alone g c =
       finding = c.looks_keep.ensures.finding;
       over = c.looks_keep.ensures.found;
       may = c.a_troubled_port_may_be_mended.ensures.may;
-      released = c.a_troubled_port_may_be_mended.ensures.released;
       agreed = c.a_troubled_port_may_be_mended.ensures.agreed;
       alike = c.a_troubled_port_may_be_mended.ensures.alike;
       alone = c.a_troubled_port_may_be_mended.ensures.alone;
@@ -185,7 +157,6 @@ failed_in-failed-requires g c =
       finding = c.looks_keep.ensures.finding;
       over = c.looks_keep.ensures.found;
       may = c.a_troubled_port_may_be_mended.ensures.may;
-      released = c.a_troubled_port_may_be_mended.ensures.released;
       agreed = c.a_troubled_port_may_be_mended.ensures.agreed;
       alike = c.a_troubled_port_may_be_mended.ensures.alike;
       alone = c.a_troubled_port_may_be_mended.ensures.alone;
@@ -204,7 +175,6 @@ returns-clause-mends g c = λ s l.
       finding = c.looks_keep.ensures.finding;
       over = c.looks_keep.ensures.found;
       may = c.a_troubled_port_may_be_mended.ensures.may;
-      released = c.a_troubled_port_may_be_mended.ensures.released;
       agreed = c.a_troubled_port_may_be_mended.ensures.agreed;
       alike = c.a_troubled_port_may_be_mended.ensures.alike;
       alone = c.a_troubled_port_may_be_mended.ensures.alone;

@@ -6,7 +6,7 @@ use Rattle.ata_types.specs.declared.Port.{Port}
 use Rattle.block_machine.specs.Events.{Ask, HeedsAt, Service, ServesReady, moment_after}
 use Rattle.block_machine.specs.Histories.{Happening, Instant, now}
 use Rattle.identify.specs.declared.wanted.Wanted.{Wanted}
-use Rattle.driver_history.specs.Claims.{HeedsFault}
+use Rattle.driver_history.specs.Claims.{HeedsFailure}
 use Rattle.driver_history.specs.Evidence.{ShowsFailure}
 use Rattle.driver_history.specs.Guard.{IsAskedOf}
 use Rattle.driver_history.specs.Histories.{IsHistory, TellsPlainFaults}
@@ -14,7 +14,7 @@ use Rattle.driver_history.proofs.troubles.shown_faults_are_heeded.Goals as goal
 
 heeds_fault : (wanted : List Wanted) (first : Instant Device) (past : List (Happening Device DeviceStep)) (h : Happening Device DeviceStep) (port : Port)
     → IsHistory wanted first (h ∷ past) → h.event.ask ≡ Service → IsAskedOf port (now first past) h.device → ShowsFailure ((now first past).device.port port.0)
-    → HeedsFault port (now first past) h
+    → HeedsFailure port (now first past) h
 heeds_fault wanted first past h port history asks asked failure =
     let old = now first past in
     let ties = history.2.port port asked in

@@ -1,11 +1,8 @@
-use Rattle.server_history.proofs.Failing.{are_alike, fits_for, is_alone, may_recover, released}
+use Rattle.server_history.proofs.Failing.{are_alike, fits_for, is_alone, may_recover}
 use Rattle.server_history.proofs.laws.a_troubled_port_may_be_mended.Goals as goal
 
 pub returns-clause-may : goal.returns-clause-may
 returns-clause-may c s seen found port mask done k ready l looks finds = may_recover c.the_laws_below_hold.ensures s seen found port mask done k ready l looks finds
-
-pub returns-clause-released : goal.returns-clause-released
-returns-clause-released c = released
 
 pub returns-clause-agreed : goal.returns-clause-agreed
 returns-clause-agreed c s port queued k ready kinds = fits_for s port queued k ready kinds
