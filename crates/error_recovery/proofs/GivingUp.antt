@@ -1,22 +1,20 @@
 -- A port is given up: it is stopped, and so it has to be booted, or it is dead.
-use Rattle.std.proofs.Common.{ℕ, Bool, ◌≡◌, ◌≢◌, ◌++◌, List, [], Option, None, inl, refl, sym, ◌∙◌, ap, append-nil, subst}
+use Rattle.std.proofs.Common.{ℕ, Bool, ◌≡◌, ◌++◌, [], None, refl, ◌∙◌}
 use Rattle.std.proofs.lemmas.List.Elements.{All-append}
 use Rattle.ata_types.specs.declared.Port.{Port}
 use Rattle.hba_regs.specs.declared.reg.PortReg.TheVariants.{Ci, Sact}
-use Rattle.adapter.specs.Access.{Access}
 use Rattle.adapter.specs.Device.{Device}
 use Rattle.adapter.specs.Rules.{IsOn}
-use Rattle.agreement.specs.Driven.{AnyUse, IsControl, IsFollowed, IsTold}
+use Rattle.agreement.specs.Driven.{AnyUse, IsTold}
 use Rattle.agreement.specs.Driver.{AllFree}
-use Rattle.port_control.specs.Engines.{FailsToStop, Sticks, Stops}
-use Rattle.port_control.specs.Ports.{FailsToHalt, Halts, HasStopped, WritesCommand}
+use Rattle.port_control.specs.Engines.{Sticks, Stops}
+use Rattle.port_control.specs.Ports.{FailsToHalt, Halts, HasStopped}
 use Rattle.port_control.specs.declared.Stopped as stopped_token
 use Rattle.error_recovery.specs.declared.Next.TheVariants.{Dead, Restart}
 use Rattle.error_recovery.specs.Laws.{Laws}
 use Rattle.error_recovery.specs.Laws.Fitting.{AnyUses, PortUnused}
 use Rattle.error_recovery.specs.Laws.RegisterSet.{Commanding}
 use Rattle.error_recovery.specs.Laws.Stretch.{Controlling, Recovering}
-use Rattle.error_recovery.specs.Parts.{GetsStuck}
 use Rattle.error_recovery.specs.Recovery.{GivesUp, IsRecovering}
 use Rattle.error_recovery.proofs.Finishing.{all_go_again, mends_stuck}
 use Rattle.error_recovery.proofs.Going.{Goes, goes_over}
