@@ -1,5 +1,5 @@
 -- Ports of which all is so that this crate's calls ask (this project's own).
-use Rattle.std.specs.Prelude.{ℕ, Bool, true, ◌≡◌, ◌≤◌, if◌then◌else◌, Contains}
+use Rattle.std.specs.Prelude.{ℕ, Bool, true, ◌≡◌, ◌≤◌, if◌then◌else◌, Contains, None}
 use Rattle.ata_types.specs.declared.memory.TheConstants.{DRIVER_BYTES}
 use Rattle.ata_types.specs.declared.request.RequestId.{RequestId}
 use Rattle.hba_regs.specs.Bits.{bit}
@@ -9,9 +9,13 @@ use Rattle.adapter.specs.Rules.{HasPort, IsOn}
 use Rattle.adapter.specs.Steps.{halted}
 use Rattle.adapter.specs.declared.tape.Entry.TheVariants as entry
 use Rattle.adapter.specs.declared.tape.Fault as tape_fault
-use Rattle.agreement.specs.Driven.{AgreesWith}
+use Rattle.agreement.specs.Agrees.{port_at}
+use Rattle.agreement.specs.Driven.{AgreesWith, AnyUse}
 use Rattle.agreement.specs.Slots.{Serves}
-use Rattle.error_recovery.specs.Recovery.{FitsFor, IsAloneIn, MayRecover}
+use Rattle.port_control.specs.declared.Stopped as stopped_token
+use Rattle.error_recovery.specs.Evidence.{ShowsFatal}
+use Rattle.error_recovery.specs.Recovery.{FitsFor, GivesUp, IsAloneIn, MayRecover}
+use Rattle.error_recovery.specs.declared.Next.TheVariants.{Restart}
 
 -- Of port 0 all is so that recovery asks. A command has failed on it, a plain one in slot 0, or a queued one in slot 1, and has halted the port. Its slot
 -- serves a request, and is outstanding.
@@ -30,3 +34,20 @@ pub record MayBeAsked (queued : Bool) : Type 0 where
   pub halts : (device.port 0).halt ≡ halted NotHalted queued
   pub serves : (id : RequestId) × (agreed.0 0 fault.slot.0 ≡ Serves id)
   pub among : bit outstanding fault.slot.0 ≡ true
+
+-- Of port 0 all is so that is asked where a port is given up: a fatal error has broken it, and slot 0 serves a request, which is outstanding. And what is
+-- promised then can come: ST is cleared, CR falls, and the port has to be booted.
+pub record MayBeGivenUp : Type 0 where
+  pub device : Device
+  pub on : IsOn device
+  pub there : HasPort device 0
+  pub agreed : AgreesWith AnyUse device
+  pub det : (device.port 0).sctl_det ≡ 0
+  pub fatal : ShowsFatal (device.port 0)
+  pub broken : (device.port 0).broken ≡ true
+  pub serves : (id : RequestId) × (agreed.0 0 0 ≡ Serves id)
+  pub outstanding : ℕ
+  pub among : bit outstanding 0 ≡ true
+  pub stopped : Device
+  pub token : stopped_token.Stopped
+  pub gives_up : (queued : Bool) → GivesUp (port_at 0) outstanding queued (record { failed = None; again = outstanding; next = Restart token }) device stopped

@@ -14,11 +14,13 @@ ghost use Rattle.agreement.specs.Driven.{Grows, IsOf, SendsNone};
 ghost use Rattle.agreement.specs.Links.{SparesRegister};
 ghost use Rattle.error_recovery.specs.Evidence.{BringsLog, HasFailed, ShowsFatal};
 ghost use Rattle.error_recovery.specs.Recovery.{IsRecovering};
-ghost use Rattle.error_recovery.specs.Witness.{MayBeAsked};
+ghost use Rattle.error_recovery.specs.Witness.{MayBeAsked, MayBeGivenUp};
 
 use super::lawful::laws_hold;
 use adapter::laws::accesses_compose;
-use agreement::laws::{a_first_read_agrees, putting_is_of_one_slot, two_queued_reads_agree};
+use agreement::laws::{
+    a_first_read_agrees, commanding_is_permitted, putting_is_of_one_slot, two_queued_reads_agree,
+};
 use agreement::limits::a_fault_is_seen;
 
 /// Recovery touches no register of another port, nor another port's bit of IS: so what is said of such accesses (`IsOf`) is so of each of
@@ -62,6 +64,17 @@ pub fn a_port_may_be_recovered()
     a_fault_is_seen();
     a_first_read_agrees();
     two_queued_reads_agree();
+    putting_is_of_one_slot();
+    laws_hold();
+}
+
+/// What `give_up` asks can be met, and what it promises: there is a port that a fatal error has broken while a read is issued, and three
+/// accesses stop it.
+pub fn a_port_may_be_given_up()
+    ensures { MayBeGivenUp }
+{
+    a_first_read_agrees();
+    commanding_is_permitted();
     putting_is_of_one_slot();
     laws_hold();
 }
