@@ -1,4 +1,4 @@
--- The port of the first read, which a fatal error breaks; it is given up by two accesses.
+-- The port of the first read, which a fatal error breaks; it is given up by three accesses.
 use Rattle.std.proofs.Common.{ℕ, zero, suc, ◌≡◌, ◌≢◌, ◌==◌, ◌++◌, Bool, true, false, List, [], ◌∷◌, inl, refl, sym, ◌∙◌, ap, subst, arith}
 use Rattle.std.proofs.lemmas.Bool.{false≢true}
 use Rattle.std.proofs.lemmas.List.Elements.{All-nil}
