@@ -69,7 +69,7 @@ unfolding two_memory first_memory patched bytes_at zeros_from
 first_told = spelt_told two_memory 0 (queued_read 100) (frame_prd 40)
     (queued_spelt two_memory 0 100 40 (omega arith) refl refl (refl, refl, refl) (refl, refl, refl, refl, refl, refl, refl, refl) (refl, refl, refl))
 
-second_told : Told two_memory 0 0 1 (queued_read 108) (cut 0x29000 8)
+pub second_told : Told two_memory 0 0 1 (queued_read 108) (cut 0x29000 8)
 unfolding two_memory first_memory patched bytes_at zeros_from
 second_told = spelt_told two_memory 1 (queued_read 108) (frame_prd 41)
     (queued_spelt two_memory 1 108 41 (omega arith) refl refl (refl, refl, refl) (refl, refl, refl, refl, refl, refl, refl, refl) (refl, refl, refl))

@@ -13,7 +13,7 @@ use Rattle.hba_regs.specs.declared.reg.PortReg.{PortReg}
 use Rattle.hba_regs.specs.declared.reg.PortReg.TheVariants.{Is, Cmd, Tfd, Ssts, Serr, Ci}
 use Rattle.adapter.specs.Access.{Reads, Writes, noted, written, shown_interrupt}
 use Rattle.adapter.specs.Device.{Taken, PortState, Device}
-use Rattle.adapter.specs.Device.Halt.{HaltedPlain}
+use Rattle.adapter.specs.Device.Halt.{HaltedPlain, HaltedQueued}
 use Rattle.adapter.specs.FirstRead.{first_read}
 use Rattle.adapter.specs.Memory.{changed}
 use Rattle.adapter.specs.ReadDone.{read_of}
@@ -29,7 +29,9 @@ use Rattle.agreement.specs.Facts.{IsHalted, TellsNoTrouble}
 use Rattle.agreement.proofs.Allowing.{write_stays}
 use Rattle.agreement.specs.Recovered.{FaultIsSeen, RecoveryIsFound}
 use Rattle.agreement.specs.Recovering.{IsLinked, WorksPlainly}
+use Rattle.agreement.specs.Served.{queued_read, two_issued}
 use Rattle.agreement.proofs.Plainly.{plainly_well}
+use Rattle.agreement.proofs.Queueing.{second_told}
 
 -- ---- what the port is, access by access
 
@@ -233,6 +235,50 @@ recovery_is_found = record {
 
 -- ---- the fault is seen
 
-pub fault_is_seen : FaultIsSeen
+pub fault_is_seen : FaultIsSeen first_read 0 HaltedPlain
 unfolding changed
-fault_is_seen = record { seen = noted (port_reg Ssts) 3 failed; sees = record { mid = failed; steps = fails; shows = refl; effect = refl }; halted = refl }
+fault_is_seen = record {
+  seen = noted (port_reg Ssts) 3 failed;
+  sees = record { mid = failed; steps = fails; shows = refl; effect = refl };
+  halted = refl;
+  fault = record { port = port_at 0; slot = record { 0 = 0 }; status = 0x41; error = 0x40 };
+  here = (0, omega arith, refl);
+  of = (refl, refl);
+}
+
+-- of two queued reads that are issued the second may be taken first, and fail
+abbrev second_read : Taken
+second_read = begun (queued_read 108) (cut 0x29000 8)
+
+abbrev second_taken : Device
+second_taken = after (Fetch 0 1 (queued_read 108) (cut 0x29000 8)) two_issued
+
+abbrev second_failed : Device
+second_failed = after (Fault 0 1 0x40 0 second_read) second_taken
+
+second_fetch : Can (Fetch 0 1 (queued_read 108) (cut 0x29000 8)) two_issued
+unfolding changed
+second_fetch = record {
+  fetchable = record { st = refl; issued = refl; free = refl };
+  working = record { running = refl; present = refl; fresh = refl; admitted = refl; whole = refl };
+  alone = λ slot t is. absurd (none-some _ is);
+  says = second_told.says;
+}
+
+second_fault : Can (Fault 0 1 0x40 0 second_read) second_taken
+unfolding changed
+second_fault = record { taken = refl; running = refl; is_byte = omega arith; kept = refl }
+
+second_fails : Steps two_issued second_failed
+second_fails = record { steps = Fetch 0 1 (queued_read 108) (cut 0x29000 8) ∷ Fault 0 1 0x40 0 second_read ∷ []; lead = (second_fetch, (second_fault, refl)) }
+
+pub queued_fault_is_seen : FaultIsSeen two_issued 1 HaltedQueued
+unfolding changed
+queued_fault_is_seen = record {
+  seen = noted (port_reg Ssts) 3 second_failed;
+  sees = record { mid = second_failed; steps = second_fails; shows = refl; effect = refl };
+  halted = refl;
+  fault = record { port = port_at 0; slot = record { 0 = 1 }; status = 0x41; error = 0x40 };
+  here = (0, omega arith, refl);
+  of = (refl, refl);
+}

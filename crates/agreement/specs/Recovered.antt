@@ -1,13 +1,15 @@
 -- A port that fails and runs well again, access by access (this project's own).
-use Rattle.std.specs.Prelude.{◌≡◌}
+use Rattle.std.specs.Prelude.{ℕ, ◌≡◌, Contains}
 use Rattle.hba_regs.specs.declared.reg.Reg.TheVariants.{Px}
 use Rattle.hba_regs.specs.declared.reg.PortReg.TheVariants.{Is, Cmd, Tfd, Ssts, Serr}
 use Rattle.adapter.specs.Access.{Reads, Writes}
-use Rattle.adapter.specs.Device.{Device}
+use Rattle.adapter.specs.Device.{Halt, Device}
 use Rattle.adapter.specs.Device.Halt.{HaltedPlain}
 use Rattle.adapter.specs.FirstRead.{first_read}
 use Rattle.adapter.specs.Rules.{MayWrite, Stays}
 use Rattle.adapter.specs.Steps.{Steps}
+use Rattle.adapter.specs.declared.tape.Entry.TheVariants as entry
+use Rattle.adapter.specs.declared.tape.Fault as tape_fault
 use Rattle.agreement.specs.Agrees.{port_at}
 use Rattle.agreement.specs.Facts.{IsHalted, RunsWell}
 use Rattle.agreement.specs.Recovering.{IsLinked, WorksPlainly}
@@ -46,8 +48,12 @@ pub record RecoveryIsFound : Type 0 where
   pub still_linked : IsLinked (ready.port 0)
   pub well : RunsWell (found.port 0)
 
--- By the time that PxSSTS is read, with a device, the first read may have failed: a fault halts the port.
-pub record FaultIsSeen : Type 0 where
+-- By the time that PxSSTS is read, with a device, the command in this slot of port 0 may have failed: its fault stands on the tape, and halts the
+-- port so.
+pub record FaultIsSeen (old : Device) (slot : ℕ) (halt : Halt) : Type 0 where
   pub seen : Device
-  pub sees : Reads (Px (port_at 0) Ssts) 3 first_read seen
-  pub halted : (seen.port 0).halt ≡ HaltedPlain
+  pub sees : Reads (Px (port_at 0) Ssts) 3 old seen
+  pub halted : (seen.port 0).halt ≡ halt
+  pub fault : tape_fault.Fault
+  pub here : Contains seen.tape (entry.Fault fault)
+  pub of : (fault.port.0 ≡ 0) × (fault.slot.0 ≡ slot)

@@ -2,7 +2,8 @@
 ghost use Rattle.std.specs.Prelude.{ℕ, true, false, ◌≡◌, Some};
 ghost use Rattle.adapter.specs.Commands.{is_queued};
 ghost use Rattle.adapter.specs.Device.{Taken, Device};
-ghost use Rattle.adapter.specs.Device.Halt.{NotHalted};
+ghost use Rattle.adapter.specs.Device.Halt.{NotHalted, HaltedPlain, HaltedQueued};
+ghost use Rattle.adapter.specs.FirstRead.{first_read};
 ghost use Rattle.adapter.specs.Steps.{Steps, restarted};
 ghost use Rattle.block_machine.specs.Histories.{IsReached};
 ghost use Rattle.block_machine.specs.State.{Machine};
@@ -11,15 +12,18 @@ ghost use Rattle.agreement.specs.Slots.{Uses};
 ghost use Rattle.agreement.specs.Recovering.{WorksPlainly};
 ghost use Rattle.agreement.specs.Logged.{LogIsEnded};
 ghost use Rattle.agreement.specs.Recovered.{FaultIsSeen, RecoveryIsFound};
+ghost use Rattle.agreement.specs.Served.{two_issued};
 
 /// There is a port that fails and is stopped, cleared and started again without COMRESET: it runs well.
 pub fn a_fault_is_recovered()
     ensures { RecoveryIsFound }
 {}
 
-/// There is a port that fails, as its driver looks at it: it is there for a recovery to be asked for.
+/// There are ports that fail, as their driver looks at them: they are there for a recovery to be asked for. On the one a plain read has
+/// failed, and on the other a queued one, in slot 1, while another waits.
 pub fn a_fault_is_seen()
-    ensures { FaultIsSeen }
+    ensures plain { FaultIsSeen first_read 0 HaltedPlain }
+    ensures queued { FaultIsSeen two_issued 1 HaltedQueued }
 {}
 
 /// There is a port that takes READ LOG EXT alone, as after a queued fault, with that command prepared: it is issued and comes to its end, and the

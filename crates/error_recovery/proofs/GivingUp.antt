@@ -1,15 +1,14 @@
 -- A port is given up: it is stopped, and so it has to be booted, or it is dead.
-use Rattle.std.proofs.Common.{ℕ, Bool, ◌≡◌, ◌≢◌, ◌++◌, List, [], Option, None, inl, refl, sym, ◌∙◌, ap, append-nil, subst}
+use Rattle.std.proofs.Common.{ℕ, Bool, ◌≡◌, ◌++◌, [], None, refl, sym, subst}
 use Rattle.std.specs.Prelude.{All}
 use Rattle.std.proofs.lemmas.List.Elements.{All-append, All-nil}
 use Rattle.ata_types.specs.declared.Port.{Port}
 use Rattle.hba_regs.specs.declared.reg.PortReg.TheVariants.{Ci, Sact}
-use Rattle.adapter.specs.Access.{Access}
 use Rattle.adapter.specs.Device.{Device}
 use Rattle.adapter.specs.Rules.{IsOn}
-use Rattle.agreement.specs.Driven.{AnyUse, IsControl, IsFollowed, IsTold}
+use Rattle.agreement.specs.Driven.{AnyUse, IsControl, IsTold}
 use Rattle.agreement.specs.Driver.{AllFree}
-use Rattle.port_control.specs.Engines.{FailsToStop, Sticks, Stops}
+use Rattle.port_control.specs.Engines.{Sticks, Stops}
 use Rattle.port_control.specs.Ports.{FailsToHalt, Halts, HasStopped, WritesCommand}
 use Rattle.port_control.specs.declared.Stopped as stopped_token
 use Rattle.error_recovery.specs.declared.Next.TheVariants.{Dead, Restart}

@@ -10,3 +10,4 @@ mod Finishing
 mod Witness
 mod Standing
 mod GivingUp
+mod Breaking

@@ -1,62 +1,148 @@
--- A port that may be recovered: that of the first read, which has failed.
-use Rattle.std.proofs.Common.{ℕ, ◌≡◌, ◌%◌, [], inl, refl, ap, arith}
+-- Ports that may be recovered: that of the first read, which has failed, and that of two queued reads, of which the second has.
+use Rattle.std.proofs.Common.{ℕ, ◌≡◌, ◌%◌, ◌==◌, true, false, [], inl, inr, refl, sym, ◌∙◌, ap, subst, arith, ⊎_elim}
+use Rattle.std.proofs.lemmas.Bool.{cases_eq, false≢true, true≢false}
+use Rattle.std.proofs.lemmas.Nat.Bits.{bit_at-pow_other}
+use Rattle.hba_regs.specs.Bits.{bit}
 use Rattle.hba_regs.specs.declared.reg.PortReg.TheVariants.{Ssts}
 use Rattle.hba_regs.specs.declared.reg.Reg.TheVariants.{Px}
-use Rattle.adapter.specs.Device.{Notes}
+use Rattle.adapter.specs.Device.{Device, Halt, Notes}
+use Rattle.adapter.specs.Device.Halt.{HaltedPlain, HaltedQueued}
 use Rattle.adapter.specs.FirstRead.{first_read}
 use Rattle.adapter.specs.Memory.{changed}
 use Rattle.agreement.specs.Agrees.{port_at}
 use Rattle.agreement.specs.Driven.{IsAgreed}
-use Rattle.agreement.specs.Facts.{HasFaults}
+use Rattle.agreement.specs.Facts.{HasFaults, IsFaulted}
 use Rattle.agreement.specs.Recovered.{FaultIsSeen}
+use Rattle.agreement.specs.Served.{TwoAreKnown, armed_uses, second_id, two_issued, two_known}
 use Rattle.agreement.specs.Slots.{Free, Serves, Use, Uses, put}
 use Rattle.agreement.specs.Witness.{FirstIsKnown, first_id, first_uses}
+use Rattle.port_control.specs.Ports.{programmed}
 use Rattle.error_recovery.specs.Laws.{Laws}
 use Rattle.error_recovery.specs.Laws.Fitting.{AnyUses}
 use Rattle.error_recovery.specs.Laws.Stretch.{Recovering}
 use Rattle.error_recovery.specs.Parts.{HasRoom}
-use Rattle.error_recovery.specs.Recovery.{IsRecovering, MayBeAsked, MayRecover}
+use Rattle.error_recovery.specs.Recovery.{IsAloneIn, IsRecovering, MayRecover}
+use Rattle.error_recovery.specs.Witness.{MayBeAsked}
 use Rattle.error_recovery.proofs.Going.{goes_over}
 use Rattle.error_recovery.proofs.Stretching.{room_after}
 
-module _ (laws : Laws) (f : FaultIsSeen) (k : FirstIsKnown) (runs : HasFaults first_read.tape (first_read.port 0) 0)
-    (others : (uses : Uses) (port slot : ℕ) (u : Use) (other_port other_slot : ℕ) → (other_port ≡ port → other_slot ≡ slot → ⊥) → put uses port slot u other_port other_slot ≡ uses other_port other_slot) where
-  first_room : HasRoom 0 first_read
-  first_room = record { on = record { ae = refl; no_reset = refl }; there = (omega arith, refl); room = omega arith }
+-- ---- a port whose fault is seen
 
+-- Port 0 runs with its areas in their places, COMRESET isn't being sent, and its faults are on record.
+record RunsPlaced (d : Device) : Type 0 where
+  room : HasRoom 0 d
+  st : (d.port 0).st ≡ true
+  cr : (d.port 0).cr ≡ true
+  fre : (d.port 0).fre ≡ true
+  bases : (d.port 0).bases ≡ programmed 0
+  det : (d.port 0).sctl_det ≡ 0
+  recorded : HasFaults d.tape (d.port 0) 0
+
+module _ (laws : Laws) (old : Device) (slot : ℕ) (halt : Halt) (runs : RunsPlaced old) (f : FaultIsSeen old slot halt) where
   seen_room : HasRoom 0 f.seen
   seen_room =
-      let a = (laws.reads (Recovering AnyUses (port_at 0)) (Px (port_at 0) Ssts) 3 first_read f.seen (inl refl) f.sees).followed.driven in
-      room_after laws (IsRecovering (port_at 0)) 0 first_read f.seen a (goes_over laws (port_at 0) a.accesses first_read f.seen first_room.on a.only a.all).on first_room
+      let a = (laws.reads (Recovering AnyUses (port_at 0)) (Px (port_at 0) Ssts) 3 old f.seen (inl refl) f.sees).followed.driven in
+      room_after laws (IsRecovering (port_at 0)) 0 old f.seen a (goes_over laws (port_at 0) a.accesses old f.seen runs.room.on a.only a.all).on runs.room
 
-  seen_agreed : IsAgreed first_uses f.seen
-  seen_agreed =
-      laws.agreed (Recovering AnyUses (port_at 0)) (λ uses. uses) first_uses first_read f.seen tt
-      (laws.reads (Recovering AnyUses (port_at 0)) (Px (port_at 0) Ssts) 3 first_read f.seen (inl refl) f.sees).followed
-      (record { machine = k.machine; parked = λ port. []; reached = k.reached; knows = k.knows })
+  seen_agreed : (uses : Uses) → IsAgreed uses old → IsAgreed uses f.seen
+  seen_agreed uses agreed =
+      laws.agreed (Recovering AnyUses (port_at 0)) (λ uses. uses) uses old f.seen tt
+      (laws.reads (Recovering AnyUses (port_at 0)) (Px (port_at 0) Ssts) 3 old f.seen (inl refl) f.sees).followed agreed
 
-  seen_may : MayRecover 0 f.seen
-  unfolding changed
-  seen_may =
-      let s = laws.seen (port_at 0) Ssts 3 first_read f.seen f.sees refl in
+  seen_may : IsFaulted halt → MayRecover 0 f.seen
+  seen_may faulted =
+      let s = laws.seen (port_at 0) Ssts 3 old f.seen f.sees runs.room.on.no_reset in
       let c = s.keeps.on.controls 0 in
       record {
-        st = c.st;
-        cr = c.runs refl refl;
-        fre = c.fre;
-        bases = (s.keeps.port 0).bases;
-        det = c.sctl_det;
+        st = c.st ∙ runs.st;
+        cr = c.runs runs.st runs.cr;
+        fre = c.fre ∙ runs.fre;
+        bases = (s.keeps.port 0).bases ∙ runs.bases;
+        det = c.sctl_det ∙ runs.det;
         linked = ap (λ (n : Notes). n.last_ssts % 16) s.notes;
-        recorded = laws.access_recorded 0 (Px (port_at 0) Ssts) 3 first_read f.seen f.sees (λ _. runs) c.st;
-        halted = inl f.halted;
+        recorded = laws.access_recorded 0 (Px (port_at 0) Ssts) 3 old f.seen f.sees (λ _. runs.recorded) (c.st ∙ runs.st);
+        halted = subst IsFaulted (sym f.halted) faulted;
       }
 
-  pub may_be_asked : MayBeAsked
-  may_be_asked = record {
+-- ---- the two ports
+
+first_runs : RunsPlaced first_read
+unfolding changed
+first_runs = record {
+  room = record { on = record { ae = refl; no_reset = refl }; there = (omega arith, refl); room = omega arith };
+  st = refl;
+  cr = refl;
+  fre = refl;
+  bases = refl;
+  det = refl;
+  recorded = record { known = omega arith; linked = refl; flag = λ h. absurd (false≢true h); fault = λ h. absurd (⊎_elim (λ e. cc) (λ e. cc) h) };
+}
+
+two_run : RunsPlaced two_issued
+unfolding changed
+two_run = record {
+  room = record { on = record { ae = refl; no_reset = refl }; there = (omega arith, refl); room = omega arith };
+  st = refl;
+  cr = refl;
+  fre = refl;
+  bases = refl;
+  det = refl;
+  recorded = record { known = omega arith; linked = refl; flag = λ h. absurd (false≢true h); fault = λ h. absurd (⊎_elim (λ e. cc) (λ e. cc) h) };
+}
+
+-- 1 has the bit of slot 0 alone
+first_alone : IsAloneIn false 1
+first_alone plain slot low set = ⊎_elim
+    (λ (is : slot ≡ 0). is)
+    (λ (ne : slot ≡ 0 → ⊥). absurd (false≢true (sym (ap (λ (n : ℕ). n == 1) (bit_at-pow_other 0 slot ne)) ∙ set)))
+    (cases_eq slot 0)
+
+module _ (laws : Laws)
+    (here : (uses : Uses) (port slot : ℕ) (u : Use) → put uses port slot u port slot ≡ u)
+    (others : (uses : Uses) (port slot : ℕ) (u : Use) (other_port other_slot : ℕ) → (other_port ≡ port → other_slot ≡ slot → ⊥) → put uses port slot u other_port other_slot ≡ uses other_port other_slot) where
+  pub plain_may_be_asked : FaultIsSeen first_read 0 HaltedPlain → FirstIsKnown → MayBeAsked false
+  plain_may_be_asked f k = record {
     device = f.seen;
-    on = seen_room.on;
-    there = seen_room.there;
-    room = seen_room.room;
-    agreed = (first_uses, λ plain slot other. others (λ port at. Free) 0 0 (Serves first_id) 0 slot (λ same here. other here), seen_agreed);
-    may = seen_may;
+    on = (seen_room laws first_read 0 HaltedPlain first_runs f).on;
+    there = (seen_room laws first_read 0 HaltedPlain first_runs f).there;
+    room = (seen_room laws first_read 0 HaltedPlain first_runs f).room;
+    agreed = (
+      first_uses,
+      λ plain slot other. others (λ port at. Free) 0 0 (Serves first_id) 0 slot (λ same z. other z),
+      seen_agreed laws first_read 0 HaltedPlain first_runs f first_uses (record { machine = k.machine; parked = λ port. []; reached = k.reached; knows = k.knows }),
+    );
+    may = seen_may laws first_read 0 HaltedPlain first_runs f (inl refl);
+    outstanding = 1;
+    alone = first_alone;
+    fault = f.fault;
+    here = f.here;
+    of = f.of;
+    halts = f.halted;
+    serves = (first_id, ap (λ (slot : ℕ). first_uses 0 slot) f.of.1 ∙ here (λ port at. Free) 0 0 (Serves first_id));
+    among = ap (λ (slot : ℕ). bit 1 slot) f.of.1;
   }
+
+  pub queued_may_be_asked : FaultIsSeen two_issued 1 HaltedQueued → TwoAreKnown → MayBeAsked true
+  queued_may_be_asked f k = record {
+    device = f.seen;
+    on = (seen_room laws two_issued 1 HaltedQueued two_run f).on;
+    there = (seen_room laws two_issued 1 HaltedQueued two_run f).there;
+    room = (seen_room laws two_issued 1 HaltedQueued two_run f).room;
+    agreed = (
+      uses,
+      λ plain. absurd (true≢false plain),
+      seen_agreed laws two_issued 1 HaltedQueued two_run f uses (record { machine = k.machine; parked = λ port. []; reached = k.reached; knows = k.issued }),
+    );
+    may = seen_may laws two_issued 1 HaltedQueued two_run f (inr refl);
+    outstanding = 3;
+    alone = λ plain. absurd (true≢false plain);
+    fault = f.fault;
+    here = f.here;
+    of = f.of;
+    halts = f.halted;
+    serves = (second_id, ap (λ (slot : ℕ). uses 0 slot) f.of.1 ∙ here (put armed_uses 0 0 (Serves first_id)) 0 1 (Serves second_id));
+    among = ap (λ (slot : ℕ). bit 3 slot) f.of.1;
+  }
+    where
+      uses : Uses
+      uses = (two_known two_issued).uses

@@ -6,11 +6,11 @@ use Rattle.hba_regs.specs.declared.reg.PortReg.{PortReg}
 use Rattle.hba_regs.specs.declared.reg.PortReg.TheVariants.{Ci, Is, Sact, Sctl, Serr, Tfd}
 use Rattle.hba_regs.specs.declared.reg.Reg.{Reg}
 use Rattle.hba_regs.specs.declared.reg.Reg.TheVariants.{Ghc, Px}
-use Rattle.adapter.specs.Access.{Access, Does, Reads}
+use Rattle.adapter.specs.Access.{Access, Does, Reads, Writes}
 use Rattle.adapter.specs.Access.Access.{Reading, Writing}
 use Rattle.adapter.specs.Device.{Device, PortState}
 use Rattle.adapter.specs.Device.Halt.{NotHalted}
-use Rattle.adapter.specs.Rules.{IsOn}
+use Rattle.adapter.specs.Rules.{IsOn, MayWrite, Stays}
 use Rattle.adapter.specs.Seen.{SeenAt}
 use Rattle.adapter.specs.declared.command.Operation.{Operation}
 use Rattle.adapter.specs.declared.tape.Entry.{Entry}
@@ -18,7 +18,7 @@ use Rattle.block_machine.specs.State.{Machine}
 use Rattle.agreement.specs.Acts.{ByDeviceAlone, Performs}
 use Rattle.agreement.specs.Agrees.{Agrees}
 use Rattle.agreement.specs.Driven.{AnyAccess, AnyUse, Grows, HasNoCommand, IsAgreed, IsControl, IsDrivenBy, IsFollowed, IsFollowedTo, IsOf, IsTold, IsToldTo, NoneWrites, SendsNone}
-use Rattle.agreement.specs.Driver.{AllFree, Known, Knows}
+use Rattle.agreement.specs.Driver.{AllFree, Known, Knows, LeavesUses}
 use Rattle.agreement.specs.Errors.{ChangesByDisks, ChangesByErrors, NoneComes, NoneFails, NoneFatal}
 use Rattle.agreement.specs.Facts.{IsFaulted, IsHalted, IsRecorded, RunsWell, ShowsFault, ShowsNoTrouble}
 use Rattle.agreement.specs.GivingUp.{given_up, parking_all}
@@ -140,6 +140,7 @@ pub record Laws : Type 0 where
   pub control_wider : (set more : RegisterSet) (port : Port) → ((r : PortReg) → registers_of set r → registers_of more r) → (access : Access) → IsControl (registers_of set) port access → IsControl (registers_of more) port access
   pub none : (kind : Stretch) (d : Device) → IsTold (λ made. made ≡ []) (may_of kind) (fits_of kind) d d
   pub reads : (kind : Stretch) (r : Reg) (v : ℕ) (old new : Device) → may_of kind (Reading r v) → Reads r v old new → IsTold (λ made. made ≡ Reading r v ∷ []) (may_of kind) (fits_of kind) old new
+  pub writes : (kind : Stretch) (r : Reg) (v : ℕ) (old new : Device) → may_of kind (Writing r v) → Stays (MayWrite r v) old → ((uses : Uses) → fits_of kind uses → LeavesUses uses r v old) → Writes r v old new → IsTold (λ made. made ≡ Writing r v ∷ []) (may_of kind) (fits_of kind) old new
   pub both : (kind then : Stretch) (first second : Uses → Uses) → ((access : Access) → may_of then access → may_of kind access) → ((uses : Uses) → fits_of kind uses → fits_of then (first uses)) → (old mid new : Device) → (a : IsFollowedTo (may_of kind) (fits_of kind) first old mid) → (b : IsFollowedTo (may_of then) (fits_of then) second mid new) → IsToldTo (λ made. made ≡ a.driven.accesses ++ b.driven.accesses) (may_of kind) (fits_of kind) (λ uses. second (first uses)) old new
   pub wider : (kind more : Stretch) (next : Uses → Uses) → ((access : Access) → may_of kind access → may_of more access) → ((uses : Uses) → fits_of more uses → fits_of kind uses) → (old new : Device) → (a : IsFollowedTo (may_of kind) (fits_of kind) next old new) → IsToldTo (λ made. made ≡ a.driven.accesses) (may_of more) (fits_of more) next old new
   pub over : (kind : Stretch) (port : Port) (o : Operation) (v : ℕ) (old new : Device) → may_of kind (Writing (Px port Ci) v) → ((uses : Uses) → fits_of kind uses → uses port.0 0 ≡ Free) → IsOver (new.port port.0) 0 → (a : IsFollowedTo (may_of kind) (fits_of kind) (λ uses. put uses port.0 0 (Own o)) old new) → IsTold (λ made. made ≡ a.driven.accesses) (may_of kind) (fits_of kind) old new

@@ -2,3 +2,4 @@ pub mod Evidence
 pub mod Recovery
 pub mod Parts
 pub mod Laws
+pub mod Witness

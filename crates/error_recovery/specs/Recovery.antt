@@ -1,7 +1,6 @@
 -- What recovery asks, and what it promises (this project's own; recovery: AHCI 1.3.1, 6.2.2; log 10h: ACS-3, A.14).
 use Rattle.std.specs.Prelude.{ℕ, Bool, true, false, ◌≡◌, ◌≢◌, ◌⊎◌, ◌<◌, ◌≤◌, ◌%◌, ◌++◌, List, All, Option, None, Some, length}
 use Rattle.ata_types.specs.declared.Port.{Port}
-use Rattle.ata_types.specs.declared.memory.TheConstants.{DRIVER_BYTES}
 use Rattle.hba_regs.specs.Bits.{bit}
 use Rattle.hba_regs.specs.declared.reg.PortReg.{PortReg}
 use Rattle.hba_regs.specs.declared.reg.PortReg.TheVariants.{Ci}
@@ -9,7 +8,6 @@ use Rattle.hba_regs.specs.declared.reg.Reg.TheVariants.{Px}
 use Rattle.adapter.specs.Access.{Access}
 use Rattle.adapter.specs.Device.{Device}
 use Rattle.adapter.specs.Device.Halt.{LogOnly, NotHalted}
-use Rattle.adapter.specs.Rules.{HasPort, IsOn}
 use Rattle.adapter.specs.declared.command.Operation.{Operation}
 use Rattle.adapter.specs.declared.command.Operation.TheVariants.{Identify, ReadLog}
 use Rattle.adapter.specs.declared.tape.Fault as tape_fault
@@ -226,12 +224,3 @@ pub record GivesUp (port : Port) (outstanding : ℕ) (queued : Bool) (result : R
   pub only : All (IsControl WritesCommand port) mends.accesses
   pub nobody : result.failed ≡ None
   pub halts : (token : running_token.Running) → result.next ≢ Running token
-
--- There is a port with a plain command that failed, of which all is so that is asked.
-pub record MayBeAsked : Type 0 where
-  pub device : Device
-  pub on : IsOn device
-  pub there : HasPort device 0
-  pub room : DRIVER_BYTES ≤ device.size
-  pub agreed : AgreesWith (FitsFor false 0) device
-  pub may : MayRecover 0 device

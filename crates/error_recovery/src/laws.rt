@@ -1,5 +1,5 @@
 // Laws of the definitions, for callers: the clause is the theorem. Nothing that runs calls these functions.
-ghost use Rattle.std.specs.Prelude.{ℕ, false, ◌≡◌, ◌+◌, ◌<◌, ◌≤◌, ◌++◌, All, List, length};
+ghost use Rattle.std.specs.Prelude.{ℕ, true, false, ◌≡◌, ◌+◌, ◌<◌, ◌≤◌, ◌++◌, All, List, length};
 ghost use Rattle.ata_types.specs.declared.Port.{Port};
 ghost use Rattle.ata_types.specs.declared.memory.TheConstants.{DRIVER_BYTES};
 ghost use Rattle.hba_regs.specs.declared.reg.PortReg.TheVariants.{Cmd, Ie, Sact, Sctl};
@@ -13,12 +13,14 @@ ghost use Rattle.adapter.specs.declared.tape.Fault.{Fault};
 ghost use Rattle.agreement.specs.Driven.{Grows, IsOf, SendsNone};
 ghost use Rattle.agreement.specs.Links.{SparesRegister};
 ghost use Rattle.error_recovery.specs.Evidence.{BringsLog, HasFailed, ShowsFatal};
-ghost use Rattle.error_recovery.specs.Recovery.{IsRecovering, MayBeAsked};
+ghost use Rattle.error_recovery.specs.Recovery.{IsRecovering};
+ghost use Rattle.error_recovery.specs.Witness.{MayBeAsked, MayBeGivenUp};
 
 use super::lawful::laws_hold;
 use adapter::laws::accesses_compose;
-use agreement::facts::faults_are_recorded;
-use agreement::laws::{a_first_read_agrees, putting_is_of_one_slot};
+use agreement::laws::{
+    a_first_read_agrees, commanding_is_permitted, putting_is_of_one_slot, two_queued_reads_agree,
+};
 use agreement::limits::a_fault_is_seen;
 
 /// Recovery touches no register of another port, nor another port's bit of IS: so what is said of such accesses (`IsOf`) is so of each of
@@ -54,13 +56,25 @@ pub fn fatal_errors_show_unless_clear()
     ensures { (p : PortState) → (((place : ℕ) → 27 ≤ place → place ≤ 29 → p.is place ≡ false) → ⊥) → ShowsFatal p }
 {}
 
-/// What `recover` asks can be met: there is a port with a plain read that failed.
+/// What `recover` asks can be met: there is a port with a plain read that failed, and one with a queued read that did.
 pub fn a_port_may_be_recovered()
-    ensures { MayBeAsked }
+    ensures plain { MayBeAsked false }
+    ensures queued { MayBeAsked true }
 {
     a_fault_is_seen();
     a_first_read_agrees();
-    faults_are_recorded();
+    two_queued_reads_agree();
+    putting_is_of_one_slot();
+    laws_hold();
+}
+
+/// What `give_up` asks can be met, and what it promises: there is a port that a fatal error has broken while a read is issued, and three
+/// accesses stop it.
+pub fn a_port_may_be_given_up()
+    ensures { MayBeGivenUp }
+{
+    a_first_read_agrees();
+    commanding_is_permitted();
     putting_is_of_one_slot();
     laws_hold();
 }

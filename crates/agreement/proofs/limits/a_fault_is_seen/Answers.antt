@@ -1,5 +1,8 @@
-use Rattle.agreement.proofs.Recovered.{fault_is_seen}
+use Rattle.agreement.proofs.Recovered.{fault_is_seen, queued_fault_is_seen}
 use Rattle.agreement.proofs.limits.a_fault_is_seen.Goals as goal
 
-pub returns : goal.returns
-returns c = fault_is_seen
+pub returns-clause-plain : goal.returns-clause-plain
+returns-clause-plain c = fault_is_seen
+
+pub returns-clause-queued : goal.returns-clause-queued
+returns-clause-queued c = queued_fault_is_seen

@@ -58,6 +58,7 @@ returns c = record {
   control_wider = c.controls_are_of_a_port.ensures.wider;
   none = c.accesses_are_followed.ensures.none;
   reads = c.accesses_are_followed.ensures.reads;
+  writes = c.accesses_are_followed.ensures.writes;
   both = c.stretches_are_followed.ensures.both;
   wider = c.stretches_are_followed.ensures.wider;
   over = c.stretches_are_followed.ensures.over;

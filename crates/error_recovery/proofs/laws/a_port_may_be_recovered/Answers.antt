@@ -1,5 +1,10 @@
-use Rattle.error_recovery.proofs.Witness.{may_be_asked}
+use Rattle.error_recovery.proofs.Witness.{plain_may_be_asked, queued_may_be_asked}
 use Rattle.error_recovery.proofs.laws.a_port_may_be_recovered.Goals as goal
 
-pub returns : goal.returns
-returns c = may_be_asked c.laws_hold.ensures c.a_fault_is_seen.ensures c.a_first_read_agrees.ensures c.faults_are_recorded.ensures.runs c.putting_is_of_one_slot.ensures.others
+pub returns-clause-plain : goal.returns-clause-plain
+returns-clause-plain c =
+    plain_may_be_asked c.laws_hold.ensures c.putting_is_of_one_slot.ensures.here c.putting_is_of_one_slot.ensures.others c.a_fault_is_seen.ensures.plain c.a_first_read_agrees.ensures
+
+pub returns-clause-queued : goal.returns-clause-queued
+returns-clause-queued c =
+    queued_may_be_asked c.laws_hold.ensures c.putting_is_of_one_slot.ensures.here c.putting_is_of_one_slot.ensures.others c.a_fault_is_seen.ensures.queued c.two_queued_reads_agree.ensures

@@ -1,0 +1,171 @@
+-- The port of the first read, which a fatal error breaks; it is given up by three accesses.
+use Rattle.std.proofs.Common.{ℕ, zero, suc, ◌≡◌, ◌≢◌, ◌==◌, ◌++◌, Bool, true, false, List, [], ◌∷◌, inl, refl, sym, ◌∙◌, ap, subst, arith}
+use Rattle.std.proofs.lemmas.Bool.{false≢true}
+use Rattle.std.proofs.lemmas.List.Elements.{All-nil}
+use Rattle.std.proofs.lemmas.Nat.Bits.{bit_at-suc}
+use Rattle.ata_types.specs.declared.Port.{Port}
+use Rattle.hba_regs.specs.Bits.{bit}
+use Rattle.hba_regs.specs.declared.reg.PortReg.TheVariants.{Cmd, Ssts}
+use Rattle.hba_regs.specs.declared.reg.Reg.TheVariants.{Px}
+use Rattle.adapter.specs.Access.{Access, Reads, Writes, noted, written}
+use Rattle.adapter.specs.Access.Access.{Reading, Writing}
+use Rattle.adapter.specs.Device.{Device}
+use Rattle.adapter.specs.FirstRead.{first_read}
+use Rattle.adapter.specs.Memory.{changed}
+use Rattle.adapter.specs.Rules.{HasPort, IsOn, MayWrite, Stays}
+use Rattle.adapter.specs.Steps.{after}
+use Rattle.adapter.specs.Steps.Step.{Fatal, Fall}
+use Rattle.agreement.specs.Agrees.{port_at}
+use Rattle.agreement.specs.Driven.{AnyUse, IsAgreed, IsControl, IsTold}
+use Rattle.agreement.specs.Driver.{IsCommand, IsWrittenBack}
+use Rattle.agreement.specs.Links.{SparesRegister}
+use Rattle.agreement.specs.Slots.{Free, Serves, Use, Uses, put}
+use Rattle.agreement.specs.Witness.{FirstIsKnown, first_id, first_uses}
+use Rattle.port_control.specs.Engines.{Stops}
+use Rattle.port_control.specs.Ports.{Halts, IsStopped, WritesCommand}
+use Rattle.error_recovery.specs.Evidence.{ShowsFatal}
+use Rattle.error_recovery.specs.Laws.{Laws, Stretch}
+use Rattle.error_recovery.specs.Laws.Fitting.{AnyUses}
+use Rattle.error_recovery.specs.Laws.RegisterSet.{Commanding}
+use Rattle.error_recovery.specs.Laws.Stretch.{Controlling}
+use Rattle.error_recovery.specs.Witness.{MayBeGivenUp}
+use Rattle.error_recovery.proofs.GivingUp.{gives_up_stopped}
+use Rattle.error_recovery.proofs.Stretching.{told_both}
+
+-- ---- the way of the device
+
+abbrev broken : Device
+broken = after (Fatal 0 27) first_read
+
+abbrev seen : Device
+seen = noted (Px (port_at 0) Ssts) 3 broken
+
+abbrev commanded : Device
+commanded = noted (Px (port_at 0) Cmd) 0xc011 seen
+
+abbrev stopping : Device
+stopping = written (Px (port_at 0) Cmd) 0xc010 commanded
+
+abbrev fallen : Device
+fallen = after (Fall 0) stopping
+
+abbrev stopped : Device
+stopped = noted (Px (port_at 0) Cmd) 0x4010 fallen
+
+sees : Reads (Px (port_at 0) Ssts) 3 first_read seen
+unfolding changed
+sees = record { mid = broken; steps = record { steps = Fatal 0 27 ∷ []; lead = ((refl, inl refl), refl) }; shows = refl; effect = refl }
+
+finds : Reads (Px (port_at 0) Cmd) 0xc011 seen commanded
+unfolding changed
+finds = record { mid = seen; steps = record { steps = []; lead = refl }; shows = (refl, refl, refl, refl); effect = refl }
+
+stops : Writes (Px (port_at 0) Cmd) 0xc010 commanded stopping
+stops = record { mid = commanded; steps = record { steps = []; lead = refl }; effect = refl }
+
+falls : Reads (Px (port_at 0) Cmd) 0x4010 stopping stopped
+unfolding changed
+falls = record { mid = fallen; steps = record { steps = Fall 0 ∷ []; lead = ((refl, refl), refl) }; shows = (refl, refl, refl, refl); effect = refl }
+
+is_on : IsOn commanded
+is_on = record { ae = refl; no_reset = refl }
+
+-- ---- what is written
+
+-- but for bit 0 it is as it was read
+as_read : (place : ℕ) → place ≢ 0 → bit 0xc010 place ≡ bit 0xc011 place
+as_read zero ne = absurd (ne refl)
+as_read (suc k) ne = ap (λ (b : ℕ). b == 1) (bit_at-suc 0xc010 k ∙ sym (bit_at-suc 0xc011 k))
+
+written_back : IsWrittenBack false true 0xc011 0xc010
+written_back = record { start = refl; receive = refl; others = λ place low start receive. as_read place start }
+
+leaves : (uses : Uses) → IsCommand uses 0 0xc010 (commanded.port 0)
+unfolding changed
+leaves uses = record { start = λ set. absurd (false≢true set); receive = λ set. (omega arith, refl) }
+
+noted_so : ((commanded.port 0).notes.last_cmd ≡ 0xc011) × ((commanded.port 0).fre ≡ true)
+unfolding changed
+noted_so = (refl, refl)
+
+stands : IsStopped (stopped.port 0)
+unfolding changed
+stands = record { halted = record { st = refl; cr = refl; ci = λ slot. refl; taken = λ slot. refl }; sact = λ slot. refl }
+
+errs : ShowsFatal (seen.port 0)
+unfolding changed
+errs = record { place = 27; from = omega arith; to = omega arith; set = refl }
+
+is_broken : (seen.port 0).broken ≡ true
+unfolding changed
+is_broken = refl
+
+-- ---- it is given up
+
+abbrev stop_list : List Access
+stop_list = Reading (Px (port_at 0) Cmd) 0xc011 ∷ Writing (Px (port_at 0) Cmd) 0xc010 ∷ []
+
+module _ (laws : Laws)
+    (permits : (port : Port) (was v : ℕ) (d : Device) → IsOn d → HasPort d port.0 → (d.port port.0).notes.last_cmd ≡ was → IsWrittenBack false (d.port port.0).fre was v → Stays (MayWrite (Px port Cmd) v) d)
+  where
+    may_stop : Stays (MayWrite (Px (port_at 0) Cmd) 0xc010) commanded
+    may_stop = permits (port_at 0) 0xc011 0xc010 commanded is_on (omega arith, refl) noted_so.0 (subst (λ (fre : Bool). IsWrittenBack false fre 0xc011 0xc010) (sym noted_so.1) written_back)
+
+    abbrev Commands : List Access → Device → Device → Type 0
+    Commands accesses old new = IsTold (λ made. made ≡ accesses) (IsControl WritesCommand (port_at 0)) AnyUse old new
+
+    abbrev kind : Stretch
+    kind = Controlling Commanding AnyUses (port_at 0)
+
+    found : Commands (Reading (Px (port_at 0) Cmd) 0xc011 ∷ []) seen commanded
+    found = laws.reads kind (Px (port_at 0) Cmd) 0xc011 seen commanded refl finds
+
+    cleared : Commands (Writing (Px (port_at 0) Cmd) 0xc010 ∷ []) commanded stopping
+    cleared = laws.writes kind (Px (port_at 0) Cmd) 0xc010 commanded stopping (refl, refl) may_stop (λ uses fits. leaves uses) stops
+
+    fell : Commands (Reading (Px (port_at 0) Cmd) 0x4010 ∷ []) stopping stopped
+    fell = laws.reads kind (Px (port_at 0) Cmd) 0x4010 stopping stopped refl falls
+
+    began : Commands stop_list seen stopping
+    began = told_both laws (λ made. made ≡ Reading (Px (port_at 0) Cmd) 0xc011 ∷ []) (λ made. made ≡ Writing (Px (port_at 0) Cmd) 0xc010 ∷ []) (λ made. made ≡ stop_list)
+        (λ early late a b. ap (λ (xs : List Access). xs ++ late) a ∙ ap (λ (xs : List Access). Reading (Px (port_at 0) Cmd) 0xc011 ∷ xs) b)
+        kind kind (λ uses. uses) (λ uses. uses) (λ access is. is) (λ uses fits. fits) seen commanded stopping found cleared
+
+    tells_stop : (early late : List Access) → early ≡ stop_list → late ≡ Reading (Px (port_at 0) Cmd) 0x4010 ∷ [] → Stops (port_at 0) (early ++ late)
+    tells_stop early late a b = record {
+      before = Reading (Px (port_at 0) Cmd) 0xc011 ∷ [];
+      cleared = 0xc010;
+      between = [];
+      fallen = 0x4010;
+      later = [];
+      here = ap (λ (xs : List Access). xs ++ late) a ∙ ap (λ (xs : List Access). stop_list ++ xs) b;
+      clears = refl;
+      only = All-nil (SparesRegister (Px (port_at 0) Cmd));
+      shown = refl;
+    }
+
+    halts : Halts (port_at 0) seen stopped
+    halts = record {
+      told = told_both laws (λ made. made ≡ stop_list) (λ made. made ≡ Reading (Px (port_at 0) Cmd) 0x4010 ∷ []) (Stops (port_at 0)) tells_stop
+          kind kind (λ uses. uses) (λ uses. uses) (λ access is. is) (λ uses fits. fits) seen stopping stopped began fell;
+      stopped = stands;
+    }
+
+    agreed : IsAgreed first_uses first_read → IsAgreed first_uses seen
+    agreed a = laws.agreed kind (λ uses. uses) first_uses first_read seen tt (laws.reads kind (Px (port_at 0) Ssts) 3 first_read seen refl sees).followed a
+
+    pub may_be_given_up : ((uses : Uses) (port slot : ℕ) (u : Use) → put uses port slot u port slot ≡ u) → FirstIsKnown → MayBeGivenUp
+    may_be_given_up here k = record {
+      device = seen;
+      on = record { ae = refl; no_reset = refl };
+      there = (omega arith, refl);
+      agreed = (first_uses, tt, agreed (record { machine = k.machine; parked = λ port. []; reached = k.reached; knows = k.knows }));
+      fatal = errs;
+      broken = is_broken;
+      serves = (first_id, here (λ port at. Free) 0 0 (Serves first_id));
+      outstanding = 1;
+      among = refl;
+      stopped = stopped;
+      token = record { port = port_at 0 };
+      gives_up = λ queued. gives_up_stopped laws (port_at 0) 1 queued seen stopped (record { ae = refl; no_reset = refl }) (record { port = port_at 0 }) refl halts;
+    }

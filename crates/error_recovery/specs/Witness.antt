@@ -1,0 +1,52 @@
+-- Ports of which all is so that this crate's calls ask (this project's own).
+use Rattle.std.specs.Prelude.{ℕ, Bool, true, ◌≡◌, ◌≤◌, if◌then◌else◌, Contains, None}
+use Rattle.ata_types.specs.declared.memory.TheConstants.{DRIVER_BYTES}
+use Rattle.ata_types.specs.declared.request.RequestId.{RequestId}
+use Rattle.hba_regs.specs.Bits.{bit}
+use Rattle.adapter.specs.Device.{Device}
+use Rattle.adapter.specs.Device.Halt.{NotHalted}
+use Rattle.adapter.specs.Rules.{HasPort, IsOn}
+use Rattle.adapter.specs.Steps.{halted}
+use Rattle.adapter.specs.declared.tape.Entry.TheVariants as entry
+use Rattle.adapter.specs.declared.tape.Fault as tape_fault
+use Rattle.agreement.specs.Agrees.{port_at}
+use Rattle.agreement.specs.Driven.{AgreesWith, AnyUse}
+use Rattle.agreement.specs.Slots.{Serves}
+use Rattle.port_control.specs.declared.Stopped as stopped_token
+use Rattle.error_recovery.specs.Evidence.{ShowsFatal}
+use Rattle.error_recovery.specs.Recovery.{FitsFor, GivesUp, IsAloneIn, MayRecover}
+use Rattle.error_recovery.specs.declared.Next.TheVariants.{Restart}
+
+-- Of port 0 all is so that recovery asks. A command has failed on it, a plain one in slot 0, or a queued one in slot 1, and has halted the port. Its slot
+-- serves a request, and is outstanding.
+pub record MayBeAsked (queued : Bool) : Type 0 where
+  pub device : Device
+  pub on : IsOn device
+  pub there : HasPort device 0
+  pub room : DRIVER_BYTES ≤ device.size
+  pub agreed : AgreesWith (FitsFor queued 0) device
+  pub may : MayRecover 0 device
+  pub outstanding : ℕ
+  pub alone : IsAloneIn queued outstanding
+  pub fault : tape_fault.Fault
+  pub here : Contains device.tape (entry.Fault fault)
+  pub of : (fault.port.0 ≡ 0) × (fault.slot.0 ≡ (if queued then 1 else 0))
+  pub halts : (device.port 0).halt ≡ halted NotHalted queued
+  pub serves : (id : RequestId) × (agreed.0 0 fault.slot.0 ≡ Serves id)
+  pub among : bit outstanding fault.slot.0 ≡ true
+
+-- Of port 0 all is so that is asked where a port is given up: a fatal error has broken it, and slot 0 serves a request, which is outstanding. And what is
+-- promised then can come: ST is cleared, CR falls, and the port has to be booted.
+pub record MayBeGivenUp : Type 0 where
+  pub device : Device
+  pub on : IsOn device
+  pub there : HasPort device 0
+  pub agreed : AgreesWith AnyUse device
+  pub fatal : ShowsFatal (device.port 0)
+  pub broken : (device.port 0).broken ≡ true
+  pub serves : (id : RequestId) × (agreed.0 0 0 ≡ Serves id)
+  pub outstanding : ℕ
+  pub among : bit outstanding 0 ≡ true
+  pub stopped : Device
+  pub token : stopped_token.Stopped
+  pub gives_up : (queued : Bool) → GivesUp (port_at 0) outstanding queued (record { failed = None; again = outstanding; next = Restart token }) device stopped
