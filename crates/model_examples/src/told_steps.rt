@@ -1,5 +1,5 @@
 // What a new model does when it is told, and before an access. It isn't switched on, so that GHC alone is read and written.
-use adapter::{Adapter, DeviceStep, DiskNumber, DiskPage, Entry, Stepped};
+use adapter::{Adapter, DeviceStep, DiskNumber, DiskPage, Entry, FatalError, Stepped};
 use ata_types::{Port, Slot};
 use device_model::{Model, ModelConfig, NoMemory, Trim};
 use hba_regs::Reg;
@@ -64,6 +64,8 @@ const CASES: [(&str, &[Act]); 9] = [
             Act::Refuses(DeviceStep::Lie(Port(0), DiskPage::Log, 512, 0xff)),
             Act::Refuses(DeviceStep::Fault(Port(9), Slot(0), 0x40)),
             Act::Refuses(DeviceStep::Fault(Port(0), Slot(99), 0x40)),
+            Act::Refuses(DeviceStep::Fatal(Port(4), FatalError::Interface)),
+            Act::Refuses(DeviceStep::Fatal(Port(0), FatalError::HostBus)),
             Act::Tape(&[]),
         ],
     ),

@@ -1,5 +1,5 @@
 // Steps as lines spell them, and answers that the program doesn't tell so far. The other lines and answers stand in the cases of the program.
-use adapter::{Clear, DeviceStep, Direction, DiskNumber, DiskPage, Move, Operation};
+use adapter::{Clear, DeviceStep, Direction, DiskNumber, DiskPage, FatalError, Move, Operation};
 use arrayvec::ArrayVec;
 use ata_types::{ClientId, Outcome, Port, PortState, Refusal, Reply, RequestId, Slot};
 use script::{Answer, BadLine, Line, Misspelled, read_line};
@@ -26,6 +26,14 @@ const STEPS: &[(&str, Option<DeviceStep>)] = &[
     (
         "dev finish 3 31",
         Some(DeviceStep::Finish(Port(3), Slot(31))),
+    ),
+    (
+        "dev fatal 3 ifs",
+        Some(DeviceStep::Fatal(Port(3), FatalError::Interface)),
+    ),
+    (
+        "dev fatal 3 hbfs",
+        Some(DeviceStep::Fatal(Port(3), FatalError::HostBus)),
     ),
     ("dev unplug 3", Some(DeviceStep::Unplug(Port(3)))),
     (
