@@ -20,3 +20,5 @@ mod Answering
 mod Dying
 mod Together
 mod Reordered
+mod Breaking
+mod Broken
