@@ -1,4 +1,4 @@
--- A fatal error breaks the port of the read; a service that finds it so gives the port up, and boots it. This is the way of the device.
+-- A fatal error breaks the port of the read, and a service gives the port up, and boots it. This is the way of the device.
 use Rattle.std.proofs.Common.{ℕ, zero, suc, ◌≡◌, ◌++◌, ◌==◌, Bool, true, false, List, [], ◌∷◌, inl, inr, ⊎_elim, refl, sym, ◌∙◌, ap, subst, arith, if◌then◌else◌}
 use Rattle.std.specs.Prelude.{nat_eq}
 use Rattle.std.proofs.lemmas.Bool.{cases_eq, cond-false, false≢true, ne_eqb, true≢false}
@@ -12,7 +12,7 @@ use Rattle.adapter.specs.Access.{DoesAll, PortShows, Reads, Writes, note, port_w
 use Rattle.adapter.specs.Device.{PortState, Device}
 use Rattle.adapter.specs.Memory.{changed}
 use Rattle.adapter.specs.Rules.{AreAcknowledged, MayCommand}
-use Rattle.adapter.specs.Steps.{Can, Step, Steps, after, with_link}
+use Rattle.adapter.specs.Steps.{Can, Step, after, with_link}
 use Rattle.adapter.specs.Steps.Step.{Fatal, FrFall, LinkUp}
 use Rattle.adapter.specs.declared.tape.Entry.{Entry}
 use Rattle.adapter.specs.declared.tape.Entry.TheVariants as entry
@@ -40,7 +40,7 @@ unheard p = record p { fr = false }
 abbrev up : PortState → PortState
 up p = with_link p 0xeb140101 false
 
-abbrev broken : PortState
+abbrev pub broken : PortState
 broken = record issued { is = changed issued.is 27 true; broken = true }
 
 abbrev cleared : PortState
@@ -130,8 +130,12 @@ writes_here r v p = writes tape_broken read_memory 0 (p ∷ second ∷ []) (port
 reads_after : (step : Step) (p q : PortState) (r : PortReg) (v : ℕ) → Can step (dev p) → dev q ≡ after step (dev p) → PortShows r v q → Reads (Px (port_at 0) r) v (dev p) (dev (record q { notes = note r v q }))
 reads_after step p q r v can is shows = record { mid = dev q; steps = record { steps = step ∷ []; lead = (can, is) }; shows = shows; effect = alike q (record q { notes = note r v q }) }
 
-breaks : Steps submitted (dev broken)
-breaks = record { steps = Fatal 0 27 ∷ []; lead = ((refl, inl refl), put_device tape_broken read_memory 0 (issued ∷ second ∷ []) (broken ∷ second ∷ []) broken refl (but_first issued broken (second ∷ []))) }
+-- the fatal error comes
+pub can_break : Can (Fatal 0 27) submitted
+can_break = (refl, inl refl)
+
+pub breaks : dev broken ≡ after (Fatal 0 27) submitted
+breaks = put_device tape_broken read_memory 0 (issued ∷ second ∷ []) (broken ∷ second ∷ []) broken refl (but_first issued broken (second ∷ []))
 
 -- PxIS shows IFS alone
 ifs_shown : (place : ℕ) → bit 0x08000000 place ≡ shown_interrupt broken place
@@ -146,8 +150,8 @@ ifs_shown place = ⊎_elim
     by false true ne = refl
     by false false ne = cond-false (place == 27) true false (ne_eqb place 27 ne)
 
-tells : Reads (Px (port_at 0) Is) 0x08000000 submitted (dev broken)
-tells = record { mid = dev broken; steps = breaks; shows = λ place cause. ifs_shown place; effect = alike broken broken }
+tells : Reads (Px (port_at 0) Is) 0x08000000 (dev broken) (dev broken)
+tells = reads_here Is 0x08000000 broken (λ place cause. ifs_shown place)
 
 -- the port's bit of IS is cleared
 acknowledges : Writes registers.Is 1 (dev cleared) (dev acknowledged)
@@ -178,7 +182,7 @@ places = (dev commanded_again, reads_here Cmd 0x4010 stopped (refl, refl, refl, 
 stops : DoesAll (stopping ++ (placing ++ resetting)) (dev seen_masks) (dev unfit)
 stops = (dev commanded, reads_here Cmd 0xc011 seen_masks (refl, refl, refl, refl), (dev stopping_port, writes_here Cmd 0xc010 commanded, (dev stopped, falls, places)))
 
-pub does : DoesAll fatal_accesses submitted (dev unfit)
+pub does : DoesAll fatal_accesses (dev broken) (dev unfit)
 does = (dev broken, tells, (dev cleared, writes_here Is 0x08000000 broken, (dev acknowledged, acknowledges, (dev linked, reads_here Ssts 3 acknowledged refl, (dev seen_ci, reads_here Ci 1 linked (λ k low. refl), (dev seen_masks, reads_here Sact 0 seen_ci (λ k low. no_bit k), stops))))))
 
 -- ---- by the rules
@@ -203,6 +207,6 @@ may_hear = record {
   others = λ place low start receive. same_beside 0x10 0 refl refl refl refl place start receive;
 }
 
-pub allowed : AreAllowed fatal_accesses submitted (dev unfit) does
+pub allowed : AreAllowed fatal_accesses (dev broken) (dev unfit) does
 unfolding does stops places resets tells acknowledges falls reads_after closes comes_up reads_here writes_here reads writes falls_reads
 allowed = ((record { ae = refl; no_reset = refl }, (omega arith, refl)), ((record { ae = refl; no_reset = refl }, (omega arith, refl), tt), ((record { ae = refl; no_reset = refl }, may_acknowledge), ((record { ae = refl; no_reset = refl }, (omega arith, refl)), ((record { ae = refl; no_reset = refl }, (omega arith, refl)), ((record { ae = refl; no_reset = refl }, (omega arith, refl)), ((record { ae = refl; no_reset = refl }, (omega arith, refl)), ((record { ae = refl; no_reset = refl }, (omega arith, refl), may_stop commanded 0xc010 0xc011 refl refl refl refl refl), ((record { ae = refl; no_reset = refl }, (omega arith, refl)), ((record { ae = refl; no_reset = refl }, (omega arith, refl)), ((record { ae = refl; no_reset = refl }, (omega arith, refl), may_close), ((record { ae = refl; no_reset = refl }, (omega arith, refl)), ((record { ae = refl; no_reset = refl }, (omega arith, refl), (refl, refl, refl, omega arith)), ((record { ae = refl; no_reset = refl }, (omega arith, refl), (refl, refl, refl)), ((record { ae = refl; no_reset = refl }, (omega arith, refl), (refl, refl, refl, omega arith)), ((record { ae = refl; no_reset = refl }, (omega arith, refl), (refl, refl, refl)), ((record { ae = refl; no_reset = refl }, (omega arith, refl)), ((record { ae = refl; no_reset = refl }, (omega arith, refl), may_hear), ((record { ae = refl; no_reset = refl }, (omega arith, refl), (refl, inr refl)), ((record { ae = refl; no_reset = refl }, (omega arith, refl), (refl, inl refl)), ((record { ae = refl; no_reset = refl }, (omega arith, refl)), ((record { ae = refl; no_reset = refl }, (omega arith, refl), tt), ((record { ae = refl; no_reset = refl }, (omega arith, refl), tt), ((record { ae = refl; no_reset = refl }, (omega arith, refl)), ((record { ae = refl; no_reset = refl }, (omega arith, refl)), tt)))))))))))))))))))))))))

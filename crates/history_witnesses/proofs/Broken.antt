@@ -1,15 +1,13 @@
--- What holds after that service, which gave the port up and found no ATA disk; and it meets all that is asked of it.
-use Rattle.std.proofs.Common.{ℕ, zero, suc, ◌≡◌, ◌≢◌, ◌≤◌, ◌∙◌, ◌++◌, true, false, List, [], ◌∷◌, inl, inr, ⊎_elim, refl, sym, ap, arith, ◌⊎◌}
-use Rattle.std.specs.List.{Contains, All}
+-- What holds after the service that gave the port up and found no ATA disk; and it meets all that is asked of it.
+use Rattle.std.proofs.Common.{ℕ, zero, suc, ◌≡◌, ◌≤◌, ◌∙◌, ◌++◌, true, false, List, [], ◌∷◌, inl, inr, ⊎_elim, refl, sym, ap, arith, ◌⊎◌}
+use Rattle.std.specs.List.{Contains}
 use Rattle.std.proofs.lemmas.Bool.{true≢false}
-use Rattle.std.proofs.lemmas.List.Elements.{All-nil, All-cons, All-from_recursion}
+use Rattle.std.proofs.lemmas.List.Elements.{All-nil, All-from_recursion}
 use Rattle.std.proofs.lemmas.List.Sorted.{IsPermutation-refl}
 use Rattle.ata_types.specs.declared.Port.{Port}
 use Rattle.ata_types.specs.declared.PortState.TheVariants.{Absent, Dead, Ready, Unfit}
-use Rattle.ata_types.specs.declared.request.Outcome.{Outcome}
 use Rattle.ata_types.specs.declared.request.Outcome.TheVariants as outcome
 use Rattle.ata_types.specs.declared.request.Reply.{Reply}
-use Rattle.hba_regs.specs.Bits.{bit}
 use Rattle.hba_regs.specs.declared.reg.Reg.{Reg}
 use Rattle.hba_regs.specs.declared.reg.Reg.TheVariants.{Px}
 use Rattle.hba_regs.specs.declared.reg.Reg.TheVariants as registers
@@ -18,15 +16,11 @@ use Rattle.adapter.specs.Access.{Access}
 use Rattle.adapter.specs.Access.Access.{Reading, Writing}
 use Rattle.adapter.specs.Device.{Device}
 use Rattle.adapter.specs.declared.access.DeviceStep.{DeviceStep}
-use Rattle.adapter.specs.declared.command.Operation.TheVariants.{Identify}
-use Rattle.adapter.specs.declared.tape.Entry.{Entry}
-use Rattle.adapter.specs.declared.tape.Entry.TheVariants as entry
 use Rattle.agreement.specs.Acts.{at}
 use Rattle.agreement.specs.Agrees.{port_at}
 use Rattle.agreement.specs.Driver.{IsBacked, Knows}
-use Rattle.agreement.specs.Errors.{IsFatalOf}
 use Rattle.agreement.specs.Links.{IsPlugging, SparesRegister}
-use Rattle.agreement.specs.Slots.{IsFree, IsMove, ServesRequest}
+use Rattle.agreement.specs.Slots.{IsFree}
 use Rattle.agreement.specs.Witness.{first_id}
 use Rattle.block_machine.specs.Events.{HadDisk, Happens, Served, ServesReady, Service}
 use Rattle.block_machine.specs.Histories.{Happening, Instant}
@@ -36,7 +30,7 @@ use Rattle.block_machine.specs.State.{Machine, Pending}
 use Rattle.block_machine.specs.Steps.{Step, Answer}
 use Rattle.host_boot.specs.Taken.{wanted_of}
 use Rattle.identify.specs.declared.wanted.Wanted.TheVariants.{Any}
-use Rattle.driver_history.specs.Evidence.{Gains, IsEvidencedOf, ShowsFailure, ShowsLoss}
+use Rattle.driver_history.specs.Evidence.{IsEvidencedOf, ShowsFailure, ShowsLoss}
 use Rattle.driver_history.specs.Guard.{IsAskedOf}
 use Rattle.driver_history.specs.Histories.{BootsAnew, FindsDone, IsAnsweredOk, IsIssuedOn, LosesNoTrouble, RunsWellAnew, TendsPort, Ties, TiesPort}
 use Rattle.driver_history.specs.Holds.{HoldsOf, HoldsWith, IsReadyAt, IsStoppedAt}
@@ -44,17 +38,17 @@ use Rattle.driver_history.specs.Trace.{LeavesCommand, ResetsLink}
 use Rattle.port_control.specs.Engines.{Stops}
 use Rattle.history_witnesses.specs.Fatal.{FatalErrorIsAHistory, fatal_accesses, fatal_evidence, looking, placing, resetting, stopping}
 use Rattle.history_witnesses.specs.Scene.{having, page_entry, plain, showing}
-use Rattle.history_witnesses.proofs.Accepting.{asked, both, first, in_book, issuing, submit, submit_happens, submit_parts, submit_ties, submitted_at, waiting}
-use Rattle.history_witnesses.proofs.Breaking.{allowed, dev, does, tape_broken, unfit}
+use Rattle.history_witnesses.proofs.Accepting.{asked, both, first, issuing, submit, submit_happens, submit_parts, submit_ties, waiting, bits_set, leaves_other, none_there, not_ended, the_answer}
+use Rattle.history_witnesses.proofs.Breaking.{allowed, broken, dev, does, tape_broken, unfit}
 use Rattle.history_witnesses.proofs.Command.{read_memory}
 use Rattle.history_witnesses.proofs.Devices.{AreServing, IsOf, WritesOf, leaves, serving}
-use Rattle.history_witnesses.proofs.Holding.{IsCalm, IsUnnamed, fit_disk, named, named_is, no_slots, no_trouble, requests_none, runs_on, tries_ready, unnamed_evidenced, unserved_at}
-use Rattle.history_witnesses.proofs.Members.{nowhere, only}
+use Rattle.history_witnesses.proofs.Holding.{IsCalm, IsUnnamed, fit_disk, named, named_is, no_slots, no_trouble, requests_none, runs_on, tries_ready, unnamed_evidenced, unserved_at, unfailing, unlost}
+use Rattle.history_witnesses.proofs.Meeting.{broken_at, gained, meeting, meeting_happens, meeting_part, meeting_ties, no_fault, shows_fatal, unpaged}
+use Rattle.history_witnesses.proofs.Members.{nowhere}
 use Rattle.history_witnesses.proofs.Memory.{past_driver}
 use Rattle.history_witnesses.proofs.Pages.{plain_disks}
-use Rattle.history_witnesses.proofs.Ready.{agreeing, begins, calm, fit_ready, free_apart, no_page, not_dead, served_of, served_ready, starts}
-use Rattle.history_witnesses.proofs.Serving.{serves_none}
-use Rattle.history_witnesses.proofs.Submitting.{issued, second, submitted}
+use Rattle.history_witnesses.proofs.Ready.{agreeing, begins, fit_ready, free_apart, not_dead, served_of, served_ready, starts}
+use Rattle.history_witnesses.proofs.Submitting.{second}
 
 -- ---- the machine, and what holds
 
@@ -73,10 +67,6 @@ booted = dev unfit
 abbrev booted_at : Instant Device
 booted_at = record { device = booted; moment = record { machine = answered; ports = one } }
 
--- the fatal error is the one entry that the tape has gained
-abbrev gained : List Entry
-gained = entry.Fatal (port_at 0) ∷ []
-
 free : (n k : ℕ) → IsFree (having (unfit ∷ second ∷ []) n) k
 free zero k = record { issued = refl; free = refl; unarmed = refl }
 free (suc zero) k = record { issued = refl; free = refl; unarmed = refl }
@@ -91,10 +81,6 @@ knows : Knows answered (at no_slots booted)
 knows = agreeing answered no_slots tape_broken read_memory unfit second
     (record { own_first = refl; own_second = refl; disks = (refl, refl); present = present; ids = refl; sizes = refl; bytes = refl })
     free free_apart (λ f b from small. past_driver f b from) (λ n e may at_port. ⊎_elim (λ z. absurd (nowhere e z.0)) (λ z. absurd (nowhere e z)) may)
-
--- no page came after those of the two ports
-unpaged : (port : ℕ) → All (λ e. IsMove port Identify e → ⊥) gained
-unpaged port = All-cons (λ e. IsMove port Identify e → ⊥) (entry.Fatal (port_at 0)) [] (λ x. x) (no_page port)
 
 -- its signature was read, and is no ATA disk's
 port_unfit : IsStoppedAt Any no_slots booted_at (port_at 0) (Unfit 8)
@@ -181,7 +167,7 @@ becomes n = (
     changes (suc zero) = inl (refl, refl, refl, refl, refl, refl)
     changes (suc (suc n)) = inl (refl, refl, refl, refl, refl, refl)
 
-had_disk : (n : ℕ) → SamePort both one (port_at n) ⊎ HadDisk submitted_at.moment (answer ∷ []) booted_at.moment (port_at n)
+had_disk : (n : ℕ) → SamePort both one (port_at n) ⊎ HadDisk broken_at.moment (answer ∷ []) booted_at.moment (port_at n)
 had_disk zero = inr (λ shows. inl refl)
 had_disk (suc zero) = inl (refl, refl, refl, refl, refl, refl)
 had_disk (suc (suc n)) = inl (refl, refl, refl, refl, refl, refl)
@@ -197,13 +183,7 @@ service = record {
   device = booted;
 }
 
-only_unplugged : (e : Pending) (o : Outcome) → Contains (answer ∷ []) (Answer e o) → o ≡ outcome.Unplugged
-only_unplugged e o here = let same : Answer e o ≡ answer = only answer (Answer e o) here in cc
-
-only_one : (e : Pending) (o : Outcome) → Contains (answer ∷ []) (Answer e o) → e ≡ waiting
-only_one e o here = let same : Answer e o ≡ answer = only answer (Answer e o) here in cc
-
-happens : Happens submitted_at.moment service.event
+happens : Happens broken_at.moment service.event
 happens = record {
   may = (tt, (0, omega arith, refl));
   belong = (tt, inr tt);
@@ -217,7 +197,7 @@ happens = record {
     grounded = tt;
     unplugs = record {
       emptied = λ e other here there. absurd (nowhere other there);
-      alike = λ e other here there. absurd (let x : outcome.PortDead ≡ outcome.Unplugged = only_unplugged other outcome.PortDead there in cc);
+      alike = λ e other here there. absurd (let x : outcome.PortDead ≡ outcome.Unplugged = (the_answer outcome.Unplugged other outcome.PortDead there).1 in cc);
     };
     issues = λ port is r at_port due. absurd (nowhere r due.here);
     emptied = λ port other e here. absurd (nowhere e here);
@@ -226,17 +206,17 @@ happens = record {
   };
 }
 
-backed : IsBacked submitted booted issuing (answer ∷ [])
+backed : IsBacked (dev broken) booted issuing (answer ∷ [])
 backed = record {
   telling = refl;
-  gained = gained;
+  gained = [];
   tape = refl;
-  tells = ([], [], answer ∷ [], tt, refl, (tt, λ d. d), refl);
+  tells = (tt, λ d. d);
   told = λ _. (tt, tt);
   plugged = λ port. ([], plugs port, refl);
 }
   where
-    plugs : (n : ℕ) → (booted.port n).plugged ≡ (submitted.port n).plugged ++ []
+    plugs : (n : ℕ) → (booted.port n).plugged ≡ ((dev broken).port n).plugged ++ []
     plugs zero = refl
     plugs (suc zero) = refl
     plugs (suc (suc n)) = refl
@@ -291,15 +271,6 @@ of_served = (tended, ((λ is. cc, tended), ((λ is. cc, tt), (tended, (tended, (
 
 -- ---- what stands behind the evidence
 
-gains : Gains (IsFatalOf 0) submitted booted
-gains = record {
-  gained = gained;
-  tape = refl;
-  entry = entry.Fatal (port_at 0);
-  here = (0, omega arith, refl);
-  is = refl;
-}
-
 unnamed : (n : ℕ) → IsUnnamed fatal_evidence (port_at (suc n))
 unnamed n = record {
   lost = other;
@@ -313,23 +284,25 @@ unnamed n = record {
     other : Contains (port_at 0 ∷ []) (port_at (suc n)) → ⊥
     other h = let same = named_is 0 (suc n) h in omega (arith, same)
 
-quiet : (n : ℕ) → both.state (port_at n) ≡ Ready → (ShowsLoss (port_at n) submitted booted → ⊥) × (ShowsFailure (submitted.port n) → ⊥)
-quiet = calm submitted.tape read_memory issued refl refl refl (λ place from. refl) booted
+-- another port shows nothing
+quiet : (n : ℕ) → both.state (port_at (suc n)) ≡ Ready → (ShowsLoss (port_at (suc n)) (dev broken) booted → ⊥) × (ShowsFailure ((dev broken).port (suc n)) → ⊥)
+quiet zero is = (unlost (port_at 1) (dev broken) booted refl refl refl, unfailing second (λ place from. refl))
+quiet (suc n) is = absurd (let x : Absent ≡ Ready = is in cc)
 
-evidenced_of : (n : ℕ) → IsEvidencedOf Service (Served replies) fatal_accesses submitted_at one booted fatal_evidence (port_at n)
+evidenced_of : (n : ℕ) → IsEvidencedOf Service (Served replies) fatal_accesses broken_at one booted fatal_evidence (port_at n)
 evidenced_of zero = record {
   lost = λ h. inr (inr (inr (not_dead_then 0, λ is. absurd (not_ready_then is))));
-  gone_all = λ is loss. absurd ((quiet 0 is).0 loss);
+  gone_all = λ is loss. absurd (unlost (port_at 0) (dev broken) booted refl refl refl loss);
   gone_only = λ h. absurd (nowhere (port_at 0) h);
   failed_all = λ is f. named 0;
-  failed_only = λ h. (refl, inr (inr gains));
+  failed_only = λ h. (refl, inl (inl shows_fatal));
   fatal_all = λ is f. named 0;
-  fatal_only = λ h. (refl, inr gains);
+  fatal_only = λ h. (refl, inl shows_fatal);
   stopped_all = inr (inl (named 0));
   stopped_only = λ h. inl stops;
   stuck_only = λ h. absurd (nowhere (port_at 0) h);
 }
-evidenced_of (suc n) = unnamed_evidenced Service (Served replies) fatal_accesses submitted_at one booted fatal_evidence (port_at (suc n)) (unnamed n) (quiet (suc n))
+evidenced_of (suc n) = unnamed_evidenced Service (Served replies) fatal_accesses broken_at one booted fatal_evidence (port_at (suc n)) (unnamed n) (quiet n)
     (leaves IsWritten (port_at (suc n)) (⊎_elim (λ is. apart (ap (λ (p : Port). p.0) is)) (λ is. cc)) (⊎_elim (λ is. apart (ap (λ (p : Port). p.0) is)) (λ is. cc)) fatal_accesses of_first)
   where
     apart : suc n ≡ 0 → ⊥
@@ -339,14 +312,9 @@ evidenced_of (suc n) = unnamed_evidenced Service (Served replies) fatal_accesses
 
 -- no answer is Ok
 none_ok : (e : Pending) → IsAnsweredOk e (answer ∷ []) → ⊥
-none_ok e a = let same : outcome.Ok ≡ outcome.Unplugged = only_unplugged a.0 outcome.Ok a.2 in cc
+none_ok e a = let same : outcome.Ok ≡ outcome.Unplugged = (the_answer outcome.Unplugged a.0 outcome.Ok a.2).1 in cc
 
--- a slot whose bit of PxCI is clear serves no request then
-bits_set : (e : Pending) (k : ℕ) → ServesRequest issuing read_memory issued 0 k e.request.id → bit 1 k ≡ false → ⊥
-bits_set e k s ci = serves_none issuing read_memory issued k e.request.id s refl ci refl
-    (ap (λ (p : Pending). p.ended) (⊎_elim (λ m. in_book s.pending m.0) (λ m. absurd (nowhere s.pending m)) s.moves))
-
-service_finds : (n : ℕ) (e : Pending) → IsIssuedOn (port_at n) issuing e → FindsDone (port_at n) fatal_accesses submitted_at (answer ∷ [])
+service_finds : (n : ℕ) (e : Pending) → IsIssuedOn (port_at n) issuing e → FindsDone (port_at n) fatal_accesses broken_at (answer ∷ [])
 service_finds zero e on = record {
   ci = 1;
   sact = 0;
@@ -356,16 +324,16 @@ service_finds zero e on = record {
     here = refl;
     running = All-from_recursion (LeavesCommand (port_at 0)) early (tt, (λ is. cc, (λ is. cc, (tt, tt))));
   };
-  exact = λ e slot on s. (λ ok. absurd (none_ok e ok), λ clear. absurd (bits_set e slot s clear.0));
+  exact = λ e slot on s. (λ ok. absurd (none_ok e ok), λ clear. absurd (bits_set broken refl (λ k. refl) (λ k. refl) e slot s clear.0));
 }
   where
     early : List Access
     early = Reading (Px (port_at 0) Is) 0x08000000 ∷ Writing (Px (port_at 0) Is) 0x08000000 ∷ Writing registers.Is 1 ∷ Reading (Px (port_at 0) Ssts) 3 ∷ []
-service_finds (suc n) e on = absurd (let z : 0 ≡ suc n = sym (ap (λ (x : Pending). x.request.port.0) (in_book e on.here)) ∙ ap (λ (p : Port). p.0) on.port_is in omega (arith, z))
+service_finds (suc n) e on = absurd (none_there n e on)
 
-heeds : (n : ℕ) → both.state (port_at n) ≡ Ready → ServesReady submitted_at.moment fatal_evidence (answer ∷ []) booted_at.moment (port_at n)
+heeds : (n : ℕ) → both.state (port_at n) ≡ Ready → ServesReady broken_at.moment fatal_evidence (answer ∷ []) booted_at.moment (port_at n)
 heeds zero is = record {
-  ended = λ e here at_port ended. absurd (true≢false (sym ended ∙ (ap (λ (p : Pending). p.ended) (in_book e here))));
+  ended = λ e here at_port ended. absurd (not_ended e here ended);
   emptied = λ g. absurd (nowhere (port_at 0) g);
   told = λ g. absurd (nowhere (port_at 0) g);
   interrupts = λ why. inl (named 0);
@@ -375,28 +343,10 @@ heeds zero is = record {
   disk = λ shows. inl refl;
   calm = inl (inl (named 0));
 }
-heeds (suc zero) is = record {
-  ended = λ e here at_port ended. absurd (true≢false (sym ended ∙ (ap (λ (p : Pending). p.ended) (in_book e here))));
-  emptied = λ g. absurd ((unnamed 0).gone g);
-  told = λ g. absurd ((unnamed 0).gone g);
-  interrupts = λ why. absurd (⊎_elim (unnamed 0).failed (unnamed 0).gone why);
-  anew = λ why e here. absurd (nowhere e here);
-  single = omega arith;
-  fatal = λ h. absurd ((unnamed 0).fatal h);
-  disk = λ shows. inl refl;
-  calm = inr (record {
-    same = (refl, refl, refl, refl, refl, refl);
-    told = λ e o here at_port. absurd (let z : 0 ≡ 1 = sym (ap (λ (x : Pending). x.request.port.0) (only_one e o here)) ∙ ap (λ (p : Port). p.0) at_port in omega (arith, z));
-    uninterrupted = λ why. ⊎_elim (unnamed 0).stopped (unnamed 0).stuck why;
-  });
-}
+heeds (suc zero) is = leaves_other outcome.Unplugged fatal_evidence booted_at.moment (unnamed 0) (omega arith) (refl, refl, refl, refl, refl, refl)
 heeds (suc (suc n)) is = absurd (let x : Absent ≡ Ready = is in cc)
 
--- the error is no trouble of another port
-fatal_alone : (n : ℕ) → n ≢ 0 → All (IsCalm n) gained
-fatal_alone n ne = All-cons (IsCalm n) (entry.Fatal (port_at 0)) [] (λ x. x, λ (is : 0 ≡ n). ne (sym is), λ x. x) (All-nil (IsCalm n))
-
-trouble : (n : ℕ) → LosesNoTrouble fatal_evidence submitted_at one booted (port_at n)
+trouble : (n : ℕ) → LosesNoTrouble fatal_evidence broken_at one booted (port_at n)
 trouble zero = record {
   errors = λ ready why. inl (inl (named 0));
   changes = λ tends why. inl (inl (named 0));
@@ -404,34 +354,29 @@ trouble zero = record {
   fatal = λ ready g. absurd (not_ready_then ready);
   disk = λ ready g. absurd (not_ready_then ready);
 }
-trouble (suc n) = no_trouble fatal_evidence submitted_at one booted (port_at (suc n)) gained refl (fatal_alone (suc n) (omega arith)) (served_ready (suc n)) (quiet (suc n))
+trouble (suc n) = no_trouble fatal_evidence broken_at one booted (port_at (suc n)) [] refl (All-nil (IsCalm (suc n))) (served_ready (suc n)) (quiet n)
 
-well : (n : ℕ) → RunsWellAnew fatal_evidence fatal_accesses submitted_at one booted (port_at n)
+well : (n : ℕ) → RunsWellAnew fatal_evidence fatal_accesses broken_at one booted (port_at n)
 well zero = λ why ready. absurd (not_ready_then ready)
 well (suc n) = λ why. absurd (⊎_elim (unnamed n).stopped (unnamed n).stuck why)
 
-boots : (n : ℕ) → BootsAnew Service (Served replies) fatal_accesses submitted_at one booted (port_at n)
+boots : (n : ℕ) → BootsAnew Service (Served replies) fatal_accesses broken_at one booted (port_at n)
 boots zero = (λ is f. inr (inr resets), inr (inr (inr resets)))
-boots (suc zero) = (λ is f. absurd (⊎_elim (λ fatal. (quiet 1 is).1 (inl fatal)) (quiet 1 is).0 f), inl (refl, refl, refl, refl, refl, refl))
+boots (suc zero) = (λ is f. absurd (⊎_elim (λ fatal. (quiet 0 is).1 (inl fatal)) (quiet 0 is).0 f), inl (refl, refl, refl, refl, refl, refl))
 boots (suc (suc n)) = (λ is. absurd (let x : Absent ≡ Ready = is in cc), inl (refl, refl, refl, refl, refl, refl))
 
-no_flags : (n place : ℕ) → (submitted.port n).is place ≡ false
-no_flags zero place = refl
-no_flags (suc zero) place = refl
-no_flags (suc (suc n)) place = refl
-
-part_of : (n : ℕ) → TiesPort submitted_at service fatal_accesses (port_at n)
+part_of : (n : ℕ) → TiesPort broken_at service fatal_accesses (port_at n)
 part_of n = record {
   finds = λ is e on. service_finds n e on;
-  faults = λ alone. absurd (true≢false (sym alone.shows.fault ∙ (no_flags n 30)));
-  tries = λ served none. tries_ready fatal_accesses submitted_at one booted (port_at n) (served_ready n served);
+  faults = λ alone. absurd (true≢false (sym alone.shows.fault ∙ no_fault n));
+  tries = λ served none. tries_ready fatal_accesses broken_at one booted (port_at n) (served_ready n served);
   boots = boots n;
   trouble = trouble n;
   well = well n;
   heeds = heeds n;
 }
 
-ties : Ties (Any ∷ Any ∷ []) submitted_at service
+ties : Ties (Any ∷ Any ∷ []) broken_at service
 ties = record {
   accesses = fatal_accesses;
   came = (does, serving (TendsPort both) fatal_accesses of_served);
@@ -443,22 +388,25 @@ ties = record {
 }
 
 -- the port shows a device and no change, and no disk goes or comes
-is_asked : IsAskedOf (port_at 0) submitted_at booted
+is_asked : IsAskedOf (port_at 0) broken_at booted
 is_asked = record {
   ready = refl;
   change = ⊎_elim (λ (n : false ≡ true). true≢false (sym n)) (λ (x : false ≡ true). true≢false (sym x));
   device = refl;
-  plugged = record { gained = gained; tape = refl; none = All-cons (λ e. IsPlugging 0 e → ⊥) (entry.Fatal (port_at 0)) [] (λ x. x) (All-nil (λ e. IsPlugging 0 e → ⊥)) };
+  plugged = record { gained = []; tape = refl; none = All-nil (λ e. IsPlugging 0 e → ⊥) };
 }
 
 pub fatal_error_is_a_history : FatalErrorIsAHistory
-unfolding ties
+unfolding ties meeting_ties
 fatal_error_is_a_history = record {
   first = first;
   submit = submit;
   asked = asked;
   reads = refl;
   submits = (refl, refl);
+  told = meeting;
+  tells = (refl, refl);
+  shows = shows_fatal;
   ready = refl;
   service = service;
   serves = (refl, refl);
@@ -467,8 +415,9 @@ fatal_error_is_a_history = record {
   is_asked = is_asked;
   does = does;
   allowed = allowed;
-  history = ((((starts, fit_ready plain_disks), begins plain_disks), submit_happens, submit_ties), happens, ties);
+  history = (((((starts, fit_ready plain_disks), begins plain_disks), submit_happens, submit_ties), meeting_happens, meeting_ties), happens, ties);
   accesses = refl;
   submit_parts = submit_parts;
+  told_parts = λ port. meeting_part port.0;
   service_parts = λ port. part_of port.0;
 }

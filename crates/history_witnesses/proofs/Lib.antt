@@ -21,4 +21,5 @@ mod Dying
 mod Together
 mod Reordered
 mod Breaking
+mod Meeting
 mod Broken

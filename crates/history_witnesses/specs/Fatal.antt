@@ -1,6 +1,6 @@
--- A history in which a service finds a fatal error on a port, gives the port up, and boots it anew (this project's own; AHCI 1.3.1, 6.2.2, 10.1.2
+-- A history in which a port meets a fatal error, and a service gives the port up, and boots it anew (this project's own; AHCI 1.3.1, 6.2.2, 10.1.2
 -- and 10.4.2).
-use Rattle.std.specs.Prelude.{◌≡◌, ◌++◌, List, [], ◌∷◌, Ok}
+use Rattle.std.specs.Prelude.{true, ◌≡◌, ◌++◌, List, [], ◌∷◌, Ok}
 use Rattle.ata_types.specs.declared.Port.{Port}
 use Rattle.ata_types.specs.declared.PortState.TheVariants.{Ready, Unfit}
 use Rattle.ata_types.specs.declared.request.Op.TheVariants.{Read}
@@ -13,12 +13,15 @@ use Rattle.adapter.specs.Access.{Access, DoesAll}
 use Rattle.adapter.specs.Access.Access.{Reading, Writing}
 use Rattle.adapter.specs.Device.{Device}
 use Rattle.adapter.specs.declared.access.DeviceStep.{DeviceStep}
+use Rattle.adapter.specs.declared.access.DeviceStep.TheVariants.{Fatal}
+use Rattle.adapter.specs.declared.access.FatalError.TheVariants.{Interface}
 use Rattle.agreement.specs.Agrees.{port_at}
 use Rattle.agreement.specs.Witness.{first_id}
-use Rattle.block_machine.specs.Events.{Submit, Service, Submitted, Served}
+use Rattle.block_machine.specs.Events.{Submit, Service, Device as Told, Submitted, Served, Stepped}
 use Rattle.block_machine.specs.Histories.{Instant, Happening, now}
 use Rattle.block_machine.specs.Ports.{Evidence}
 use Rattle.identify.specs.declared.wanted.Wanted.TheVariants.{Any}
+use Rattle.error_recovery.specs.Evidence.{ShowsFatal}
 use Rattle.driver_history.specs.Guard.{IsAskedOf}
 use Rattle.driver_history.specs.Histories.{IsHistory, TiesPort}
 use Rattle.history_witnesses.specs.Allowed.{AreAllowed}
@@ -62,25 +65,29 @@ fatal_evidence = record {
   stuck = [];
 }
 
--- A read of port 0 is accepted and issued. A fatal error breaks the port before the service looks at it; the service gives the port up, and boots it, which
--- finds no ATA disk: the port is unfit, and the read is answered Unplugged. That is asked of the port. The service's accesses keep to the adapter's rules.
--- Each port's part in both calls is done, whether it stays healthy or not.
+-- A read of port 0 is accepted and issued. The device is told to meet a fatal error of the port's link, and the port shows it. The service finds it, gives the
+-- port up, and boots it anew, which finds no ATA disk: the port is unfit, and the read is answered Unplugged. This part is asked of the port. The service's
+-- accesses keep to the adapter's rules. Each port's part in the three calls is done, whether it stays healthy or not.
 pub record FatalErrorIsAHistory : Type 0 where
   pub first : Instant Device
   pub submit : Happening Device DeviceStep
   pub asked : Request
   pub reads : asked.op ≡ Read
   pub submits : (submit.event.ask ≡ Submit asked) × (submit.event.said ≡ Submitted (Ok first_id))
-  pub ready : submit.event.ports.state (port_at 0) ≡ Ready
+  pub told : Happening Device DeviceStep
+  pub tells : (told.event.ask ≡ Told (Fatal (port_at 0) Interface)) × (told.event.said ≡ Stepped true)
+  pub shows : ShowsFatal (told.device.port 0)
+  pub ready : told.event.ports.state (port_at 0) ≡ Ready
   pub service : Happening Device DeviceStep
   pub serves : (service.event.ask ≡ Service)
       × (service.event.said ≡ Served (record { id = first_id; client = asked.client; outcome = Unplugged } ∷ []))
   pub evidence : service.event.evidence ≡ fatal_evidence
   pub unfit : service.event.ports.state (port_at 0) ≡ Unfit 8
-  pub is_asked : IsAskedOf (port_at 0) (now first (submit ∷ [])) service.device
-  pub does : DoesAll fatal_accesses submit.device service.device
-  pub allowed : AreAllowed fatal_accesses submit.device service.device does
-  pub history : IsHistory (Any ∷ Any ∷ []) first (service ∷ submit ∷ [])
+  pub is_asked : IsAskedOf (port_at 0) (now first (told ∷ submit ∷ [])) service.device
+  pub does : DoesAll fatal_accesses told.device service.device
+  pub allowed : AreAllowed fatal_accesses told.device service.device does
+  pub history : IsHistory (Any ∷ Any ∷ []) first (service ∷ told ∷ submit ∷ [])
   pub accesses : history.2.accesses ≡ fatal_accesses
-  pub submit_parts : (port : Port) → TiesPort first submit history.0.2.accesses port
-  pub service_parts : (port : Port) → TiesPort (now first (submit ∷ [])) service history.2.accesses port
+  pub submit_parts : (port : Port) → TiesPort first submit history.0.0.2.accesses port
+  pub told_parts : (port : Port) → TiesPort (now first (submit ∷ [])) told history.0.2.accesses port
+  pub service_parts : (port : Port) → TiesPort (now first (told ∷ submit ∷ [])) service history.2.accesses port
