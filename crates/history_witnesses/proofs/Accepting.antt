@@ -1,40 +1,43 @@
 -- The first witness's read is accepted and issued: the machine, and what holds before and after it.
-use Rattle.std.proofs.Common.{◌≡◌, false, List, [], ◌∷◌, inl, inr, refl, sym, ap, arith}
+use Rattle.std.proofs.Common.{ℕ, zero, suc, ◌≡◌, ◌≤◌, ◌∙◌, true, false, List, [], ◌∷◌, None, inl, inr, ⊎_elim, refl, sym, ap, arith}
+use Rattle.std.specs.Prelude.{count_by}
 use Rattle.std.proofs.lemmas.Bool.{le-ltb, true≢false}
 use Rattle.std.specs.List.{Contains}
 use Rattle.std.proofs.lemmas.List.Elements.{All-from_recursion}
 use Rattle.ata_types.specs.declared.Port.{Port}
+use Rattle.ata_types.specs.declared.request.Outcome.{Outcome}
 use Rattle.ata_types.specs.declared.request.Request.{Request}
+use Rattle.hba_regs.specs.Bits.{bit}
 use Rattle.adapter.specs.Commands.{is_queued}
-use Rattle.adapter.specs.Device.{Device}
+use Rattle.adapter.specs.Device.{Device, PortState}
 use Rattle.adapter.specs.ReadDone.{read_of}
 use Rattle.adapter.specs.Says.{cut}
 use Rattle.adapter.specs.declared.access.DeviceStep.{DeviceStep}
 use Rattle.agreement.specs.Agrees.{port_at}
 use Rattle.agreement.specs.Slots.{ServesRequest, Stage}
 use Rattle.agreement.specs.Witness.{first_id}
-use Rattle.block_machine.specs.Events.{Happens}
+use Rattle.block_machine.specs.Events.{Happens, Moment, ServesReady, tells_fault}
 use Rattle.block_machine.specs.Histories.{Happening, Instant}
 use Rattle.block_machine.specs.Left.{after}
-use Rattle.block_machine.specs.Ports.{Ports}
+use Rattle.block_machine.specs.Ports.{Evidence, Ports, SamePort}
 use Rattle.block_machine.specs.State.{Machine, Pending, unanswered}
-use Rattle.block_machine.specs.Steps.{Step, Accept, Issue, May, newly_accepted}
+use Rattle.block_machine.specs.Steps.{Step, Accept, Answer, Issue, May, newly_accepted}
 use Rattle.block_machine.specs.declared.due.Unanswered.{Unanswered}
 use Rattle.identify.specs.declared.wanted.Wanted.TheVariants.{Any}
-use Rattle.driver_history.specs.Histories.{IssuesOn, Ties, TiesPort}
+use Rattle.driver_history.specs.Histories.{IsIssuedOn, IssuesOn, Ties, TiesPort}
 use Rattle.driver_history.specs.Holds.{HoldsWith}
 use Rattle.history_witnesses.specs.Begun.{ReadyPortHasBegun}
 use Rattle.history_witnesses.specs.Scene.{plain, running_port}
 use Rattle.history_witnesses.proofs.Command.{read_memory, told, zeros}
-use Rattle.history_witnesses.proofs.Holding.{first_slots, no_slots}
+use Rattle.history_witnesses.proofs.Holding.{IsUnnamed, first_slots, no_slots}
 use Rattle.history_witnesses.proofs.Issuing.{Submission, IsIssued, accepted_as, reading, submit_happens as happens_so, submit_part as part_of, submit_ties as ties_so}
 use Rattle.history_witnesses.proofs.Issuing as issuing_on
 use Rattle.history_witnesses.proofs.Members.{nowhere, only}
 use Rattle.history_witnesses.proofs.Memory.{past_driver}
 use Rattle.history_witnesses.proofs.Pages.{plain_disks}
 use Rattle.history_witnesses.proofs.Ready.{Agreeing, Stands, begins, fit_ready, holds, instant_with, no_page, start, starts, two_ready}
-use Rattle.history_witnesses.proofs.Serving.{HasOne, agrees_one, none_due, serves_one, outstanding_as}
-use Rattle.history_witnesses.proofs.Submitting.{issued, others_clear, submit_accesses, submits}
+use Rattle.history_witnesses.proofs.Serving.{HasOne, agrees_one, none_due, serves_none, serves_one, outstanding_as}
+use Rattle.history_witnesses.proofs.Submitting.{issued, others_clear, submit_accesses, submits, submitted}
 
 -- ---- the machine
 
@@ -94,7 +97,7 @@ serves_stage : Stage read_memory issued 0 0 waiting (read_of 100 1) (cut 0x28000
 serves_stage = inl (record { started = refl; issued = refl; free = refl; sact = refl; block = tt; untouched = λ i. sym (le-ltb i 0 (omega arith)); unended = refl })
 
 pub serves : ServesRequest issuing read_memory issued 0 0 first_id
-serves = serves_one issuing read_memory issued 0 (read_of 100 1) first_id 100 40 waiting.request.held stands (omega arith) (0, omega arith, refl) refl refl told serves_stage
+serves = serves_one issuing read_memory issued 0 (read_of 100 1) first_id 100 40 waiting.request.held refl (omega arith) (0, omega arith, refl) refl refl told serves_stage
 
 pub serves_plain : is_queued serves.command.operation ≡ false
 unfolding serves serves_one
@@ -156,3 +159,47 @@ submit_ties = ties_so submission is_issued
 pub submit_parts : (port : Port) → TiesPort first submit submit_ties.accesses port
 unfolding submit_ties ties_so
 submit_parts port = part_of submission is_issued port.0
+
+-- ---- a service that answers it
+
+-- no bit of PxIS was set when it began
+pub no_flags : (n place : ℕ) → (submitted.port n).is place ≡ false
+no_flags zero place = refl
+no_flags (suc zero) place = refl
+no_flags (suc (suc n)) place = refl
+
+-- no request had ended then
+pub not_ended : (e : Pending) → Contains issuing.book e → e.ended ≡ true → ⊥
+not_ended e here is = true≢false (sym is ∙ ap (λ (x : Pending). x.ended) (in_book e here))
+
+-- where no command is taken yet, a slot whose bit of PxCI is clear serves no request
+pub bits_set : (p : PortState) → p.st ≡ true → ((k : ℕ) → p.ci k ≡ bit 1 k) → ((k : ℕ) → p.taken k ≡ None) → (e : Pending) (k : ℕ) → ServesRequest issuing read_memory p 0 k e.request.id → bit 1 k ≡ false → ⊥
+bits_set p started waits free e k s ci = serves_none issuing read_memory p k e.request.id s started (waits k ∙ ci) (free k)
+    (ap (λ (x : Pending). x.ended) (⊎_elim (λ m. in_book s.pending m.0) (λ m. absurd (nowhere s.pending m)) s.moves))
+
+-- and no other port has one
+pub none_there : (n : ℕ) (e : Pending) → IsIssuedOn (port_at (suc n)) issuing e → ⊥
+none_there n e on = let z : 0 ≡ suc n = sym (ap (λ (x : Pending). x.request.port.0) (in_book e on.here)) ∙ ap (λ (p : Port). p.0) on.port_is in omega (arith, z)
+
+-- where this is the one step, there is one answer
+pub the_answer : (told : Outcome) (e : Pending) (o : Outcome) → Contains (Answer waiting told ∷ []) (Answer e o) → (e ≡ waiting) × (o ≡ told)
+the_answer told e o here = let same : Answer e o ≡ Answer waiting told = only (Answer waiting told) (Answer e o) here in (cc, cc)
+
+-- and the other port is left alone, if it isn't named
+pub leaves_other : (told : Outcome) (evidence : Evidence) (new : Moment) → IsUnnamed evidence (port_at 1) → count_by (tells_fault (port_at 1)) (Answer waiting told ∷ []) ≤ 1 → SamePort both new.ports (port_at 1)
+    → ServesReady submitted_at.moment evidence (Answer waiting told ∷ []) new (port_at 1)
+leaves_other told evidence new un single same = record {
+  ended = λ e here at_port ended. absurd (not_ended e here ended);
+  emptied = λ g. absurd (un.gone g);
+  told = λ g. absurd (un.gone g);
+  interrupts = λ why. absurd (⊎_elim un.failed un.gone why);
+  anew = λ why. absurd (⊎_elim un.failed un.stopped why);
+  single = single;
+  fatal = λ h. absurd (un.fatal h);
+  disk = λ shows. inl refl;
+  calm = inr (record {
+    same = same;
+    told = λ e o here at_port. absurd (let z : 0 ≡ 1 = sym (ap (λ (x : Pending). x.request.port.0) (the_answer told e o here).0) ∙ ap (λ (p : Port). p.0) at_port in omega (arith, z));
+    uninterrupted = λ why. ⊎_elim un.stopped un.stuck why;
+  });
+}

@@ -40,7 +40,7 @@ use Rattle.history_witnesses.proofs.Holding.{IsUnnamed, named, named_is, no_slot
 use Rattle.history_witnesses.proofs.Command.{read_memory}
 use Rattle.history_witnesses.proofs.Devices.{does_append, IsOf, leaves, no_bit, serving, WritesOf, AreServing}
 use Rattle.history_witnesses.proofs.Submitting.{issued, submitted, command}
-use Rattle.history_witnesses.proofs.Accepting.{asked, both, first, in_book, issuing, submit, submit_happens, submit_parts, submit_ties, submitted_at, waiting}
+use Rattle.history_witnesses.proofs.Accepting.{asked, both, first, in_book, issuing, submit, submit_happens, submit_parts, submit_ties, submitted_at, waiting, no_flags, none_there, not_ended}
 use Rattle.history_witnesses.proofs.Pages.{plain_disks}
 use Rattle.history_witnesses.proofs.Ready.{begins, calm, fit_ready, not_dead, served_ready, starts}
 use Rattle.history_witnesses.proofs.Losing.{finding_allowed, losing_allowed, between, finds, loses, lost}
@@ -281,10 +281,7 @@ done_there = record {
 
 service_finds : (n : ℕ) (e : Pending) → IsIssuedOn (port_at n) issuing e → FindsDone (port_at n) turns submitted_at service_steps
 service_finds zero e on = done_there
-service_finds (suc n) e on = absurd (let z : 0 ≡ suc n = sym (ap (λ (x : Pending). x.request.port.0) (in_book e on.here)) ∙ ap (λ (p : Port). p.0) on.port_is in omega (arith, z))
-
-not_ended : (e : Pending) → Contains issuing.book e → e.ended ≡ true → ⊥
-not_ended e here is = absurd (true≢false (sym is ∙ (ap (λ (x : Pending). x.ended) (in_book e here))))
+service_finds (suc n) e on = absurd (none_there n e on)
 
 heeds : (n : ℕ) → both.state (port_at n) ≡ Ready → ServesReady submitted_at.moment loss_evidence service_steps lost_at.moment (port_at n)
 heeds zero is = record {
@@ -314,11 +311,6 @@ heeds (suc zero) is = record {
   calm = inl (inr (inl (named 1)));
 }
 heeds (suc (suc n)) is = absurd (let x : Absent ≡ Ready = is in cc)
-
-no_flags : (n place : ℕ) → (submitted.port n).is place ≡ false
-no_flags zero place = refl
-no_flags (suc zero) place = refl
-no_flags (suc (suc n)) place = refl
 
 quiet : (n : ℕ) → both.state (port_at n) ≡ Ready → (ShowsLoss (port_at n) submitted lost → ⊥) × (ShowsFailure (submitted.port n) → ⊥)
 quiet = calm submitted.tape read_memory issued refl refl refl (λ place from. refl) lost

@@ -143,6 +143,21 @@ may_start p v was receives fre read half may = record {
   others = λ place low ne other. same_above v was half place ne ∙ ap (λ (x : ℕ). bit x place) (sym read);
 }
 
+-- values that differ in bits 0 and 4 at most
+pub same_beside : (v w : ℕ) → bit v 1 ≡ bit w 1 → bit v 2 ≡ bit w 2 → bit v 3 ≡ bit w 3 → v / 2 / 2 / 2 / 2 / 2 ≡ w / 2 / 2 / 2 / 2 / 2 → (place : ℕ) → place ≢ 0 → place ≢ 4 → bit v place ≡ bit w place
+same_beside v w one two three high zero ne apart = absurd (ne refl)
+same_beside v w one two three high (suc zero) ne apart = one
+same_beside v w one two three high (suc (suc zero)) ne apart = two
+same_beside v w one two three high (suc (suc (suc zero))) ne apart = three
+same_beside v w one two three high (suc (suc (suc (suc zero)))) ne apart = absurd (apart refl)
+same_beside v w one two three high (suc (suc (suc (suc (suc k))))) ne apart = down v ∙ ap (λ (x : ℕ). bit x k) high ∙ sym (down w)
+  where
+    shift : (x n : ℕ) → bit x (suc n) ≡ bit (x / 2) n
+    shift x n = ap (λ (b : ℕ). b == 1) (bit_at-suc x n)
+
+    down : (x : ℕ) → bit x (suc (suc (suc (suc (suc k))))) ≡ bit (x / 2 / 2 / 2 / 2 / 2) k
+    down x = shift x (suc (suc (suc (suc k)))) ∙ shift (x / 2) (suc (suc (suc k))) ∙ shift (x / 2 / 2) (suc (suc k)) ∙ shift (x / 2 / 2 / 2) (suc k) ∙ shift (x / 2 / 2 / 2 / 2) k
+
 -- ---- accesses
 
 -- the register is of this port

@@ -6,7 +6,6 @@ use Rattle.std.proofs.lemmas.List.Elements.{All-nil}
 use Rattle.std.proofs.lemmas.List.Sorted.{IsPermutation-refl}
 use Rattle.ata_types.specs.declared.Port.{Port}
 use Rattle.ata_types.specs.declared.PortState.TheVariants.{Absent, Ready, Unfit, Foreign, Dead}
-use Rattle.ata_types.specs.declared.request.Outcome.{Outcome}
 use Rattle.ata_types.specs.declared.request.Outcome.TheVariants as outcome
 use Rattle.ata_types.specs.declared.request.Reply.{Reply}
 use Rattle.adapter.specs.Device.{Device}
@@ -43,7 +42,7 @@ use Rattle.history_witnesses.proofs.Devices.{leaves}
 use Rattle.history_witnesses.proofs.Holding.{first_slots, have_first, unnamed_evidenced, unserved_at, uses_first, IsCalm, no_trouble}
 use Rattle.history_witnesses.proofs.Issuing.{none_named, nothing}
 use Rattle.history_witnesses.proofs.Submitting.{issued, pages, second, submitted}
-use Rattle.history_witnesses.proofs.Accepting.{asked, both, first, holds_submitted, in_book, issuing, submit, submit_happens, submit_ties, submitted_at, waiting, serves}
+use Rattle.history_witnesses.proofs.Accepting.{asked, both, first, holds_submitted, in_book, issuing, submit, submit_happens, submit_ties, submitted_at, waiting, serves, the_answer}
 use Rattle.history_witnesses.proofs.Pages.{plain_disks}
 use Rattle.history_witnesses.proofs.Ready.{begins, calm, fit_ready, served_of, served_ready, starts}
 use Rattle.history_witnesses.proofs.Members.{nowhere, only, either}
@@ -264,14 +263,8 @@ knows_kept =
 kept_first : (n : ℕ) → n ≢ 0 → NoneKept answered (port_at n)
 kept_first n ne e here is = ne (sym (sym (ap (λ (x : Pending). x.request.port.0) (is_kept e here)) ∙ ap (λ (p : Port). p.0) is))
 
-only_dead : (e : Pending) (o : Outcome) → Contains (answer ∷ []) (Answer e o) → o ≡ outcome.PortDead
-only_dead e o here = let same = only answer (Answer e o) here in cc
-
-only_one : (e : Pending) (o : Outcome) → Contains (answer ∷ []) (Answer e o) → e ≡ waiting
-only_one e o here = let same = only answer (Answer e o) here in cc
-
 not_unplugged : (e : Pending) → Contains (answer ∷ []) (Answer e outcome.Unplugged) → ⊥
-not_unplugged e here = let x : outcome.Unplugged ≡ outcome.PortDead = only_dead e outcome.Unplugged here in cc
+not_unplugged e here = let x : outcome.Unplugged ≡ outcome.PortDead = (the_answer outcome.PortDead e outcome.Unplugged here).1 in cc
 
 becomes : (n : ℕ) → IsServiced dead nothing dead (port_at n)
 becomes zero = (λ is. (refl, refl, refl, refl, refl, refl), λ other. absurd (other refl))
@@ -299,7 +292,7 @@ service_happens = record {
   disks = λ e o here. absurd (nowhere e here);
   answered = record {
     tells = record { answers = (waiting, outcome.PortDead) ∷ []; same = IsPermutation-refl _; ordered = λ i j d less low. absurd (omega (arith, less, low)); told = refl };
-    dead = λ e o here is. only_dead e o here;
+    dead = λ e o here is. (the_answer outcome.PortDead e o here).1;
     grounded = tt;
     unplugs = record { emptied = λ e other here. absurd (not_unplugged e here); alike = λ e other here. absurd (not_unplugged e here) };
     issues = λ port is r at_port due. absurd (nowhere r due.here);

@@ -20,3 +20,6 @@ mod Answering
 mod Dying
 mod Together
 mod Reordered
+mod Breaking
+mod Meeting
+mod Broken

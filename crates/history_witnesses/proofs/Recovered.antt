@@ -8,7 +8,6 @@ use Rattle.std.proofs.lemmas.List.Elements.{All-nil, All-cons}
 use Rattle.std.proofs.lemmas.List.Sorted.{IsPermutation-refl}
 use Rattle.ata_types.specs.declared.Port.{Port}
 use Rattle.ata_types.specs.declared.PortState.TheVariants.{Absent, Ready}
-use Rattle.ata_types.specs.declared.request.Outcome.{Outcome}
 use Rattle.ata_types.specs.declared.request.Outcome.TheVariants as outcome
 use Rattle.ata_types.specs.declared.request.Reply.{Reply}
 use Rattle.hba_regs.specs.Bits.{bit}
@@ -26,7 +25,7 @@ use Rattle.agreement.specs.Driver.{IsBacked, Knows}
 use Rattle.agreement.specs.Errors.{IsFatalOf}
 use Rattle.agreement.specs.Facts.{IsFaultOf, RunsWell}
 use Rattle.agreement.specs.Links.{IsPlugging}
-use Rattle.agreement.specs.Slots.{IsFree, IsMove, ServesRequest}
+use Rattle.agreement.specs.Slots.{IsFree, IsMove}
 use Rattle.agreement.specs.Witness.{first_id}
 use Rattle.block_machine.specs.Events.{Service, Served, Happens, ServesReady}
 use Rattle.block_machine.specs.Histories.{Happening, Instant}
@@ -48,9 +47,8 @@ use Rattle.history_witnesses.proofs.Devices.{IsOf, WritesOf, leaves, serving, Ar
 use Rattle.history_witnesses.proofs.Finding.{stay_serviced}
 use Rattle.history_witnesses.proofs.Holding.{IsUnnamed, fit_disk, named, named_is, no_slots, requests_none, runs_on, tries_ready, unnamed_evidenced, unserved_at, IsCalm, gained_none, no_trouble, ran_none}
 use Rattle.history_witnesses.proofs.Memory.{past_driver}
-use Rattle.history_witnesses.proofs.Serving.{serves_none}
 use Rattle.history_witnesses.proofs.Submitting.{issued, second, submitted, pages}
-use Rattle.history_witnesses.proofs.Accepting.{asked, both, first, in_book, issuing, submit, submit_happens, submit_parts, submit_ties, submitted_at, waiting}
+use Rattle.history_witnesses.proofs.Accepting.{asked, both, first, issuing, submit, submit_happens, submit_parts, submit_ties, submitted_at, waiting, bits_set, leaves_other, no_flags, none_there, not_ended, the_answer}
 use Rattle.history_witnesses.proofs.Pages.{plain_disks}
 use Rattle.history_witnesses.proofs.Ready.{agreeing, begins, calm, fit_ready, free_apart, no_page, not_dead, other_page, second_ready, served_of, served_ready, starts}
 use Rattle.history_witnesses.proofs.Recovering.{allowed, does, fault, from_fall, from_stop, recovered, started, tape_failed, told, until_stop}
@@ -189,37 +187,21 @@ evidenced_of (suc n) = unnamed_evidenced Service (Served replies) recovery_acces
 none_ok : (e : Pending) → IsAnsweredOk e (answer ∷ []) → ⊥
 none_ok e a = let same : Answer a.0 outcome.Ok ≡ answer = only answer (Answer a.0 outcome.Ok) a.2 in cc
 
--- a slot whose bit of PxCI is clear serves no request then
-bits_set : (e : Pending) (k : ℕ) → ServesRequest issuing read_memory issued 0 k e.request.id → bit 1 k ≡ false → ⊥
-bits_set e k s ci = serves_none issuing read_memory issued k e.request.id s refl ci refl
-    (ap (λ (p : Pending). p.ended) (⊎_elim (λ m. in_book s.pending m.0) (λ m. absurd (nowhere s.pending m)) s.moves))
-
 finds : FindsDone (port_at 0) recovery_accesses submitted_at (answer ∷ [])
 finds = record {
   ci = 1;
   sact = 0;
   reads = record { before = []; later = Reading (Px (port_at 0) Tfd) 0x4041 ∷ from_stop; here = refl; running = All-nil (LeavesCommand (port_at 0)) };
-  exact = λ e slot on s. (λ ok. absurd (none_ok e ok), λ clear. absurd (bits_set e slot s clear.0));
+  exact = λ e slot on s. (λ ok. absurd (none_ok e ok), λ clear. absurd (bits_set issued refl (λ k. refl) (λ k. refl) e slot s clear.0));
 }
 
 service_finds : (n : ℕ) (e : Pending) → IsIssuedOn (port_at n) issuing e → FindsDone (port_at n) recovery_accesses submitted_at (answer ∷ [])
 service_finds zero e on = finds
-service_finds (suc n) e on = absurd (let z : 0 ≡ suc n = sym (ap (λ (x : Pending). x.request.port.0) (in_book e on.here)) ∙ ap (λ (p : Port). p.0) on.port_is in omega (arith, z))
-
-no_flags : (n place : ℕ) → (submitted.port n).is place ≡ false
-no_flags zero place = refl
-no_flags (suc zero) place = refl
-no_flags (suc (suc n)) place = refl
-
-only_fault : (e : Pending) (o : Outcome) → Contains (answer ∷ []) (Answer e o) → o ≡ outcome.DeviceError 0x41 0x40
-only_fault e o here = let same : Answer e o ≡ answer = only answer (Answer e o) here in cc
-
-only_one : (e : Pending) (o : Outcome) → Contains (answer ∷ []) (Answer e o) → e ≡ waiting
-only_one e o here = let same : Answer e o ≡ answer = only answer (Answer e o) here in cc
+service_finds (suc n) e on = absurd (none_there n e on)
 
 heeds : (n : ℕ) → both.state (port_at n) ≡ Ready → ServesReady submitted_at.moment fault_evidence (answer ∷ []) recovered_at.moment (port_at n)
 heeds zero is = record {
-  ended = λ e here at_port ended. absurd (true≢false (sym ended ∙ (ap (λ (p : Pending). p.ended) (in_book e here))));
+  ended = λ e here at_port ended. absurd (not_ended e here ended);
   emptied = λ g. absurd (nowhere (port_at 0) g);
   told = λ g. absurd (nowhere (port_at 0) g);
   interrupts = λ why. inl (named 0);
@@ -229,21 +211,7 @@ heeds zero is = record {
   disk = λ shows. inl refl;
   calm = inl (inl (named 0));
 }
-heeds (suc zero) is = record {
-  ended = λ e here at_port ended. absurd (true≢false (sym ended ∙ (ap (λ (p : Pending). p.ended) (in_book e here))));
-  emptied = λ g. absurd ((unnamed 0).gone g);
-  told = λ g. absurd ((unnamed 0).gone g);
-  interrupts = λ why. absurd (⊎_elim (unnamed 0).failed (unnamed 0).gone why);
-  anew = λ why e here. absurd (nowhere e here);
-  single = omega arith;
-  fatal = λ h. absurd ((unnamed 0).fatal h);
-  disk = λ shows. inl refl;
-  calm = inr (record {
-    same = (refl, refl, refl, refl, refl, refl);
-    told = λ e o here at_port. absurd (let z : 0 ≡ 1 = sym (ap (λ (x : Pending). x.request.port.0) (only_one e o here)) ∙ ap (λ (p : Port). p.0) at_port in omega (arith, z));
-    uninterrupted = λ why. ⊎_elim (unnamed 0).stopped (unnamed 0).stuck why;
-  });
-}
+heeds (suc zero) is = leaves_other (outcome.DeviceError 0x41 0x40) fault_evidence recovered_at.moment (unnamed 0) (omega arith) (refl, refl, refl, refl, refl, refl)
 heeds (suc (suc n)) is = absurd (let x : Absent ≡ Ready = is in cc)
 
 -- the fault is the one entry that the tape has gained
@@ -322,7 +290,7 @@ backed = record {
     plugs (suc (suc n)) = refl
 
 unplugged_not : (e : Pending) → Contains (answer ∷ []) (Answer e outcome.Unplugged) → ⊥
-unplugged_not e here = let x : outcome.Unplugged ≡ outcome.DeviceError 0x41 0x40 = only_fault e outcome.Unplugged here in cc
+unplugged_not e here = let x : outcome.Unplugged ≡ outcome.DeviceError 0x41 0x40 = (the_answer (outcome.DeviceError 0x41 0x40) e outcome.Unplugged here).1 in cc
 
 happens : Happens submitted_at.moment service.event
 happens = record {

@@ -32,11 +32,10 @@ use Rattle.history_witnesses.proofs.Submitting.{sent}
 abbrev pub outstanding_as : RequestId → ℕ → ℕ → (ℕ → Block) → Pending
 outstanding_as id k n held = issue (newly_accepted (accepted_as id k n held))
 
-unfoldable pub serves_one : (m : Machine) (memory : ℕ → ℕ) (p : PortState) (slot : ℕ) (c : Meaning) (id : RequestId) (k n : ℕ) (held : ℕ → Block) → Stands p → slot < 32
+unfoldable pub serves_one : (m : Machine) (memory : ℕ → ℕ) (p : PortState) (slot : ℕ) (c : Meaning) (id : RequestId) (k n : ℕ) (held : ℕ → Block) → p.bases.clb ≡ 0 → slot < 32
     → Contains m.book (outstanding_as id k n held) → op_of c.operation ≡ Some Read → c.first ≡ k → Told memory 0 0 slot c (cut (4096 * n) 1)
     → Stage memory p 0 slot (outstanding_as id k n held) c (cut (4096 * n) 1) → ServesRequest m memory p 0 slot id
-serves_one m memory p slot c id k n held stands below here op first told stage =
-    let list : p.bases.clb ≡ 0 = ap (λ (q : PortState). q.bases.clb) stands.same in
+serves_one m memory p slot c id k n held list below here op first told stage =
     record {
       pending = outstanding_as id k n held;
       moves = inl (here, refl);
@@ -95,7 +94,7 @@ module _ (disk : Kind) (m : Machine) (more : List Entry) (memory : ℕ → ℕ) 
     the_one e here = only (outstanding_as first_id k n held) e (subst (λ (es : List Pending). Contains es e) has.book here)
 
     slots : (slot : ℕ) → IsServedAs m memory (sent disk.page ++ more) p 0 slot (uses_first 0 slot)
-    slots zero = serves_one m memory p 0 c first_id k n held has.stands (omega arith) (subst (λ (es : List Pending). Contains es (outstanding_as first_id k n held)) (sym has.book) (0, omega arith, refl)) has.op has.first has.told has.stage
+    slots zero = serves_one m memory p 0 c first_id k n held (ap (λ (q : PortState). q.bases.clb) has.stands.same) (omega arith) (subst (λ (es : List Pending). Contains es (outstanding_as first_id k n held)) (sym has.book) (0, omega arith, refl)) has.op has.first has.told has.stage
     slots (suc slot) = has.others slot
 
     kind_of : (e : Pending) → e ≡ outstanding_as first_id k n held → IsOfKind mode (served_with disk first_slots m more memory p) 0 0 e

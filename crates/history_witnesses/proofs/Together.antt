@@ -154,8 +154,8 @@ waits_in : (k n slot : ℕ) (id : RequestId) (block : ℕ → Block) → two_iss
 waits_in k n slot id block issued active = inl (record { started = refl; issued = issued; free = refl; sact = active; block = tt; untouched = λ i. sym (le-ltb i 0 (omega arith)); unended = refl })
 
 two_serve : (slot : ℕ) → IsServedAs both_issuing two_memory pages two_issued 0 slot (two_uses 0 slot)
-two_serve zero = serves_one both_issuing two_memory two_issued 0 (queued_read 100) first_id 100 40 held two_stands (omega arith) (0, omega arith, refl) refl refl first_told (waits_in 100 40 0 first_id held refl refl)
-two_serve (suc zero) = serves_one both_issuing two_memory two_issued 1 (queued_read 101) second_id 101 41 held_too two_stands (omega arith) (1, omega arith, refl) refl refl second_told (waits_in 101 41 1 second_id held_too refl refl)
+two_serve zero = serves_one both_issuing two_memory two_issued 0 (queued_read 100) first_id 100 40 held refl (omega arith) (0, omega arith, refl) refl refl first_told (waits_in 100 40 0 first_id held refl refl)
+two_serve (suc zero) = serves_one both_issuing two_memory two_issued 1 (queued_read 101) second_id 101 41 held_too refl (omega arith) (1, omega arith, refl) refl refl second_told (waits_in 101 41 1 second_id held_too refl refl)
 two_serve (suc (suc slot)) = record { issued = neither slot; free = refl; unarmed = neither slot }
 
 pub not_second : first_id ≡ second_id → ⊥

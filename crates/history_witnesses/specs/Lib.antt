@@ -5,3 +5,4 @@ pub mod Recovery
 pub mod Loss
 pub mod Dead
 pub mod Queued
+pub mod Fatal

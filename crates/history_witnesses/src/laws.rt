@@ -1,6 +1,7 @@
 // Laws of the definitions: the clause is the theorem. These functions do nothing.
 ghost use Rattle.history_witnesses.specs.Begun.{ReadyPortHasBegun};
 ghost use Rattle.history_witnesses.specs.Dead.{DeathIsAHistory};
+ghost use Rattle.history_witnesses.specs.Fatal.{FatalErrorIsAHistory};
 ghost use Rattle.history_witnesses.specs.Loss.{LossIsAHistory};
 ghost use Rattle.history_witnesses.specs.Queued.{OrderIsFree};
 ghost use Rattle.history_witnesses.specs.Recovery.{RecoveryTies};
@@ -31,4 +32,10 @@ pub fn a_death_is_a_history()
 /// calls is met.
 pub fn queued_requests_end_in_any_order()
     ensures { OrderIsFree }
+{}
+
+/// There is a history with a service that finds a fatal error on a port, gives the port up, and boots it anew: all that is asked of its
+/// calls is met.
+pub fn a_fatal_error_is_a_history()
+    ensures { FatalErrorIsAHistory }
 {}
