@@ -37,6 +37,6 @@ pub enum PortState {
     Foreign,
     /// The device can't be used, for the cause with this number.
     Unfit(u8),
-    /// The command engine didn't stop, or the adapter didn't end its reset.
+    /// An engine of the port didn't stop, or the adapter didn't end its reset.
     Dead,
 }

@@ -53,7 +53,7 @@ pub enum Outcome {
     DeviceError { status: u8, error: u8 },
     /// It was issued four times and not done.
     Aborted,
-    /// Its disk isn't there any more.
+    /// Its disk isn't there any more: it went, is another one, or can't be used once its port was booted anew.
     Unplugged,
     /// Its port can't be stopped, or the adapter can't be reset.
     PortDead,

@@ -20,8 +20,8 @@ ghost use Rattle.block_server.specs.declared.types.Said.{Said};
 
 use adapter::Stepped;
 use driver_history::laws::{
-    answers_rest, healthy_calls_go_well, histories_are_runs, moves_keep_to_their_places, reads_hold,
-    seen_are_answered,
+    answers_rest, healthy_calls_go_well, histories_are_runs, moves_keep_to_their_places,
+    reads_hold, seen_are_answered,
 };
 use driver_history::troubles::{healthy_ports_are_asked_of, shown_faults_are_heeded};
 use host_boot::laws::what_was_taken_over_may_be_served;

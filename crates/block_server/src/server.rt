@@ -25,7 +25,7 @@ use port_look::{Look, look_at};
 use request_queue::laws::the_book_stays_in_order;
 use request_queue::{Book, Entry};
 use server_history::laws::{
-    a_finished_port_settles, a_new_server_has_begun, a_port_is_served, a_mended_port_goes_on,
+    a_finished_port_settles, a_mended_port_goes_on, a_new_server_has_begun, a_port_is_served,
     acceptances_add, client_bytes_add, device_steps_add, kept_loans_are_lent, looks_keep,
     open_bytes_are_free, refusals_add, requests_keep, services_add,
 };

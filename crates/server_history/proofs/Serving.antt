@@ -30,7 +30,6 @@ use Rattle.identify.specs.declared.DiskInfo.{DiskInfo}
 use Rattle.ncq.specs.Masks.{ReadsDone, IsFinding, SeesClear}
 use Rattle.port_look.specs.Looks.{IsLooking, LooksAt}
 use Rattle.port_look.specs.Services.{IsService}
-use Rattle.port_look.specs.declared.Look.{Look}
 use Rattle.port_look.specs.declared.Look.TheVariants.{Lost, Undisturbed as Calm}
 use Rattle.request_queue.specs.Entries.{Held, asks_of, due_ids}
 use Rattle.slots.specs.Uses.{Uses as PortSlots}

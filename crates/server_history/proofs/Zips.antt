@@ -1,5 +1,5 @@
 -- Two lists whose members stand for one another, place by place.
-use Rattle.std.proofs.Common.{◌≡◌, List, [], ◌∷◌, refl, sym, subst, ⊎_elim}
+use Rattle.std.proofs.Common.{◌≡◌, List, [], ◌∷◌, sym, subst, ⊎_elim}
 use Rattle.std.specs.List.{AllZip, Contains}
 use Rattle.block_machine.proofs.Members.{contains_there, contains_cases}
 use Rattle.server_history.proofs.Lists.{nowhere, first_here}

@@ -15,7 +15,7 @@ use Rattle.hba_regs.specs.declared.reg.PortReg.{PortReg}
 use Rattle.hba_regs.specs.declared.reg.PortReg.TheVariants.{Ssts}
 use Rattle.hba_regs.specs.declared.reg.Reg.TheVariants.{Ghc, Px}
 use Rattle.agreement.specs.Driven.{IsDrivenBy, IsOf, SendsNone, Grows}
-use Rattle.agreement.specs.Errors.{NoneComes, NoneFails, NoneFatal, IsFatalOf}
+use Rattle.agreement.specs.Errors.{NoneComes, IsFatalOf}
 use Rattle.agreement.specs.Facts.{IsFaulted, IsRecorded, RunsWell, ShowsNoTrouble, TellsNoTrouble, Undisturbed, IsFaultOf}
 use Rattle.block_machine.specs.Events.{Ask, Moment, Said, Service}
 use Rattle.block_machine.specs.Histories.{Instant}

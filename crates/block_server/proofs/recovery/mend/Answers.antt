@@ -1,7 +1,6 @@
 use Rattle.std.proofs.Common.{sym, subst, ⊎_elim, ◌≡◌}
 use Rattle.port_look.specs.declared.Look.{Look}
 use Rattle.port_look.specs.declared.Look.TheVariants.{Broken}
-use Rattle.error_recovery.specs.Recovery.{Mends}
 use Rattle.server_history.specs.Mended.{TellsMending}
 use Rattle.block_server.proofs.recovery.mend.Goals as goal
 
