@@ -1,5 +1,5 @@
 -- A port was recovered, and its requests meet their fates: what is asked of the calls, and what the server then is.
-use Rattle.std.proofs.Common.{ℕ, ◌≡◌, ◌<◌, ◌≤◌, ◌++◌, List, [], map, length, take, drop, filter, get_or, set, Option, Some, None, refl, sym, ap, ◌∙◌, subst, arith, append_assoc, ⊎_elim}
+use Rattle.std.proofs.Common.{ℕ, ◌≡◌, ◌≢◌, ◌⊎◌, inl, inr, ◌<◌, ◌≤◌, ◌++◌, List, [], map, length, take, drop, filter, get_or, set, Option, Some, None, refl, sym, ap, ◌∙◌, subst, arith, append_assoc, ⊎_elim}
 use Rattle.std.specs.List.{AllPairs, count_by}
 use Rattle.std.specs.List.Sorted.{IsPermutation}
 use Rattle.std.proofs.lemmas.Bool.{cases_lt}
@@ -7,7 +7,7 @@ use Rattle.std.proofs.Math.Seq.{drop-append_seam, take-append_seam}
 use Rattle.std.proofs.lemmas.List.{get_or_default, get_or_past, length-set, get_or-set_same, length-append, set-set}
 use Rattle.std.proofs.lemmas.List.Sorted.{length_permutation}
 use Rattle.ata_types.specs.declared.Port.{Port}
-use Rattle.ata_types.specs.declared.PortState.TheVariants.{Ready as ReadyState}
+use Rattle.ata_types.specs.declared.PortState.TheVariants.{Absent, Ready as ReadyState}
 use Rattle.ata_types.specs.declared.request.Reply.{Reply}
 use Rattle.adapter.specs.Device.{Device}
 use Rattle.agreement.specs.Driven.{AnyUse, IsFollowed}
@@ -19,18 +19,22 @@ use Rattle.error_recovery.specs.declared.Next.{Next}
 use Rattle.error_recovery.specs.declared.Next.TheVariants.{Restart}
 use Rattle.host_boot.specs.Taken.{found_of, wanted_of}
 use Rattle.host_boot.specs.declared.Found.{Found}
-use Rattle.host_boot.specs.declared.Found.TheVariants.{Ready, Unserved}
+use Rattle.host_boot.specs.Again.{BootsAgain}
+use Rattle.host_boot.specs.declared.Booted.{Booted}
+use Rattle.host_boot.specs.declared.Found.TheVariants.{Ready, Unready, Unserved}
 use Rattle.identify.specs.declared.DiskInfo.{DiskInfo}
+use Rattle.identify.specs.declared.wanted.Wanted.{Wanted}
 use Rattle.port_boot.specs.States.{IsBootable}
 use Rattle.port_control.specs.Ports.{IsStopped}
 use Rattle.port_control.specs.declared.Stopped.{Stopped}
 use Rattle.port_look.specs.Looks.{IsLooking}
 use Rattle.port_look.specs.declared.Look.{Look}
+use Rattle.port_look.specs.declared.Look.TheVariants.{Broken, Failed as Fails, Lost, Undisturbed}
 use Rattle.request_queue.specs.Entries.{Held, is_of}
 use Rattle.request_queue.specs.Fates.{Holdings, MeetFates, fate_of}
 use Rattle.request_queue.specs.declared.fate.Failed.{Failed}
 use Rattle.request_queue.specs.declared.fate.Prospect.{Prospect}
-use Rattle.server_history.specs.Mended.{IsFailed, IsFoundAfter, IsProspect, IsMended, HasMetFates, MendsPort, requests_of}
+use Rattle.server_history.specs.Mended.{BootsAfter, IsFailed, IsFoundAfter, IsProspect, IsMended, HasMetFates, MendsPort, requests_of}
 use Rattle.server_history.specs.Served.{IssuesAll, done_reply}
 use Rattle.server_history.specs.Server.{Server, IsKept, IsSettled, kept_at, mode_at, mode_found, mode_in, no_slots, plain_mode, slots_at, state_of}
 use Rattle.server_history.specs.Turns.{ServesPort}
@@ -43,7 +47,7 @@ use Rattle.block_server.proofs.Sending.{served_ready, slots_said}
 -- what laws say of what comes after a recovery
 pub record RestoringLaws : Type 0 where
   pub bootable : (s mid : Server) (device : Device) (port : Port) (token : Stopped) → IsKept s → state_of (found_of s.ports port.0) ≡ ReadyState → (r : IsMended port s mid device)
-      → IsFollowed (IsLooking port) AnyUse s.device r.seen → r.result.next ≡ Restart token → IsBootable port device × IsStopped (device.port port.0)
+      → IsFollowed (IsLooking port) AnyUse s.device r.seen → r.result.next ≡ Restart token → IsBootable port device × IsStopped (device.port port.0) × ((device.port port.0).notes.link_count ≡ 64)
   pub mode : (s mid : Server) (device : Device) (port : Port) → IsKept s → state_of (found_of s.ports port.0) ≡ ReadyState → (r : IsMended port s mid device)
       → IsFollowed (IsLooking port) AnyUse s.device r.seen → mode_in s port ≡ mode_found device.cap (found_of s.ports port.0)
   pub places : (s : Server) (port : Port) → IsKept s → state_of (found_of s.ports port.0) ≡ ReadyState
@@ -52,6 +56,20 @@ pub record RestoringLaws : Type 0 where
       → IsFollowed (IsLooking port) AnyUse s.device a.mended.seen → IsKept new
   pub mended : (s new : Server) (port : Port) (replies : List Reply) → IsSettled s → state_of (found_of s.ports port.0) ≡ ReadyState → (r : MendsPort port replies s new)
       → IsFollowed (IsLooking port) AnyUse s.device r.settled.mended.seen → ServesPort port replies s new × IsSettled new
+
+-- a port whose disk wasn't lost is booted anew, whatever shows
+pub boots_other : (told : Look) (wanted : Wanted) (port : Port) (booted : Booted) (old new : Device) → told ≢ Lost → BootsAgain wanted port booted old new → BootsAfter told wanted port booted old new
+boots_other Lost wanted port booted old new other boots = absurd (other refl)
+boots_other Broken wanted port booted old new other boots = boots
+boots_other Fails wanted port booted old new other boots = boots
+boots_other Undisturbed wanted port booted old new other boots = boots
+
+-- it is booted, or absent
+pub boots_or_absent : (told : Look) (wanted : Wanted) (port : Port) (booted : Booted) (old new : Device) → BootsAfter told wanted port booted old new → BootsAgain wanted port booted old new ⊎ (booted.found ≡ Unready Absent)
+boots_or_absent Lost wanted port booted old new b = ⊎_elim (λ boots. inl boots.0) (λ absent. inr absent.0) b
+boots_or_absent Broken wanted port booted old new b = inl b
+boots_or_absent Fails wanted port booted old new b = inl b
+boots_or_absent Undisturbed wanted port booted old new b = inl b
 
 -- what is lent of a server whose port was seen to have failed
 pub lends_troubled : (s : Server) (port : Port) (look : Look) (device : Device) → SeesTrouble s port look device → (table : Table) → table ≡ s.table → (number : ℕ) → number ≡ port.0 → (default : PortSlots)
@@ -94,9 +112,9 @@ module _ (laws : RestoringLaws) (s : Server) (port : Port) (look : Look) (first 
   pub token_of : (stopped : Stopped) → next ≡ Restart stopped → stopped.port ≡ port
   token_of stopped is = (subst (λ (way : Next). EndsIn r.mended.queued port way r.mid.device one) (r.next_is ∙ is) r.mended.mends.leaves.ends).0
 
-  pub bootable : (stopped : Stopped) → next ≡ Restart stopped → IsBootable stopped.port one × IsStopped (one.port stopped.port.0)
+  pub bootable : (stopped : Stopped) → next ≡ Restart stopped → IsBootable stopped.port one × IsStopped (one.port stopped.port.0) × ((one.port stopped.port.0).notes.link_count ≡ 64)
   bootable stopped is =
-      subst (λ (q : Port). IsBootable q one × IsStopped (one.port q.0)) (sym (token_of stopped is))
+      subst (λ (q : Port). IsBootable q one × IsStopped (one.port q.0) × ((one.port q.0).notes.link_count ≡ 64)) (sym (token_of stopped is))
       (laws.bootable s r.mid one port stopped sees.kept sees.ready r.mended r.followed (r.next_is ∙ is))
 
   pub sound : IsSound t b
@@ -114,8 +132,8 @@ module _ (laws : RestoringLaws) (s : Server) (port : Port) (look : Look) (first 
       let none = ap length (sym (kept_said number is default) ∙ places.0) in
       omega (arith, few, none)
 
-  module _ (two : Device) (found : Found) (is_found : IsFoundAfter (wanted_of s.wanted port.0) port was next one two found) (mode : Mode) (mode_is : mode ≡ mode_found two.cap found)
-      (fresh : PortSlots) (usable : fresh.usable ≡ mode.usable) (as_many : length fresh.places ≡ 32) (free : (slot : ℕ) → use_at fresh slot ≡ None) (prospect : Prospect) (expects : IsProspect was found prospect)
+  module _ (two : Device) (found : Found) (is_found : IsFoundAfter (wanted_of s.wanted port.0) port look was next one two found) (mode : Mode) (mode_is : mode ≡ mode_found two.cap found)
+      (fresh : PortSlots) (usable : fresh.usable ≡ mode.usable) (as_many : length fresh.places ≡ 32) (free : (slot : ℕ) → use_at fresh slot ≡ None) (prospect : Prospect) (expects : IsProspect look was found prospect)
       (now : Holdings) (later : List Reply) (meets : MeetFates (fate_of failed prospect) (requests_of port b) later (holding b t (kept_at s.kept port.0)) now) where
     abbrev then : Server
     then = restored s port was two found mode fresh now
@@ -128,7 +146,8 @@ module _ (laws : RestoringLaws) (s : Server) (port : Port) (look : Look) (first 
       device = one;
       mended = r.mended;
       found = found;
-      is = subst (λ (way : Next). IsFoundAfter (wanted_of s.wanted port.0) port was way one two found) (sym r.next_is) is_found;
+      is = subst (λ (told : Look). IsFoundAfter (wanted_of s.wanted port.0) port told was r.mended.result.next one two found) (sym r.look_is)
+          (subst (λ (way : Next). IsFoundAfter (wanted_of s.wanted port.0) port look was way one two found) (sym r.next_is) is_found);
       mode = mode;
       mode_is = mode_is;
       slots = fresh;
@@ -136,7 +155,7 @@ module _ (laws : RestoringLaws) (s : Server) (port : Port) (look : Look) (first 
       failed = failed;
       names = subst (λ (n : PortSlots). IsFailed n r.mended.result.failed failed) (sym slots_mid) r.names;
       prospect = prospect;
-      expects = expects;
+      expects = subst (λ (told : Look). IsProspect told was found prospect) (sym r.look_is) expects;
       now = now;
       meets = subst (λ (n : Server). MeetFates (fate_of failed prospect) (requests_of port n.book) later (holding n.book n.table (kept_at n.kept port.0)) now) (sym r.mid_is) meets;
       server = (λ i. record then { slots = sym (set-set s.slots port.0 u fresh) i }) ∙ (λ i. put (sym r.mid_is i));

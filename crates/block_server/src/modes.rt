@@ -2,6 +2,8 @@
 ghost use Rattle.std.specs.Prelude.{ℕ, ◌≡◌, ◌<◌, ◌≤◌, ◌+◌, ◌/◌, ◌%◌, None, length};
 ghost use Rattle.hba_regs.specs.Bits.{bit};
 ghost use Rattle.host_boot.specs.Taken.{found_of};
+ghost use Rattle.host_boot.specs.declared.Found.TheVariants.{Ready};
+ghost use Rattle.identify.specs.declared.DiskInfo.{DiskInfo};
 ghost use Rattle.server_history.specs.Server.{mode_at, mode_found, slots_at, used_for};
 
 use block_machine::Mode;
@@ -17,6 +19,7 @@ pub(crate) const PLAIN: Mode = Mode {
 /// How a port that was found so takes commands, by an adapter with so many slots a port, which queues or doesn't: queued where adapter and disk both can, in as many slots as both have; else one at a time.
 pub(crate) fn mode_of(slots: u8, queued: bool, found: &Found) -> Mode
     ensures found { (cap : ℕ) → slots ≡ cap / 256 % 32 + 1 → queued ≡ bit cap 30 → result ≡ mode_found cap found.now }
+    ensures plain { (cap : ℕ) → ((info : DiskInfo) → found.now ≡ Ready info → ⊥) → result ≡ mode_found cap found.now }
     ensures few { result.usable ≤ 32 }
 {
     match found {

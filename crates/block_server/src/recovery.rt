@@ -1,4 +1,4 @@
-// A port of which a look told an error is mended: recovered, where a command had failed, else given up; and booted anew where it has to be.
+// A port of which a look told trouble is mended: recovered, where a command had failed, else given up; and booted anew where it has to be.
 ghost use Rattle.std.specs.Prelude.{ℕ, ◌≡◌, ◌≤◌, ◌+◌, ◌++◌, IsTrue, ◌↔◌, Some, List, AllPairs, IsPermutation, drop, length, take};
 ghost use Rattle.ata_types.specs.declared.request.Reply.{Reply};
 ghost use Rattle.block_server.specs.Recovery.{LendsTroubled, MendsRest};
@@ -13,7 +13,7 @@ ghost use Rattle.host_boot.specs.declared.Found.TheVariants.{Ready};
 ghost use Rattle.port_boot.specs.States.{IsBootable};
 ghost use Rattle.port_control.specs.Ports.{IsStopped};
 ghost use Rattle.port_control.specs.declared.Stopped as stopped_token;
-ghost use Rattle.server_history.specs.Mended.{AreQueued, IsFailed, IsFoundAfter, IsProspect, IsSameDisk, LeadsToMending, TellsMending};
+ghost use Rattle.server_history.specs.Mended.{AreQueued, BootsAfter, IsFailed, IsFoundAfter, IsProspect, IsSameDisk, LeadsToMending, TellsMending};
 ghost use Rattle.server_history.specs.Server.{mode_found};
 ghost use Rattle.slots.specs.Uses.{use_at};
 ghost use Rattle.slots.specs.declared.Use.{Use as SlotUse};
@@ -25,16 +25,17 @@ use ata_types::{DRIVER_BYTES, Port, PortState, Replies};
 use block_machine::Mode;
 use dma_frames::FrameTable;
 use error_recovery::{Failure, Next, Recovered, give_up, recover};
-use host_boot::{Found, boot_again};
+use host_boot::{Booted, Found, boot_again, boot_if_there};
 use identify::{DiskInfo, Wanted};
 use ncq::done;
+use port_control::Stopped;
 use port_look::Look;
 use request_queue::{Book, Failed, Prospect};
 use server_history::laws::{a_troubled_port_may_be_mended, looks_keep};
 use slots::Slots;
 
-/// Mends a port of which a look told an error, and of which the masks were read: recovers it where a command had failed (AHCI 1.3.1, 6.2.2), and stops it to be
-/// booted where its link or the host's bus had.
+/// Mends a port of which a look told trouble, and of which the masks were read: recovers it where a command had failed (AHCI 1.3.1, 6.2.2), and stops it to be
+/// booted where its link or the host's bus had, or its disk was lost.
 fn mend<A: Adapter>(
     adapter: &mut A,
     port: Port,
@@ -59,7 +60,7 @@ fn mend<A: Adapter>(
     }
 }
 
-/// Answers what is done on a ready port of which a look told an error, in order of acceptance, and mends the port: the request whose
+/// Answers what is done on a ready port of which a look told trouble, in order of acceptance, and mends the port: the request whose
 /// command failed, where it is known, and what the port has to go through. The replies come after those that there are.
 pub(crate) fn mend_rest<A: Adapter>(
     adapter: &mut A,
@@ -131,9 +132,25 @@ pub(crate) fn failed_in(slots: &Slots, named: &Option<Failure>) -> Option<Failed
     })
 }
 
-/// What a port is once it was recovered, and how it takes commands then: it runs on with its disk, or it is booted anew, or it is dead.
+/// Boots a port that was stopped; one whose disk was lost only where a device shows.
+fn boot_after<A: Adapter>(adapter: &mut A, look: Look, stopped: Stopped, wanted: &Wanted) -> Booted
+    requires bootable { IsBootable stopped.port (A.device adapter.old) }
+    requires stopped { IsStopped ((A.device adapter.old).port stopped.port.0) }
+    requires saw { ((A.device adapter.old).port stopped.port.0).notes.link_count ≡ 64 }
+    ensures on { IsOn (A.device adapter.new) }
+    ensures boots { BootsAfter look wanted.now stopped.port result (A.device adapter.old) (A.device adapter.new) }
+{
+    match look {
+        Look::Lost => boot_if_there(adapter, stopped, wanted),
+        _ => boot_again(adapter, stopped, wanted),
+    }
+}
+
+/// What a port is once it was mended, and how it takes commands then: it runs on with its disk, or it is booted anew, or it is dead. One whose disk was lost is
+/// booted only where a device shows.
 pub(crate) fn find_after<A: Adapter>(
     adapter: &mut A,
+    look: Look,
     next: Next,
     was: &DiskInfo,
     mode: Mode,
@@ -142,16 +159,16 @@ pub(crate) fn find_after<A: Adapter>(
     requires on { IsOn (A.device adapter.old) }
     requires mode { mode ≡ mode_found (A.device adapter.old).cap (Ready was.now) }
     requires bootable { (stopped : stopped_token.Stopped) → next ≡ Next.Restart stopped → IsBootable stopped.port (A.device adapter.old)
-        × IsStopped ((A.device adapter.old).port stopped.port.0) }
+        × IsStopped ((A.device adapter.old).port stopped.port.0) × (((A.device adapter.old).port stopped.port.0).notes.link_count ≡ 64) }
     ensures on { IsOn (A.device adapter.new) }
     ensures found { (port : Port) → ((stopped : stopped_token.Stopped) → next ≡ Next.Restart stopped → stopped.port ≡ port)
-        → IsFoundAfter wanted.now port was.now next (A.device adapter.old) (A.device adapter.new) result.0 }
+        → IsFoundAfter wanted.now port look was.now next (A.device adapter.old) (A.device adapter.new) result.0 }
     ensures mode { result.1 ≡ mode_found (A.device adapter.new).cap result.0 }
 {
     match next {
         Next::Running(_) => (Found::Ready(*was), mode),
         Next::Restart(stopped) => {
-            let booted = boot_again(adapter, stopped, wanted);
+            let booted = boot_after(adapter, look, stopped, wanted);
             let mode = mode_of(booted.slots, booted.queued, &booted.found);
             (booted.found, mode)
         }
@@ -166,13 +183,15 @@ fn is_same_disk(was: &DiskInfo, info: &DiskInfo) -> bool
     info.serial == was.serial && info.sectors == was.sectors
 }
 
-/// What the requests of a port that was ready with a disk may expect, now that it was found to be this.
-pub(crate) fn prospect_of(was: &DiskInfo, found: &Found) -> Prospect
-    ensures { IsProspect was.now found.now result }
+/// What the requests of a port that was ready with a disk may expect, now that it was found to be this. Where the disk was lost, it doesn't count that the same one is
+/// there again: what it keeps of writes that weren't flushed nobody knows.
+pub(crate) fn prospect_of(look: Look, was: &DiskInfo, found: &Found) -> Prospect
+    ensures { IsProspect look was.now found.now result }
 {
     match found {
-        Found::Ready(info) if is_same_disk(was, info) => Prospect::SameDisk,
         Found::Unready(PortState::Dead) => Prospect::Dead,
+        _ if look == Look::Lost => Prospect::DiskLost,
+        Found::Ready(info) if is_same_disk(was, info) => Prospect::SameDisk,
         _ => Prospect::DiskLost,
     }
 }

@@ -315,8 +315,8 @@ impl<A: Adapter> Server<A> {
         issue_due(&mut self.adapter, &mut self.book, slots, port, mode);
     }
 
-    /// Mends a ready port of which a look told an error. What is done is answered. Where a command had failed, it is found out which one, and the port is had to
-    /// run again, by a boot where that is needed; where its link or the host's bus had, it is booted anew. The request whose command failed is told so. The
+    /// Mends a ready port of which a look told trouble. What is done is answered. Where a command had failed, it is found out which one, and the port is had to
+    /// run again, by a boot where that is needed; where its link or the host's bus had, it is booted anew; where its disk was lost, if a device shows. The request whose command failed is told so. The
     /// others wait again where their disk is there still, and are `Aborted` after the fourth issue; where it isn't they are `Unplugged`, and where the port is
     /// dead `PortDead`. Then what is due is issued.
     fn mend_port(&mut self, port: Port, was: DiskInfo, look: Look, replies: &mut Replies)
@@ -348,12 +348,12 @@ impl<A: Adapter> Server<A> {
             look,
             replies,
         );
-        let (found, mode) = find_after(&mut self.adapter, next, &was, mode, &wanted);
+        let (found, mode) = find_after(&mut self.adapter, look, next, &was, mode, &wanted);
         self.ports[place] = found;
         self.remembered[place] = Some(was);
         self.modes[place] = mode;
         self.slots[place] = Slots::new(mode.usable);
-        let prospect = prospect_of(&was, &found);
+        let prospect = prospect_of(look, &was, &found);
         let kept = &mut self.kept[place];
         settle(
             &mut self.book,
@@ -370,7 +370,7 @@ impl<A: Adapter> Server<A> {
     }
 
     /// Looks at a ready port. Where commands of what it has issued are done, those requests are answered, and then what is due is issued. Where
-    /// the look tells an error, the port is mended; where it tells that the disk was lost, nobody is answered.
+    /// the look tells trouble, the port is mended.
     fn serve_port(&mut self, port: Port, replies: &mut Replies)
         requires ready { state_of (found_of self.old.ports port.0) ≡ Ready }
         requires room { length replies.old.items + length self.old.book ≤ 128 }
@@ -388,8 +388,9 @@ impl<A: Adapter> Server<A> {
         let look = look_at(&mut self.adapter, port);
         match look {
             Look::Undisturbed => {}
-            Look::Lost => return,
-            Look::Broken | Look::Failed => return self.mend_port(port, was, look, replies),
+            Look::Lost | Look::Broken | Look::Failed => {
+                return self.mend_port(port, was, look, replies);
+            }
         }
         let used = self.slots[usize::from(port.0)].taken();
         if used == 0 {
@@ -406,7 +407,8 @@ impl<A: Adapter> Server<A> {
     /// whose command failed is told `DeviceError`, with the disk's status and error; each other one that had been issued goes again, or is `Aborted` after the fourth issue.
     /// Where the port has to be booted for that and its disk isn't the same then, they are `Unplugged`, and where its engine gets stuck `PortDead`. A port
     /// whose link or host bus met a fatal error (IFS, HBDS, HBFS) is stopped and booted anew: what is done is answered, nobody is told `DeviceError`, and the
-    /// other requests meet the same fates. Where the look tells of a lost disk, nobody is answered there. A recovery waits for the disk at most so often as
+    /// other requests meet the same fates. Where the look tells that the disk went, though one may be in again, the port is stopped, and booted if a device shows: what is
+    /// done is answered, and all others are `Unplugged`. A recovery waits for the disk at most so often as
     /// its parts tell, and meanwhile for all ports.
     pub fn service(&mut self) -> Replies
         ensures services { Services A.device self.old self.new result.items }

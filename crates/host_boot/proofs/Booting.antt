@@ -1,27 +1,31 @@
 -- A stopped port is booted, when its adapter is taken over or later.
-use Rattle.std.proofs.Common.{ℕ, ◌≡◌, ◌≢◌, length, sym, ◌∙◌, ap, arith, subst}
+use Rattle.std.proofs.Common.{ℕ, ◌≡◌, ◌≢◌, ◌+◌, inl, inr, length, sym, ◌∙◌, ap, subst}
 use Rattle.ata_types.specs.declared.Port.{Port}
-use Rattle.hba_regs.specs.declared.reg.Reg.TheVariants.{Cap}
-use Rattle.adapter.specs.Access.{Reads}
-use Rattle.adapter.specs.Access.Access.{Reading}
+use Rattle.ata_types.specs.declared.PortState.TheVariants.{Absent}
+use Rattle.hba_regs.specs.Bits.{bit, field}
+use Rattle.hba_regs.specs.declared.reg.Reg.TheVariants.{Cap, Px}
+use Rattle.adapter.specs.Access.{Access, Reads}
+use Rattle.adapter.specs.Access.Access.{Reading, Writing, Loading, Storing}
 use Rattle.adapter.specs.Device.{Device, PortState}
-use Rattle.adapter.specs.Rules.{HasPort}
+use Rattle.adapter.specs.Rules.{HasPort, IsOn}
 use Rattle.agreement.specs.Driven.{AnyUse, IsControl, IsDrivenBy, IsFollowed, IsTold, LeavesPort}
-use Rattle.agreement.specs.Links.{SameAdapter}
+use Rattle.agreement.specs.Driver.{AllFree}
 use Rattle.identify.specs.declared.wanted.Wanted.{Wanted}
 use Rattle.identify.specs.declared.wanted.Wanted.TheVariants.{Nothing}
 use Rattle.port_control.specs.Engines.{Stops}
-use Rattle.port_control.specs.Ports.{IsStopped, WritesCommand}
+use Rattle.port_control.specs.Ports.{IsClearing, IsStopped, Shows, WritesCommand}
+use Rattle.port_control.specs.declared.PortFault.TheVariants.{NoDevice}
 use Rattle.port_boot.specs.States.{IsBootable, IsOfBoot}
-use Rattle.host_boot.specs.Again.{BootsStopped}
+use Rattle.host_boot.specs.Again.{BootsAgain, BootsIfThere, BootsStopped, IsOfStart}
 use Rattle.host_boot.specs.Laws.{Laws}
-use Rattle.host_boot.specs.Laws.Stretch.{Surveying}
+use Rattle.host_boot.specs.Laws.Stretch.{Clearing, Starting, Surveying}
 use Rattle.host_boot.specs.Taken.{Boots, GoesThrough, HaltsFound, IsSurvey, StandsBehind, WroteControl}
+use Rattle.host_boot.specs.declared.Booted.{Booted}
 use Rattle.host_boot.specs.declared.Found.{Found}
 use Rattle.host_boot.specs.declared.Found.TheVariants.{Unserved, Ready, Unready}
 use Rattle.host_boot.proofs.Hosting.{cap_on}
-use Rattle.host_boot.proofs.Stopping.{ended_since, since_stop, still_there, then_boot, then_boot_to}
-use Rattle.host_boot.proofs.Stretching.{same_over}
+use Rattle.host_boot.proofs.Stopping.{bootable_over, ended_since, since_stop, still_there, then_boot, then_boot_to}
+use Rattle.host_boot.proofs.Stretching.{by_then, driven_as, same_over}
 use Rattle.host_boot.proofs.Taking.{boots_same}
 
 -- a port that is left to the device stays stopped
@@ -39,6 +43,26 @@ stopped_on old new l is = record {
 -- what halts a port that is ready then
 pub found_halts : (wanted : Wanted) (port : Port) (old new : Device) (found : Found) → BootsStopped wanted port found old new → HaltsFound found port.0 new
 found_halts wanted port old new found b info is = (subst (λ (f : Found). BootsStopped wanted port f old new) is b).halts
+
+-- looking at a port is of its boot
+clearing_of_start : (port : Port) (access : Access) → IsControl IsClearing port access → IsOfStart port access
+clearing_of_start port (Reading (Px at r) v) is = inr (inl is)
+clearing_of_start port (Writing (Px at r) v) (here, kind) = inr (inl (here, inr (inl (inr kind))))
+clearing_of_start port (Reading r v) is = absurd is
+clearing_of_start port (Writing r v) is = absurd is
+clearing_of_start port (Loading at bytes) is = absurd is
+clearing_of_start port (Storing at bytes) is = absurd is
+
+-- a port was booted, once this was read of CAP, which is as it was
+abbrev boots_again : (port : Port) (v : ℕ) (booted : Booted) (wanted : Wanted) (old asked new : Device) → IsFollowed (IsOfStart port) (λ uses. AllFree uses port.0) old asked →
+    BootsStopped wanted port booted.found asked new → booted.slots ≡ field v 8 5 + 1 → booted.queued ≡ bit v 30 → v ≡ new.cap → BootsAgain wanted port booted old new
+boots_again port v booted wanted old asked new asks boots slots queued cap = record {
+  asked = asked;
+  asks = asks;
+  boots = boots;
+  slots = slots ∙ ap (λ (k : ℕ). field k 8 5 + 1) cap;
+  queued = queued ∙ ap (λ (k : ℕ). bit k 30) cap;
+}
 
 module _ (laws : Laws) where
   -- the accesses of a boot
@@ -73,25 +97,45 @@ module _ (laws : Laws) where
   -- ---- later: CAP is read before
 
   module _ (v : ℕ) (old asked : Device) (asks : Reads Cap v old asked) where
-    pub asked_followed : IsFollowed IsSurvey AnyUse old asked
+    asked_followed : IsFollowed IsSurvey AnyUse old asked
     asked_followed = (laws.reads Surveying Cap v old asked tt asks).followed
 
-    asked_same : SameAdapter old asked
-    asked_same = laws.access_same (Reading Cap v) old asked asks
+    -- what was read is what the adapter is capable of, whatever is done then
+    pub asked_cap : (May : Access → Type 0) (new : Device) → IsDrivenBy May asked new → v ≡ new.cap
+    asked_cap May new driven = asks.shows ∙ (sym (ap (λ (d : Device). d.cap) asks.effect) ∙ sym (same_over laws May asked new driven).cap)
 
     module _ (port : Port) where
+      pub asked_starts : IsFollowed (IsOfStart port) (λ uses. AllFree uses port.0) old asked
+      asked_starts = (laws.wider Surveying (Starting port) (λ uses. uses) (λ access is. inl is) (λ uses free. tt) old asked asked_followed).followed
+
       pub asked_bootable : IsBootable port old → IsBootable port asked
-      asked_bootable b = record {
-        on = cap_on laws v old asked b.on asks;
-        there = still_there port old asked asked_same b.there;
-        room = let same = asked_same.size in let room = b.room in omega (arith, same, room);
-        agreed = (b.agreed.0, b.agreed.1, laws.agreed Surveying (λ uses. uses) b.agreed.0 old asked tt asked_followed b.agreed.2);
-      }
+      asked_bootable b = bootable_over laws Surveying port old asked (λ uses free. tt) asked_followed b.there b.room b.agreed (cap_on laws v old asked b.on asks)
 
       pub asked_stopped : LeavesPort (old.port port.0) (asked.port port.0) → IsStopped (old.port port.0) → IsStopped (asked.port port.0)
       asked_stopped = stopped_on (old.port port.0) (asked.port port.0)
 
-      -- what was read is what the adapter is capable of
-      pub asked_cap : (wanted : Wanted) (found : Found) (new : Device) → BootsStopped wanted port found asked new → v ≡ new.cap
-      asked_cap wanted found new b =
-          asks.shows ∙ (sym (ap (λ (d : Device). d.cap) asks.effect) ∙ sym (same_over laws (IsOfBoot port) asked new (booted_driven wanted port found asked new b)).cap)
+      pub asked_boots : (booted : Booted) (wanted : Wanted) (new : Device) → BootsStopped wanted port booted.found asked new → booted.slots ≡ field v 8 5 + 1 → booted.queued ≡ bit v 30 →
+          BootsAgain wanted port booted old new
+      asked_boots booted wanted new boots slots queued =
+          boots_again port v booted wanted old asked new asked_starts boots slots queued (asked_cap (IsOfBoot port) new (booted_driven wanted port booted.found asked new boots))
+
+      -- and then the port is looked at
+      module _ (seen : Device) (looks : IsFollowed (IsControl IsClearing port) AnyUse asked seen) where
+        pub seen_starts : IsFollowed (IsOfStart port) (λ uses. AllFree uses port.0) old seen
+        seen_starts = (laws.both (Starting port) (Clearing port) (λ uses. uses) (λ uses. uses) (clearing_of_start port) (λ uses free. tt) old asked seen asked_starts looks).followed
+
+        pub seen_bootable : IsOn seen → IsBootable port asked → IsBootable port seen
+        seen_bootable on b = bootable_over laws (Clearing port) port asked seen (λ uses free. tt) looks b.there b.room b.agreed on
+
+        -- it shows a device, and is booted
+        pub seen_boots : (booted : Booted) (wanted : Wanted) (new : Device) → (seen.port port.0).ssts_det ≡ 3 → BootsStopped wanted port booted.found seen new →
+            booted.slots ≡ field v 8 5 + 1 → booted.queued ≡ bit v 30 → BootsIfThere wanted port booted old new
+        seen_boots booted wanted new there boots slots queued =
+            let its : IsDrivenBy (IsOfStart port) seen new = driven_as (IsOfBoot port) (IsOfStart port) seen new (λ access is. inr is) (booted_driven wanted port booted.found seen new boots) in
+            let all : IsDrivenBy (IsOfStart port) asked new = by_then laws (driven_as (IsControl IsClearing port) (IsOfStart port) asked seen (clearing_of_start port) looks.driven) its in
+            inl (boots_again port v booted wanted old seen new seen_starts boots slots queued (asked_cap (IsOfStart port) new all), there)
+
+        -- or it shows none, and is absent
+        pub seen_absent : (booted : Booted) (wanted : Wanted) (new : Device) → new ≡ seen → booted.found ≡ Unready Absent → IsStopped (seen.port port.0) →
+            Shows NoDevice (seen.port port.0).notes → BootsIfThere wanted port booted old new
+        seen_absent booted wanted new same found stopped none = subst (BootsIfThere wanted port booted old) (sym same) (inr (found, seen_starts, (stopped, none)))

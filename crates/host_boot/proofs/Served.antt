@@ -1,7 +1,8 @@
 -- What a server has of a port that was booted again, and of the others.
-use Rattle.std.proofs.Common.{ℕ, ◌≡◌, ◌≢◌, ◌∙◌, ap, subst}
+use Rattle.std.proofs.Common.{ℕ, ◌≡◌, ◌≢◌, ◌∙◌, inl, inr, sym, ap, subst}
 use Rattle.ata_types.specs.declared.Port.{Port}
 use Rattle.ata_types.specs.declared.PortState.{PortState}
+use Rattle.ata_types.specs.declared.PortState.TheVariants.{Absent}
 use Rattle.hba_regs.specs.Bits.{bit}
 use Rattle.hba_regs.specs.declared.reg.PortReg.TheVariants.{Sctl}
 use Rattle.hba_regs.specs.declared.reg.Reg.TheVariants.{Cap, Pi}
@@ -10,11 +11,11 @@ use Rattle.adapter.specs.Access.Access.{Reading, Writing, Loading, Storing}
 use Rattle.adapter.specs.Device.{Device}
 use Rattle.adapter.specs.Rules.{IsOn}
 use Rattle.agreement.specs.Driven.{IsControl, IsDrivenBy, IsOf}
-use Rattle.agreement.specs.Links.{HasDeviceOrNone, SameAdapter}
+use Rattle.agreement.specs.Links.{HasDeviceOrNone}
 use Rattle.identify.specs.declared.wanted.Wanted.{Wanted}
 use Rattle.port_control.specs.Ports.{WritesCommand}
 use Rattle.port_boot.specs.States.{IsOfBoot}
-use Rattle.host_boot.specs.Again.{BootsAgain, BootsStopped}
+use Rattle.host_boot.specs.Again.{BootsAgain, BootsIfThere, BootsStopped, IsOfStart}
 use Rattle.host_boot.specs.Laws.{Laws}
 use Rattle.host_boot.specs.Taken.{FoundBadDisk, IsServed, IsSurvey, StandsBehind}
 use Rattle.host_boot.specs.declared.Booted.{Booted}
@@ -34,9 +35,20 @@ survey_of port (Loading at bytes) is = absurd is
 survey_of port (Storing at bytes) is = absurd is
 
 module _ (laws : Laws) where
+  pub start_of : (port : Port) (access : Access) → IsOfStart port access → IsOf port access
+  start_of port access (inl is) = survey_of port access is
+  start_of port access (inr is) = laws.of_boot port access is
+
+  start_driven : (port : Port) (old new : Device) → IsDrivenBy (IsOfStart port) old new → IsDrivenBy (IsOf port) old new
+  start_driven port old new = driven_as (IsOfStart port) (IsOf port) old new (start_of port)
+
+  -- the adapter has the port still
+  served_over : (wanted : Wanted) (port : Port) (old new : Device) → IsDrivenBy (IsOf port) old new → IsServed wanted port.0 old → IsServed wanted port.0 new
+  served_over wanted port old new driven served = (served.0, ap (λ (pi : ℕ). bit pi port.0) (same_over laws (IsOf port) old new driven).pi ∙ served.1)
+
   module _ (wanted : Wanted) (port : Port) (booted : Booted) (old new : Device) (b : BootsAgain wanted port booted old new) where
     surveyed : IsDrivenBy (IsOf port) old b.asked
-    surveyed = driven_as IsSurvey (IsOf port) old b.asked (survey_of port) b.asks.driven
+    surveyed = start_driven port old b.asked b.asks.driven
 
     its : IsDrivenBy (IsOf port) b.asked new
     its = driven_as (IsOfBoot port) (IsOf port) b.asked new (laws.of_boot port) (booted_driven laws wanted port booted.found b.asked new b.boots)
@@ -47,11 +59,8 @@ module _ (laws : Laws) where
     pub again_stands : IsServed wanted port.0 old → StandsBehind wanted booted.found port.0 new
     again_stands served = by booted.found b.boots
       where
-        same : SameAdapter old new
-        same = same_over laws (IsOf port) old new again_driven
-
         still : IsServed wanted port.0 new
-        still = (served.0, ap (λ (pi : ℕ). bit pi port.0) same.pi ∙ served.1)
+        still = served_over wanted port old new again_driven served
 
         by : (found : Found) → BootsStopped wanted port found b.asked new → StandsBehind wanted found port.0 new
         by Unserved none = absurd none
@@ -64,6 +73,24 @@ module _ (laws : Laws) where
         let asked : IsOn b.asked = on_over laws (IsOf port) old b.asked surveyed (laws.of_spares_ghc port) on in
         way_shown laws port state b.asked new bad asked
         (b.asked, by_none (IsControl WritesCommand port) b.asked, booted_driven laws wanted port (Unready state) b.asked new boots, boots.early, boots.late)
+
+  -- ---- or it is booted only if a device shows
+
+  module _ (wanted : Wanted) (port : Port) (booted : Booted) (old new : Device) where
+    pub there_driven : BootsIfThere wanted port booted old new → IsDrivenBy (IsOf port) old new
+    there_driven (inl is) = again_driven wanted port booted old new is.0
+    there_driven (inr is) = start_driven port old new is.1.driven
+
+    pub there_stands : BootsIfThere wanted port booted old new → IsServed wanted port.0 old → StandsBehind wanted booted.found port.0 new
+    there_stands (inl is) served = again_stands wanted port booted old new is.0 served
+    there_stands (inr is) served =
+        subst (λ (found : Found). StandsBehind wanted found port.0 new) (sym is.0) (served_over wanted port old new (start_driven port old new is.1.driven) served, is.2)
+
+    pub there_shown : (state : PortState) → IsOn old → BootsIfThere wanted port booted old new → FoundBadDisk state → booted.found ≡ Unready state → HasDeviceOrNone (new.port port.0)
+    there_shown state on (inl is) bad found = again_shown wanted port booted old new is.0 state on bad found
+    there_shown state on (inr is) bad found =
+        let absent : Absent ≡ state = let k : Unready Absent ≡ Unready state = sym is.0 ∙ found in cc in
+        absurd (subst FoundBadDisk (sym absent) bad)
 
   pub beside_shown : (port other : Port) (old new : Device) → port.0 ≢ other.0 → IsOn old → IsDrivenBy (IsOf other) old new → HasDeviceOrNone (old.port port.0) → HasDeviceOrNone (new.port port.0)
   beside_shown port other old new apart on driven =

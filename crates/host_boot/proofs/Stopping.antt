@@ -9,7 +9,7 @@ use Rattle.adapter.specs.Access.{Access}
 use Rattle.adapter.specs.Device.{Device}
 use Rattle.adapter.specs.Rules.{IsOn, HasPort}
 use Rattle.adapter.specs.declared.command.Operation.TheVariants.{Identify}
-use Rattle.agreement.specs.Driven.{AgreesWith, AnyUse, IsControl, IsTold, IsToldTo}
+use Rattle.agreement.specs.Driven.{AgreesWith, AnyUse, IsControl, IsFollowed, IsTold, IsToldTo}
 use Rattle.agreement.specs.Driver.{AllFree}
 use Rattle.agreement.specs.Slots.{Own, Uses, put}
 use Rattle.agreement.specs.Links.{SameAdapter}
@@ -19,7 +19,7 @@ use Rattle.port_boot.specs.States.{IsBoot, IsBootTo, IsBootable, IsOfBoot, Stops
 use Rattle.host_boot.specs.Taken.{TellsEngines, WroteControl}
 use Rattle.host_boot.specs.declared.Found.{Found}
 use Rattle.host_boot.specs.declared.Found.TheVariants.{Unserved, Ready, Unready}
-use Rattle.host_boot.specs.Laws.{Laws}
+use Rattle.host_boot.specs.Laws.{Laws, Stretch, fits_of, may_of}
 use Rattle.agreement.specs.Tape.{Tells}
 use Rattle.host_boot.proofs.Stretching.{told_both, told_more, same_over, tape_over, told_wider}
 use Rattle.host_boot.specs.Laws.Stretch.{Booting, Commanding}
@@ -28,6 +28,18 @@ pub still_there : (port : Port) (old new : Device) → SameAdapter old new → H
 still_there port old new same there = (there.0, ap (λ (pi : ℕ). bit pi port.0) same.pi ∙ there.1)
 
 module _ (laws : Laws) where
+  -- a port may be booted after accesses that leave its slots as they are
+  pub bootable_over : (kind : Stretch) (port : Port) (old new : Device) → ((uses : Uses) → AllFree uses port.0 → fits_of kind uses) → IsFollowed (may_of kind) (fits_of kind) old new →
+      HasPort old port.0 → 163840 ≤ old.size → AgreesWith (λ uses. AllFree uses port.0) old → IsOn new → IsBootable port new
+  bootable_over kind port old new fits f there room a on =
+      let same = same_over laws (may_of kind) old new f.driven in
+      record {
+        on = on;
+        there = still_there port old new same there;
+        room = let size = same.size in omega (arith, size, room);
+        agreed = (a.0, a.1, laws.agreed kind (λ uses. uses) a.0 old new (fits a.0 a.1) f a.2);
+      }
+
   stop_boots : (Tells : List Access → Type 0) (port : Port) (old mid : Device) → IsTold Tells (IsControl WritesCommand port) AnyUse old mid → IsBoot Tells port old mid
   stop_boots Tells port old mid stops = told_wider laws Tells (Commanding port) (Booting port) (λ uses. uses) old mid (laws.command_of_boot port) (λ uses free. tt) stops
 
@@ -37,12 +49,7 @@ module _ (laws : Laws) where
 
   module _ (port : Port) (old mid : Device) (stops : IsTold (Stops port) (IsControl WritesCommand port) AnyUse old mid) where
     pub bootable : HasPort old port.0 → 163840 ≤ old.size → AgreesWith (λ uses. AllFree uses port.0) old → IsOn mid → IsBootable port mid
-    bootable there room a on = record {
-      on = on;
-      there = still_there port old mid (same_over laws (IsControl WritesCommand port) old mid stops.followed.driven) there;
-      room = let same = (same_over laws (IsControl WritesCommand port) old mid stops.followed.driven).size in omega (arith, same, room);
-      agreed = (a.0, a.1, laws.agreed (Commanding port) (λ uses. uses) a.0 old mid tt stops.followed a.2);
-    }
+    bootable there room agreed on = bootable_over (Commanding port) port old mid (λ uses free. tt) stops.followed there room agreed on
 
     pub since_stop : (since : ℕ) → length mid.tape ≤ since → length old.tape ≤ since
     since_stop since is =

@@ -21,9 +21,10 @@ use Rattle.block_machine.specs.Histories.{IsReached}
 use Rattle.block_machine.specs.State.{Machine}
 use Rattle.adapter.specs.declared.command.Operation.TheVariants.{Identify}
 use Rattle.adapter.specs.Idle.{IsIdle, TellsDisks}
+use Rattle.host_boot.specs.Again.{IsOfStart}
 use Rattle.host_boot.specs.Taken.{IsOfHost, IsOfTaking, IsSurvey}
 use Rattle.adapter.specs.Rules.{IsOn, MayWrite, Stays}
-use Rattle.port_control.specs.Ports.{IsPlacing, WritesCommand}
+use Rattle.port_control.specs.Ports.{IsClearing, IsPlacing, WritesCommand}
 use Rattle.adapter.specs.Kept.{Keeps}
 use Rattle.adapter.specs.declared.command.Operation.{Operation}
 use Rattle.hba_regs.specs.declared.reg.PortReg.{PortReg}
@@ -47,13 +48,15 @@ uses_of AnyUses = AnyUse
 uses_of (PortUnused port) = λ uses. AllFree uses port.0
 uses_of (Only uses) = IsUse uses
 
--- a port is stopped, or booted, with none of its slots used; registers of the adapter's own are read and written, or CAP and PI alone are read; or all
--- of these
+-- a port is stopped, or booted, with none of its slots used; registers of the adapter's own are read and written, or CAP and PI alone are read; a port is
+-- looked at, or all of this is done for its boot; or all ports are taken over
 pub data Stretch : Type 0 where
   Commanding : Port → Stretch
   Booting : Port → Stretch
   Hosting : Stretch
   Surveying : Stretch
+  Clearing : Port → Stretch
+  Starting : Port → Stretch
   Taking : List Wanted → Fitting → Stretch
 
 abbrev pub may_of : Stretch → Access → Type 0
@@ -61,6 +64,8 @@ may_of (Commanding port) = IsControl WritesCommand port
 may_of (Booting port) = IsOfBoot port
 may_of Hosting = IsOfHost
 may_of Surveying = IsSurvey
+may_of (Clearing port) = IsControl IsClearing port
+may_of (Starting port) = IsOfStart port
 may_of (Taking wanted fitting) = IsOfTaking wanted
 
 abbrev pub fits_of : Stretch → Uses → Type 0
@@ -68,6 +73,8 @@ fits_of (Commanding port) = AnyUse
 fits_of (Booting port) = λ uses. AllFree uses port.0
 fits_of Hosting = AnyUse
 fits_of Surveying = AnyUse
+fits_of (Clearing port) = AnyUse
+fits_of (Starting port) = λ uses. AllFree uses port.0
 fits_of (Taking wanted fitting) = uses_of fitting
 
 -- ---- laws

@@ -3,6 +3,7 @@ ghost use Rattle.std.specs.Prelude.{ℕ, true, false, ◌≡◌, ◌≢◌, ◌<
 ghost use Rattle.ata_types.specs.declared.Port.{Port};
 ghost use Rattle.ata_types.specs.declared.PortState.{PortState};
 ghost use Rattle.ata_types.specs.declared.PortState.TheVariants.{Dead};
+ghost use Rattle.adapter.specs.Access.{Access};
 ghost use Rattle.adapter.specs.Device.{Device};
 ghost use Rattle.adapter.specs.Idle.{IsIdle};
 ghost use Rattle.adapter.specs.Rules.{IsOn, HasPort};
@@ -14,7 +15,7 @@ ghost use Rattle.agreement.specs.Links.{HasDeviceOrNone, SameAdapter};
 ghost use Rattle.agreement.specs.Places.{list_of};
 ghost use Rattle.identify.specs.declared.DiskInfo.{DiskInfo};
 ghost use Rattle.identify.specs.declared.wanted.Wanted.{Wanted};
-ghost use Rattle.host_boot.specs.Again.{BootsAgain};
+ghost use Rattle.host_boot.specs.Again.{BootsAgain, BootsIfThere, IsOfStart};
 ghost use Rattle.host_boot.specs.Taken.{FoundBadDisk, IsServed, LeavesFound, LeavesPorts, StandsBehind, StillStandsBehind, TakesOver, found_of};
 ghost use Rattle.host_boot.specs.declared.Booted.{Booted};
 ghost use Rattle.host_boot.specs.declared.Found.{Found};
@@ -77,7 +78,8 @@ pub fn other_ports_run_well()
 }
 
 /// A server may go on with a port that was booted again. The accesses are of the port alone; what stands behind it is what was found; and one that was
-/// found unfit or foreign shows a device, or has no disk in. A port that does so still does after accesses of another port.
+/// found unfit or foreign shows a device, or has no disk in. A port that does so still does after accesses of another port. The same is so of a port that was
+/// booted if a device showed; and so are the accesses of either of the port, one by one.
 pub fn what_was_booted_again_may_be_served()
     ensures driven { (wanted : Wanted) (port : Port) (booted : Booted) (old new : Device) → BootsAgain wanted port booted old new
         → IsDrivenBy (IsOf port) old new }
@@ -85,6 +87,13 @@ pub fn what_was_booted_again_may_be_served()
         → IsServed wanted port.0 old → StandsBehind wanted booted.found port.0 new }
     ensures shown { (wanted : Wanted) (port : Port) (booted : Booted) (state : PortState) (old new : Device) → IsOn old
         → BootsAgain wanted port booted old new → FoundBadDisk state → booted.found ≡ Unready state → HasDeviceOrNone (new.port port.0) }
+    ensures there_driven { (wanted : Wanted) (port : Port) (booted : Booted) (old new : Device) → BootsIfThere wanted port booted old new
+        → IsDrivenBy (IsOf port) old new }
+    ensures there_stands { (wanted : Wanted) (port : Port) (booted : Booted) (old new : Device) → BootsIfThere wanted port booted old new
+        → IsServed wanted port.0 old → StandsBehind wanted booted.found port.0 new }
+    ensures there_shown { (wanted : Wanted) (port : Port) (booted : Booted) (state : PortState) (old new : Device) → IsOn old
+        → BootsIfThere wanted port booted old new → FoundBadDisk state → booted.found ≡ Unready state → HasDeviceOrNone (new.port port.0) }
+    ensures start_of { (port : Port) (access : Access) → IsOfStart port access → IsOf port access }
     ensures beside { (port other : Port) (old new : Device) → port.0 ≢ other.0 → IsOn old → IsDrivenBy (IsOf other) old new
         → HasDeviceOrNone (old.port port.0) → HasDeviceOrNone (new.port port.0) }
 {

@@ -14,7 +14,7 @@ ghost use Rattle.agreement.specs.Driver.{AllFree};
 ghost use Rattle.agreement.specs.Links.{SameAdapter};
 ghost use Rattle.port_boot.specs.States.{IsBootable};
 ghost use Rattle.port_control.specs.Ports.{IsStopped};
-ghost use Rattle.host_boot.specs.Again.{BootsAgain, BootsStopped};
+ghost use Rattle.host_boot.specs.Again.{BootsAgain, BootsIfThere, BootsStopped};
 ghost use Rattle.host_boot.specs.Taken.{Boots, HaltsFound, WroteControl, StandsBehind, GoesThrough, IsOfHost, IsSurvey, LeavesPorts, TakesOver};
 
 use adapter::Adapter;
@@ -23,7 +23,7 @@ use hba_regs::{Capabilities, GlobalControl, Reg, is_set};
 use identify::{DiskInfo, Wanted};
 use lawful::laws_hold;
 use port_boot::boot;
-use port_control::{Stopped, stop};
+use port_control::{Stopped, shows_device, stop};
 
 mod lawful;
 pub mod laws;
@@ -177,6 +177,29 @@ pub fn boot_again<A: Adapter>(adapter: &mut A, stopped: Stopped, wanted: &Wanted
     laws_hold();
     let capabilities = Capabilities(adapter.read(Reg::Cap));
     let found = boot_stopped(adapter, stopped, wanted);
+    Booted {
+        slots: capabilities.last_slot() as u8 + 1,
+        queued: capabilities.has_ncq(),
+        found,
+    }
+}
+
+/// Boots a port that was stopped since its device went or came, and no slot of which is used, if a device shows (PxSSTS, once PxSERR was cleared): as
+/// `boot_again` does. Else the port is absent. Since PxSCTL was last written a device was seen, or 64 readings of PxSSTS found none.
+pub fn boot_if_there<A: Adapter>(adapter: &mut A, stopped: Stopped, wanted: &Wanted) -> Booted
+    requires bootable { IsBootable stopped.port (A.device adapter.old) }
+    requires stopped { IsStopped ((A.device adapter.old).port stopped.port.0) }
+    requires saw { ((A.device adapter.old).port stopped.port.0).notes.link_count ≡ 64 }
+    ensures on { IsOn (A.device adapter.new) }
+    ensures boots { BootsIfThere wanted.now stopped.port result (A.device adapter.old) (A.device adapter.new) }
+{
+    laws_hold();
+    let capabilities = Capabilities(adapter.read(Reg::Cap));
+    let found = if shows_device(adapter, stopped.port()) {
+        boot_stopped(adapter, stopped, wanted)
+    } else {
+        Found::Unready(PortState::Absent)
+    };
     Booted {
         slots: capabilities.last_slot() as u8 + 1,
         queued: capabilities.has_ncq(),

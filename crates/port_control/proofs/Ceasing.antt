@@ -3,7 +3,7 @@ use Rattle.std.proofs.Common.{ℕ, ◌≡◌, ◌≢◌, ◌+◌, ◌<◌, ◌�
 use Rattle.std.proofs.lemmas.Bool.{true≢false}
 use Rattle.ata_types.specs.declared.Port.{Port}
 use Rattle.hba_regs.specs.Bits.{bit}
-use Rattle.hba_regs.specs.declared.reg.PortReg.TheVariants.{Cmd}
+use Rattle.hba_regs.specs.declared.reg.PortReg.TheVariants.{Cmd, Sact}
 use Rattle.hba_regs.specs.declared.reg.Reg.TheVariants.{Px}
 use Rattle.adapter.specs.Access.{Access, Reads, Writes, counted}
 use Rattle.adapter.specs.Access.Access.{Reading, Writing}
@@ -17,7 +17,7 @@ use Rattle.agreement.specs.Slots.{Uses}
 use Rattle.port_control.specs.Engines.{Awaits, Falls, Hangs}
 use Rattle.port_control.specs.Ports.{WritesCommand, IsUsable, IsStopped, ReceivesFises, SameBeside, HasStopped, programmed}
 use Rattle.port_control.proofs.Awaiting.{awaits_none, awaits_more, awaits_falls}
-use Rattle.port_control.proofs.Using.{usable_after, usable_read, beside_then, beside_read, beside_command, bases_command, stopped_on, stopped_read, stopped_command}
+use Rattle.port_control.proofs.Using.{usable_after, usable_read, beside_then, beside_read, beside_command, bases_command, stopped_on, stopped_read, stopped_write}
 use Rattle.port_control.specs.Laws.RegisterSet.{Commanding}
 use Rattle.port_control.specs.Laws.Stretch.{Controlling}
 use Rattle.port_control.specs.Laws.{Laws}
@@ -176,7 +176,7 @@ module _ (laws : Laws) where
             × ((new.port port.0).bases ≡ (old.port port.0).bases) × SameBeside (old.port port.0) (new.port port.0)
         empty_begins = (
           told_clears 4 14 port was v old mid new zero read empty_may empty_leaves write,
-          stopped_command laws port v mid new empty_may st_zero write still,
+          stopped_write laws port Cmd v mid new empty_may (λ _. st_zero) (λ (e : Cmd ≡ Sact). cc) write still,
           (laws.command_set port v mid new write).1 ∙ zero,
           bases_command laws port v mid new here.on.no_reset st_zero write ∙ (s.keeps.port port.0).bases,
           beside_then (old.port port.0) (mid.port port.0) (new.port port.0) (beside_read laws port was old mid u.on.no_reset read) (beside_command laws port v mid new here.on.no_reset st_zero write),
@@ -208,7 +208,7 @@ module _ (laws : Laws) where
           followed_then laws (Controlling Commanding port) old mid new (reading port was old mid read)
               (followed_write laws (Controlling Commanding port) (Px port Cmd) v mid new (refl, refl) receive_may receive_leaves write),
           record {
-            stopped = stopped_command laws port v mid new receive_may (st_same ∙ stands.halted.st) write stands;
+            stopped = stopped_write laws port Cmd v mid new receive_may (λ _. st_same ∙ stands.halted.st) (λ (e : Cmd ≡ Sact). cc) write stands;
             fre = (laws.command_set port v mid new write).1 ∙ one;
             bases = bases_command laws port v mid new here.on.no_reset (st_same ∙ stands.halted.st) write ∙ in_place;
           },

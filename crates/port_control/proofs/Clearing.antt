@@ -37,13 +37,24 @@ module _ (laws : Laws) where
       let link = (laws.access_notes port (Writing (Px port r) v) old new call).link tt in
       (ap (λ (n : ℕ). n % 16) link.0 ∙ saw.0, link.1 spares ∙ saw.1)
 
-  module _ (port : Port) (old mid new : Device) (u : IsUsable AnyUse port old) (receives : ReceivesFises port.0 (old.port port.0))
-      (serr : Writes (Px port Serr) 0xffffffff old mid) where
-    first : IsFollowed (IsControl IsClearing port) AnyUse old mid
+  module _ (port : Port) (old mid new : Device) (u : IsUsable AnyUse port old) (serr : Writes (Px port Serr) 0xffffffff old mid) where
+    pub first : IsFollowed (IsControl IsClearing port) AnyUse old mid
     first = followed_write laws (Controlling Clearing port) (Px port Serr) 0xffffffff old mid (refl, inl refl) (serr_may port 0xffffffff old u) (λ uses is. tt) serr
 
     pub clearing : IsUsable AnyUse port mid
     clearing = usable_after laws Clearing port old mid u first
+
+    -- PxSERR tells no disk of before, whatever is cleared after it
+    pub since_clear : IsFollowed (IsControl IsClearing port) AnyUse mid new → (old.port port.0).link_due ≡ false → HasClearErrors port.0 old new
+    since_clear second undue =
+        let s : Settles port old mid = settles laws port old mid u.on first.driven in
+        let t : Settles port mid new = settles laws port mid new clearing.on second.driven in
+        let errors = laws.errors_cleared port 0xffffffff old mid serr in
+        let c = t.change (s.undue undue) in
+        record {
+          serr_n = λ none. c.serr_n (plugs_in_parts laws port.0 old mid new s.grows t.grows none).1 (errors.0 (ones 16 (omega arith)));
+          serr_x = λ none. c.serr_x (comes_in_parts laws port.0 old mid new s.grows t.grows none).1 (errors.1 (ones 26 (omega arith)));
+        }
 
     module _ (is : Writes (Px port Is) 0xffffffff mid new) where
       second : IsFollowed (IsControl IsClearing port) AnyUse mid new
@@ -64,15 +75,7 @@ module _ (laws : Laws) where
       cleared_by = record { between = mid; errors = serr; causes = is }
 
       pub cleared_clear : (old.port port.0).link_due ≡ false → HasClearErrors port.0 old new
-      cleared_clear undue =
-          let s : Settles port old mid = settles laws port old mid u.on first.driven in
-          let t : Settles port mid new = settles laws port mid new clearing.on second.driven in
-          let errors = laws.errors_cleared port 0xffffffff old mid serr in
-          let c = t.change (s.undue undue) in
-          record {
-            serr_n = λ none. c.serr_n (plugs_in_parts laws port.0 old mid new s.grows t.grows none).1 (errors.0 (ones 16 (omega arith)));
-            serr_x = λ none. c.serr_x (comes_in_parts laws port.0 old mid new s.grows t.grows none).1 (errors.1 (ones 26 (omega arith)));
-          }
+      cleared_clear = since_clear second
 
   -- ---- and PxTFD is read then
 

@@ -6,5 +6,6 @@ pub mod Placing
 pub mod Settling
 pub mod Looking
 pub mod Clearing
+pub mod Seeing
 pub mod Resetting
 pub mod Starting

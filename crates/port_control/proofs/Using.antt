@@ -1,5 +1,5 @@
 -- What an access of a port needs, and what goes on over accesses.
-use Rattle.std.proofs.Common.{ℕ, ◌≡◌, ◌++◌, Bool, List, [], ◌∷◌, false, inl, inr, refl, sym, ◌∙◌, ap, subst, append_assoc, append-nil}
+use Rattle.std.proofs.Common.{ℕ, ◌≡◌, ◌≢◌, ◌++◌, Bool, List, [], ◌∷◌, false, inl, inr, refl, sym, ◌∙◌, ap, subst, append_assoc, append-nil}
 use Rattle.std.proofs.lemmas.List.Elements.{All-weaker}
 use Rattle.ata_types.specs.declared.Port.{Port}
 use Rattle.hba_regs.specs.Bits.{bit}
@@ -205,11 +205,12 @@ module _ (laws : Laws) where
   pub receiving_read : (port : Port) (r : PortReg) (v : ℕ) (old new : Device) → old.hr ≡ false → Reads (Px port r) v old new → ReceivesFises port.0 (old.port port.0) → ReceivesFises port.0 (new.port port.0)
   receiving_read port r v old new off call h = let s = laws.seen port r v old new call off in receiving_on (s.keeps.port port.0) (s.keeps.on.controls port.0) h
 
-  pub stopped_command : (port : Port) (v : ℕ) (old new : Device) → Stays (MayWrite (Px port Cmd) v) old → bit v 0 ≡ false → Writes (Px port Cmd) v old new →
+  -- any register but PxSACT is written, PxCMD with ST 0
+  pub stopped_write : (port : Port) (r : PortReg) (v : ℕ) (old new : Device) → Stays (MayWrite (Px port r) v) old → (r ≡ Cmd → bit v 0 ≡ false) → r ≢ Sact → Writes (Px port r) v old new →
       IsStopped (old.port port.0) → IsStopped (new.port port.0)
-  stopped_command port v old new may zero call h = record {
-    halted = laws.halted_writes port (Px port Cmd) v old new may (λ _. zero) call h.halted;
-    sact = λ slot. laws.writes_clear port slot (Px port Cmd) v old new (λ (e : Px port Cmd ≡ Px port Sact). absurd (cc)) call (h.sact slot);
+  stopped_write port r v old new may zero other call h = record {
+    halted = laws.halted_writes port (Px port r) v old new may (λ (e : Px port r ≡ Px port Cmd). zero (let same : r ≡ Cmd = cc in same)) call h.halted;
+    sact = λ slot. laws.writes_clear port slot (Px port r) v old new (λ (e : Px port r ≡ Px port Sact). absurd (other (let same : r ≡ Sact = cc in same))) call (h.sact slot);
   }
 
   pub receiving_write : (port : Port) (r : PortReg) (v : ℕ) (old new : Device) → old.hr ≡ false → IsResetting r → Writes (Px port r) v old new → ReceivesFises port.0 (old.port port.0) → ReceivesFises port.0 (new.port port.0)

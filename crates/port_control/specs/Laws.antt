@@ -4,7 +4,7 @@ use Rattle.ata_types.specs.declared.Port.{Port}
 use Rattle.adapter.specs.Access.{Access, Does, DoesAll, PortShows, Reads, Writes, note}
 use Rattle.agreement.specs.Agrees.{Agrees}
 use Rattle.agreement.specs.Driver.{AllFree, IsWrittenBack, LeavesUses}
-use Rattle.agreement.specs.Driven.{AnyAccess, AnyUse, Grows, IsAgreed, IsControl, IsDrivenBy, IsFollowed, IsFollowedTo, IsOf, IsTold, IsToldTo}
+use Rattle.agreement.specs.Driven.{AnyAccess, AnyUse, Grows, IsAgreed, IsControl, IsDrivenBy, IsFollowedTo, IsOf, IsTold, IsToldTo}
 use Rattle.agreement.specs.Errors.{ChangesByDisks, NoneComes}
 use Rattle.hba_regs.specs.declared.reg.PortReg.TheVariants.{Ci, Clb, Clbu, Cmd, Fb, Fbu, Is, Sact, Sctl, Serr, Ssts, Tfd}
 use Rattle.adapter.specs.Device.{Device, PortState}

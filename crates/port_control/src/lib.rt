@@ -287,6 +287,27 @@ pub fn forget_errors<A: Adapter>(adapter: &mut A, port: Port) -> TaskFile
     TaskFile(adapter.read(Reg::Px(port, PortReg::Tfd)))
 }
 
+/// Whether a device with a link shows in a port, as where a device went or came: clears each bit of PxSERR, and reads PxSSTS (AHCI 1.3.1, 3.3.10 and 3.3.12).
+/// A stopped port stays stopped.
+pub fn shows_device<A: Adapter>(adapter: &mut A, port: Port) -> bool
+    requires on { IsOn (A.device adapter.old) }
+    requires there { HasPort (A.device adapter.old) port.0 }
+    requires agreed { AgreesWith AnyUse (A.device adapter.old) }
+    ensures on { IsOn (A.device adapter.new) }
+    ensures followed { IsFollowed (IsControl IsClearing port) AnyUse (A.device adapter.old) (A.device adapter.new) }
+    ensures stopped { IsStopped ((A.device adapter.old).port port.0) → IsStopped ((A.device adapter.new).port port.0) }
+    ensures clear { ((A.device adapter.old).port port.0).link_due ≡ false → HasClearErrors port.0
+        (A.device adapter.old) (A.device adapter.new) }
+    ensures there { result ≡ true → ((A.device adapter.new).port port.0).ssts_det ≡ 3 }
+    ensures none { result ≡ false → ((A.device adapter.old).port port.0).notes.link_count ≡ 64 → Shows PortFault.NoDevice
+        ((A.device adapter.new).port port.0).notes }
+{
+    laws_hold();
+    adapter.write(Reg::Px(port, PortReg::Serr), ALL_ONES);
+    let shown = SataStatus(adapter.read(Reg::Px(port, PortReg::Ssts)));
+    shown.detection() == SataStatus::DEVICE_WITH_LINK
+}
+
 // Waits until the device is neither busy nor asks for a transfer, for 64 readings at most.
 fn wait_until_idle<A: Adapter>(adapter: &mut A, port: Port) -> bool
     requires usable { IsUsable AnyUse port (A.device adapter.old) }

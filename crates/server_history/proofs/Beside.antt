@@ -1,5 +1,5 @@
 -- What accesses of one port leave of the others of a server, while some machine goes on agreeing: from what is done while the port is recovered and booted.
-use Rattle.std.proofs.Common.{ℕ, Bool, ◌≡◌, ◌≢◌, ◌<◌, ◌⊎◌, List, None, Some, inl, inr, refl, sym, ◌∙◌, ap, subst, arith}
+use Rattle.std.proofs.Common.{ℕ, Bool, ◌≡◌, ◌≢◌, ◌<◌, ◌⊎◌, List, None, Some, inl, inr, refl, sym, ◌∙◌, ap, subst, arith, ⊎_elim}
 use Rattle.std.specs.List.{All}
 use Rattle.std.proofs.lemmas.List.Elements.{All-weaker}
 use Rattle.ata_types.specs.declared.Port.{Port}
@@ -17,7 +17,7 @@ use Rattle.adapter.specs.declared.command.Operation.TheVariants.{Identify, ReadL
 use Rattle.adapter.proofs.Changed.{changed_other, changed_same}
 use Rattle.agreement.specs.Acts.{Act, Comes, InSlots, steps_of, at as at_slots}
 use Rattle.agreement.specs.Agrees.{port_at}
-use Rattle.agreement.specs.Driven.{AnyUse, IsControl, IsDrivenBy, IsFollowedTo, IsOf, SendsNone}
+use Rattle.agreement.specs.Driven.{IsControl, IsDrivenBy, IsFollowed, IsFollowedTo, IsOf, SendsNone}
 use Rattle.agreement.specs.Driver.{AllFree, Goes, Knows}
 use Rattle.agreement.specs.GivingUp.{given_up}
 use Rattle.agreement.specs.Halting.{IsHaltedAsTaken}
@@ -34,7 +34,7 @@ use Rattle.error_recovery.specs.Recovery.{IsRecovered, IsRecovering, LeavesSlots
 use Rattle.error_recovery.specs.declared.Next.{Next}
 use Rattle.error_recovery.specs.declared.Next.TheVariants as next
 use Rattle.error_recovery.specs.declared.Recovered.{Recovered}
-use Rattle.host_boot.specs.Again.{BootsAgain, BootsStopped}
+use Rattle.host_boot.specs.Again.{BootsAgain, BootsStopped, IsOfStart}
 use Rattle.host_boot.specs.Taken.{IsSurvey, found_of}
 use Rattle.host_boot.specs.declared.Booted.{Booted}
 use Rattle.host_boot.specs.declared.Found.{Found}
@@ -238,8 +238,12 @@ module _ (laws : LawsBelow) (s : Server) (port : Port) (k : IsKept s) (low : por
         (slots, passes_followed slots d new p (IsOfBoot port) (λ uses. AllFree uses port.0) (λ uses. uses) (booting_mild laws port) free (λ q other. refl) b.boots.followed)
     stopped_passes wanted (Unready state) b = boot_to (StopsOnWay port state) state b.boots
 
+  pub start_passes : (slots : InSlots) (d new : Device) → Passes s port slots d → AllFree slots.uses port.0 → IsFollowed (IsOfStart port) (λ uses. AllFree uses port.0) d new → Passes s port slots new
+  start_passes slots d new p free asks =
+      passes_followed slots d new p (IsOfStart port) (λ uses. AllFree uses port.0) (λ uses. uses) (λ access is. ⊎_elim (survey_mild port access) (booting_mild laws port access) is) free (λ q other. refl) asks
+
   pub again_passes : (slots : InSlots) (d new : Device) → Passes s port slots d → AllFree slots.uses port.0 → (wanted : Wanted) (booted : Booted) → BootsAgain wanted port booted d new
       → (then : InSlots) × Passes s port then new
   again_passes slots d new p free wanted booted b =
-      let asked : Passes s port slots b.asked = passes_followed slots d b.asked p IsSurvey AnyUse (λ uses. uses) (survey_mild port) tt (λ q other. refl) b.asks in
+      let asked : Passes s port slots b.asked = start_passes slots d b.asked p free b.asks in
       stopped_passes slots b.asked new asked free wanted booted.found b.boots

@@ -1,5 +1,5 @@
 -- A turn that mends its port does of its port what a call does of a port.
-use Rattle.std.proofs.Common.{◌≡◌, Bool, false, subst, List, [], sym, ◌∙◌, ⊎_elim}
+use Rattle.std.proofs.Common.{◌≡◌, Bool, false, subst, List, [], sym, ◌∙◌, ⊎_elim, ◌≢◌}
 use Rattle.std.specs.List.{Contains}
 use Rattle.ata_types.specs.declared.Port.{Port}
 use Rattle.ata_types.specs.declared.PortState.TheVariants as shown
@@ -12,7 +12,6 @@ use Rattle.block_machine.specs.Histories.{IsReached}
 use Rattle.block_machine.specs.State.{Machine}
 use Rattle.driver_history.specs.Histories.{HasBadDisk, HasFaultAlone}
 use Rattle.host_boot.specs.Taken.{found_of}
-use Rattle.port_boot.specs.States.{ShowsOwnDisk}
 use Rattle.port_look.specs.Looks.{IsLooking}
 use Rattle.port_look.specs.declared.Look.{Look}
 use Rattle.port_look.specs.declared.Look.TheVariants.{Failed}
@@ -30,21 +29,17 @@ use Rattle.server_history.proofs.Halting.{works_plainly}
 use Rattle.server_history.proofs.Heeding.{gains_none}
 use Rattle.server_history.proofs.Minding.{serves_ready}
 use Rattle.server_history.proofs.Lasting.{lasting}
-use Rattle.server_history.proofs.Looking.{looking_kept}
 use Rattle.server_history.proofs.Reboots.{reboots}
-use Rattle.server_history.proofs.Recovery.{evidence_by, fatal_of}
+use Rattle.server_history.proofs.Recovery.{evidence_by, fatal_of, gone_of}
 use Rattle.server_history.proofs.Slots.{ready_found}
 use Rattle.server_history.proofs.Welling.{going_well}
 use Rattle.server_history.proofs.Lists.{first_here}
+use Rattle.agreement.specs.Links.{IsPlugging}
 
 module _ (laws : LawsBelow) (port : Port) (replies : List Reply) (old new : Server) (k : IsKept old) (ready : state_of (found_of old.ports port.0) ≡ ReadyState) (r : MendsPort port replies old new)
     (looks : IsFollowed (IsLooking port) AnyUse old.device r.settled.mended.seen) (kept : IsKept r.mid) (evident : IsEvident port replies old new r)
     (m : Machine) (reached : IsReached m) (is : IsMachineOf old m)
     (d : DecidesTurn port replies old new r (evidence_by r.settled) m) where
-  -- where the port showed a device when it was looked at, a disk was in
-  own : ShowsOwnDisk (r.settled.mended.seen.port port.0)
-  own = ((looking_kept old r.settled.mended.seen port k ready laws looks).behind port.0 (ready_found old port.0 k ready).0).own ready
-
   -- the port was ready when the turn began
   not_absent : (ports_of old).state port ≡ shown.Absent → ⊥
   not_absent absent = let z : ReadyState ≡ shown.Absent = sym ready ∙ absent in cc
@@ -69,9 +64,16 @@ module _ (laws : LawsBelow) (port : Port) (replies : List Reply) (old new : Serv
   failing : HasFaultAlone port (instant_of old m) new.device → r.settled.mended.look ≡ Failed
   failing alone = ⊎_elim
       (λ failed. failed)
+      (λ rest. absurd (⊎_elim
       (λ broken.
-      let here : Contains (fatal_of port r.settled.mended.look) port = subst (λ (l : Look). Contains (fatal_of port l) port) (sym broken) (first_here port []) in
-      absurd (⊎_elim alone.shows.fatal (gains_none (IsFatalOf port.0) old.device new.device alone.fatal.gained alone.fatal.tape alone.fatal.none) ((evident.evidenced m).fatal_only here).1))
+      let here : Contains (fatal_of port r.settled.mended.look (old.device.port port.0)) port = subst (λ (l : Look). Contains (fatal_of port l (old.device.port port.0)) port) (sym broken) (first_here port []) in
+      ⊎_elim alone.shows.fatal (gains_none (IsFatalOf port.0) old.device new.device alone.fatal.gained alone.fatal.tape alone.fatal.none) ((evident.evidenced m).fatal_only here).1)
+      (λ lost.
+      let here : Contains (gone_of port r.settled.mended.look) port = subst (λ (l : Look). Contains (gone_of port l) port) (sym lost) (first_here port []) in
+      ⊎_elim alone.shows.change
+      (λ more. ⊎_elim (λ (out : (old.device.port port.0).ssts_det ≢ 3). out alone.shows.device) (gains_none (IsPlugging port.0) old.device new.device alone.plugged.gained alone.plugged.tape alone.plugged.none) more)
+      ((evident.evidenced m).gone_only here).1)
+      rest))
       (leads r.settled.mended.look port r.settled.mended.outstanding r.settled.mended.queued r.settled.mended.result r.settled.mended.mends.accesses r.settled.mid.device r.settled.device r.settled.mended.tells)
 
   pub ties_recovered : TiesTurn port replies evident.accesses old new m (evidence_by r.settled) d.steps
@@ -87,5 +89,5 @@ module _ (laws : LawsBelow) (port : Port) (replies : List Reply) (old new : Serv
     boots = reboots laws port replies old new k ready r looks kept evident m;
     trouble = lasting laws port replies old new k ready r looks kept evident.parts m;
     well = going_well laws port replies old new k ready r looks kept evident plainly m asked;
-    heeds = λ _. serves_ready laws port replies old new k ready r looks kept evident m reached is d own;
+    heeds = λ _. serves_ready laws port replies old new k ready r looks kept evident m reached is d;
   }

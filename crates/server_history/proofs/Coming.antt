@@ -29,7 +29,7 @@ use Rattle.server_history.proofs.Plain.{both_read, issues_serve}
 use Rattle.port_look.specs.Looks.{LooksAt}
 use Rattle.port_look.specs.Services.{IsService}
 use Rattle.port_look.specs.declared.Look.{Look}
-use Rattle.port_look.specs.declared.Look.TheVariants.{Lost, Broken, Failed, Undisturbed as Calm}
+use Rattle.port_look.specs.declared.Look.TheVariants.{Undisturbed as Calm}
 use Rattle.port_look.proofs.Seeing.{seen_well}
 use Rattle.port_look.proofs.Serving.{spares_port}
 
@@ -110,13 +110,6 @@ none_or_some (suc n) mask = ⊎_elim
     (cases_Bool (bit mask n)))
     (λ (some : (slot : ℕ) × (slot < n) × (bit mask slot ≡ true)). let small = some.1 in inr (some.0, omega (arith, small), some.2))
     (none_or_some n mask)
-
--- a look told nothing, or something
-pub calm_or_not : (look : Look) → (look ≡ Calm) ⊎ (look ≢ Calm)
-calm_or_not Calm = inl refl
-calm_or_not Lost = inr (λ e. let z : Lost ≡ Calm = e in absurd cc)
-calm_or_not Broken = inr (λ e. let z : Broken ≡ Calm = e in absurd cc)
-calm_or_not Failed = inr (λ e. let z : Failed ≡ Calm = e in absurd cc)
 
 module _ (port : Port) where
   -- a look, access by access
@@ -212,10 +205,8 @@ module _ (port : Port) where
     }
 
     pub turn_list : TurnList slots replies old new t
-    turn_list = ⊎_elim
-        (λ (calm : t.look ≡ Calm). ⊎_elim
+    turn_list =
+        let calm = t.quiet in ⊎_elim
         (λ (none : HasNone (t.calm calm).mask). looked ((t.calm calm).idle none) (λ _ busy. unmasked slots (t.calm calm).mask (t.calm calm).its none busy))
         (λ some. checked calm (λ none. false≢true (sym (none some.0 some.1) ∙ some.2)))
-        (none_or_some 32 (t.calm calm).mask))
-        (λ (told : t.look ≢ Calm). looked (t.told told) (λ is _. told is))
-        (calm_or_not t.look)
+        (none_or_some 32 (t.calm calm).mask)

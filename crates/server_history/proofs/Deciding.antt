@@ -15,7 +15,7 @@ use Rattle.ata_types.specs.declared.request.RequestId.{RequestId}
 use Rattle.adapter.specs.declared.access.DeviceStep.{DeviceStep}
 use Rattle.agreement.specs.Driven.{AnyUse, IsFollowed}
 use Rattle.agreement.specs.Driver.{IsBacked}
-use Rattle.block_machine.specs.Events.{AllDevices, AllGrounded, AllLawful, AllMay, Belong, IsIssuedIn, IsLawful, IssuesLast, IsToldBefore, Moment, Service, Tells, UnplugsAll, WasIssued, answers_of, issues_it, reply_of}
+use Rattle.block_machine.specs.Events.{AllDevices, AllGrounded, AreTold, AllLawful, AllMay, Belong, IsIssuedIn, IsLawful, IssuesLast, IsToldBefore, Moment, Service, Tells, UnplugsAll, WasIssued, answers_of, issues_it, reply_of}
 use Rattle.block_machine.specs.Histories.{IsReached}
 use Rattle.block_machine.specs.Left.{after}
 use Rattle.block_machine.specs.Ports.{Evidence, Ports, SameDisk}
@@ -35,6 +35,8 @@ use Rattle.host_boot.specs.declared.Found.{Found}
 use Rattle.host_boot.specs.declared.Found.TheVariants.{Unserved, Ready, Unready}
 use Rattle.identify.specs.declared.DiskInfo.{DiskInfo}
 use Rattle.port_look.specs.Looks.{IsLooking}
+use Rattle.port_look.specs.declared.Look.{Look}
+use Rattle.port_look.specs.declared.Look.TheVariants as look_is
 use Rattle.request_queue.specs.Entries.{Held, asks, asks_of, due_ids, is_of}
 use Rattle.request_queue.specs.Fates.{fate_of}
 use Rattle.request_queue.specs.Machine.{IsEntry}
@@ -50,14 +52,15 @@ use Rattle.server_history.specs.Served.{HasEnded, answers_in, done_reply}
 use Rattle.server_history.specs.Server.{IsKept, IsMachineOf, Server, disk_in, disk_of, mode_in, ports_of, remembered_at, sectors_of, serial_of, slots_at, state_of}
 use Rattle.server_history.specs.Turns.{IsOfTurn, moment_of}
 use Rattle.server_history.proofs.Answered.{answered_in, ended_stood, issuing_answers, may_parts, no_answer, no_answer_issuing, told_so, with_ok}
+use Rattle.server_history.proofs.Faulted.{given_up, lost_or_not}
 use Rattle.server_history.proofs.Devices.{devices_belong, devices_lawful}
-use Rattle.server_history.proofs.Reasons.{Why, answered_left, deciding_belong, deciding_grounded, deciding_issues_none, deciding_lawful, deciding_own, issuing_belong, none_left, other_ends, why, why_again}
+use Rattle.server_history.proofs.Reasons.{RestsOnFailure, Why, answered_left, deciding_belong, deciding_grounded, deciding_issues_none, deciding_lawful, deciding_own, issuing_belong, none_left, ok_or_not, other_ends, why, why_again}
 use Rattle.server_history.proofs.Following.{adds_fates, in_filter, in_ports, mid_kept, mid_ready, unnamed}
 use Rattle.server_history.proofs.Joined.{all_pairs_append, answers_append, answers_there}
 use Rattle.server_history.proofs.Making.{answered_permuted, answers_all, device_grounded, device_own, devices_all, devices_answers, issues_all, none_last, told_ordered}
 use Rattle.server_history.proofs.Ordering.{AreDifferent, AreOfPort, answered_id, told_differ, told_in_order}
 use Rattle.server_history.proofs.Origins.{stood}
-use Rattle.server_history.proofs.Recovery.{AddsFates, evidence_by, faults_of, lost_of, stopped_of, until_issues}
+use Rattle.server_history.proofs.Recovery.{AddsFates, evidence_by, failed_of, faults_of, lost_of, stopped_of, until_issues}
 use Rattle.server_history.proofs.Rounds.{AreIssued, any_append, devices_issue_none, dues, dues_carried, each_issued, each_settings, last_on, lawful_on, or_none}
 use Rattle.server_history.proofs.Serving.{answers_issue_none}
 use Rattle.server_history.proofs.Slots.{of_ready, ready_found, served_request, serves_used}
@@ -84,6 +87,8 @@ pub record DecidesTurn (port : Port) (replies : List Reply) (old new : Server) (
   pub unplugs : UnplugsAll steps (after m steps)
   pub keeps : SameDisk (ports_of old) (ports_of new) port ⊎ NoneWaits (after m steps) port
   pub issues : (ports_of new).state port ≡ ReadyState → IssuesDue (mode_in new port) steps (after m steps) port
+  pub emptied : r.settled.mended.look ≡ look_is.Lost → NoneWaits (after m steps) port
+  pub told : r.settled.mended.look ≡ look_is.Lost → AreTold outcome.Unplugged steps port ⊎ AreTold outcome.PortDead steps port
 
 -- ---- evidence
 
@@ -163,7 +168,7 @@ module _ (laws : LawsBelow) (port : Port) (replies : List Reply) (old new : Serv
   -- the same disk
   module _ (is : a.prospect ≡ Same) where
     info : (info : DiskInfo) × (a.found ≡ Ready info) × ((info.serial ≡ a.was.serial) × (info.sectors ≡ a.was.sectors))
-    info = subst (IsProspect a.was a.found) is a.expects
+    info = (subst (IsProspect a.mended.look a.was a.found) is a.expects).1
 
     same_ready : (ports_of new).state port ≡ ReadyState
     same_ready = state_new ∙ ap state_of info.1
@@ -177,21 +182,42 @@ module _ (laws : LawsBelow) (port : Port) (replies : List Reply) (old new : Serv
   -- another one
   module _ (is : a.prospect ≡ DiskLost) where
     other_stopped : Contains evidence.stopped port
-    other_stopped = stopped_named port a.mended.result.next (λ stuck. (subst (IsProspect a.was a.found) is a.expects).0 (no_way stuck).0)
+    other_stopped = stopped_named port a.mended.result.next (λ stuck. (subst (IsProspect a.mended.look a.was a.found) is a.expects).0 (no_way stuck).0)
 
     other_lost : Contains evidence.lost port
     other_lost = subst (λ (p : Prospect). Contains (lost_of port p) port) (sym is) (first_here port [])
 
-    -- of it no request is left
-    none_stays : (x : Held) → Contains r.mid.book x → x.entry.port ≢ port
-    none_stays x here own =
-        let w = none_left laws (fate_of a.failed a.prospect) (λ e. subst (λ (p : Prospect). (o : Outcome) × (fate_of a.failed p e ≡ Ends o)) (sym is) (other_ends a.failed e)) its r.later (holdings_of port a.mid) a.now a.meets x
-        (subst (λ (s : Server). Contains s.book x) a.server here) in
-        w.1 (in_filter (λ (y : Held). is_of port y.entry) a.mid.book x w.0 (eq-eqb x.entry.port.0 port.0 (ap (λ (q : Port). q.0) own)))
+  -- but on the same disk, no request of it is left
+  none_stays : a.prospect ≢ Same → (x : Held) → Contains r.mid.book x → x.entry.port ≢ port
+  none_stays other x here own =
+      let w = none_left laws (fate_of a.failed a.prospect) (other_ends a.failed a.prospect other) its r.later (holdings_of port a.mid) a.now a.meets x (subst (λ (s : Server). Contains s.book x) a.server here) in
+      w.1 (in_filter (λ (y : Held). is_of port y.entry) a.mid.book x w.0 (eq-eqb x.entry.port.0 port.0 (ap (λ (q : Port). q.0) own)))
+
+  -- ---- who is named
+
+  -- nobody, unless a command had failed
+  pub nobody : a.mended.look ≢ look_is.Failed → a.failed ≡ None
+  nobody other =
+      let none = (given_up a.mended.look port a.mended.outstanding a.mended.queued a.mended.result a.mended.mends.accesses a.mid.device a.device a.mended.tells other).0 in
+      subst (λ (f : Option Failure). IsFailed (slots_at a.mid.slots port.0) f a.failed) none a.names
+
+  -- where its disk was lost, no request goes on as on the same disk
+  not_same : a.mended.look ≡ look_is.Lost → a.prospect ≢ Same
+  not_same lost same = (subst (IsProspect a.mended.look a.was a.found) same a.expects).0 lost
+
+  -- the port failed, unless its disk was lost
+  pub failed_named : a.mended.look ≢ look_is.Lost → Contains evidence.failed port
+  failed_named other = by a.mended.look refl
+    where
+      by : (l : Look) → a.mended.look ≡ l → Contains (failed_of port l (old.device.port port.0)) port
+      by look_is.Lost is = absurd (other is)
+      by look_is.Failed is = first_here port []
+      by look_is.Broken is = first_here port []
+      by look_is.Undisturbed is = first_here port []
 
   -- a dead port
   dead_state : a.prospect ≡ NoEnd → (ports_of new).state port ≡ Dead
-  dead_state is = state_new ∙ ap state_of (subst (IsProspect a.was a.found) is a.expects)
+  dead_state is = state_new ∙ ap state_of (subst (IsProspect a.mended.look a.was a.found) is a.expects)
 
   -- a request that met its fate was in the book
   of_its : (e : Held) → Contains its e → Contains a.mid.book e × (e.entry.port ≡ port)
@@ -301,10 +327,25 @@ module _ (laws : LawsBelow) (port : Port) (replies : List Reply) (old new : Serv
         (lawful_join began evidence (ports_of new) f.middle (answers_in f.ended ++ f.first) (devices_lawful began evidence (ports_of new) f.middle f.middle_only)
         (answers_all (AllLawful began evidence (ports_of new)) f.ended f.first (λ e steps here l. (l, ok_lawful e here)) (devices_lawful began evidence (ports_of new) f.first f.first_only))))
 
+    again_failed : (e : Pending) → Contains f.fates (Again e) → Contains evidence.failed port
+    again_failed e here = ⊎_elim (λ lost. absurd (not_same lost (again_same e here).0)) failed_named (lost_or_not a.mended.look)
+
+    answer_failed : (e : Pending) (o : Outcome) → Contains f.fates (Answer e o) → RestsOnFailure o → Contains evidence.failed port
+    answer_failed e o here rests = ⊎_elim (λ lost. absurd (none lost (why a.failed a.prospect w.0.entry o w.3))) failed_named (lost_or_not a.mended.look)
+      where
+        w : (request : Held) × Contains its request × IsEntry request e × (fate_of a.failed a.prospect request.entry ≡ Ends o)
+        w = f.answered e o here
+
+        none : a.mended.look ≡ look_is.Lost → Why a.failed a.prospect w.0.entry o → ⊥
+        none lost (inl x) = let y : None ≡ Some x.0 = sym (nobody (λ failed. let z : look_is.Lost ≡ look_is.Failed = sym lost ∙ failed in absurd cc)) ∙ x.1 in absurd cc
+        none lost (inr (inl x)) = not_same lost x.0
+        none lost (inr (inr (inl x))) = subst RestsOnFailure x.1 rests
+        none lost (inr (inr (inr x))) = subst RestsOnFailure x.1 rests
+
     grounded : AllGrounded evidence (z.steps ++ base)
     grounded =
         issues_all (AllGrounded evidence) (mode_in r.mid port) port (device_grounded evidence) (λ e steps own g. g) z.steps base z.only
-        (grounded_join evidence f.fates (f.middle ++ (answers_in f.ended ++ f.first)) (deciding_grounded port evidence (first_here port []) f.fates f.own)
+        (grounded_join evidence f.fates (f.middle ++ (answers_in f.ended ++ f.first)) (deciding_grounded port evidence f.fates f.own again_failed answer_failed)
         (grounded_join evidence f.middle (answers_in f.ended ++ f.first) (devices_all (AllGrounded evidence) (device_grounded evidence) tt f.middle f.middle_only)
         (answers_all (AllGrounded evidence) f.ended f.first (λ e steps here g. g) (devices_all (AllGrounded evidence) (device_grounded evidence) tt f.first f.first_only))))
 
@@ -447,16 +488,52 @@ module _ (laws : LawsBelow) (port : Port) (replies : List Reply) (old new : Serv
         by (inr (inr (inl x))) = let y : outcome.PortDead ≡ outcome.Unplugged = x.1 in absurd cc
         by (inr (inr (inr x))) = x.0
 
-    -- with another disk, none of the port's requests is left
-    none_waits : a.prospect ≡ DiskLost → NoneWaits (after m (z.steps ++ base)) port
+    -- but with the same disk, none of the port's requests is left
+    none_waits : a.prospect ≢ Same → NoneWaits (after m (z.steps ++ base)) port
     none_waits other e here own_port =
         let b = stood laws port (after m base) z.steps issuing_own e (subst (λ (n : Machine). Contains n.book e) all_is here) in
         let h = at_right IsEntry r.mid.book (after m base).book f.stands.book b.was b.here in
         none_stays other h.0 h.1 (sym h.2.port ∙ ap (λ x. x.port) b.request ∙ own_port)
 
+    disk_lost : a.prospect ≡ DiskLost → a.prospect ≢ Same
+    disk_lost lost same = let y : DiskLost ≡ Same = sym lost ∙ same in absurd cc
+
+    -- and where its disk was lost, all are told alike
+    told_lost : a.mended.look ≡ look_is.Lost → AreTold outcome.Unplugged (z.steps ++ base) port ⊎ AreTold outcome.PortDead (z.steps ++ base) port
+    told_lost lost = by a.prospect refl
+      where
+        told_as : (told : Outcome) → ((e : Held) (o : Outcome) → Why a.failed a.prospect e.entry o → o ≡ told) → AreTold told (z.steps ++ base) port
+        told_as told alike e o here own_port = by_ok (ok_or_not o)
+          where
+            by_ok : (o ≡ outcome.Ok) ⊎ (o ≢ outcome.Ok) → (o ≡ outcome.Ok) ⊎ (o ≡ told)
+            by_ok (inl ok) = inl ok
+            by_ok (inr other) =
+                let w = f.answered e o (fated e o other here) in
+                inr (alike w.0 o (why a.failed a.prospect w.0.entry o w.3))
+
+        unnamed_then : (x : Failed) → a.failed ≡ Some x → ⊥
+        unnamed_then x is = let y : None ≡ Some x = sym (nobody (λ failed. let z : look_is.Lost ≡ look_is.Failed = sym lost ∙ failed in absurd cc)) ∙ is in absurd cc
+
+        by : (p : Prospect) → a.prospect ≡ p → AreTold outcome.Unplugged (z.steps ++ base) port ⊎ AreTold outcome.PortDead (z.steps ++ base) port
+        by Same x = absurd (not_same lost x)
+        by DiskLost x = inl (told_as outcome.Unplugged (λ e o reason. ⊎_elim
+            (λ named. absurd (unnamed_then named.0 named.1))
+            (λ rest. ⊎_elim
+            (λ aborted. absurd (disk_lost x aborted.0))
+            (λ rest. ⊎_elim (λ gone. gone.1) (λ dead. absurd (let y : DiskLost ≡ NoEnd = sym x ∙ dead.0 in cc)) rest)
+            rest)
+            reason))
+        by NoEnd x = inr (told_as outcome.PortDead (λ e o reason. ⊎_elim
+            (λ named. absurd (unnamed_then named.0 named.1))
+            (λ rest. ⊎_elim
+            (λ aborted. absurd (let y : NoEnd ≡ Same = sym x ∙ aborted.0 in cc))
+            (λ rest. ⊎_elim (λ gone. absurd (let y : NoEnd ≡ DiskLost = sym x ∙ gone.0 in cc)) (λ dead. dead.1) rest)
+            rest)
+            reason))
+
     unplugs : UnplugsAll (z.steps ++ base) (after m (z.steps ++ base))
     unplugs = record {
-      emptied = λ e other here there same. let w = unplugged_why e here in none_waits w.0 other there (same ∙ w.1);
+      emptied = λ e other here there same. let w = unplugged_why e here in none_waits (disk_lost w.0) other there (same ∙ w.1);
       alike = λ e other here there same. let y : DiskLost ≡ NoEnd = sym (unplugged_why e here).0 ∙ dead_why other there in absurd cc;
     }
 
@@ -465,8 +542,8 @@ module _ (laws : LawsBelow) (port : Port) (replies : List Reply) (old new : Serv
       where
         by : (p : Prospect) → a.prospect ≡ p → SameDisk (ports_of old) (ports_of new) port ⊎ NoneWaits (after m (z.steps ++ base)) port
         by Same x = inl (same_shown x)
-        by DiskLost x = inr (none_waits x)
-        by NoEnd x = inl (same_disk a.was (ap (λ (found : Found). disk_of found (Some a.was)) (subst (IsProspect a.was a.found) x a.expects)) refl refl)
+        by DiskLost x = inr (none_waits (disk_lost x))
+        by NoEnd x = inl (same_disk a.was (ap (λ (found : Found). disk_of found (Some a.was)) (subst (IsProspect a.mended.look a.was a.found) x a.expects)) refl refl)
 
     pub decides_turn : DecidesTurn port replies old new r evidence m
     decides_turn = record {
@@ -486,6 +563,8 @@ module _ (laws : LawsBelow) (port : Port) (replies : List Reply) (old new : Serv
       unplugs = unplugs;
       keeps = keeps;
       issues = λ is_ready. issues;
+      emptied = λ lost. none_waits (not_same lost);
+      told = told_lost;
     }
 
 -- ---- the whole

@@ -1,6 +1,6 @@
 -- The evidence of a turn that mends its port: what stands behind each port and each fault that it names.
-use Rattle.std.proofs.Common.{ℕ, ◌≡◌, ◌≢◌, ◌<◌, ◌++◌, Bool, true, false, List, [], ◌∷◌, Option, Some, None, refl, sym, ap, ◌∙◌, subst, inl, inr, arith, ⊎_elim}
-use Rattle.std.specs.List.{All, Contains}
+use Rattle.std.proofs.Common.{ℕ, ◌≡◌, ◌≢◌, ◌<◌, ◌++◌, Bool, true, false, List, [], ◌∷◌, Option, Some, None, refl, sym, ap, ◌∙◌, subst, inl, inr, arith, ⊎_elim, ◌⊎◌}
+use Rattle.std.specs.List.{All, Contains, list_any}
 use Rattle.std.proofs.lemmas.List.Elements.{All-append, All-weaker}
 use Rattle.ata_types.specs.declared.Port.{Port}
 use Rattle.ata_types.specs.declared.PortState.TheVariants.{Dead as DeadState, Ready as ReadyState}
@@ -14,17 +14,17 @@ use Rattle.adapter.specs.Access.Access.{Reading, Writing}
 use Rattle.adapter.specs.Device.{Device}
 use Rattle.adapter.specs.declared.command.Operation.TheVariants.{ReadLog}
 use Rattle.adapter.specs.declared.tape.Fault as tape_fault
-use Rattle.agreement.specs.Driven.{AnyAccess, AnyUse, Grows, IsFollowed, IsOf, SendsNone}
+use Rattle.agreement.specs.Driven.{AnyAccess, AnyUse, Grows, IsFollowed, IsOf, SendsNone, IsDrivenBy}
 use Rattle.agreement.specs.Driver.{IsBacked}
-use Rattle.agreement.specs.Links.{SparesRegister}
+use Rattle.agreement.specs.Links.{SparesRegister, IsPlugging}
 use Rattle.agreement.proofs.Driven.{along}
-use Rattle.block_machine.specs.Events.{HadDisk, Served, Service}
+use Rattle.block_machine.specs.Events.{HadDisk, Served, Service, ShowsDisk, changes_disk}
 use Rattle.block_machine.specs.Left.{after}
 use Rattle.block_machine.specs.Ports.{Fault, IsServiced}
 use Rattle.block_machine.specs.State.{Machine}
 use Rattle.block_machine.specs.Steps.{Step}
 use Rattle.block_machine.proofs.Members.{contains_cases}
-use Rattle.driver_history.specs.Evidence.{HasErrors, HasFatalErrors, IsEvidencedOf}
+use Rattle.driver_history.specs.Evidence.{HasErrors, HasFatalErrors, IsEvidencedOf, Gains, ShowsChange, ShowsFailure, ShowsLoss}
 use Rattle.driver_history.specs.Trace.{IsDriversOwn}
 use Rattle.error_recovery.specs.Evidence.{HasFailed, ShowsFatal}
 use Rattle.error_recovery.specs.Recovery.{EndsIn, Rests, TellsEngine}
@@ -32,32 +32,42 @@ use Rattle.error_recovery.specs.declared.Next.{Next}
 use Rattle.error_recovery.specs.declared.Next.TheVariants as next
 use Rattle.error_log.specs.declared.Failure.{Failure}
 use Rattle.host_boot.specs.Taken.{found_of, wanted_of}
-use Rattle.host_boot.specs.declared.Found.TheVariants.{Ready, Unready}
+use Rattle.host_boot.specs.declared.Found.TheVariants.{Ready, Unready, Unserved}
 use Rattle.port_control.specs.Engines.{Sticks, Stops}
 use Rattle.port_look.specs.Looks.{IsLooking}
 use Rattle.port_look.specs.declared.Look.{Look}
-use Rattle.request_queue.specs.Entries.{Held}
-use Rattle.request_queue.specs.declared.fate.Failed.{Failed}
+use Rattle.request_queue.specs.Entries.{Held, asks_of, due_ids}
+use Rattle.request_queue.specs.declared.fate.Failed as failed_request
 use Rattle.request_queue.specs.declared.fate.Prospect.TheVariants.{DiskLost}
 use Rattle.slots.specs.Uses.{use_at}
 use Rattle.slots.specs.declared.Use.{Use as SlotUse}
 use Rattle.server_history.specs.Below.{LawsBelow}
 use Rattle.server_history.specs.Mended.{IsFailed, IsFoundAfter, IsProspect, IsMended, HasMetFates, LeadsToMending, MendsPort}
 use Rattle.server_history.specs.Served.{AnswersEach}
-use Rattle.server_history.specs.Server.{Server, IsKept, IsMachineOf, ports_of, slots_at, state_of, used_for}
+use Rattle.server_history.specs.Server.{Server, IsKept, IsMachineOf, ports_of, slots_at, state_of, used_for, mode_in}
 use Rattle.server_history.specs.Turns.{IsOfCommand, LeavesOthers, NamesOnly, TellsFault, instant_of, moment_of}
 use Rattle.server_history.proofs.Answering.{answer_kept}
 use Rattle.server_history.proofs.Apart.{leaves_others}
-use Rattle.server_history.proofs.Becoming.{becomes, dead_found, dead_prospect, disk_same, interrupted, its, lost_is, names, ready_info, state_new, stuck_is}
-use Rattle.server_history.proofs.Faulted.{errors_shown, fatal_shown, leads, no_change, no_fatal, not_missing}
+use Rattle.server_history.proofs.Becoming.{becomes, dead_found, dead_prospect, disk_same, interrupted, its, lost_is, names, ready_info, state_new, stuck_is, next_dead}
+use Rattle.server_history.proofs.Faulted.{errors_shown, fatal_shown, leads, no_change, no_fatal, not_missing, lost_or_not, loss_shown, given_up}
 use Rattle.server_history.proofs.Placing.{freed_was}
 use Rattle.server_history.proofs.Recovering.{IsEarlyPart, IsPart}
-use Rattle.server_history.proofs.Recovery.{evidence_by, fatal_of, faults_of, stopped_of}
+use Rattle.server_history.proofs.Recovery.{evidence_by, fatal_of, faults_of, stopped_of, failed_of, gone_of, is_named_if, named_if_is}
 use Rattle.server_history.proofs.Settling.{over_on, ready_on}
-use Rattle.server_history.proofs.Shown.{had_disk}
+use Rattle.server_history.proofs.Shown.{had_disk, shows_device}
 use Rattle.server_history.proofs.Slots.{AreOver, ready_found}
 use Rattle.server_history.proofs.Stretching.{TurnParts, accesses_in, done_over, found_is, found_kept, mid_device, turn_parts}
 use Rattle.server_history.proofs.Lists.{nowhere, first_here}
+use Rattle.server_history.proofs.Told.{failure_shows, fatal_shows, shows_failure, shows_fatal, unfailed, unfatal}
+use Rattle.port_look.specs.declared.Look.TheVariants.{Broken, Failed, Lost, Undisturbed}
+use Rattle.server_history.proofs.Coming.{look_list, look_does}
+use Rattle.host_boot.specs.Again.{BootsAgain, BootsStopped}
+use Rattle.host_boot.specs.declared.Booted.{Booted}
+use Rattle.host_boot.specs.declared.Found.{Found}
+use Rattle.port_boot.specs.States.{IsBootTo, IsOfBoot, StopsOnWay}
+use Rattle.ata_types.specs.declared.PortState.{PortState}
+use Rattle.ata_types.specs.declared.PortState.TheVariants as shown
+use Rattle.server_history.proofs.Rounds.{each_driven}
 
 -- ---- what recovery tells of the port's engine
 
@@ -93,7 +103,7 @@ slots_were laws port low done (e ∷ requests) old new k ready over (mid, one, i
 
 -- ---- the whole
 
--- What stands behind the turn, but for its steps: its accesses, what it leaves of the other ports, and its evidence. (Where a disk is in when the look shows a device, the machine had one in the port, or one went or came.)
+-- What stands behind the turn, but for its steps: its accesses, what it leaves of the other ports, and its evidence. (Where the port shows a disk after it, the machine had one in the port, or one went or came.)
 pub record IsEvident (port : Port) (replies : List Reply) (old new : Server) (r : MendsPort port replies old new) : Type 0 where
   pub parts : TurnParts port replies old new r
   pub accesses : List Access
@@ -107,7 +117,7 @@ pub record IsEvident (port : Port) (replies : List Reply) (old new : Server) (r 
   pub becomes : IsServiced (ports_of old) (evidence_by r.settled) (ports_of new) port
   pub evidenced : (m : Machine) → IsEvidencedOf Service (Served replies) accesses (instant_of old m) (ports_of new) new.device (evidence_by r.settled) port
   pub faults : (told : Fault) → Contains (evidence_by r.settled).faults told → TellsFault port accesses old new told
-  pub had : ((r.settled.mended.seen.port port.0).ssts_det ≡ 3 → (r.settled.mended.seen.port port.0).present ≡ true) → (m : Machine) → IsMachineOf old m → (steps : List Step) → IsBacked old.device new.device m steps
+  pub had : (m : Machine) → IsMachineOf old m → (steps : List Step) → IsBacked old.device new.device m steps
       → HadDisk (moment_of old m) steps (moment_of new (after m steps)) port
 
 module _ (laws : LawsBelow) (port : Port) (replies : List Reply) (old new : Server) (k : IsKept old) (ready : state_of (found_of old.ports port.0) ≡ ReadyState) (r : MendsPort port replies old new)
@@ -154,19 +164,60 @@ module _ (laws : LawsBelow) (port : Port) (replies : List Reply) (old new : Serv
   undue : (old.device.port port.0).link_due ≡ false
   undue = ((k.behind port.0 low).runs ready).recorded.linked
 
-  has_errors : (m : Machine) → HasErrors port (instant_of old m) new.device
-  has_errors m = (ready, errors_shown laws port x.look old.device x.seen x.looks k.on mending new.device grown_read)
+  failed_all : ShowsFailure (old.device.port port.0) → Contains (failed_of port x.look (old.device.port port.0)) port
+  failed_all shows = by x.look
+    where
+      by : (l : Look) → Contains (failed_of port l (old.device.port port.0)) port
+      by Lost = is_named_if (shows_failure (old.device.port port.0)) port (failure_shows (old.device.port port.0) shows)
+      by Failed = first_here port []
+      by Broken = first_here port []
+      by Undisturbed = first_here port []
 
-  fatal_all : ShowsFatal (old.device.port port.0) → Contains (fatal_of port x.look) port
-  fatal_all fatal = ⊎_elim
-      (λ failed. absurd (no_fatal laws port x.look old.device x.seen x.looks k.on failed fatal))
-      (λ broken. subst (λ (l : Look). Contains (fatal_of port l) port) (sym broken) (first_here port []))
+  failed_only : (m : Machine) → Contains (failed_of port x.look (old.device.port port.0)) port → HasErrors port (instant_of old m) new.device
+  failed_only m here = ⊎_elim
+      (λ failed. (ready, errors_shown laws port x.look old.device x.seen x.looks k.on (inl failed) new.device grown_read))
+      (λ rest. ⊎_elim
+      (λ broken. (ready, errors_shown laws port x.look old.device x.seen x.looks k.on (inr broken) new.device grown_read))
+      (λ lost. (ready, inl (unfailed (old.device.port port.0) (named_if_is (shows_failure (old.device.port port.0)) port (subst (λ (l : Look). Contains (failed_of port l (old.device.port port.0)) port) lost here)))))
+      rest)
       mending
 
-  fatal_only : (m : Machine) → Contains (fatal_of port x.look) port → HasFatalErrors port (instant_of old m) new.device
+  -- ---- a loss
+
+  loss : x.look ≡ Lost → ShowsChange (old.device.port port.0) ⊎ (((old.device.port port.0).ssts_det ≢ 3) ⊎ Gains (IsPlugging port.0) old.device new.device)
+  loss lost = loss_shown laws port x.look old.device x.seen x.looks k.on lost undue new.device grown_seen
+
+  gone_all : ShowsLoss port old.device new.device → Contains (gone_of port x.look) port
+  gone_all shows = ⊎_elim
+      (λ lost. subst (λ (l : Look). Contains (gone_of port l) port) (sym lost) (first_here port []))
+      (λ other. absurd (⊎_elim (no_change laws port x.look old.device x.seen x.looks k.on other) (λ missing. not_missing laws port x.look old.device x.seen x.looks k.on other new.device grown_seen undue missing.0 missing.1) shows))
+      (lost_or_not x.look)
+
+  pub gone_is : Contains (gone_of port x.look) port → x.look ≡ Lost
+  gone_is here = by x.look refl
+    where
+      by : (l : Look) → x.look ≡ l → x.look ≡ Lost
+      by Lost is = is
+      by Failed is = absurd (nowhere port (subst (λ (l : Look). Contains (gone_of port l) port) is here))
+      by Broken is = absurd (nowhere port (subst (λ (l : Look). Contains (gone_of port l) port) is here))
+      by Undisturbed is = absurd (nowhere port (subst (λ (l : Look). Contains (gone_of port l) port) is here))
+
+  fatal_all : ShowsFatal (old.device.port port.0) → Contains (fatal_of port x.look (old.device.port port.0)) port
+  fatal_all fatal = ⊎_elim
+      (λ failed. absurd (no_fatal laws port x.look old.device x.seen x.looks k.on failed fatal))
+      (λ rest. ⊎_elim
+      (λ broken. subst (λ (l : Look). Contains (fatal_of port l (old.device.port port.0)) port) (sym broken) (first_here port []))
+      (λ lost. subst (λ (l : Look). Contains (fatal_of port l (old.device.port port.0)) port) (sym lost) (is_named_if (shows_fatal (old.device.port port.0)) port (fatal_shows (old.device.port port.0) fatal)))
+      rest)
+      mending
+
+  fatal_only : (m : Machine) → Contains (fatal_of port x.look (old.device.port port.0)) port → HasFatalErrors port (instant_of old m) new.device
   fatal_only m here = ⊎_elim
-      (λ failed. absurd (nowhere port (subst (λ (l : Look). Contains (fatal_of port l) port) failed here)))
+      (λ failed. absurd (nowhere port (subst (λ (l : Look). Contains (fatal_of port l (old.device.port port.0)) port) failed here)))
+      (λ rest. ⊎_elim
       (λ broken. (ready, fatal_shown laws port x.look old.device x.seen x.looks k.on broken new.device grown_read))
+      (λ lost. (ready, inl (unfatal (old.device.port port.0) (named_if_is (shows_fatal (old.device.port port.0)) port (subst (λ (l : Look). Contains (fatal_of port l (old.device.port port.0)) port) lost here)))))
+      rest)
       mending
 
   -- a dead port's engine was awaited in vain, at last
@@ -177,7 +228,7 @@ module _ (laws : LawsBelow) (port : Port) (replies : List Reply) (old new : Serv
       by (next.Running token) is = t.stuck dead (λ e. let z : next.Running token ≡ next.Dead = sym is ∙ e in cc)
       by (next.Restart token) is = t.stuck dead (λ e. let z : next.Restart token ≡ next.Dead = sym is ∙ e in cc)
       by next.Dead is =
-          let still : IsFoundAfter (wanted_of old.wanted port.0) port a.was next.Dead a.device r.mid.device a.found = subst (λ (n : Next). IsFoundAfter (wanted_of old.wanted port.0) port a.was n a.device r.mid.device a.found) is a.is in
+          let still : IsFoundAfter (wanted_of old.wanted port.0) port x.look a.was next.Dead a.device r.mid.device a.found = subst (λ (n : Next). IsFoundAfter (wanted_of old.wanted port.0) port x.look a.was n a.device r.mid.device a.found) is a.is in
           ap (λ (s : Server). (s.device.port port.0).notes.engine_count) (t.unissued dead) ∙ ap (λ (d : Device). (d.port port.0).notes.engine_count) still.1
           ∙ ends_stuck laws port [] [] [] x.queued x.result.next a.mid.device a.device x.mends.leaves.ends is
 
@@ -185,15 +236,18 @@ module _ (laws : LawsBelow) (port : Port) (replies : List Reply) (old new : Serv
   evidenced m = record {
     lost = λ here.
         let other = lost_is port a.prospect here in
-        let e : IsProspect a.was a.found DiskLost = subst (IsProspect a.was a.found) other a.expects in
-        inr (inr (inr (
+        let e : IsProspect x.look a.was a.found DiskLost = subst (IsProspect x.look a.was a.found) other a.expects in
+        ⊎_elim
+        (λ lost. ⊎_elim (λ change. inl change) (λ more. inr (⊎_elim (λ out. inl out) (λ came. inr (inl came)) more)) (loss lost))
+        (λ another. inr (inr (inr (
           (λ dead. e.0 (dead_found laws port replies old new k ready r looks kept dead)),
-          (λ is same. let i = ready_info laws port replies old new k ready r looks kept is in e.1 i.0 i.1 (disk_same laws port replies old new k ready r looks kept i.0 i.1 same)),
-        )));
-    gone_all = λ _ loss. absurd (⊎_elim (no_change laws port x.look old.device x.seen x.looks k.on mending) (λ missing. not_missing laws port x.look old.device x.seen x.looks k.on mending new.device grown_seen undue missing.0 missing.1) loss);
-    gone_only = λ here. absurd (nowhere port here);
-    failed_all = λ _ _. first_here port [];
-    failed_only = λ _. has_errors m;
+          (λ is same. let i = ready_info laws port replies old new k ready r looks kept is in another i.0 i.1 (disk_same laws port replies old new k ready r looks kept i.0 i.1 same)),
+        ))))
+        e.1;
+    gone_all = λ _ shows. gone_all shows;
+    gone_only = λ here. (ready, loss (gone_is here));
+    failed_all = λ _ shows. failed_all shows;
+    failed_only = failed_only m;
     fatal_all = λ _ fatal. fatal_all fatal;
     fatal_only = fatal_only m;
     stopped_all = inr (interrupted laws port replies old new k ready r looks kept);
@@ -210,8 +264,8 @@ module _ (laws : LawsBelow) (port : Port) (replies : List Reply) (old new : Serv
     runs_then : x.queued ≡ true → (a.found ≡ Ready a.was) × (r.mid.device ≡ a.device)
     runs_then queued = by x.result.next refl
       where
-        then_is : (then : Next) → x.result.next ≡ then → IsFoundAfter (wanted_of old.wanted port.0) port a.was then a.device r.mid.device a.found
-        then_is then is = subst (λ (n : Next). IsFoundAfter (wanted_of old.wanted port.0) port a.was n a.device r.mid.device a.found) is a.is
+        then_is : (then : Next) → x.result.next ≡ then → IsFoundAfter (wanted_of old.wanted port.0) port x.look a.was then a.device r.mid.device a.found
+        then_is then is = subst (λ (n : Next). IsFoundAfter (wanted_of old.wanted port.0) port x.look a.was n a.device r.mid.device a.found) is a.is
 
         by : (then : Next) → x.result.next ≡ then → (a.found ≡ Ready a.was) × (r.mid.device ≡ a.device)
         by (next.Running token) is = then_is (next.Running token) is
@@ -257,19 +311,77 @@ module _ (laws : LawsBelow) (port : Port) (replies : List Reply) (old new : Serv
   faults : (told : Fault) → Contains (faults_of a.failed) told → TellsFault port (accesses_in t) old new told
   faults told here = by a.failed refl here
     where
-      by_failure : (failed : Failed) → a.failed ≡ Some failed → (o : Option Failure) → x.result.failed ≡ o → IsFailed (slots_at a.mid.slots port.0) o a.failed
+      by_failure : (failed : failed_request.Failed) → a.failed ≡ Some failed → (o : Option Failure) → x.result.failed ≡ o → IsFailed (slots_at a.mid.slots port.0) o a.failed
           → TellsFault port (accesses_in t) old new (record { id = failed.id; status = failed.status; error = failed.error })
       by_failure failed is None none names = let z : Some failed ≡ None = sym is ∙ names in absurd cc
       by_failure failed is (Some its_failure) named names =
           let same : failed ≡ record { id = names.0.id; status = its_failure.status; error = its_failure.error } = (let z : Some failed ≡ Some (record { id = names.0.id; status = its_failure.status; error = its_failure.error }) = sym is ∙ names.2 in cc) in
-          subst (λ (f : Failed). TellsFault port (accesses_in t) old new (record { id = f.id; status = f.status; error = f.error })) (sym same) (tells_named its_failure named names.0 names.1)
+          subst (λ (f : failed_request.Failed). TellsFault port (accesses_in t) old new (record { id = f.id; status = f.status; error = f.error })) (sym same) (tells_named its_failure named names.0 names.1)
 
-      by : (f : Option Failed) → a.failed ≡ f → Contains (faults_of a.failed) told → TellsFault port (accesses_in t) old new told
-      by None is there = absurd (nowhere told (subst (λ (o : Option Failed). Contains (faults_of o) told) is there))
+      by : (f : Option failed_request.Failed) → a.failed ≡ f → Contains (faults_of a.failed) told → TellsFault port (accesses_in t) old new told
+      by None is there = absurd (nowhere told (subst (λ (o : Option failed_request.Failed). Contains (faults_of o) told) is there))
       by (Some failed) is there =
           let fault : Fault = record { id = failed.id; status = failed.status; error = failed.error } in
-          let same : told ≡ fault = ⊎_elim (λ e. e) (λ none. absurd (nowhere told none)) (contains_cases fault [] told (subst (λ (o : Option Failed). Contains (faults_of o) told) is there)) in
+          let same : told ≡ fault = ⊎_elim (λ e. e) (λ none. absurd (nowhere told none)) (contains_cases fault [] told (subst (λ (o : Option failed_request.Failed). Contains (faults_of o) told) is there)) in
           subst (TellsFault port (accesses_in t) old new) (sym same) (by_failure failed is x.result.failed refl a.names)
+
+  -- ---- disks
+
+  -- where a device showed at a moment of the turn, a disk was in
+  own_at : (accesses : List Access) (d : Device) → DoesAll accesses old.device d → (d.port port.0).ssts_det ≡ 3 → (d.port port.0).present ≡ true
+  own_at accesses d does = laws.recovery.own_on port.0 accesses old.device d does ((k.behind port.0 low).own ready)
+
+  had_at : (accesses : List Access) (d : Device) → DoesAll accesses old.device d → (d.port port.0).ssts_det ≡ 3 → Grows d new.device → (m : Machine) → IsMachineOf old m → (steps : List Step) → IsBacked old.device new.device m steps
+      → (m.present port ≡ true) ⊎ (list_any (changes_disk port) steps ≡ true)
+  had_at accesses d does shows grows m is steps backed = had_disk laws port old d new.device m accesses does (own_at accesses d does shows) is grows steps backed
+
+  grown_issuing : Grows r.mid.device new.device
+  grown_issuing = let issued = each_driven laws port (due_ids (mode_in r.mid port) port (asks_of r.mid.book)) r.mid new r.issued in grown issued.accesses r.mid.device new.device issued.all
+
+  boots_grow : {booted : Booted} (b : BootsAgain (wanted_of old.wanted port.0) port booted a.device r.mid.device) → Grows b.asked r.mid.device
+  boots_grow {booted} b = let made = by booted.found b.boots in grown made.accesses b.asked r.mid.device made.all
+    where
+      by : (f : Found) → BootsStopped (wanted_of old.wanted port.0) port f b.asked r.mid.device → IsDrivenBy (IsOfBoot port) b.asked r.mid.device
+      by Unserved none = absurd none
+      by (Ready info) e = e.boots.followed.driven
+      by (Unready state) e = boots_driven state e.boots
+        where
+          boots_driven : (s : PortState) → IsBootTo (StopsOnWay port s) port s b.asked r.mid.device → IsDrivenBy (IsOfBoot port) b.asked r.mid.device
+          boots_driven DeadState (inl told) = told.followed.driven
+          boots_driven DeadState (inr told) = told.followed.driven
+          boots_driven shown.Absent told = told.followed.driven
+          boots_driven ReadyState told = told.followed.driven
+          boots_driven shown.Foreign told = told.followed.driven
+          boots_driven (shown.Unfit n) told = told.followed.driven
+
+  had_seen : (x.look ≡ Failed) ⊎ (x.look ≡ Broken) → (m : Machine) → IsMachineOf old m → (steps : List Step) → IsBacked old.device new.device m steps → (m.present port ≡ true) ⊎ (list_any (changes_disk port) steps ≡ true)
+  had_seen error = had_at (look_list port x.looks.causes x.looks.own x.looks.status) x.seen (look_does port _ old.device x.seen x.looks) (shows_device laws port old.device x.seen x.look x.looks k.on error) grown_seen
+
+  had : (m : Machine) → IsMachineOf old m → (steps : List Step) → IsBacked old.device new.device m steps → HadDisk (moment_of old m) steps (moment_of new (after m steps)) port
+  had m stands steps backed shows = ⊎_elim
+      (λ failed. had_seen (inl failed) m stands steps backed)
+      (λ rest. ⊎_elim (λ broken. had_seen (inr broken) m stands steps backed) (λ lost. by lost x.result.next refl) rest)
+      mending
+    where
+      shows_found : ShowsDisk (state_of a.found)
+      shows_found = subst ShowsDisk (state_new laws port replies old new k ready r looks kept) shows
+
+      by : x.look ≡ Lost → (n : Next) → x.result.next ≡ n → (m.present port ≡ true) ⊎ (list_any (changes_disk port) steps ≡ true)
+      by lost (next.Running token) is = absurd ((given_up x.look port x.outstanding x.queued x.result x.mends.accesses a.mid.device a.device x.tells (λ failed. let z : Lost ≡ Failed = sym lost ∙ failed in cc)).1 token is)
+      by lost next.Dead is = absurd (subst (λ (f : Found). ShowsDisk (state_of f)) (next_dead laws port replies old new k ready r looks kept is) shows_found)
+      by lost (next.Restart token) is = ⊎_elim
+          (λ boots.
+          had_at (t.early.accesses ++ (part ++ boots.0.asks.driven.accesses)) boots.0.asked
+          (laws.basic.does_append t.early.accesses (part ++ boots.0.asks.driven.accesses) old.device a.mid.device boots.0.asked t.early.all (laws.basic.does_append part boots.0.asks.driven.accesses a.mid.device a.device boots.0.asked t.does boots.0.asks.driven.all))
+          boots.1
+          (laws.looks.grows_more boots.0.asked r.mid.device new.device (boots_grow boots.0) grown_issuing)
+          m stands steps backed)
+          (λ absent. absurd (subst (λ (f : Found). ShowsDisk (state_of f)) (sym after.1 ∙ absent.0) shows_found))
+          after.2
+        where
+          after : IsFoundAfter (wanted_of old.wanted port.0) port Lost a.was (next.Restart token) a.device r.mid.device a.found
+          after = subst (λ (l : Look). IsFoundAfter (wanted_of old.wanted port.0) port l a.was (next.Restart token) a.device r.mid.device a.found) lost
+              (subst (λ (n : Next). IsFoundAfter (wanted_of old.wanted port.0) port x.look a.was n a.device r.mid.device a.found) is a.is)
 
   -- ---- all of it
 
@@ -292,5 +404,5 @@ module _ (laws : LawsBelow) (port : Port) (replies : List Reply) (old new : Serv
     becomes = becomes laws port replies old new k ready r looks kept;
     evidenced = evidenced;
     faults = faults;
-    had = λ own m is steps backed shows. had_disk laws port old x.seen new.device m k.on x.look x.looks mending own is grown_seen steps backed;
+    had = had;
   }

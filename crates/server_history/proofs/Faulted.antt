@@ -1,5 +1,5 @@
 -- What a look that tells of an error says of the port when the turn began.
-use Rattle.std.proofs.Common.{ℕ, Bool, ◌≡◌, ◌≢◌, ◌%◌, ◌⊎◌, ◌≤◌, ◌++◌, ◌||◌, true, false, List, [], ◌∷◌, append_assoc, inl, inr, refl, sym, ap, ◌∙◌, arith, ⊎_elim}
+use Rattle.std.proofs.Common.{ℕ, Bool, ◌≡◌, ◌≢◌, ◌%◌, ◌⊎◌, ◌≤◌, ◌++◌, ◌||◌, true, false, List, [], ◌∷◌, append_assoc, inl, inr, refl, sym, ap, ◌∙◌, subst, arith, ⊎_elim}
 use Rattle.std.specs.List.{All, Contains}
 use Rattle.std.proofs.lemmas.Bool.{cases_Bool, cases_eq, false≢true, or_cases}
 use Rattle.std.proofs.lemmas.List.Elements.{All-cons, All-nil, Contains-append_left}
@@ -17,7 +17,7 @@ use Rattle.adapter.specs.declared.tape.Entry.TheVariants as entry
 use Rattle.agreement.specs.Driven.{Grows}
 use Rattle.agreement.specs.Errors.{IsFatalOf, NoneComes}
 use Rattle.agreement.specs.Facts.{IsFaultOf}
-use Rattle.agreement.specs.Links.{SparesRegister}
+use Rattle.agreement.specs.Links.{IsPlugging, SparesRegister}
 use Rattle.block_machine.proofs.Members.{contains_there}
 use Rattle.driver_history.specs.Evidence.{Gains, ShowsChange, ShowsFailure}
 use Rattle.error_recovery.specs.Evidence.{ShowsFatal}
@@ -27,7 +27,7 @@ use Rattle.port_look.specs.Looks.{LooksAt, look_of}
 use Rattle.port_look.specs.declared.Look.{Look}
 use Rattle.port_look.specs.declared.Look.TheVariants.{Broken, Failed, Lost, Undisturbed}
 use Rattle.server_history.specs.Below.{LawsBelow}
-use Rattle.server_history.specs.Mended.{LeadsToMending, TellsMending}
+use Rattle.server_history.specs.Mended.{EndsGivenUp, LeadsToMending, TellsMending}
 use Rattle.server_history.proofs.Told.{fatal_shows}
 use Rattle.server_history.proofs.Lists.{first_here}
 
@@ -50,6 +50,15 @@ is_fatal port (entry.Plug at name) = inr (λ is. is)
 is_fatal port (entry.Move x) = inr (λ is. is)
 is_fatal port (entry.Clear x) = inr (λ is. is)
 is_fatal port (entry.Done x) = inr (λ is. is)
+
+is_plugging : (port : ℕ) (e : Entry) → IsPlugging port e ⊎ (IsPlugging port e → ⊥)
+is_plugging port (entry.Unplug at) = cases_eq at.0 port
+is_plugging port (entry.Plug at name) = cases_eq at.0 port
+is_plugging port (entry.Fatal x) = inr (λ is. is)
+is_plugging port (entry.Fault x) = inr (λ is. is)
+is_plugging port (entry.Move x) = inr (λ is. is)
+is_plugging port (entry.Clear x) = inr (λ is. is)
+is_plugging port (entry.Done x) = inr (λ is. is)
 
 -- of a kind that is told from others, an entry is among these, or none is
 pub one_or_none : (Such : Entry → Type 0) → ((e : Entry) → Such e ⊎ (Such e → ⊥)) → (gained : List Entry) → ((e : Entry) × Contains gained e × Such e) ⊎ All (λ e. Such e → ⊥) gained
@@ -77,9 +86,23 @@ gains_more Such old mid new grows g = record {
 pub leads : (look : Look) (port : Port) (outstanding : ℕ) (queued : Bool) (result : Recovered) (accesses : List Access) (old new : Device)
     → TellsMending look port outstanding queued result accesses old new → LeadsToMending look
 leads Failed port outstanding queued result accesses old new t = inl refl
-leads Broken port outstanding queued result accesses old new t = inr refl
-leads Lost port outstanding queued result accesses old new t = absurd t
+leads Broken port outstanding queued result accesses old new t = inr (inl refl)
+leads Lost port outstanding queued result accesses old new t = inr (inr refl)
 leads Undisturbed port outstanding queued result accesses old new t = absurd t
+
+-- no command is named, and the port doesn't run, unless a command had failed
+pub given_up : (look : Look) (port : Port) (outstanding : ℕ) (queued : Bool) (result : Recovered) (accesses : List Access) (old new : Device)
+    → TellsMending look port outstanding queued result accesses old new → look ≢ Failed → EndsGivenUp result
+given_up Failed port outstanding queued result accesses old new t other = absurd (other refl)
+given_up Broken port outstanding queued result accesses old new t other = t
+given_up Lost port outstanding queued result accesses old new t other = t
+given_up Undisturbed port outstanding queued result accesses old new t other = absurd t
+
+pub lost_or_not : (look : Look) → (look ≡ Lost) ⊎ (look ≢ Lost)
+lost_or_not Lost = inl refl
+lost_or_not Failed = inr (λ e. let z : Failed ≡ Lost = e in absurd cc)
+lost_or_not Broken = inr (λ e. let z : Broken ≡ Lost = e in absurd cc)
+lost_or_not Undisturbed = inr (λ e. let z : Undisturbed ≡ Lost = e in absurd cc)
 
 module _ (laws : LawsBelow) (port : Port) (look : Look) (old seen : Device) (l : LooksAt port look old seen) (on : IsOn old) where
   its : (told : Look) → look ≡ told → look_of l.causes l.status ≡ told
@@ -151,19 +174,9 @@ module _ (laws : LawsBelow) (port : Port) (look : Look) (old seen : Device) (l :
             (one_or_none (IsFatalOf port.0) (is_fatal port.0) grows.0)))
             (cases_Bool ((old.port port.0).is place))
 
-  -- ---- either
+  -- ---- no loss
 
-  module _ (mends : LeadsToMending look) where
-    not_lost : look ≡ Lost → ⊥
-    not_lost lost = ⊎_elim
-        (λ failed. let z : Failed ≡ Lost = sym failed ∙ lost in absurd cc)
-        (λ broken. let z : Broken ≡ Lost = sym broken ∙ lost in absurd cc)
-        mends
-
-    -- a device showed
-    pub shows_link : l.status % 16 ≡ 3
-    shows_link = ⊎_elim (λ failed. (laws.looking.looks_failed l.causes l.status (its Failed failed)).4) (λ broken. (laws.looking.looks_broken l.causes l.status (its Broken broken)).3) mends
-
+  module _ (not_lost : look ≢ Lost) where
     -- the link told of no change when the turn began
     pub no_change : ShowsChange (old.port port.0) → ⊥
     no_change change = not_lost (laws.looking.looks_changed port look old seen on l change)
@@ -173,9 +186,25 @@ module _ (laws : LawsBelow) (port : Port) (look : Look) (old seen : Device) (l :
     not_missing new later undue missing none =
         not_lost (laws.looking.looks_unlinked port look old seen on l missing undue (laws.looks.comes_parts port.0 old seen new looked.0 later.0 looked.1 later.1 none).0)
 
-    -- a failure was shown then, or came
-    pub errors_shown : (new : Device) → Grows l.seen new → ShowsFailure (old.port port.0) ⊎ (Gains (IsFaultOf port.0) old new ⊎ Gains (IsFatalOf port.0) old new)
-    errors_shown new later = ⊎_elim
-        (λ failed. ⊎_elim (λ is. inl (inr is)) (λ came. inr (inl came)) (fault_shown failed new later))
-        (λ broken. ⊎_elim (λ is. inl (inl is)) (λ came. inr (inr came)) (fatal_shown broken new later))
-        mends
+  -- where it told an error, a device showed
+  pub shows_link : (look ≡ Failed) ⊎ (look ≡ Broken) → l.status % 16 ≡ 3
+  shows_link error = ⊎_elim (λ failed. (laws.looking.looks_failed l.causes l.status (its Failed failed)).4) (λ broken. (laws.looking.looks_broken l.causes l.status (its Broken broken)).3) error
+
+  -- and a failure was shown when the turn began, or came
+  pub errors_shown : (look ≡ Failed) ⊎ (look ≡ Broken) → (new : Device) → Grows l.seen new → ShowsFailure (old.port port.0) ⊎ (Gains (IsFaultOf port.0) old new ⊎ Gains (IsFatalOf port.0) old new)
+  errors_shown error new later = ⊎_elim
+      (λ failed. ⊎_elim (λ is. inl (inr is)) (λ came. inr (inl came)) (fault_shown failed new later))
+      (λ broken. ⊎_elim (λ is. inl (inl is)) (λ came. inr (inr came)) (fatal_shown broken new later))
+      error
+
+  -- ---- a loss
+
+  -- it was there to tell when the turn began, or a disk went or came
+  pub loss_shown : look ≡ Lost → (old.port port.0).link_due ≡ false → (new : Device) → Grows seen new → ShowsChange (old.port port.0) ⊎ (((old.port port.0).ssts_det ≢ 3) ⊎ Gains (IsPlugging port.0) old new)
+  loss_shown lost undue new later = ⊎_elim
+      (λ change. inl change)
+      (λ more. inr (⊎_elim (λ out. inl out) (λ some. inr (⊎_elim
+      (λ found. gains_more (IsPlugging port.0) old seen new later (record { gained = looked.0; tape = looked.1; entry = found.0; here = found.1; is = found.2 }))
+      (λ none. absurd (some (record { gained = looked.0; tape = looked.1; none = none })))
+      (one_or_none (IsPlugging port.0) (is_plugging port.0) looked.0))) more))
+      (laws.looking.looks_loss port old seen on (subst (λ (told : Look). LooksAt port told old seen) lost l) undue)

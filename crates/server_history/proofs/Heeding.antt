@@ -17,7 +17,7 @@ use Rattle.adapter.specs.declared.tape.Entry.{Entry}
 use Rattle.agreement.specs.Driven.{IsDrivenBy, IsOf}
 use Rattle.agreement.specs.Errors.{IsFatalOf}
 use Rattle.agreement.specs.Facts.{IsFaultOf, ShowsNoTrouble}
-use Rattle.agreement.specs.Links.{IsPlugging, PlugsNone, SparesRegister}
+use Rattle.agreement.specs.Links.{IsPlugging, SparesRegister}
 use Rattle.agreement.proofs.Driven.{by_none, by_then, driven_as}
 use Rattle.block_machine.specs.Histories.{Instant}
 use Rattle.block_machine.specs.Ports.{Evidence, Ports}
@@ -27,10 +27,9 @@ use Rattle.driver_history.specs.Histories.{LosesNoTrouble}
 use Rattle.error_recovery.specs.Evidence.{GainsRunning, ShowsFatal}
 use Rattle.ncq.specs.Masks.{IsFinding}
 use Rattle.ncq.specs.Tasks.{IsIssuing}
-use Rattle.port_look.specs.Looks.{IsLooking, LooksAt}
-use Rattle.port_look.specs.declared.Look.{Look}
+use Rattle.port_look.specs.Looks.{IsLooking}
 use Rattle.port_look.specs.Services.{IsOrdinary}
-use Rattle.port_look.specs.declared.Look.TheVariants.{Lost, Undisturbed as Calm}
+use Rattle.port_look.specs.declared.Look.TheVariants.{Undisturbed as Calm}
 use Rattle.slots.specs.Uses.{Uses as PortSlots}
 use Rattle.server_history.specs.Below.{LawsBelow}
 use Rattle.server_history.specs.Served.{ChecksUsed, HasNone, HasTurn, IssuesIn}
@@ -144,11 +143,4 @@ module _ (laws : LawsBelow) where
     -- a look at such a port told nothing
     module _ (undue : (old.device.port port.0).link_due ≡ false) (asked : IsAskedOf port old new) where
       pub told_nothing : turn.look ≡ Calm
-      told_nothing = ⊎_elim
-          (λ calm. calm)
-          (λ lost.
-          let same : new ≡ turn.seen = (turn.told (λ calm. let z : Calm ≡ Lost = sym calm ∙ lost in cc)).1 in
-          absurd (⊎_elim asked.change
-          (λ more. ⊎_elim (λ out. out asked.device) (λ came. came (subst (PlugsNone port.0 old.device) same asked.plugged)) more)
-          (laws.looking.looks_loss port old.device turn.seen on (subst (λ (l : Look). LooksAt port l old.device turn.seen) lost turn.looks) undue)))
-          turn.quiet
+      told_nothing = turn.quiet

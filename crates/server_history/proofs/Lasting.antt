@@ -1,8 +1,8 @@
 -- A turn that mends its port loses no trouble: what came since ST was set is shown, where the port is ready then.
-use Rattle.std.proofs.Common.{ℕ, ◌≡◌, List, [], ◌∷◌, refl, sym, ap, ◌∙◌, subst, inl, ⊎_elim}
+use Rattle.std.proofs.Common.{ℕ, ◌≡◌, List, [], ◌∷◌, refl, sym, ap, ◌∙◌, subst, inl, ⊎_elim, ◌<◌}
 use Rattle.std.proofs.lemmas.List.Elements.{All-cons, All-nil, All-weaker}
 use Rattle.ata_types.specs.declared.Port.{Port}
-use Rattle.ata_types.specs.declared.PortState.TheVariants.{Dead as DeadState, Ready as ReadyState}
+use Rattle.ata_types.specs.declared.PortState.TheVariants.{Absent as AbsentState, Dead as DeadState, Ready as ReadyState}
 use Rattle.ata_types.specs.declared.request.Reply.{Reply}
 use Rattle.hba_regs.specs.declared.reg.PortReg.TheVariants.{Ci, Cmd, Ie, Is, Sact, Sctl, Serr}
 use Rattle.hba_regs.specs.declared.reg.Reg.{Reg}
@@ -20,11 +20,11 @@ use Rattle.error_recovery.specs.Evidence.{ShowsTrouble}
 use Rattle.error_recovery.specs.Recovery.{EndsIn, RunsAgain}
 use Rattle.error_recovery.specs.declared.Next.{Next}
 use Rattle.error_recovery.specs.declared.Next.TheVariants as next
-use Rattle.host_boot.specs.Again.{BootsAgain, BootsStopped, EndsReady}
-use Rattle.host_boot.specs.Taken.{IsSurvey, found_of, wanted_of}
+use Rattle.host_boot.specs.Again.{BootsAgain, BootsStopped, EndsReady, IsOfStart}
+use Rattle.host_boot.specs.Taken.{found_of, wanted_of}
 use Rattle.host_boot.specs.declared.Booted.{Booted}
 use Rattle.host_boot.specs.declared.Found.{Found}
-use Rattle.host_boot.specs.declared.Found.TheVariants.{Ready}
+use Rattle.host_boot.specs.declared.Found.TheVariants.{Ready, Unready}
 use Rattle.identify.specs.declared.DiskInfo.{DiskInfo}
 use Rattle.port_boot.specs.States.{GetsReady, IsOfBoot, told_causes}
 use Rattle.port_look.specs.Looks.{IsLooking}
@@ -36,12 +36,14 @@ use Rattle.server_history.specs.Server.{Server, IsKept, mode_in, ports_of, state
 use Rattle.server_history.specs.Turns.{instant_of}
 use Rattle.server_history.proofs.Becoming.{interrupted, next_dead, ready_info, state_new}
 use Rattle.server_history.proofs.Evident.{grown}
-use Rattle.server_history.proofs.Recovering.{IsEarlyPart, IsPart, survey_part}
+use Rattle.server_history.proofs.Recovering.{IsEarlyPart, IsPart, start_part}
 use Rattle.server_history.proofs.Recovery.{evidence_by}
 use Rattle.server_history.proofs.Resetting.{up_driven}
 use Rattle.server_history.proofs.Rounds.{each_driven}
 use Rattle.server_history.proofs.Showing.{LeavesTrouble, shown_more, shown_since, shows_over}
 use Rattle.server_history.proofs.Stretching.{TurnParts}
+use Rattle.server_history.proofs.Starting.{boots_or_absent}
+use Rattle.server_history.proofs.Slots.{ready_found}
 
 -- ---- accesses that leave what a port shows
 
@@ -97,6 +99,9 @@ module _ (laws : LawsBelow) (port : Port) (replies : List Reply) (old new : Serv
   abbrev x : IsMended port old a.mid a.device
   x = a.mended
 
+  low : port.0 < 4
+  low = (ready_found old port.0 k ready).0
+
   -- what is issued leaves what the port shows
   pub issuing : IsDrivenBy (LeavesTrouble port) r.mid.device new.device
   issuing = driven_as (IssuesIn port) (LeavesTrouble port) r.mid.device new.device (issuing_leaves port) (each_driven laws port (due_ids (mode_in r.mid port) port (asks_of r.mid.book)) r.mid new r.issued)
@@ -111,8 +116,8 @@ module _ (laws : LawsBelow) (port : Port) (replies : List Reply) (old new : Serv
 
   -- a port that runs again
   module _ (token : _) (is : x.result.next ≡ next.Running token) where
-    again_is : IsFoundAfter (wanted_of old.wanted port.0) port a.was (next.Running token) a.device r.mid.device a.found
-    again_is = subst (λ (n : Next). IsFoundAfter (wanted_of old.wanted port.0) port a.was n a.device r.mid.device a.found) is a.is
+    again_is : IsFoundAfter (wanted_of old.wanted port.0) port x.look a.was (next.Running token) a.device r.mid.device a.found
+    again_is = subst (λ (n : Next). IsFoundAfter (wanted_of old.wanted port.0) port x.look a.was n a.device r.mid.device a.found) is a.is
 
     pub again : RunsAgain x.queued port.0 a.mid.device a.device
     again = (subst (λ (n : Next). EndsIn x.queued port n a.mid.device a.device) is x.mends.leaves.ends).1
@@ -130,13 +135,22 @@ module _ (laws : LawsBelow) (port : Port) (replies : List Reply) (old new : Serv
     info = ready_info laws port replies old new k ready r looks kept is_ready
 
     pub again_booted : (booted : Booted) × (booted.found ≡ a.found) × BootsAgain (wanted_of old.wanted port.0) port booted a.device r.mid.device
-    again_booted = subst (λ (n : Next). IsFoundAfter (wanted_of old.wanted port.0) port a.was n a.device r.mid.device a.found) is a.is
+    again_booted =
+        let after : IsFoundAfter (wanted_of old.wanted port.0) port x.look a.was (next.Restart token) a.device r.mid.device a.found =
+        subst (λ (n : Next). IsFoundAfter (wanted_of old.wanted port.0) port x.look a.was n a.device r.mid.device a.found) is a.is in (
+          after.0,
+          after.1,
+          ⊎_elim
+              (λ (boots : BootsAgain (wanted_of old.wanted port.0) port after.0 a.device r.mid.device). boots)
+              (λ absent. let z : Unready AbsentState ≡ Ready info.0 = sym absent.is ∙ after.1 ∙ info.1 in absurd cc)
+              (boots_or_absent x.look (wanted_of old.wanted port.0) port after.0 a.device r.mid.device after.2),
+        )
 
     abbrev pub asked : Device
     asked = again_booted.2.asked
 
     pub asked_on : IsOn asked
-    asked_on = laws.of_on port a.device asked recovered_on (driven_as IsSurvey (IsOf port) a.device asked (λ access s. (survey_part port access s).1) again_booted.2.asks.driven)
+    asked_on = laws.of_on port a.device asked recovered_on (driven_as (IsOfStart port) (IsOf port) a.device asked (λ access s. (start_part laws port low access s).1) again_booted.2.asks.driven)
 
     pub ends_ready : EndsReady (wanted_of old.wanted port.0) port info.0 asked r.mid.device
     ends_ready = subst (λ (f : Found). BootsStopped (wanted_of old.wanted port.0) port f asked r.mid.device) (again_booted.1 ∙ info.1) again_booted.2.boots

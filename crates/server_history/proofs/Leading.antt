@@ -1,5 +1,5 @@
 -- What the device's steps lead to while a port is recovered, and booted where it has to be.
-use Rattle.std.proofs.Common.{ℕ, ◌≡◌, ◌≢◌, ◌++◌, List, [], ◌∷◌, inl, inr, refl, sym, ap, ◌∙◌, subst}
+use Rattle.std.proofs.Common.{ℕ, ◌≡◌, ◌≢◌, ◌++◌, List, [], ◌∷◌, inl, inr, refl, sym, ap, ◌∙◌, subst, ⊎_elim}
 use Rattle.std.specs.List.{Contains}
 use Rattle.std.proofs.lemmas.List.Elements.{Contains-append_right}
 use Rattle.ata_types.specs.declared.Port.{Port}
@@ -14,7 +14,7 @@ use Rattle.adapter.specs.Memory.{changed}
 use Rattle.adapter.proofs.Changed.{changed_other, changed_same}
 use Rattle.agreement.specs.Acts.{AnySlots, ByDeviceAlone, InSlots, Performs, at, steps_of}
 use Rattle.agreement.specs.Agrees.{AreApart}
-use Rattle.agreement.specs.Driven.{AnyUse, IsFollowedTo}
+use Rattle.agreement.specs.Driven.{IsFollowed, IsFollowedTo}
 use Rattle.agreement.specs.Driver.{AllFree, HasNoSlot, IsBacked, Known, Knows}
 use Rattle.agreement.specs.GivingUp.{given_up, served_ids}
 use Rattle.agreement.specs.Slots.{Free, Own, Serves, Use, Uses, put}
@@ -27,16 +27,17 @@ use Rattle.block_machine.specs.Steps.{Step}
 use Rattle.error_recovery.specs.Recovery.{LeavesSlots, with_own}
 use Rattle.error_recovery.specs.declared.Next.{Next}
 use Rattle.error_recovery.specs.declared.Next.TheVariants.{Running, Restart, Dead as Stuck}
-use Rattle.host_boot.specs.Again.{BootsStopped}
+use Rattle.host_boot.specs.Again.{BootsAgain, BootsStopped, IsOfStart}
 use Rattle.host_boot.specs.declared.Found.{Found}
 use Rattle.host_boot.specs.declared.Found.TheVariants.{Unserved, Ready, Unready}
 use Rattle.identify.specs.declared.DiskInfo.{DiskInfo}
 use Rattle.identify.specs.declared.wanted.Wanted.{Wanted}
 use Rattle.port_boot.specs.States.{IsBoot, IsBootTo, IsOfBoot, StopsOnWay}
 use Rattle.port_control.specs.Engines.{Sticks}
-use Rattle.host_boot.specs.Taken.{IsSurvey}
 use Rattle.server_history.specs.Below.{LawsBelow}
 use Rattle.server_history.specs.Mended.{IsFoundAfter}
+use Rattle.port_look.specs.declared.Look.{Look}
+use Rattle.server_history.proofs.Starting.{IsFoundAbsent, boots_or_absent}
 
 -- ---- steps of the device
 
@@ -172,32 +173,41 @@ module _ (laws : LawsBelow) (wanted : Wanted) (port : Port) (old mid new : Devic
         by Foreign boots = plainly (StopsOnWay port Foreign) boots Foreign
         by (Unfit cause) boots = plainly (StopsOnWay port (Unfit cause)) boots (Unfit cause)
 
-pub passed : LawsBelow → (wanted : Wanted) (port : Port) (was : DiskInfo) (way : Next) (accesses : List Access) (old mid new : Device) (found : Found) → LeavesSlots port.0 way accesses old mid → IsFoundAfter wanted port was way mid new found
+pub passed : LawsBelow → (wanted : Wanted) (port : Port) (told : Look) (was : DiskInfo) (way : Next) (accesses : List Access) (old mid new : Device) (found : Found) → LeavesSlots port.0 way accesses old mid → IsFoundAfter wanted port told was way mid new found
     → (s : InSlots) (m : Machine) → IsReached m → Knows m (at s old) → IsPassed port.0 way found old new s m
-passed laws wanted port was (Running token) accesses old mid new found performs (is, same) s m reached knows = record {
+passed laws wanted port told was (Running token) accesses old mid new found performs (is, same) s m reached knows = record {
   slots = given_up port.0 s;
   left = left_given laws port.0 s old (Running token) found;
   passes = subst (λ (d : Device). Passes (at s old) (at (given_up port.0 s) d) m) (sym same) (passes_performs laws accesses (given_up port.0) old mid performs s m reached knows);
 }
-passed laws wanted port was (Restart token) accesses old mid new found performs (its, is, again) s m reached knows =
-    subst (λ (f : Found). IsPassed port.0 (Restart token) f old new s m) is
-    (booted laws wanted port old again.asked new s m reached knows
-    (passes_then laws (at s old) (at (given_up port.0 s) mid) (at (given_up port.0 s) again.asked) m x (passes_followed IsSurvey AnyUse (λ uses. uses) mid again.asked again.asks (given_up port.0 s) (after m x.steps) tt (laws.basic.reached m x.steps reached x.may) x.knows))
-    (Restart token) its.found again.boots)
+passed laws wanted port told was (Restart token) accesses old mid new found performs (its, is, again) s m reached knows =
+    subst (λ (f : Found). IsPassed port.0 (Restart token) f old new s m) is (⊎_elim
+    (λ (b : BootsAgain wanted port its mid new). booted laws wanted port old b.asked new s m reached knows (started b.asked b.asks) (Restart token) its.found b.boots)
+    (λ (absent : IsFoundAbsent wanted port its.found mid new). record {
+      slots = given_up port.0 s;
+      left = left_given laws port.0 s old (Restart token) its.found;
+      passes = started new absent.starts;
+    })
+    (boots_or_absent told wanted port its mid new again))
   where
     x : Passes (at s old) (at (given_up port.0 s) mid) m
     x = passes_performs laws accesses (given_up port.0) old mid performs s m reached knows
-passed laws wanted port was Stuck accesses old mid new found (inl performs) (is, same) s m reached knows = record {
+
+    started : (d : Device) → IsFollowed (IsOfStart port) (λ uses. AllFree uses port.0) mid d → Passes (at s old) (at (given_up port.0 s) d) m
+    started d asks =
+        passes_then laws (at s old) (at (given_up port.0 s) mid) (at (given_up port.0 s) d) m x
+        (passes_followed (IsOfStart port) (λ uses. AllFree uses port.0) (λ uses. uses) mid d asks (given_up port.0 s) (after m x.steps) (free_then laws port.0 s old) (laws.basic.reached m x.steps reached x.may) x.knows)
+passed laws wanted port told was Stuck accesses old mid new found (inl performs) (is, same) s m reached knows = record {
   slots = s;
   left = left_stuck laws port.0 s old found is;
   passes = subst (λ (d : Device). Passes (at s old) (at s d) m) (sym same) (passes_performs laws accesses (λ s. s) old mid performs s m reached knows);
 }
-passed laws wanted port was Stuck accesses old mid new found (inr (inl performs)) (is, same) s m reached knows = record {
+passed laws wanted port told was Stuck accesses old mid new found (inr (inl performs)) (is, same) s m reached knows = record {
   slots = given_up port.0 s;
   left = left_given laws port.0 s old Stuck found;
   passes = subst (λ (d : Device). Passes (at s old) (at (given_up port.0 s) d) m) (sym same) (passes_performs laws accesses (given_up port.0) old mid performs s m reached knows);
 }
-passed laws wanted port was Stuck accesses old mid new found (inr (inr performs)) (is, same) s m reached knows = record {
+passed laws wanted port told was Stuck accesses old mid new found (inr (inr performs)) (is, same) s m reached knows = record {
   slots = with_own port.0 ReadLog (given_up port.0 s);
   left = left_own laws port.0 s old Stuck found ReadLog is;
   passes = subst (λ (d : Device). Passes (at s old) (at (with_own port.0 ReadLog (given_up port.0 s)) d) m) (sym same)

@@ -72,3 +72,5 @@ pub mod Mending
 pub mod Minding
 pub mod Binding
 pub mod Lists
+pub mod Starting
+pub mod Seen

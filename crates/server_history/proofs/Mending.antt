@@ -15,7 +15,6 @@ use Rattle.block_machine.specs.declared.due.Mode.{Mode}
 use Rattle.host_boot.specs.Taken.{found_of}
 use Rattle.host_boot.specs.declared.Found.TheVariants.{Ready}
 use Rattle.identify.specs.declared.DiskInfo.{DiskInfo}
-use Rattle.port_boot.specs.States.{ShowsOwnDisk}
 use Rattle.port_look.specs.Looks.{IsLooking}
 use Rattle.request_queue.specs.Entries.{Held, asks, asks_of, due_ids}
 use Rattle.server_history.specs.Below.{LawsBelow}
@@ -27,7 +26,6 @@ use Rattle.server_history.proofs.Deciding.{recovered_decides}
 use Rattle.server_history.proofs.Evident.{IsEvident, evident}
 use Rattle.server_history.proofs.Finding.{found_by_masks}
 use Rattle.server_history.proofs.Following.{adds_fates}
-use Rattle.server_history.proofs.Looking.{looking_kept}
 use Rattle.server_history.proofs.Recovered.{recovered_kept}
 use Rattle.server_history.proofs.Rounds.{each_apart, each_settings, settled}
 use Rattle.server_history.proofs.Slots.{of_ready, ready_found}
@@ -62,10 +60,6 @@ module _ (laws : LawsBelow) (port : Port) (replies : List Reply) (old new : Serv
   e : IsEvident port replies old new r
   e = evident laws port replies old new k ready r looks kept
 
-  -- where the port showed a device when it was looked at, a disk was in
-  own : ShowsOwnDisk (r.settled.mended.seen.port port.0)
-  own = ((looking_kept old r.settled.mended.seen port k ready laws looks).behind port.0 (ready_found old port.0 k ready).0).own ready
-
   makes : (m : Machine) → IsReached m → IsMachineOf old m → MakesTurn port replies e.accesses old new m
   makes m reached is =
       let d = recovered_decides laws port replies old new k ready r looks kept m reached is in
@@ -84,7 +78,7 @@ module _ (laws : LawsBelow) (port : Port) (replies : List Reply) (old new : Serv
         tells = d.tells;
         unplugs = d.unplugs;
         becomes = e.becomes;
-        disk = inr (e.had own m is d.steps d.backed);
+        disk = inr (e.had m is d.steps d.backed);
         keeps = d.keeps;
         issues = d.issues;
         evidenced = e.evidenced m;

@@ -13,8 +13,9 @@ use Rattle.ata_types.specs.declared.request.Outcome.{Outcome}
 use Rattle.ata_types.specs.declared.request.Outcome.TheVariants as outcome
 use Rattle.ata_types.specs.declared.request.Reply.{Reply}
 use Rattle.ata_types.specs.declared.request.RequestId.{RequestId}
+use Rattle.adapter.specs.Device.{PortState as DevicePort}
 use Rattle.agreement.specs.Driven.{AnyUse, IsFollowed}
-use Rattle.block_machine.specs.Events.{IsIssuedIn, NoneKeepsIssue, ServesReady, answers_of, issues_it, tells_fault}
+use Rattle.block_machine.specs.Events.{IsDisturbed, IsIssuedIn, NoneKeepsIssue, ServesReady, answers_of, issues_it, tells_fault}
 use Rattle.block_machine.specs.Histories.{IsReached}
 use Rattle.block_machine.specs.Left.{after}
 use Rattle.block_machine.specs.State.{Machine, Pending}
@@ -22,33 +23,32 @@ use Rattle.block_machine.specs.Steps.{Answer, Issue, Step, at, issue}
 use Rattle.block_machine.specs.declared.due.Mode.{Mode}
 use Rattle.block_machine.proofs.Members.{at_cases, contains_cases, contains_here, contains_there, map_in}
 use Rattle.host_boot.specs.Taken.{found_of}
-use Rattle.port_boot.specs.States.{ShowsOwnDisk}
-use Rattle.error_log.specs.declared.Failure.{Failure}
 use Rattle.port_look.specs.Looks.{IsLooking}
 use Rattle.port_look.specs.declared.Look.{Look}
-use Rattle.port_look.specs.declared.Look.TheVariants.{Broken}
+use Rattle.port_look.specs.declared.Look.TheVariants.{Broken, Failed, Lost, Undisturbed}
 use Rattle.request_queue.specs.Entries.{Held}
 use Rattle.request_queue.specs.Fates.{fate_of}
 use Rattle.request_queue.specs.Machine.{IsEntry}
-use Rattle.request_queue.specs.declared.fate.Failed.{Failed}
+use Rattle.request_queue.specs.declared.fate.Failed as failed_request
 use Rattle.request_queue.specs.declared.fate.Fate.TheVariants.{Ends}
 use Rattle.slots.specs.Uses.{Uses as PortSlots, use_at}
 use Rattle.server_history.specs.Below.{LawsBelow}
-use Rattle.server_history.specs.Mended.{HasMetFates, IsFailed, MendsPort, TellsMending, requests_of}
+use Rattle.server_history.specs.Mended.{HasMetFates, MendsPort, requests_of}
 use Rattle.server_history.specs.Served.{IssuesOnly, answers_in}
-use Rattle.server_history.specs.Server.{Server, IsKept, IsMachineOf, mode_in, no_slots, slots_at, state_of, used_for}
+use Rattle.server_history.specs.Server.{Server, IsKept, IsMachineOf, mode_in, no_slots, state_of, used_for}
 use Rattle.server_history.specs.Turns.{IsOfTurn, moment_of}
 use Rattle.server_history.proofs.Answered.{answered_in, no_answer, no_answer_issuing}
 use Rattle.server_history.proofs.Becoming.{interrupted}
-use Rattle.server_history.proofs.Deciding.{DecidesTurn}
-use Rattle.server_history.proofs.Evident.{IsEvident}
+use Rattle.server_history.proofs.Deciding.{DecidesTurn, failed_named, nobody}
+use Rattle.server_history.proofs.Evident.{IsEvident, gone_is}
 use Rattle.server_history.proofs.Finding.{heeding}
 use Rattle.server_history.proofs.Following.{mid_kept}
 use Rattle.server_history.proofs.Ordering.{AreDifferent, answered_id, still_differ, told_differ}
 use Rattle.server_history.proofs.Joined.{answers_there}
 use Rattle.server_history.proofs.Reasons.{Why, why}
-use Rattle.server_history.proofs.Faulted.{leads}
-use Rattle.server_history.proofs.Recovery.{evidence_by, fatal_of, until_issues}
+use Rattle.server_history.proofs.Faulted.{lost_or_not}
+use Rattle.server_history.proofs.Recovery.{evidence_by, failed_of, fatal_of, gone_of, is_named_if, named_if_is, until_issues}
+use Rattle.server_history.proofs.Told.{failure_shows, shows_failure, shows_fatal, unfatal}
 use Rattle.server_history.proofs.Rounds.{issued_late}
 use Rattle.server_history.proofs.Slots.{HasSlot, issued_has, of_ready, ready_found}
 use Rattle.server_history.proofs.Zips.{at_right}
@@ -153,7 +153,7 @@ one_told port id (step ∷ steps) differ its =
 
 -- ---- the whole
 
-abbrev failed_id : Option Failed → ℕ
+abbrev failed_id : Option failed_request.Failed → ℕ
 failed_id None = 0
 failed_id (Some failed) = failed.id.0
 
@@ -263,28 +263,44 @@ module _ (laws : LawsBelow) (port : Port) (replies : List Reply) (old new : Serv
   single : count_by (tells_fault port) d.steps ≤ 1
   single = let one = one_told port (failed_id a.failed) d.fates.fates differ named in let c = counted in omega (arith, one, c)
 
-  fatal : Contains (fatal_of port a.mended.look) port → count_by (tells_fault port) d.steps ≡ 0
-  fatal here = ⊎_elim
-      (λ failed. absurd (nowhere port (subst (λ (l : Look). Contains (fatal_of port l) port) failed here)))
-      (λ broken. counted ∙ untold (nobody broken))
-      (leads a.mended.look port a.mended.outstanding a.mended.queued a.mended.result a.mended.mends.accesses a.mid.device a.device a.mended.tells)
+  abbrev shown : DevicePort
+  shown = old.device.port port.0
+
+  -- an error that was fatal was a failure
+  fatal : Contains (evidence_by a).fatal port → Contains (evidence_by a).failed port × (count_by (tells_fault port) d.steps ≡ 0)
+  fatal here = (
+    is_failure a.mended.look here,
+    counted ∙ untold (nobody laws port replies old new k ready r looks kept (λ failed. nowhere port (subst (λ (l : Look). Contains (fatal_of port l shown) port) failed here))),
+  )
     where
-      nobody : a.mended.look ≡ Broken → a.failed ≡ None
-      nobody broken =
-          let none = (subst (λ (l : Look). TellsMending l port a.mended.outstanding a.mended.queued a.mended.result a.mended.mends.accesses a.mid.device a.device) broken a.mended.tells).0 in
-          subst (λ (f : Option Failure). IsFailed (slots_at a.mid.slots port.0) f a.failed) none a.names
+      is_failure : (l : Look) → Contains (fatal_of port l shown) port → Contains (failed_of port l shown) port
+      is_failure Broken there = first_here port []
+      is_failure Failed there = first_here port []
+      is_failure Undisturbed there = first_here port []
+      is_failure Lost there = is_named_if (shows_failure shown) port (failure_shows shown (inl (unfatal shown (named_if_is (shows_fatal shown) port there))))
+
+  -- ---- a lost disk
+
+  gone_lost : Contains (evidence_by a).gone port → a.mended.look ≡ Lost
+  gone_lost = gone_is laws port replies old new k ready r looks kept
 
   -- ---- all of it
 
-  pub serves_ready : ShowsOwnDisk (r.settled.mended.seen.port port.0) → ServesReady (moment_of old m) (evidence_by a) d.steps (moment_of new (after m d.steps)) port
-  serves_ready own = record {
+  pub serves_ready : ServesReady (moment_of old m) (evidence_by a) d.steps (moment_of new (after m d.steps)) port
+  serves_ready = record {
     ended = heeding laws port replies old new k ready r looks kept evident m reached is d;
-    emptied = λ here. absurd (nowhere port here);
-    told = λ here. absurd (nowhere port here);
+    emptied = λ here. d.emptied (gone_lost here);
+    told = λ here. d.told (gone_lost here);
     interrupts = λ _. interrupted laws port replies old new k ready r looks kept;
     anew = λ _. anew;
     single = single;
-    fatal = λ here. (first_here port [], fatal here);
-    disk = evident.had own m is d.steps d.backed;
-    calm = inl (inl (first_here port []));
+    fatal = fatal;
+    disk = evident.had m is d.steps d.backed;
+    calm = inl disturbed;
   }
+    where
+      disturbed : IsDisturbed (evidence_by a) d.steps port
+      disturbed = ⊎_elim
+          (λ lost. inr (inl (subst (λ (l : Look). Contains (gone_of port l) port) (sym lost) (first_here port []))))
+          (λ other. inl (failed_named laws port replies old new k ready r looks kept other))
+          (lost_or_not a.mended.look)

@@ -67,6 +67,13 @@ why (Some its) prospect e o is = by (its.id.0 == e.id.0) refl
         inl (its, refl, eqb-true its.id.0 e.id.0 x, told)
     by false x = why_on (Some its) prospect e o (sym (λ i. if x i then Ends (outcome.DeviceError its.status its.error) else fate_on prospect e) ∙ is)
 
+pub ok_or_not : (o : Outcome) → (o ≡ outcome.Ok) ⊎ (o ≢ outcome.Ok)
+ok_or_not outcome.Ok = inl refl
+ok_or_not (outcome.DeviceError status error) = inr (λ e. let z : outcome.DeviceError status error ≡ outcome.Ok = e in absurd cc)
+ok_or_not outcome.Aborted = inr (λ e. let z : outcome.Aborted ≡ outcome.Ok = e in absurd cc)
+ok_or_not outcome.Unplugged = inr (λ e. let z : outcome.Unplugged ≡ outcome.Ok = e in absurd cc)
+ok_or_not outcome.PortDead = inr (λ e. let z : outcome.PortDead ≡ outcome.Ok = e in absurd cc)
+
 -- one goes again only on the disk that it had
 again_on : (prospect : Prospect) (e : Entry) → fate_on prospect e ≡ GoesAgain → prospect ≡ SameDisk
 again_on SameDisk e is = refl
@@ -82,14 +89,19 @@ why_again (Some its) prospect e is = by (its.id.0 == e.id.0) refl
         let w : Ends (outcome.DeviceError its.status its.error) ≡ GoesAgain = sym (λ i. if x i then Ends (outcome.DeviceError its.status its.error) else fate_on prospect e) ∙ is in absurd cc
     by false x = again_on prospect e (sym (λ i. if x i then Ends (outcome.DeviceError its.status its.error) else fate_on prospect e) ∙ is)
 
--- with another disk each ends
-pub other_ends : (failed : Option Failed) (e : Entry) → (o : Outcome) × (fate_of failed DiskLost e ≡ Ends o)
-other_ends None e = (outcome.Unplugged, refl)
-other_ends (Some its) e = by (its.id.0 == e.id.0) refl
+-- but with the same disk each ends
+ends_on : (prospect : Prospect) → prospect ≢ SameDisk → (e : Entry) → (o : Outcome) × (fate_on prospect e ≡ Ends o)
+ends_on SameDisk other e = absurd (other refl)
+ends_on DiskLost other e = (outcome.Unplugged, refl)
+ends_on NoEnd other e = (outcome.PortDead, refl)
+
+pub other_ends : (failed : Option Failed) (prospect : Prospect) → prospect ≢ SameDisk → (e : Entry) → (o : Outcome) × (fate_of failed prospect e ≡ Ends o)
+other_ends None prospect other e = ends_on prospect other e
+other_ends (Some its) prospect other e = by (its.id.0 == e.id.0) refl
   where
-    by : (b : Bool) → (its.id.0 == e.id.0) ≡ b → (o : Outcome) × (fate_of (Some its) DiskLost e ≡ Ends o)
-    by true x = (outcome.DeviceError its.status its.error, λ i. if x i then Ends (outcome.DeviceError its.status its.error) else fate_on DiskLost e)
-    by false x = (outcome.Unplugged, λ i. if x i then Ends (outcome.DeviceError its.status its.error) else fate_on DiskLost e)
+    by : (b : Bool) → (its.id.0 == e.id.0) ≡ b → (o : Outcome) × (fate_of (Some its) prospect e ≡ Ends o)
+    by true x = (outcome.DeviceError its.status its.error, λ i. if x i then Ends (outcome.DeviceError its.status its.error) else fate_on prospect e)
+    by false x = let ends = ends_on prospect other e in (ends.0, (λ i. if x i then Ends (outcome.DeviceError its.status its.error) else fate_on prospect e) ∙ ends.1)
 
 -- ---- what is left of the book
 
@@ -114,6 +126,12 @@ answered_left laws port done (request ∷ requests) old new (mid, one, its, more
     (left.0, λ e there. ⊎_elim (λ (same : e ≡ request). λ is. left.1 (is ∙ ap (λ (y : Held). y.entry.id) same)) (λ late. rest.1 e late) (contains_cases request requests e there))
 
 -- ---- steps that decide
+
+-- it is told only where the port failed
+abbrev pub RestsOnFailure : Outcome → Type 0
+RestsOnFailure outcome.Aborted = Unit {0}
+RestsOnFailure (outcome.DeviceError status error) = Unit {0}
+RestsOnFailure o = ⊥
 
 module _ (port : Port) where
   pub deciding_own : (steps : List Step) → All (DecidesOn port) steps → All (IsOfTurn port) steps
@@ -147,20 +165,29 @@ module _ (port : Port) where
   )
   deciding_lawful old evidence ports (step ∷ steps) all answer again = absurd (All-head (DecidesOn port) step steps all)
 
-  pub deciding_grounded : (evidence : Evidence) → Contains evidence.failed port → (steps : List Step) → All (DecidesOn port) steps → AllGrounded evidence steps
-  deciding_grounded evidence failed [] all = tt
-  deciding_grounded evidence failed (Again e ∷ steps) all =
-      (deciding_grounded evidence failed steps (All-tail (DecidesOn port) (Again e) steps all), subst (Contains evidence.failed) (sym (All-head (DecidesOn port) (Again e) steps all)) failed)
-  deciding_grounded evidence failed (Answer e outcome.Aborted ∷ steps) all =
-      (deciding_grounded evidence failed steps (All-tail (DecidesOn port) (Answer e outcome.Aborted) steps all), subst (Contains evidence.failed) (sym (All-head (DecidesOn port) (Answer e outcome.Aborted) steps all)) failed)
-  deciding_grounded evidence failed (Answer e (outcome.DeviceError status error) ∷ steps) all = (
-    deciding_grounded evidence failed steps (All-tail (DecidesOn port) (Answer e (outcome.DeviceError status error)) steps all),
-    subst (Contains evidence.failed) (sym (All-head (DecidesOn port) (Answer e (outcome.DeviceError status error)) steps all)) failed,
+  -- a request that goes again, is aborted or is told a fault is of a port that failed
+  pub deciding_grounded : (evidence : Evidence) (steps : List Step) → All (DecidesOn port) steps → ((e : Pending) → Contains steps (Again e) → Contains evidence.failed port)
+      → ((e : Pending) (o : Outcome) → Contains steps (Answer e o) → RestsOnFailure o → Contains evidence.failed port) → AllGrounded evidence steps
+  deciding_grounded evidence [] all again answer = tt
+  deciding_grounded evidence (Again e ∷ steps) all again answer = (
+    deciding_grounded evidence steps (All-tail (DecidesOn port) (Again e) steps all) (λ x there. again x (contains_there (Again e) steps (Again x) there)) (λ x o there. answer x o (contains_there (Again e) steps (Answer x o) there)),
+    subst (Contains evidence.failed) (sym (All-head (DecidesOn port) (Again e) steps all)) (again e (first_here (Again e) steps)),
   )
-  deciding_grounded evidence failed (Answer e outcome.Ok ∷ steps) all = deciding_grounded evidence failed steps (All-tail (DecidesOn port) (Answer e outcome.Ok) steps all)
-  deciding_grounded evidence failed (Answer e outcome.Unplugged ∷ steps) all = deciding_grounded evidence failed steps (All-tail (DecidesOn port) (Answer e outcome.Unplugged) steps all)
-  deciding_grounded evidence failed (Answer e outcome.PortDead ∷ steps) all = deciding_grounded evidence failed steps (All-tail (DecidesOn port) (Answer e outcome.PortDead) steps all)
-  deciding_grounded evidence failed (step ∷ steps) all = absurd (All-head (DecidesOn port) step steps all)
+  deciding_grounded evidence (Answer e outcome.Aborted ∷ steps) all again answer = (
+    deciding_grounded evidence steps (All-tail (DecidesOn port) (Answer e outcome.Aborted) steps all) (λ x there. again x (contains_there (Answer e outcome.Aborted) steps (Again x) there)) (λ x o there. answer x o (contains_there (Answer e outcome.Aborted) steps (Answer x o) there)),
+    subst (Contains evidence.failed) (sym (All-head (DecidesOn port) (Answer e outcome.Aborted) steps all)) (answer e outcome.Aborted (first_here (Answer e outcome.Aborted) steps) tt),
+  )
+  deciding_grounded evidence (Answer e (outcome.DeviceError status error) ∷ steps) all again answer = (
+    deciding_grounded evidence steps (All-tail (DecidesOn port) (Answer e (outcome.DeviceError status error)) steps all) (λ x there. again x (contains_there (Answer e (outcome.DeviceError status error)) steps (Again x) there)) (λ x o there. answer x o (contains_there (Answer e (outcome.DeviceError status error)) steps (Answer x o) there)),
+    subst (Contains evidence.failed) (sym (All-head (DecidesOn port) (Answer e (outcome.DeviceError status error)) steps all)) (answer e (outcome.DeviceError status error) (first_here (Answer e (outcome.DeviceError status error)) steps) tt),
+  )
+  deciding_grounded evidence (Answer e outcome.Ok ∷ steps) all again answer =
+      deciding_grounded evidence steps (All-tail (DecidesOn port) (Answer e outcome.Ok) steps all) (λ x there. again x (contains_there (Answer e outcome.Ok) steps (Again x) there)) (λ x o there. answer x o (contains_there (Answer e outcome.Ok) steps (Answer x o) there))
+  deciding_grounded evidence (Answer e outcome.Unplugged ∷ steps) all again answer =
+      deciding_grounded evidence steps (All-tail (DecidesOn port) (Answer e outcome.Unplugged) steps all) (λ x there. again x (contains_there (Answer e outcome.Unplugged) steps (Again x) there)) (λ x o there. answer x o (contains_there (Answer e outcome.Unplugged) steps (Answer x o) there))
+  deciding_grounded evidence (Answer e outcome.PortDead ∷ steps) all again answer =
+      deciding_grounded evidence steps (All-tail (DecidesOn port) (Answer e outcome.PortDead) steps all) (λ x there. again x (contains_there (Answer e outcome.PortDead) steps (Again x) there)) (λ x o there. answer x o (contains_there (Answer e outcome.PortDead) steps (Answer x o) there))
+  deciding_grounded evidence (step ∷ steps) all again answer = absurd (All-head (DecidesOn port) step steps all)
 
   pub deciding_issues_none : (id : RequestId) (steps : List Step) → All (DecidesOn port) steps → list_any (issues_it id) steps ≡ false
   deciding_issues_none id [] all = refl

@@ -24,16 +24,16 @@ use Rattle.host_boot.specs.declared.Found.TheVariants.{Ready, Unready, Unserved}
 use Rattle.port_control.specs.declared.Running as running_token
 use Rattle.port_look.specs.Looks.{IsLooking}
 use Rattle.port_look.specs.declared.Look.{Look}
-use Rattle.port_look.specs.declared.Look.TheVariants.{Broken}
+use Rattle.port_look.specs.declared.Look.TheVariants.{Failed}
 use Rattle.server_history.specs.Below.{LawsBelow}
-use Rattle.server_history.specs.Mended.{IsFoundAfter, IsMended, HasMetFates, MendsPort, TellsMending}
+use Rattle.server_history.specs.Mended.{IsFoundAfter, IsMended, HasMetFates, MendsPort}
 use Rattle.server_history.specs.Server.{Server, IsKept, disk_in, disk_of, is_served, mode_found, mode_in, plain_mode, ports_of, sectors_of, serial_of, state_of, trims_of}
 use Rattle.server_history.specs.Turns.{instant_of}
 use Rattle.server_history.proofs.Becoming.{disk_new, disk_old, found_new, issued_as, next_dead, state_new}
 use Rattle.server_history.proofs.Evident.{IsEvident}
-use Rattle.server_history.proofs.Faulted.{leads}
+use Rattle.server_history.proofs.Faulted.{given_up}
 use Rattle.server_history.proofs.Following.{mid_kept}
-use Rattle.server_history.proofs.Recovery.{fatal_of}
+use Rattle.server_history.proofs.Recovery.{fatal_of, gone_of}
 use Rattle.server_history.proofs.Resetting.{resets_since}
 use Rattle.server_history.proofs.Slots.{ready_found}
 use Rattle.server_history.proofs.Stretching.{TurnParts}
@@ -111,7 +111,7 @@ module _ (laws : LawsBelow) (port : Port) (replies : List Reply) (old new : Serv
   stops (next.Running token) is halts = absurd (halts token refl)
   stops (next.Restart token) is halts = ⊎_elim
       (λ (dies : a.found ≡ Unready DeadState). inl (dead dies))
-      (λ (lives : a.found ≢ Unready DeadState). inr (inr (reset (t.resets token is lives))))
+      (λ (lives : a.found ≢ Unready DeadState). inr (⊎_elim (λ absent. inl (state_new laws port replies old new k ready r looks kept ∙ ap state_of absent)) (λ resets. inr (reset resets)) (t.resets token is lives)))
       (dead_or_not a.found)
   stops next.Dead is halts = inl (dead (next_dead laws port replies old new k ready r looks kept is))
 
@@ -120,27 +120,20 @@ module _ (laws : LawsBelow) (port : Port) (replies : List Reply) (old new : Serv
     where
       by : (n : Next) → x.result.next ≡ n → SamePort (ports_of old) (ports_of new) port ⊎ Stopped
       by (next.Running token) is =
-          let then_is : IsFoundAfter (wanted_of old.wanted port.0) port a.was (next.Running token) a.device r.mid.device a.found = subst (λ (n : Next). IsFoundAfter (wanted_of old.wanted port.0) port a.was n a.device r.mid.device a.found) is a.is in
+          let then_is : IsFoundAfter (wanted_of old.wanted port.0) port x.look a.was (next.Running token) a.device r.mid.device a.found = subst (λ (n : Next). IsFoundAfter (wanted_of old.wanted port.0) port x.look a.was n a.device r.mid.device a.found) is a.is in
           inl (same then_is.0 then_is.1)
       by (next.Restart token) is = inr (stops (next.Restart token) is (λ at e. let z : next.Restart token ≡ next.Running at = e in cc))
       by next.Dead is = inr (stops next.Dead is (λ at e. let z : next.Dead ≡ next.Running at = e in cc))
 
-  -- after a fatal error it doesn't run on
-  broken_stops : Contains (fatal_of port x.look) port → Stopped
-  broken_stops here = ⊎_elim
-      (λ failed. absurd (nowhere port (subst (λ (l : Look). Contains (fatal_of port l) port) failed here)))
-      (λ broken.
-      let told : TellsMending Broken port x.outstanding x.queued x.result x.mends.accesses a.mid.device a.device =
-      subst (λ (l : Look). TellsMending l port x.outstanding x.queued x.result x.mends.accesses a.mid.device a.device) broken x.tells in
-      stops x.result.next refl told.1)
-      (leads x.look port x.outstanding x.queued x.result x.mends.accesses a.mid.device a.device x.tells)
+  -- but after a command that failed it doesn't run on
+  unless_failed : x.look ≢ Failed → Stopped
+  unless_failed other = stops x.result.next refl ((given_up x.look port x.outstanding x.queued x.result x.mends.accesses a.mid.device a.device x.tells other).1)
 
-  -- The look told no loss.
   pub reboots : (m : Machine) → BootsAnew Service (Served replies) evident.accesses (instant_of old m) (ports_of new) new.device port
   reboots m = (
-    (λ is_ready trouble. ⊎_elim
-        (λ fatal. broken_stops ((evident.evidenced m).fatal_all is_ready fatal))
-        (λ loss. absurd (nowhere port ((evident.evidenced m).gone_all is_ready loss)))
-        trouble),
+    (λ is_ready trouble. unless_failed (λ failed. ⊎_elim
+        (λ fatal. nowhere port (subst (λ (l : Look). Contains (fatal_of port l (old.device.port port.0)) port) failed ((evident.evidenced m).fatal_all is_ready fatal)))
+        (λ loss. nowhere port (subst (λ (l : Look). Contains (gone_of port l) port) failed ((evident.evidenced m).gone_all is_ready loss)))
+        trouble)),
     ends,
   )

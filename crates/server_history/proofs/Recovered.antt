@@ -8,7 +8,7 @@ use Rattle.std.proofs.lemmas.List.Kept.{AllPairs-filter}
 use Rattle.std.specs.Prelude.{filter}
 use Rattle.ata_types.specs.declared.Port.{Port}
 use Rattle.ata_types.specs.declared.PortState.{PortState}
-use Rattle.ata_types.specs.declared.PortState.TheVariants.{Ready as ReadyState, Dead as DeadState}
+use Rattle.ata_types.specs.declared.PortState.TheVariants.{Absent as AbsentState, Ready as ReadyState, Dead as DeadState}
 use Rattle.ata_types.specs.declared.request.ClientId.{ClientId}
 use Rattle.ata_types.specs.declared.request.Reply.{Reply}
 use Rattle.ata_types.specs.declared.request.RequestId.{RequestId}
@@ -58,10 +58,13 @@ use Rattle.server_history.proofs.Behind.{left_on, ready_on}
 use Rattle.server_history.proofs.Halting.{again_halts, works_plainly}
 use Rattle.server_history.proofs.Remaining.{IsLeft, WasIn, ends_of, fated}
 use Rattle.server_history.proofs.Looking.{finding_kept, found_over, looking_kept}
-use Rattle.server_history.proofs.Beside.{Passes, PassesTo, again_passes, recovery_passes}
+use Rattle.server_history.proofs.Beside.{Passes, PassesTo, again_passes, recovery_passes, start_passes}
 use Rattle.server_history.proofs.Settling.{answers_kept, answers_settings}
 use Rattle.server_history.proofs.Slots.{not_dead, not_own, ready_found}
 use Rattle.server_history.proofs.Lists.{nowhere}
+use Rattle.server_history.proofs.Seen.{saw_still}
+use Rattle.server_history.proofs.Stretching.{recovery_does}
+use Rattle.server_history.proofs.Starting.{IsFoundAbsent, boots_or_absent}
 
 -- ---- a port
 
@@ -164,7 +167,7 @@ module _ (laws : LawsBelow) (port : Port) (old mid : Server) (device : Device) (
       ∙ ap (λ (cap : ℕ). mode_found cap (found_of mid.ports port.0)) (sym same.cap) ∙ ap (λ (ports : List Found). mode_found device.cap (found_of ports port.0)) ports_same
 
   -- a port that has to be booted may be
-  pub bootable : (token : Stopped) → r.result.next ≡ next.Restart token → IsBootable port device × IsStopped (device.port port.0)
+  pub bootable : (token : Stopped) → r.result.next ≡ next.Restart token → IsBootable port device × IsStopped (device.port port.0) × ((device.port port.0).notes.link_count ≡ 64)
   bootable token is = (
     record {
       on = passed.1.on;
@@ -173,6 +176,7 @@ module _ (laws : LawsBelow) (port : Port) (old mid : Server) (device : Device) (
       agreed = (passed.0.uses, passed.2 (λ dead. let z : next.Restart token ≡ next.Dead = sym is ∙ dead in absurd cc), record { machine = passed.1.machine; parked = passed.0.parked; reached = passed.1.reached; knows = passed.1.knows });
     },
     (subst (λ (n : Next). EndsIn r.queued port n mid.device device) is r.mends.leaves.ends).1,
+    saw_still laws port r.mends.accesses mid.device device r.mends.does.only (recovery_does port.0 r.result.next r.mends.accesses mid.device device r.mends.does.slots) mid_kept.on ((mid_kept.behind port.0 low).runs mid_ready).saw,
   )
 
 -- ---- what it is then
@@ -204,8 +208,8 @@ module _ (laws : LawsBelow) (port : Port) (later : List Reply) (old new : Server
   abbrev wanted : Wanted
   wanted = wanted_of mid.wanted port.0
 
-  is_after : IsFoundAfter wanted port a.was r.result.next a.device new.device a.found
-  is_after = subst (λ (list : List Wanted). IsFoundAfter (wanted_of list port.0) port a.was r.result.next a.device new.device a.found) (sym (wanted_same laws port old mid a.device k ready r looks)) a.is
+  is_after : IsFoundAfter wanted port r.look a.was r.result.next a.device new.device a.found
+  is_after = subst (λ (list : List Wanted). IsFoundAfter (wanted_of list port.0) port r.look a.was r.result.next a.device new.device a.found) (sym (wanted_same laws port old mid a.device k ready r looks)) a.is
 
   done : PassesTo laws mid port m small r.result.next a.device
   done = recovery_passes laws mid port m small r.outstanding r.queued r.result a.device r.mends
@@ -213,11 +217,14 @@ module _ (laws : LawsBelow) (port : Port) (later : List Reply) (old new : Server
   -- ---- accesses
 
   -- the whole way leaves the other ports
-  then_passes : (after_it : Next) → (slots : InSlots) → Passes mid port slots a.device → (after_it ≢ next.Dead → AllFree slots.uses port.0) → IsFoundAfter wanted port a.was after_it a.device new.device a.found
+  then_passes : (after_it : Next) → (slots : InSlots) → Passes mid port slots a.device → (after_it ≢ next.Dead → AllFree slots.uses port.0) → IsFoundAfter wanted port r.look a.was after_it a.device new.device a.found
       → (then_slots : InSlots) × Passes mid port then_slots new.device
   then_passes (next.Running token) slots p free (found, same) = (slots, subst (Passes mid port slots) (sym same) p)
   then_passes (next.Restart token) slots p free (booted, found, b) =
-      again_passes laws mid port m small slots a.device new.device p (free (λ dead. let z : next.Restart token ≡ next.Dead = dead in absurd cc)) wanted booted b
+      let free_then = free (λ dead. let z : next.Restart token ≡ next.Dead = dead in absurd cc) in ⊎_elim
+      (λ (boots : BootsAgain wanted port booted a.device new.device). again_passes laws mid port m small slots a.device new.device p free_then wanted booted boots)
+      (λ absent. (slots, start_passes laws mid port m small slots a.device new.device p free_then absent.starts))
+      (boots_or_absent r.look wanted port booted a.device new.device b)
   then_passes next.Dead slots p free (found, same) = (slots, subst (Passes mid port slots) (sym same) p)
 
   whole : (slots : InSlots) × Passes mid port slots new.device
@@ -276,6 +283,16 @@ module _ (laws : LawsBelow) (port : Port) (later : List Reply) (old new : Server
     halts = λ is. let z : DeadState ≡ ReadyState = is in absurd cc;
   }
 
+  -- no device showed
+  absent_then : EndsAs (serial_of wanted) AbsentState port.0 new.device → Stands (Unready AbsentState) new.device
+  absent_then ended = record {
+    behind = ((served_then.0, ap (λ (pi : ℕ). bit pi port.0) alike.pi ∙ served_is.1), ended);
+    runs = λ is. let z : AbsentState ≡ ReadyState = is in absurd cc;
+    shown = λ bad. absurd bad;
+    own = λ is. let z : AbsentState ≡ ReadyState = is in absurd cc;
+    halts = λ is. let z : AbsentState ≡ ReadyState = is in absurd cc;
+  }
+
   -- it was booted
   module _ (booted : Booted) (b : BootsAgain wanted port booted a.device new.device) where
     runs_as : (f : Found) → BootsStopped wanted port f b.asked new.device → state_of f ≡ ReadyState → Runs port.0 new.device
@@ -309,10 +326,13 @@ module _ (laws : LawsBelow) (port : Port) (later : List Reply) (old new : Server
       halts = halts_as booted.found b.boots;
     }
 
-  stands_then : (after_it : Next) → EndsIn r.queued port after_it mid.device a.device → IsFoundAfter wanted port a.was after_it a.device new.device a.found → Stands a.found new.device
+  stands_then : (after_it : Next) → EndsIn r.queued port after_it mid.device a.device → IsFoundAfter wanted port r.look a.was after_it a.device new.device a.found → Stands a.found new.device
   stands_then (next.Running token) ends (found, same) =
       subst (λ (f : Found). Stands f new.device) (sym found) (subst (λ (d : Device). Stands (Ready a.was) d) (sym same) (runs_then token ends))
-  stands_then (next.Restart token) ends (booted, found, b) = subst (λ (f : Found). Stands f new.device) found (boots_then booted b)
+  stands_then (next.Restart token) ends (booted, found, b) = subst (λ (f : Found). Stands f new.device) found (⊎_elim
+      (boots_then booted)
+      (λ (absent : IsFoundAbsent wanted port booted.found a.device new.device). subst (λ (f : Found). Stands f new.device) (sym absent.is) (absent_then absent.ended))
+      (boots_or_absent r.look wanted port booted a.device new.device b))
   stands_then next.Dead ends (found, same) =
       subst (λ (f : Found). Stands f new.device) (sym found) (subst (λ (d : Device). Stands (Unready DeadState) d) (sym same) (dies_then ends))
 
@@ -425,8 +445,8 @@ module _ (laws : LawsBelow) (port : Port) (later : List Reply) (old new : Server
           let end = ends_of a.failed a.prospect other w.was.entry in
           left.gone w.was end.0 (kept_in (λ (x : Held). is_of port x.entry) mid.book w.was w.there (eq-eqb w.was.entry.port.0 port.0 (ap (λ (p : Port). p.0) (sym w.port) ∙ own))) end.1 e here w.id
 
-      by : (p : Prospect) → a.prospect ≡ p → IsProspect a.was a.found p → state_of a.found ≡ ReadyState
-      by SameDisk is x = ap state_of x.1
+      by : (p : Prospect) → a.prospect ≡ p → IsProspect r.look a.was a.found p → state_of a.found ≡ ReadyState
+      by SameDisk is x = ap state_of x.1.1
       by DiskLost is x = absurd (none (λ same. let z : DiskLost ≡ SameDisk = sym is ∙ same in cc))
       by Dead is x = absurd (none (λ same. let z : Dead ≡ SameDisk = sym is ∙ same in cc))
 

@@ -1,5 +1,5 @@
 -- The accesses of a port's turn that mends it: one by one, of what kind they are, and what they tell of the port's engines.
-use Rattle.std.proofs.Common.{ℕ, ◌≡◌, ◌≢◌, ◌<◌, ◌++◌, List, [], None, refl, sym, ◌∙◌, subst, inl, inr, arith, ⊎_elim}
+use Rattle.std.proofs.Common.{ℕ, ◌≡◌, ◌≢◌, ◌<◌, ◌++◌, List, [], None, refl, sym, ◌∙◌, subst, inl, inr, arith, ⊎_elim, ◌⊎◌}
 use Rattle.std.specs.List.{All}
 use Rattle.std.proofs.lemmas.Bool.{cases_eq}
 use Rattle.std.proofs.lemmas.List.Elements.{All-append, All-nil, All-weaker}
@@ -9,14 +9,13 @@ use Rattle.ata_types.specs.declared.PortState.TheVariants as shown
 use Rattle.ata_types.specs.declared.PortState.TheVariants.{Dead as DeadState, Ready as ReadyState}
 use Rattle.ata_types.specs.declared.request.RequestId.{RequestId}
 use Rattle.hba_regs.specs.declared.reg.PortReg.TheVariants.{Ci, Sact, Sctl}
-use Rattle.hba_regs.specs.declared.reg.Reg.{Reg}
 use Rattle.hba_regs.specs.declared.reg.Reg.TheVariants.{Px}
 use Rattle.adapter.specs.Access.{Access}
 use Rattle.adapter.specs.Access.Access.{Loading, Reading, Storing, Writing}
 use Rattle.adapter.specs.Device.{Device}
 use Rattle.adapter.specs.declared.command.Operation.{Operation}
 use Rattle.adapter.specs.declared.command.Operation.TheVariants.{Identify}
-use Rattle.agreement.specs.Driven.{AnyUse, IsDrivenBy, IsFollowed, IsFollowedTo, IsOf, IsToldTo, NoneWrites, SendsNone, known}
+use Rattle.agreement.specs.Driven.{IsDrivenBy, IsFollowed, IsFollowedTo, IsOf, IsToldTo, SendsNone, known}
 use Rattle.agreement.specs.Driver.{AllFree, Knows}
 use Rattle.agreement.specs.Links.{SparesRegister}
 use Rattle.agreement.specs.Slots.{Own, Uses, op_of, put}
@@ -29,7 +28,7 @@ use Rattle.driver_history.specs.Trace.{IsDriversOwn, LeavesCommand, ResetsLink}
 use Rattle.error_recovery.specs.Recovery.{IsRecovering}
 use Rattle.error_recovery.specs.declared.Next.{Next}
 use Rattle.error_recovery.specs.declared.Next.TheVariants as next
-use Rattle.host_boot.specs.Again.{BootsAgain, BootsStopped, EndsUnready}
+use Rattle.host_boot.specs.Again.{BootsAgain, BootsStopped, EndsUnready, IsOfStart}
 use Rattle.host_boot.specs.Taken.{IsSurvey}
 use Rattle.host_boot.specs.declared.Booted.{Booted}
 use Rattle.host_boot.specs.declared.Found.{Found}
@@ -44,6 +43,8 @@ use Rattle.server_history.specs.Mended.{IsFoundAfter}
 use Rattle.server_history.proofs.Coming.{table_own}
 use Rattle.server_history.proofs.Resetting.{ResetsBy, early_resets, late_resets, ready_resets, resets_since}
 use Rattle.server_history.proofs.Silent.{silent_more, silent_none}
+use Rattle.port_look.specs.declared.Look.{Look}
+use Rattle.server_history.proofs.Starting.{IsFoundAbsent, boots_or_absent}
 
 -- ---- kinds of accesses
 
@@ -89,11 +90,9 @@ survey_part port (Writing r v) is = absurd is
 survey_part port (Loading at bytes) is = absurd is
 survey_part port (Storing at bytes) is = absurd is
 
-survey_spares : (r : Reg) → NoneWrites IsSurvey r
-survey_spares r (Reading w v) is = tt
-survey_spares r (Writing w v) is = absurd is
-survey_spares r (Loading at bytes) is = tt
-survey_spares r (Storing at bytes) is = tt
+-- what comes before a boot, and the boot
+pub start_part : LawsBelow → (port : Port) → port.0 < 4 → (access : Access) → IsOfStart port access → IsPart port access
+start_part laws port low access is = ⊎_elim (survey_part port access) (booting_part laws port low access) is
 
 -- ---- a port that is booted anew, where it has to be
 
@@ -112,17 +111,17 @@ pub record AfterList (port : Port) (then : Next) (found : Found) (old new : Devi
   pub driven : IsDrivenBy (IsPart port) old new
   pub sticks : found ≡ Unready DeadState → then ≢ next.Dead → Sticks port driven.accesses
   pub stuck : found ≡ Unready DeadState → then ≢ next.Dead → (new.port port.0).notes.engine_count ≡ 64
-  pub resets : (token : Stopped) → then ≡ next.Restart token → found ≢ Unready DeadState → ResetsLink port driven.accesses
+  pub resets : (token : Stopped) → then ≡ next.Restart token → found ≢ Unready DeadState → (found ≡ Unready shown.Absent) ⊎ ResetsLink port driven.accesses
   pub unreset : ((token : Stopped) → then ≢ next.Restart token) → All (SparesRegister (Px port Sctl)) driven.accesses
   pub silent : (q : Port) (o : Operation) → q.0 ≢ port.0 → op_of o ≡ None → ((token : Stopped) → then ≡ next.Restart token → (g : IsGivenUp port old) × (g.uses q.0 0 ≡ Own o → ⊥)) → SendsNone q.0 o old new
 
 module _ (laws : LawsBelow) (port : Port) (low : port.0 < 4) (wanted : Wanted) where
-  module _ (token : Stopped) (old asked new : Device) (asks : IsFollowed IsSurvey AnyUse old asked) (then : Uses → Uses) (boots : IsFollowedTo (IsOfBoot port) (λ uses. AllFree uses port.0) then asked new) where
+  module _ (token : Stopped) (old asked new : Device) (asks : IsFollowed (IsOfStart port) (λ uses. AllFree uses port.0) old asked) (then : Uses → Uses) (boots : IsFollowedTo (IsOfBoot port) (λ uses. AllFree uses port.0) then asked new) where
     boot_silent : (q : Port) (o : Operation) → q.0 ≢ port.0 → op_of o ≡ None → (g : IsGivenUp port old) → (g.uses q.0 0 ≡ Own o → ⊥) → SendsNone q.0 o old new
     boot_silent q o other own g none =
-        let x = (followed_adds asks g.uses g.parked tt).adds g.machine g.reached g.knows in
+        let x = (followed_adds asks g.uses g.parked g.free).adds g.machine g.reached g.knows in
         silent_more q.0 o old asked new
-        (followed_silent asks g.uses g.parked g.machine tt g.reached g.knows q o own (survey_spares (Px q Ci)) (survey_spares (Px q Sact)) none)
+        (followed_silent asks g.uses g.parked g.machine g.free g.reached g.knows q o own (λ access is. laws.of_spares port q Ci other access (start_part laws port low access is).1) (λ access is. laws.of_spares port q Sact other access (start_part laws port low access is).1) none)
         (followed_silent boots g.uses g.parked (after g.machine x.0) g.free (laws.basic.reached g.machine x.0 g.reached x.1) x.2 q o own
         (λ access is. laws.of_spares port q Ci other access (laws.booting_of port access is)) (λ access is. laws.of_spares port q Sact other access (laws.booting_of port access is)) none)
 
@@ -132,12 +131,12 @@ module _ (laws : LawsBelow) (port : Port) (low : port.0 < 4) (wanted : Wanted) w
       driven = record {
         accesses = asks.driven.accesses ++ by.accesses;
         all = laws.basic.does_append asks.driven.accesses by.accesses old asked new asks.driven.all by.all;
-        only = All-append (IsPart port) asks.driven.accesses by.accesses (All-weaker IsSurvey (IsPart port) (survey_part port) asks.driven.accesses asks.driven.only)
+        only = All-append (IsPart port) asks.driven.accesses by.accesses (All-weaker (IsOfStart port) (IsPart port) (start_part laws port low) asks.driven.accesses asks.driven.only)
             (All-weaker (IsOfBoot port) (IsPart port) (booting_part laws port low) by.accesses by.only);
       };
       sticks = λ dead _. laws.sticks_since asks.driven.accesses by.accesses port (sticks dead);
       stuck = λ dead _. stuck dead;
-      resets = λ _ _ lives. resets_since port asks.driven.accesses by.accesses (resets lives);
+      resets = λ _ _ lives. inr (resets_since port asks.driven.accesses by.accesses (resets lives));
       unreset = λ never. absurd (never token refl);
       silent = λ q o other own given. let g = given token refl in boot_silent q o other own g.0 g.1;
     }
@@ -145,6 +144,26 @@ module _ (laws : LawsBelow) (port : Port) (low : port.0 < 4) (wanted : Wanted) w
     -- one that isn't dead has its link reset
     lives_list : (found : Found) → found ≢ Unready DeadState → ResetsBy port asked new → AfterList port (next.Restart token) found old new
     lives_list found lives by = boot_list found by.driven (λ dead. absurd (lives dead)) (λ dead. absurd (lives dead)) (λ _. by.resets)
+
+  -- no device showed
+  absent_list : (token : Stopped) (found : Found) (old new : Device) → IsFoundAbsent wanted port found old new → AfterList port (next.Restart token) found old new
+  absent_list token found old new absent = record {
+    driven = record { accesses = made.accesses; all = made.all; only = All-weaker (IsOfStart port) (IsPart port) (start_part laws port low) made.accesses made.only };
+    sticks = λ dead _. absurd (lives dead);
+    stuck = λ dead _. absurd (lives dead);
+    resets = λ _ _ _. inl absent.is;
+    unreset = λ never. absurd (never token refl);
+    silent = λ q o other own given.
+        let g = given token refl in
+        followed_silent absent.starts g.0.uses g.0.parked g.0.machine g.0.free g.0.reached g.0.knows q o own
+        (λ access is. laws.of_spares port q Ci other access (start_part laws port low access is).1) (λ access is. laws.of_spares port q Sact other access (start_part laws port low access is).1) g.1;
+  }
+    where
+      made : IsDrivenBy (IsOfStart port) old new
+      made = absent.starts.driven
+
+      lives : found ≡ Unready DeadState → ⊥
+      lives dead = let z : Unready shown.Absent ≡ Unready DeadState = sym absent.is ∙ dead in cc
 
   booted_list : (token : Stopped) (booted : Booted) (old new : Device) → BootsAgain wanted port booted old new → AfterList port (next.Restart token) booted.found old new
   booted_list token booted old new b = by booted.found b.boots
@@ -178,8 +197,8 @@ module _ (laws : LawsBelow) (port : Port) (low : port.0 < 4) (wanted : Wanted) w
           lives_list token old b.asked new b.asks (λ uses. uses) x.boots.followed (Ready info) no (ready_resets laws port b.asked new x.way)
       by (Unready state) x = unready state x
 
-  pub after_list : (was : DiskInfo) (then : Next) (old new : Device) (found : Found) → IsFoundAfter wanted port was then old new found → AfterList port then found old new
-  after_list was (next.Running token) old new found is =
+  pub after_list : (told : Look) (was : DiskInfo) (then : Next) (old new : Device) (found : Found) → IsFoundAfter wanted port told was then old new found → AfterList port then found old new
+  after_list told was (next.Running token) old new found is =
       let none : found ≡ Unready DeadState → ⊥ = λ dead. let z : Ready was ≡ Unready DeadState = sym is.0 ∙ dead in cc in
       subst (λ (d : Device). AfterList port (next.Running token) found old d) (sym is.1) (record {
         driven = record { accesses = []; all = refl; only = All-nil (IsPart port) };
@@ -189,8 +208,11 @@ module _ (laws : LawsBelow) (port : Port) (low : port.0 < 4) (wanted : Wanted) w
         unreset = λ _. All-nil (SparesRegister (Px port Sctl));
         silent = λ q o other own given. silent_none q.0 o old;
       })
-  after_list was (next.Restart token) old new found is = subst (λ (f : Found). AfterList port (next.Restart token) f old new) is.1 (booted_list token is.0 old new is.2)
-  after_list was next.Dead old new found is = subst (λ (d : Device). AfterList port next.Dead found old d) (sym is.1) (record {
+  after_list told was (next.Restart token) old new found is = subst (λ (f : Found). AfterList port (next.Restart token) f old new) is.1 (⊎_elim
+      (λ (b : BootsAgain wanted port is.0 old new). booted_list token is.0 old new b)
+      (λ (absent : IsFoundAbsent wanted port is.0.found old new). absent_list token is.0.found old new absent)
+      (boots_or_absent told wanted port is.0 old new is.2))
+  after_list told was next.Dead old new found is = subst (λ (d : Device). AfterList port next.Dead found old d) (sym is.1) (record {
     driven = record { accesses = []; all = refl; only = All-nil (IsPart port) };
     sticks = λ _ lives. absurd (lives refl);
     stuck = λ _ lives. absurd (lives refl);

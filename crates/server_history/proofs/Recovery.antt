@@ -1,10 +1,10 @@
 -- A port's turn that mends it: what it adds to a machine, and its evidence.
-use Rattle.std.proofs.Common.{◌≡◌, ◌++◌, List, [], ◌∷◌, Option, Some, None}
+use Rattle.std.proofs.Common.{◌≡◌, ◌++◌, Bool, true, false, cond, refl, List, [], ◌∷◌, Option, Some, None}
 use Rattle.std.specs.List.{All, AllZip, Contains}
 use Rattle.ata_types.specs.declared.Port.{Port}
 use Rattle.ata_types.specs.declared.request.Outcome.{Outcome}
 use Rattle.ata_types.specs.declared.request.Reply.{Reply}
-use Rattle.adapter.specs.Device.{Device}
+use Rattle.adapter.specs.Device.{Device, PortState}
 use Rattle.agreement.specs.Driver.{IsBacked}
 use Rattle.block_machine.specs.Events.{AllDevices, AllMay, Tells}
 use Rattle.block_machine.specs.Left.{after}
@@ -14,7 +14,7 @@ use Rattle.block_machine.specs.Steps.{Step, Again, Answer}
 use Rattle.error_recovery.specs.declared.Next.{Next}
 use Rattle.error_recovery.specs.declared.Next.TheVariants as next
 use Rattle.port_look.specs.declared.Look.{Look}
-use Rattle.port_look.specs.declared.Look.TheVariants.{Broken}
+use Rattle.port_look.specs.declared.Look.TheVariants.{Broken, Lost}
 use Rattle.request_queue.specs.Entries.{Held}
 use Rattle.request_queue.specs.Fates.{fate_of}
 use Rattle.request_queue.specs.Machine.{IsEntry}
@@ -26,6 +26,9 @@ use Rattle.server_history.specs.Fates.{DecidesOn}
 use Rattle.server_history.specs.Mended.{IsMended, HasMetFates, requests_of}
 use Rattle.server_history.specs.Served.{HasEnded, answers_in}
 use Rattle.server_history.specs.Server.{Server, IsMachineOf}
+use Rattle.server_history.proofs.Told.{shows_failure, shows_fatal}
+use Rattle.std.proofs.lemmas.Bool.{false≢true}
+use Rattle.server_history.proofs.Lists.{first_here, nowhere}
 
 -- ---- its evidence
 
@@ -48,25 +51,47 @@ stuck_of port SameDisk = []
 stuck_of port DiskLost = []
 stuck_of port Dead = port ∷ []
 
--- the look told of a fatal error
-abbrev pub fatal_of : Port → Look → List Port
-fatal_of port Broken = port ∷ []
-fatal_of port _ = []
+-- the port, where this is so
+abbrev pub named_if : Bool → Port → List Port
+named_if is port = cond is (port ∷ []) []
 
-abbrev pub evidence_of : Port → Look → Option Failed → Prospect → Next → Evidence
-evidence_of port look failed prospect next = record {
+pub is_named_if : (is : Bool) (port : Port) → is ≡ true → Contains (named_if is port) port
+is_named_if true port so = first_here port []
+is_named_if false port so = absurd (false≢true so)
+
+pub named_if_is : (is : Bool) (port : Port) → Contains (named_if is port) port → is ≡ true
+named_if_is true port here = refl
+named_if_is false port here = absurd (nowhere port here)
+
+-- The look told a loss: then the port's errors are those that it showed when the turn began.
+abbrev pub gone_of : Port → Look → List Port
+gone_of port Lost = port ∷ []
+gone_of port _ = []
+
+abbrev pub failed_of : Port → Look → PortState → List Port
+failed_of port Lost p = named_if (shows_failure p) port
+failed_of port _ p = port ∷ []
+
+-- the look told of a fatal error
+abbrev pub fatal_of : Port → Look → PortState → List Port
+fatal_of port Broken p = port ∷ []
+fatal_of port Lost p = named_if (shows_fatal p) port
+fatal_of port _ p = []
+
+abbrev pub evidence_of : Port → Look → PortState → Option Failed → Prospect → Next → Evidence
+evidence_of port look p failed prospect next = record {
   faults = faults_of failed;
   lost = lost_of port prospect;
-  gone = [];
-  failed = port ∷ [];
-  fatal = fatal_of port look;
+  gone = gone_of port look;
+  failed = failed_of port look p;
+  fatal = fatal_of port look p;
   stopped = stopped_of port next;
   stuck = stuck_of port prospect;
 }
 
 -- that of such a turn
 abbrev pub evidence_by : {port : Port} {later : List Reply} {old new : Server} → HasMetFates port later old new → Evidence
-evidence_by {port} a = evidence_of port a.mended.look a.failed a.prospect a.mended.result.next
+evidence_by {port} {later} {old} a = evidence_of port a.mended.look (old.device.port port.0) a.failed a.prospect a.mended.result.next
 
 -- ---- its steps, but for those that issue
 

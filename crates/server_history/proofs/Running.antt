@@ -12,7 +12,7 @@ use Rattle.adapter.specs.Device.{Notes, PortState, Device}
 use Rattle.adapter.specs.Rules.{IsOn}
 use Rattle.block_machine.proofs.Keeps.{same_port}
 use Rattle.agreement.specs.Driven.{IsDrivenBy}
-use Rattle.agreement.specs.Links.{HasDeviceOrNone, LeavesControls}
+use Rattle.agreement.specs.Links.{HasDeviceOrNone, LeavesControls, SparesRegister}
 use Rattle.agreement.proofs.Linking.{access_controls}
 use Rattle.agreement.proofs.Noting.{access_notes, notes_read}
 use Rattle.agreement.proofs.Present.{access_shown}
@@ -41,26 +41,26 @@ counts_on v p is = by (nat_eq p.sctl_det 0) (nat_eq (v % 16) 3) p.notes.link_cou
     by true true n e = refl
     by true false n e = ap (λ (k : ℕ). min 64 (k + 1)) e
 
-link_still : (port : Port) (access : Access) (old new : Device) → IsOn old → IsService access → Does access old new → (old.port port.0).notes.link_count ≡ 64 → (new.port port.0).notes.link_count ≡ 64
-link_still port access old new on is does saw = by access is does
+pub link_still : (port : Port) (access : Access) (old new : Device) → IsOn old → SparesRegister (Px port Sctl) access → Does access old new → (old.port port.0).notes.link_count ≡ 64 → (new.port port.0).notes.link_count ≡ 64
+link_still port access old new on spares does saw = by access spares does
   where
-    spared : (a : Access) → IsService a → Does a old new → SparesReading (Px port Ssts) a → (new.port port.0).notes.link_count ≡ 64
-    spared a its did other = ((access_notes port a old new did).link other).1 (spares_port port Sctl (λ e. cc) (λ e. cc) (λ e. cc) a its) ∙ saw
+    spared : (a : Access) → SparesRegister (Px port Sctl) a → Does a old new → SparesReading (Px port Ssts) a → (new.port port.0).notes.link_count ≡ 64
+    spared a its did other = ((access_notes port a old new did).link other).1 its ∙ saw
 
-    read : (r : Reg) (v : ℕ) → IsService (Reading r v) → Does (Reading r v) old new → (new.port port.0).notes.link_count ≡ 64
-    read (Px p Ssts) v its did = ⊎_elim
+    read : (r : Reg) (v : ℕ) → Does (Reading r v) old new → (new.port port.0).notes.link_count ≡ 64
+    read (Px p Ssts) v did = ⊎_elim
         (λ (e : p.0 ≡ port.0).
         let same : Reads (Px port Ssts) v old new = subst (λ (q : Port). Reads (Px q Ssts) v old new) (same_port p port e) did in
         ap (λ (n : Notes). n.link_count) (notes_read port Ssts v old new on.no_reset same) ∙ counts_on v (old.port port.0) saw)
-        (λ (ne : p.0 ≢ port.0). spared (Reading (Px p Ssts) v) its did (λ q. ne (let same : p ≡ port = (let z : Px p Ssts ≡ Px port Ssts = q in cc) in ap (λ (x : Port). x.0) same)))
+        (λ (ne : p.0 ≢ port.0). spared (Reading (Px p Ssts) v) tt did (λ q. ne (let same : p ≡ port = (let z : Px p Ssts ≡ Px port Ssts = q in cc) in ap (λ (x : Port). x.0) same)))
         (cases_eq p.0 port.0)
-    read r v its did = spared (Reading r v) its did (λ q. absurd cc)
+    read r v did = spared (Reading r v) tt did (λ q. absurd cc)
 
-    by : (a : Access) → IsService a → Does a old new → (new.port port.0).notes.link_count ≡ 64
+    by : (a : Access) → SparesRegister (Px port Sctl) a → Does a old new → (new.port port.0).notes.link_count ≡ 64
     by (Writing r v) its did = spared (Writing r v) its did tt
     by (Loading at bytes) its did = spared (Loading at bytes) its did tt
     by (Storing at bytes) its did = spared (Storing at bytes) its did tt
-    by (Reading r v) its did = read r v its did
+    by (Reading r v) its did = read r v did
 
 each : (port : Port) (access : Access) (old new : Device) → IsOn old → IsService access → Does access old new → Holds port.0 old → Holds port.0 new
 each port access old new on is does h =
@@ -75,7 +75,7 @@ each port access old new on is does h =
       cr = command.3 h.st h.cr;
       fre = command.1 ∙ h.fre;
       bases = (λ i. record { clb = list.0 i; fb = received.0 i; clb_set = list.1 i; clbu_set = list_upper i; fb_set = received.1 i; fbu_set = received_upper i }) ∙ h.bases;
-      saw = link_still port access old new on is does h.saw;
+      saw = link_still port access old new on (spares_port port Sctl (λ e. cc) (λ e. cc) (λ e. cc) access is) does h.saw;
     }
 
 -- a device shows still, or none is in

@@ -30,7 +30,7 @@ use Rattle.identify.specs.declared.DiskInfo.{DiskInfo}
 use Rattle.ncq.specs.Masks.{ReadsDone, IsFinding, SeesClear}
 use Rattle.port_look.specs.Looks.{IsLooking, LooksAt}
 use Rattle.port_look.specs.Services.{IsService}
-use Rattle.port_look.specs.declared.Look.TheVariants.{Lost, Undisturbed as Calm}
+use Rattle.port_look.specs.declared.Look.TheVariants.{Undisturbed as Calm}
 use Rattle.request_queue.specs.Entries.{Held, asks_of, due_ids}
 use Rattle.slots.specs.Uses.{Uses as PortSlots}
 use Rattle.slots.specs.declared.Use.{Use as SlotUse}
@@ -204,15 +204,6 @@ module _ (s : Server) (seen : Device) (port : Port) (t : IsSettled s) (ready : s
   seen_silent : (q : ℕ) → state_of (found_of s.ports q) ≢ Dead → SendsNone q ReadLog s.device seen
   seen_silent q lives = looking_silent s seen port k ready looks q ReadLog refl (λ dead. lives (ap state_of dead))
 
-  -- it was looked at, and its disk was lost
-  pub told_loss : LawsBelow → LooksAt port Lost s.device seen → ServesPort port [] s (record s { device = seen })
-  told_loss laws l =
-      nobody_answered laws s seen port t ready
-      (record { look = Lost; seen = seen; looks = l; quiet = inr refl; told = λ _. (refl, refl); calm = λ calm. absurd (let z : Lost ≡ Calm = calm in cc) })
-      (looks_serve laws port s.device seen looks)
-      seen_silent
-      (λ calm slot used small its ci sact. absurd (let z : Lost ≡ Calm = calm in cc))
-
   module _ (l : LooksAt port Calm s.device seen) where
     -- no slot is used
     pub idle : LawsBelow → IsMaskOf (slots_at s.slots port.0) 0 → ServesPort port [] s (record s { device = seen })
@@ -222,8 +213,7 @@ module _ (s : Server) (seen : Device) (port : Port) (t : IsSettled s) (ready : s
           look = Calm;
           seen = seen;
           looks = l;
-          quiet = inl refl;
-          told = λ trouble. absurd (trouble refl);
+          quiet = refl;
           calm = λ _. record { mask = 0; its = its; idle = λ _. (refl, refl); checks = λ some. absurd (some (λ slot small. bit_zero slot)) };
         })
         (looks_serve laws port s.device seen looks)
@@ -252,8 +242,7 @@ module _ (s : Server) (seen : Device) (port : Port) (t : IsSettled s) (ready : s
             look = Calm;
             seen = seen;
             looks = l;
-            quiet = inl refl;
-            told = λ trouble. absurd (trouble refl);
+            quiet = refl;
             calm = λ _. record {
               mask = mask;
               its = its;
@@ -394,8 +383,7 @@ module _ (s : Server) (seen : Device) (port : Port) (t : IsSettled s) (ready : s
               look = Calm;
               seen = seen;
               looks = l;
-              quiet = inl refl;
-              told = λ trouble. absurd (trouble refl);
+              quiet = refl;
               calm = λ _. record {
                 mask = mask;
                 its = its;

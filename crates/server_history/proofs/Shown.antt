@@ -1,5 +1,5 @@
 -- A port of which a look told a failure showed a device: so it had a disk when the turn began, or one went or came in it.
-use Rattle.std.proofs.Common.{ℕ, ◌≡◌, ◌⊎◌, ◌++◌, true, false, List, append_assoc, inl, inr, sym, ap, ◌∙◌, subst, ⊎_elim}
+use Rattle.std.proofs.Common.{ℕ, ◌≡◌, ◌⊎◌, ◌++◌, true, false, List, [], ◌∷◌, append_assoc, inl, inr, sym, ap, ◌∙◌, subst, ⊎_elim}
 use Rattle.std.specs.List.{Contains, list_any}
 use Rattle.std.proofs.lemmas.Bool.{cases_Bool, cases_eq, false≢true}
 use Rattle.std.proofs.lemmas.List.{append_cancel_left}
@@ -8,7 +8,7 @@ use Rattle.ata_types.specs.declared.Port.{Port}
 use Rattle.hba_regs.specs.declared.reg.PortReg.TheVariants.{Is, Ssts}
 use Rattle.hba_regs.specs.declared.reg.Reg.TheVariants as reg
 use Rattle.hba_regs.specs.declared.reg.Reg.TheVariants.{Ghc, Px}
-use Rattle.adapter.specs.Access.{Access, Does}
+use Rattle.adapter.specs.Access.{Access, Does, DoesAll}
 use Rattle.adapter.specs.Access.Access.{Reading, Writing}
 use Rattle.adapter.specs.Device.{Device}
 use Rattle.adapter.specs.Rules.{IsOn}
@@ -25,9 +25,9 @@ use Rattle.block_machine.specs.Steps.{Step}
 use Rattle.port_look.specs.Looks.{LooksAt}
 use Rattle.port_look.specs.declared.Look.{Look}
 use Rattle.server_history.specs.Below.{LawsBelow}
-use Rattle.server_history.specs.Mended.{LeadsToMending}
 use Rattle.server_history.specs.Server.{Server, IsMachineOf}
 use Rattle.server_history.proofs.Faulted.{one_or_none, shows_link}
+use Rattle.port_look.specs.declared.Look.TheVariants.{Broken, Failed}
 
 -- ---- disks that come
 
@@ -65,13 +65,12 @@ module _ (laws : LawsBelow) (port : Port) where
     λ none out. let parts = laws.looks.comes_parts port.0 a b c p.0.0 q.0.0 p.0.1 q.0.1 none in q.1 parts.1 (p.1 parts.0 out),
   )
 
-  module _ (old seen : Device) (look : Look) (l : LooksAt port look old seen) (on : IsOn old) (mends : LeadsToMending look) where
-    out_in : StaysOut port old seen
-    out_in =
-        out_more old l.seen seen (out_over (Reading (Px port Is) l.causes) old l.seen l.reads)
-        (out_more l.seen l.cleared seen (out_over (Writing (Px port Is) l.causes) l.seen l.cleared l.clears)
-        (out_more l.cleared l.acknowledged seen (out_over (Writing reg.Is l.own) l.cleared l.acknowledged l.acknowledges) (out_over (Reading (Px port Ssts) l.status) l.acknowledged seen l.shows)))
+  out_all : (accesses : List Access) (old new : Device) → DoesAll accesses old new → StaysOut port old new
+  unfolding StaysOut
+  out_all [] old new is = subst (StaysOut port old) (sym is) (laws.looks.grows_none old, λ none out. out)
+  out_all (access ∷ accesses) old new (mid, does, rest) = out_more old mid new (out_over access old mid does) (out_all accesses mid new rest)
 
+  module _ (old seen : Device) (look : Look) (l : LooksAt port look old seen) (on : IsOn old) (error : (look ≡ Failed) ⊎ (look ≡ Broken)) where
     on_over : (access : Access) (a b : Device) → SparesRegister Ghc access → Does access a b → IsOn a → IsOn b
     on_over access a b spares does here = laws.looks.access_on access a b here (written_ghc access spares) does
 
@@ -81,30 +80,30 @@ module _ (laws : LawsBelow) (port : Port) where
         let read = on_over (Reading (Px port Is) l.causes) old l.seen tt l.reads on in
         let cleared = on_over (Writing (Px port Is) l.causes) l.seen l.cleared (λ e. absurd (let z : Px port Is ≡ Ghc = e in cc)) l.clears read in
         let acknowledged = on_over (Writing reg.Is l.own) l.cleared l.acknowledged (λ e. absurd (let z : reg.Is ≡ Ghc = e in cc)) l.acknowledges cleared in
-        sym (laws.looks.shown_after port Ssts l.status l.acknowledged seen acknowledged.no_reset l.shows) ∙ shows_link laws port look old seen l on mends
+        sym (laws.looks.shown_after port Ssts l.status l.acknowledged seen acknowledged.no_reset l.shows) ∙ shows_link laws port look old seen l on error
 
-    -- where a disk is in as it shows, one was in before, or the tape tells that one came
-    was_in : ((seen.port port.0).ssts_det ≡ 3 → (seen.port port.0).present ≡ true) → ((old.port port.0).present ≡ true) ⊎ ((gained : List Entry) × (seen.tape ≡ old.tape ++ gained) × ((e : Entry) × Contains gained e × IsComing port.0 e))
-    unfolding StaysOut
-    was_in own = ⊎_elim
-        (λ (is : (old.port port.0).present ≡ true). inl is)
-        (λ (out : (old.port port.0).present ≡ false). inr (
-          out_in.0.0,
-          out_in.0.1,
-          ⊎_elim
-              (λ found. found)
-              (λ none. absurd (false≢true (sym (out_in.1 (record { gained = out_in.0.0; tape = out_in.0.1; none = none }) out) ∙ own shows_device)))
-              (one_or_none (IsComing port.0) (is_coming port.0) out_in.0.0),
-        ))
-        (cases_Bool ((old.port port.0).present))
+  -- where a disk is in at a moment, one was in before, or the tape tells that one came
+  was_in : (accesses : List Access) (old seen : Device) → DoesAll accesses old seen → (seen.port port.0).present ≡ true → ((old.port port.0).present ≡ true) ⊎ ((gained : List Entry) × (seen.tape ≡ old.tape ++ gained) × ((e : Entry) × Contains gained e × IsComing port.0 e))
+  unfolding StaysOut
+  was_in accesses old seen does own = let out_in = out_all accesses old seen does in ⊎_elim
+      (λ (is : (old.port port.0).present ≡ true). inl is)
+      (λ (out : (old.port port.0).present ≡ false). inr (
+        out_in.0.0,
+        out_in.0.1,
+        ⊎_elim
+            (λ found. found)
+            (λ none. absurd (false≢true (sym (out_in.1 (record { gained = out_in.0.0; tape = out_in.0.1; none = none }) out) ∙ own)))
+            (one_or_none (IsComing port.0) (is_coming port.0) out_in.0.0),
+      ))
+      (cases_Bool ((old.port port.0).present))
 
--- Steps that the device backs, from the beginning of the turn to any moment after the look: the machine had a disk in the port before them, or one of them takes
+-- Steps that the device backs, from the beginning of the turn to any moment after one at which a disk is in: the machine had a disk in the port before them, or one of them takes
 -- its disk out or puts one in.
-pub had_disk : (laws : LawsBelow) (port : Port) (s : Server) (seen new : Device) (m : Machine) → IsOn s.device → (look : Look) → LooksAt port look s.device seen → LeadsToMending look → ((seen.port port.0).ssts_det ≡ 3 → (seen.port port.0).present ≡ true)
+pub had_disk : (laws : LawsBelow) (port : Port) (s : Server) (seen new : Device) (m : Machine) (accesses : List Access) → DoesAll accesses s.device seen → (seen.port port.0).present ≡ true
     → IsMachineOf s m → Grows seen new → (steps : List Step) → IsBacked s.device new m steps → (m.present port ≡ true) ⊎ (list_any (changes_disk port) steps ≡ true)
-had_disk laws port s seen new m on look l mends own is later steps backed = ⊎_elim
+had_disk laws port s seen new m accesses does own is later steps backed = ⊎_elim
     (λ was. inl ((is.knows.agrees.disk port.0).present ∙ was))
     (λ came. inr (
     let whole : backed.gained ≡ came.0 ++ later.0 = append_cancel_left s.device.tape backed.gained (came.0 ++ later.0) (sym backed.tape ∙ later.1 ∙ ap (λ (tape : List Entry). tape ++ later.0) came.1 ∙ append_assoc s.device.tape came.0 later.0) in
     laws.disks_told port m backed.gained steps backed.tells came.2.0 (subst (λ (list : List Entry). Contains list came.2.0) (sym whole) (Contains-append_left came.0 later.0 came.2.0 came.2.1)) (coming_plugs port.0 came.2.0 came.2.2)))
-    (was_in laws port s.device seen look l on mends own)
+    (was_in laws port accesses s.device seen does own)

@@ -1,12 +1,12 @@
 -- The accesses of a whole turn that mends its port: those before the port was recovered, recovery's, and those after it.
-use Rattle.std.proofs.Common.{ℕ, ◌≡◌, ◌≢◌, ◌<◌, ◌++◌, List, [], ◌∷◌, length, map, refl, sym, ap, ◌∙◌, subst, arith, ⊎_elim}
+use Rattle.std.proofs.Common.{ℕ, ◌≡◌, ◌≢◌, ◌<◌, ◌++◌, List, [], ◌∷◌, length, map, refl, sym, ap, ◌∙◌, subst, inl, inr, arith, ⊎_elim, ◌⊎◌}
 use Rattle.std.specs.List.{All, Contains}
 use Rattle.std.proofs.lemmas.Bool.Decides.{leb_tells}
 use Rattle.std.proofs.lemmas.List.{get_or-set_other, get_or-set_same, get_or_past}
 use Rattle.std.proofs.lemmas.List.Elements.{All-append, All-cons, All-nil, All-weaker}
 use Rattle.ata_types.specs.declared.Port.{Port}
 use Rattle.ata_types.specs.declared.PortState.TheVariants as shown
-use Rattle.ata_types.specs.declared.PortState.TheVariants.{Dead as DeadState, Ready as ReadyState}
+use Rattle.ata_types.specs.declared.PortState.TheVariants.{Absent as AbsentState, Dead as DeadState, Ready as ReadyState}
 use Rattle.ata_types.specs.declared.request.Reply.{Reply}
 use Rattle.ata_types.specs.declared.request.RequestId.{RequestId}
 use Rattle.hba_regs.specs.declared.reg.PortReg.TheVariants.{Ci, Sact, Sctl}
@@ -68,7 +68,7 @@ pub record TurnParts (port : Port) (replies : List Reply) (old new : Server) (r 
   pub late : IsDrivenBy (IsPart port) r.settled.device new.device
   pub sticks : r.settled.found ≡ Unready DeadState → r.settled.mended.result.next ≢ next.Dead → Sticks port late.accesses
   pub stuck : r.settled.found ≡ Unready DeadState → r.settled.mended.result.next ≢ next.Dead → (new.device.port port.0).notes.engine_count ≡ 64
-  pub resets : (token : Stopped) → r.settled.mended.result.next ≡ next.Restart token → r.settled.found ≢ Unready DeadState → ResetsLink port late.accesses
+  pub resets : (token : Stopped) → r.settled.mended.result.next ≡ next.Restart token → r.settled.found ≢ Unready DeadState → (r.settled.found ≡ Unready AbsentState) ⊎ ResetsLink port late.accesses
   pub unreset : ((token : Stopped) → r.settled.mended.result.next ≢ next.Restart token) → All (SparesRegister (Px port Sctl)) (early.accesses ++ (r.settled.mended.mends.accesses ++ late.accesses))
   pub unissued : r.settled.found ≡ Unready DeadState → new ≡ r.mid
   pub silent : (q : ℕ) → q ≢ port.0 → state_of (found_of old.ports q) ≢ DeadState → SendsNone q ReadLog old.device new.device
@@ -164,7 +164,7 @@ module _ (laws : LawsBelow) (port : Port) (replies : List Reply) (old new : Serv
   }
 
   afterwards : AfterList port x.result.next a.found a.device r.mid.device
-  afterwards = after_list laws port low (wanted_of old.wanted port.0) a.was x.result.next a.device r.mid.device a.found a.is
+  afterwards = after_list laws port low (wanted_of old.wanted port.0) x.look a.was x.result.next a.device r.mid.device a.found a.is
 
   each : IsDrivenBy (IssuesIn port) r.mid.device new.device
   each = each_driven laws port (due_ids (mode_in r.mid port) port (asks_of r.mid.book)) r.mid new r.issued
@@ -263,9 +263,9 @@ module _ (laws : LawsBelow) (port : Port) (replies : List Reply) (old new : Serv
   unfolding late
   late_sticks dead lives = laws.sticks_then afterwards.driven.accesses issuing.accesses port (afterwards.sticks dead lives)
 
-  late_resets : (token : Stopped) → x.result.next ≡ next.Restart token → a.found ≢ Unready DeadState → ResetsLink port late.accesses
+  late_resets : (token : Stopped) → x.result.next ≡ next.Restart token → a.found ≢ Unready DeadState → (a.found ≡ Unready AbsentState) ⊎ ResetsLink port late.accesses
   unfolding late
-  late_resets token is lives = resets_more port [] afterwards.driven.accesses issuing.accesses (afterwards.resets token is lives) issuing_spares
+  late_resets token is lives = ⊎_elim (λ absent. inl absent) (λ resets. inr (resets_more port [] afterwards.driven.accesses issuing.accesses resets issuing_spares)) (afterwards.resets token is lives)
 
   late_spares : ((token : Stopped) → x.result.next ≢ next.Restart token) → All (SparesRegister (Px port Sctl)) late.accesses
   unfolding late

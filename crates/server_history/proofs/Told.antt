@@ -149,7 +149,7 @@ fatal_shows p f = by (cases_eq f.place 27)
 pub unfailed : (p : PortState) → shows_failure p ≡ true → ShowsFailure p
 unfailed p h = ⊎_elim (λ a. inl (unfatal p a)) (λ a. inr a) (or_cases (shows_fatal p) (p.is 30) h)
 
-failure_shows : (p : PortState) → ShowsFailure p → shows_failure p ≡ true
+pub failure_shows : (p : PortState) → ShowsFailure p → shows_failure p ≡ true
 failure_shows p (inl f) = or_left (shows_fatal p) (p.is 30) (fatal_shows p f)
 failure_shows p (inr a) = or_right (shows_fatal p) (p.is 30) a
 

@@ -26,7 +26,7 @@ use Rattle.block_machine.specs.Histories.{IsReached}
 use Rattle.block_machine.specs.Left.{after}
 use Rattle.block_machine.specs.State.{Machine, unanswered}
 use Rattle.block_machine.specs.Steps.{NoneKept, Step}
-use Rattle.host_boot.specs.Again.{BootsAgain}
+use Rattle.host_boot.specs.Again.{BootsAgain, BootsIfThere, IsOfStart}
 use Rattle.host_boot.specs.Taken.{FoundBadDisk, IsServed, StandsBehind}
 use Rattle.host_boot.specs.declared.Booted.{Booted}
 use Rattle.host_boot.specs.declared.Found.TheVariants.{Unready}
@@ -49,6 +49,12 @@ pub record RecoveryLaws : Type 0 where
   pub again_driven : (wanted : Wanted) (port : Port) (booted : Booted) (old new : Device) → BootsAgain wanted port booted old new → IsDrivenBy (IsOf port) old new
   pub again_stands : (wanted : Wanted) (port : Port) (booted : Booted) (old new : Device) → BootsAgain wanted port booted old new → IsServed wanted port.0 old → StandsBehind wanted booted.found port.0 new
   pub again_shown : (wanted : Wanted) (port : Port) (booted : Booted) (state : PortState) (old new : Device) → IsOn old → BootsAgain wanted port booted old new → FoundBadDisk state
+      → booted.found ≡ Unready state → HasDeviceOrNone (new.port port.0)
+  -- and one that was booted where a device showed
+  pub start_of : (port : Port) (access : Access) → IsOfStart port access → IsOf port access
+  pub there_driven : (wanted : Wanted) (port : Port) (booted : Booted) (old new : Device) → BootsIfThere wanted port booted old new → IsDrivenBy (IsOf port) old new
+  pub there_stands : (wanted : Wanted) (port : Port) (booted : Booted) (old new : Device) → BootsIfThere wanted port booted old new → IsServed wanted port.0 old → StandsBehind wanted booted.found port.0 new
+  pub there_shown : (wanted : Wanted) (port : Port) (booted : Booted) (state : PortState) (old new : Device) → IsOn old → BootsIfThere wanted port booted old new → FoundBadDisk state
       → booted.found ≡ Unready state → HasDeviceOrNone (new.port port.0)
 
 -- What of a port's trouble is shown, and that stretches are of their parts.

@@ -12,7 +12,7 @@ use Rattle.error_recovery.specs.Recovery.{Mends, TellsRecovery}
 use Rattle.error_recovery.specs.declared.Next.{Next}
 use Rattle.error_recovery.specs.declared.Next.TheVariants as next
 use Rattle.error_recovery.specs.declared.Recovered.{Recovered}
-use Rattle.host_boot.specs.Again.{BootsAgain}
+use Rattle.host_boot.specs.Again.{BootsAgain, BootsIfThere}
 use Rattle.host_boot.specs.Taken.{found_of, wanted_of}
 use Rattle.host_boot.specs.declared.Booted.{Booted}
 use Rattle.host_boot.specs.declared.Found.{Found}
@@ -36,17 +36,20 @@ use Rattle.server_history.specs.Server.{Server, kept_at, mode_found, slots_at, u
 
 -- ---- a port is mended
 
--- The look leads to mending: it told that a command had failed, or that the link or the host's bus had.
+-- The look leads to mending: it told that a command had failed, or the link or the host's bus, or that the disk was lost.
 abbrev pub LeadsToMending : Look → Type 0
-LeadsToMending told = (told ≡ look.Failed) ⊎ (told ≡ look.Broken)
+LeadsToMending told = (told ≡ look.Failed) ⊎ ((told ≡ look.Broken) ⊎ (told ≡ look.Lost))
 
--- What is told after such a look. Where a command had failed, the port was recovered. Where its link or the host's bus had failed, the port was given up: nobody is named, and it
--- doesn't run. Other looks lead to neither.
+-- nobody is named, and the port doesn't run
+abbrev pub EndsGivenUp : Recovered → Type 0
+EndsGivenUp result = (result.failed ≡ None) × ((token : running_token.Running) → result.next ≢ next.Running token)
+
+-- What is told after such a look. Where a command had failed, the port was recovered. Where its link or the host's bus had failed, or its disk was lost, the port was given up.
+-- A look that told nothing leads to neither.
 abbrev pub TellsMending : Look → Port → ℕ → Bool → Recovered → List Access → Device → Device → Type 0
 TellsMending look.Failed port outstanding queued result accesses old new = TellsRecovery port outstanding queued result accesses old new
-TellsMending look.Broken port outstanding queued result accesses old new =
-    (result.failed ≡ None) × ((token : running_token.Running) → result.next ≢ next.Running token)
-TellsMending told port outstanding queued result accesses old new = ⊥
+TellsMending look.Undisturbed port outstanding queued result accesses old new = ⊥
+TellsMending told port outstanding queued result accesses old new = EndsGivenUp result
 
 -- each used slot has a queued command, or each has a plain one
 abbrev pub AreQueued : Bool → PortSlots → Type 0
@@ -77,21 +80,26 @@ pub record IsMended (port : Port) (old mid : Server) (new : Device) : Type 0 whe
 
 -- ---- what it is then
 
+-- It is booted; one whose disk was lost only if a device shows.
+abbrev pub BootsAfter : Look → Wanted → Port → Booted → Device → Device → Type 0
+BootsAfter look.Lost wanted port booted old new = BootsIfThere wanted port booted old new
+BootsAfter told wanted port booted old new = BootsAgain wanted port booted old new
+
 -- It is found to be this: what it was, where it runs; what its boot has found, where it has to be booted; or dead.
-abbrev pub IsFoundAfter : Wanted → Port → DiskInfo → Next → Device → Device → Found → Type 0
-IsFoundAfter wanted port was (next.Running token) old new found = (found ≡ Ready was) × (new ≡ old)
-IsFoundAfter wanted port was (next.Restart token) old new found = (booted : Booted) × (booted.found ≡ found) × BootsAgain wanted port booted old new
-IsFoundAfter wanted port was next.Dead old new found = (found ≡ Unready DeadState) × (new ≡ old)
+abbrev pub IsFoundAfter : Wanted → Port → Look → DiskInfo → Next → Device → Device → Found → Type 0
+IsFoundAfter wanted port told was (next.Running token) old new found = (found ≡ Ready was) × (new ≡ old)
+IsFoundAfter wanted port told was (next.Restart token) old new found = (booted : Booted) × (booted.found ≡ found) × BootsAfter told wanted port booted old new
+IsFoundAfter wanted port told was next.Dead old new found = (found ≡ Unready DeadState) × (new ≡ old)
 
 -- the disk has the serial number and the size of the one that was there
 abbrev pub IsSameDisk : DiskInfo → DiskInfo → Type 0
 IsSameDisk was info = (info.serial ≡ was.serial) × (info.sectors ≡ was.sectors)
 
--- what its requests may expect
-abbrev pub IsProspect : DiskInfo → Found → Prospect → Type 0
-IsProspect was found SameDisk = (info : DiskInfo) × (found ≡ Ready info) × IsSameDisk was info
-IsProspect was found DiskLost = (found ≢ Unready DeadState) × ((info : DiskInfo) → found ≡ Ready info → IsSameDisk was info → ⊥)
-IsProspect was found Dead = found ≡ Unready DeadState
+-- What its requests may expect. Where its disk was lost, it doesn't count that the same one is there again.
+abbrev pub IsProspect : Look → DiskInfo → Found → Prospect → Type 0
+IsProspect told was found SameDisk = (told ≢ look.Lost) × ((info : DiskInfo) × (found ≡ Ready info) × IsSameDisk was info)
+IsProspect told was found DiskLost = (found ≢ Unready DeadState) × ((told ≡ look.Lost) ⊎ ((info : DiskInfo) → found ≡ Ready info → IsSameDisk was info → ⊥))
+IsProspect told was found Dead = found ≡ Unready DeadState
 
 -- ---- what becomes of its requests
 
@@ -137,7 +145,7 @@ pub record HasMetFates (port : Port) (later : List Reply) (old new : Server) : T
   pub device : Device
   pub mended : IsMended port old mid device
   pub found : Found
-  pub is : IsFoundAfter (wanted_of old.wanted port.0) port was mended.result.next device new.device found
+  pub is : IsFoundAfter (wanted_of old.wanted port.0) port mended.look was mended.result.next device new.device found
   pub mode : Mode
   pub mode_is : mode ≡ mode_found new.device.cap found
   pub slots : PortSlots
@@ -145,7 +153,7 @@ pub record HasMetFates (port : Port) (later : List Reply) (old new : Server) : T
   pub failed : Option Failed
   pub names : IsFailed (slots_at mid.slots port.0) mended.result.failed failed
   pub prospect : Prospect
-  pub expects : IsProspect was found prospect
+  pub expects : IsProspect mended.look was found prospect
   pub now : Holdings
   pub meets : MeetFates (fate_of failed prospect) (requests_of port mid.book) later (holdings_of port mid) now
   pub server : new ≡ with_port port new.device found was mode slots now mid

@@ -1,5 +1,5 @@
 -- How a port is served, as the block machine has it (this project's own).
-use Rattle.std.specs.Prelude.{ℕ, Bool, true, false, not, ◌≡◌, ◌≢◌, ◌⊎◌, ◌↔◌, ◌<◌, ◌+◌, ◌++◌, List, [], ◌∷◌, map, Option, Some, None, AllPairs, Contains}
+use Rattle.std.specs.Prelude.{ℕ, Bool, true, false, not, ◌≡◌, ◌⊎◌, ◌↔◌, ◌<◌, ◌+◌, ◌++◌, List, [], ◌∷◌, map, Option, Some, None, AllPairs, Contains}
 use Rattle.std.specs.List.{AllZip}
 use Rattle.ata_types.specs.declared.Port.{Port}
 use Rattle.ata_types.specs.declared.request.Outcome.TheVariants as outcome
@@ -29,7 +29,7 @@ use Rattle.slots.specs.Uses.{Uses as PortSlots, IsLowestFree, use_at}
 use Rattle.slots.specs.declared.Use.{Use as SlotUse}
 use Rattle.port_look.specs.Looks.{LooksAt}
 use Rattle.port_look.specs.declared.Look.{Look}
-use Rattle.port_look.specs.declared.Look.TheVariants.{Lost, Undisturbed as Calm}
+use Rattle.port_look.specs.declared.Look.TheVariants.{Undisturbed as Calm}
 
 -- ---- a port's turn
 
@@ -71,14 +71,12 @@ pub record ChecksUsed (port : Port) (slots : PortSlots) (replies : List Reply) (
   pub idle : HasNone mask → (replies ≡ []) × (new ≡ old)
   pub checks : (HasNone mask → ⊥) → Checks port slots mask replies old new
 
--- A port's turn in a service, in which no error was told of. The port was looked at. Where its disk was lost, that was all, and nobody was answered; else the
--- slots that it uses were checked.
+-- A port's turn in a service, in which no trouble was told of: the port was looked at, and the slots that it uses were checked.
 pub record HasTurn (port : Port) (slots : PortSlots) (replies : List Reply) (old new : Device) : Type 0 where
   pub look : Look
   pub seen : Device
   pub looks : LooksAt port look old seen
-  pub quiet : (look ≡ Calm) ⊎ (look ≡ Lost)
-  pub told : look ≢ Calm → (replies ≡ []) × (new ≡ seen)
+  pub quiet : look ≡ Calm
   pub calm : look ≡ Calm → ChecksUsed port slots replies seen new
 
 -- ---- requests are issued

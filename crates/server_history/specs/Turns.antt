@@ -151,7 +151,7 @@ pub record HasPart (port : Port) (replies : List Reply) (old new : Server) : Typ
   pub silent : (q : ℕ) → q ≢ port.0 → state_of (found_of old.ports q) ≢ Dead → SendsNone q ReadLog old.device new.device
   pub makes : (m : Machine) → IsReached m → IsMachineOf old m → MakesTurn port replies accesses old new m
 
--- The port was mended, where a look told of a failed command or of a fatal error; where it told of a lost disk nobody was answered; else those of its requests were that were found done.
+-- The port was mended, where a look told of trouble; else those of its requests were answered that were found done.
 abbrev pub DoesTurn : Port → List Reply → Server → Server → Type 0
 DoesTurn port replies old new =
     ((turn : HasTurn port (slots_at old.slots port.0) replies old.device new.device) × AnswersTurn port replies old new turn)

@@ -48,7 +48,7 @@ ghost use Rattle.server_history.specs.Server.{AreOfTwo, Server, mode_found, IsKe
 ghost use Rattle.slots.specs.Uses.{IsLowestFree, IsTaken};
 ghost use Rattle.slots.specs.declared.Use.{Use as SlotUse};
 ghost use Rattle.port_look.specs.Looks.{IsLooking, LooksAt};
-ghost use Rattle.port_look.specs.declared.Look.TheVariants.{Failed as Fails, Lost, Undisturbed as Calm};
+ghost use Rattle.port_look.specs.declared.Look.TheVariants.{Failed as Fails, Undisturbed as Calm};
 ghost use Rattle.error_recovery.specs.Recovery.{FitsFor, IsAloneIn, MayRecover};
 ghost use Rattle.error_recovery.specs.declared.Next.TheVariants.{Restart};
 ghost use Rattle.port_boot.specs.States.{IsBootable};
@@ -198,11 +198,9 @@ pub fn looks_keep()
     the_laws_below_hold();
 }
 
-/// How a ready port is served: it is looked at. Where the look told of an error, the port is mended; where it told that the disk was lost, or the port
-/// uses no slot, that is all; else the slots that it uses are checked, those that are found done are answered, and what is due then is issued.
+/// How a ready port is served: it is looked at. Where the look told of trouble, the port is mended; where the port uses no slot, that is all; else the slots that it
+/// uses are checked, those that are found done are answered, and what is due then is issued.
 pub fn a_port_is_served()
-    ensures told { (s : Server) (seen : Device) (port : Port) → IsSettled s → state_of (found_of s.ports port.0) ≡ ReadyState
-        → LooksAt port Lost s.device seen → IsFollowed (IsLooking port) AnyUse s.device seen → ServesPort port [] s (record s { device = seen }) }
     ensures idle { (s : Server) (seen : Device) (port : Port) → IsSettled s → state_of (found_of s.ports port.0) ≡ ReadyState
         → LooksAt port Calm s.device seen → IsFollowed (IsLooking port) AnyUse s.device seen → IsMaskOf (slots_at s.slots port.0) 0
         → ServesPort port [] s (record s { device = seen }) }
@@ -244,7 +242,7 @@ pub fn a_troubled_port_may_be_mended()
 pub fn a_mended_port_goes_on()
     ensures bootable { (s mid : Server) (device : Device) (port : Port) (token : Stopped) → IsKept s → state_of (found_of s.ports port.0) ≡ ReadyState
         → (r : IsMended port s mid device) → IsFollowed (IsLooking port) AnyUse s.device r.seen → r.result.next ≡ Restart token
-        → IsBootable port device × IsStopped (device.port port.0) }
+        → IsBootable port device × IsStopped (device.port port.0) × ((device.port port.0).notes.link_count ≡ 64) }
     ensures mode { (s mid : Server) (device : Device) (port : Port) → IsKept s → state_of (found_of s.ports port.0) ≡ ReadyState
         → (r : IsMended port s mid device) → IsFollowed (IsLooking port) AnyUse s.device r.seen → mode_in s port ≡ mode_found device.cap (found_of s.ports port.0) }
     ensures places { (s : Server) (port : Port) → IsKept s → state_of (found_of s.ports port.0) ≡ ReadyState

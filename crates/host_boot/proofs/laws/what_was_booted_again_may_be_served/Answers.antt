@@ -1,4 +1,4 @@
-use Rattle.host_boot.proofs.Served.{again_driven, again_shown, again_stands, beside_shown}
+use Rattle.host_boot.proofs.Served.{again_driven, again_shown, again_stands, beside_shown, start_of, there_driven, there_shown, there_stands}
 use Rattle.host_boot.proofs.laws.what_was_booted_again_may_be_served.Goals as goal
 
 pub returns-clause-driven : goal.returns-clause-driven
@@ -9,6 +9,18 @@ returns-clause-stands c = again_stands c.laws_hold.ensures
 
 pub returns-clause-shown : goal.returns-clause-shown
 returns-clause-shown c = λ wanted port booted state old new on again. again_shown c.laws_hold.ensures wanted port booted old new again state on
+
+pub returns-clause-there_driven : goal.returns-clause-there_driven
+returns-clause-there_driven c = there_driven c.laws_hold.ensures
+
+pub returns-clause-there_stands : goal.returns-clause-there_stands
+returns-clause-there_stands c = there_stands c.laws_hold.ensures
+
+pub returns-clause-there_shown : goal.returns-clause-there_shown
+returns-clause-there_shown c = λ wanted port booted state old new. there_shown c.laws_hold.ensures wanted port booted old new state
+
+pub returns-clause-start_of : goal.returns-clause-start_of
+returns-clause-start_of c = start_of c.laws_hold.ensures
 
 pub returns-clause-beside : goal.returns-clause-beside
 returns-clause-beside c = beside_shown c.laws_hold.ensures

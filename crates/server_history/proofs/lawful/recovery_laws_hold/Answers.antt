@@ -12,4 +12,8 @@ returns c = record {
   again_driven = c.what_was_booted_again_may_be_served.ensures.driven;
   again_stands = c.what_was_booted_again_may_be_served.ensures.stands;
   again_shown = c.what_was_booted_again_may_be_served.ensures.shown;
+  start_of = c.what_was_booted_again_may_be_served.ensures.start_of;
+  there_driven = c.what_was_booted_again_may_be_served.ensures.there_driven;
+  there_stands = c.what_was_booted_again_may_be_served.ensures.there_stands;
+  there_shown = c.what_was_booted_again_may_be_served.ensures.there_shown;
 }

@@ -1,9 +1,6 @@
 use Rattle.server_history.proofs.Mending.{recovered, settles}
-use Rattle.server_history.proofs.Serving.{finished, idle, told_loss, unfinished}
+use Rattle.server_history.proofs.Serving.{finished, idle, unfinished}
 use Rattle.server_history.proofs.laws.a_port_is_served.Goals as goal
-
-pub returns-clause-told : goal.returns-clause-told
-returns-clause-told c s seen port t ready l looks = told_loss s seen port t ready looks c.the_laws_below_hold.ensures l
 
 pub returns-clause-idle : goal.returns-clause-idle
 returns-clause-idle c s seen port t ready l looks its = idle s seen port t ready looks l c.the_laws_below_hold.ensures its

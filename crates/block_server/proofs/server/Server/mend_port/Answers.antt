@@ -191,7 +191,7 @@ issue_where_ready-requires g c =
     let now = holding c.settle.new.book c.settle.new.table c.settle.new.kept in
     let K : List Lending → Table → Type 0 = λ loans table. MeetFates (fate_of c.mend_rest-failed.result.0 c.prospect_of-prospect.result) (requests_of port then.book) met.0 (holding then.book table loans) now in
     let meets = subst (λ (loans : List Lending). K loans then.table) (sym (restoring.kept_said laws s port c.args.look (device c.self.inside.adapter) sees c.args.was ready c.args.replies.now.items then.replies.items c.mend_rest-failed.result.0 c.mend_rest-failed.result.1 then.table then.book then.slots (device then.adapter) r place place_is c.index-self-place-3.result)) (subst (K (get_or c.self.inside.kept place c.index-self-place-3.result)) c.deref_mut-2.ensures.value met.2) in
-    let W : ℕ → Type 0 = λ n. IsFoundAfter (wanted_of v.wanted n) port c.args.was c.mend_rest-failed.result.1 (device then.adapter) two found in
+    let W : ℕ → Type 0 = λ n. IsFoundAfter (wanted_of v.wanted n) port c.args.look c.args.was c.mend_rest-failed.result.1 (device then.adapter) two found in
     let found_is = subst W place_is (c.find_after-found.ensures.found port (restoring.token_of laws s port c.args.look (device c.self.inside.adapter) sees c.args.was ready c.args.replies.now.items then.replies.items c.mend_rest-failed.result.0 c.mend_rest-failed.result.1 then.table then.book then.slots (device then.adapter) r)) in
     record { lends = ((restoring.restored s port c.args.was two found mode c.new.result now), restoring.lends_issue laws s port c.args.look (device c.self.inside.adapter) sees c.args.was ready c.args.replies.now.items then.replies.items c.mend_rest-failed.result.0 c.mend_rest-failed.result.1 then.table then.book then.slots (device then.adapter) r two found found_is mode c.find_after-found.ensures.mode c.new.result c.new.ensures.usable (search rules) c.new.ensures.free c.prospect_of-prospect.result c.prospect_of-prospect.ensures now met.0 meets place place_is c.index-self-place-4.result) }
 
@@ -248,7 +248,7 @@ served g c before sees_now settled_now =
     let now = holding c.settle.new.book c.settle.new.table c.settle.new.kept in
     let K : List Lending → Table → Type 0 = λ loans table. MeetFates (fate_of c.mend_rest-failed.result.0 c.prospect_of-prospect.result) (requests_of port then.book) met.0 (holding then.book table loans) now in
     let meets = subst (λ (loans : List Lending). K loans then.table) (sym (restoring.kept_said laws s port c.args.look (device c.self.inside.adapter) sees c.args.was ready c.args.replies.now.items then.replies.items c.mend_rest-failed.result.0 c.mend_rest-failed.result.1 then.table then.book then.slots (device then.adapter) r place place_is c.index-self-place-3.result)) (subst (K (get_or c.self.inside.kept place c.index-self-place-3.result)) c.deref_mut-2.ensures.value met.2) in
-    let W : ℕ → Type 0 = λ n. IsFoundAfter (wanted_of v.wanted n) port c.args.was c.mend_rest-failed.result.1 (device then.adapter) two found in
+    let W : ℕ → Type 0 = λ n. IsFoundAfter (wanted_of v.wanted n) port c.args.look c.args.was c.mend_rest-failed.result.1 (device then.adapter) two found in
     let found_is = subst W place_is (c.find_after-found.ensures.found port (restoring.token_of laws s port c.args.look (device c.self.inside.adapter) sees c.args.was ready c.args.replies.now.items then.replies.items c.mend_rest-failed.result.0 c.mend_rest-failed.result.1 then.table then.book then.slots (device then.adapter) r)) in
     let three = device c.issue_where_ready.new.adapter in
     let book = c.issue_where_ready.new.book in

@@ -3,7 +3,7 @@ use Rattle.host_boot.specs.Taken.{found_of}
 use Rattle.block_server.specs.Seen.{seen}
 use Rattle.block_server.specs.View.{ServerView, server_of}
 use Rattle.port_look.specs.declared.Look.{Look}
-use Rattle.port_look.specs.declared.Look.TheVariants.{Broken, Failed}
+use Rattle.port_look.specs.declared.Look.TheVariants.{Broken, Failed, Lost}
 use Rattle.server_history.specs.Mended.{LeadsToMending}
 use Rattle.server_history.specs.Served.{IsMaskOf}
 use Rattle.server_history.specs.Turns.{ServesPort}
@@ -12,40 +12,14 @@ use Rattle.block_server.proofs.Finishing as finishing
 use Rattle.block_server.proofs.Serving as serving
 use Rattle.block_server.proofs.server.Server.serve_port.Goals as goal
 
--- a failed command comes after a broken link
-leads : {look : Look} → (look ≡ Broken) ⊎ (look ≡ Failed) → LeadsToMending look
-leads (inl broken) = inr broken
-leads (inr failed) = inl failed
+-- a lost disk comes first, and a failed command last
+leads : {look : Look} → (look ≡ Lost) ⊎ ((look ≡ Broken) ⊎ (look ≡ Failed)) → LeadsToMending look
+leads (inl lost) = inr (inr lost)
+leads (inr (inl broken)) = inr (inl broken)
+leads (inr (inr failed)) = inl failed
 
 pub invariant_of-self : goal.invariant_of-self
 invariant_of-self g c =
-    let device = g.A.Adapter.device in
-    let s = server_of device (seen c.self.inside) in
-    let ready = finishing.ready_before device (seen c.self.inside) c.args.self.now c.self.view_is c.self.invariant c.args.port c.requires.ready in
-    let seen_kept = c.looks_keep.ensures.looking s (device c.look_at-look.new.adapter) c.args.port c.self.invariant.kept ready c.look_at-look.ensures.followed in
-    record { kept = seen_kept; issued = c.self.invariant.issued }
-
-pub invariant_of-self-in-Broken : goal.invariant_of-self-in-Broken
-invariant_of-self-in-Broken g c =
-    let device = g.A.Adapter.device in
-    let s = server_of device (seen c.self.inside) in
-    let ready = finishing.ready_before device (seen c.self.inside) c.args.self.now c.self.view_is c.self.invariant c.args.port c.requires.ready in
-    let seen_kept = c.looks_keep.ensures.looking s (device c.look_at-look.new.adapter) c.args.port c.self.invariant.kept ready c.look_at-look.ensures.followed in
-    record { kept = seen_kept; issued = c.self.invariant.issued }
-
-pub returns-in-Lost-clause-serves : goal.returns-in-Lost-clause-serves
-returns-in-Lost-clause-serves g c =
-    let device = g.A.Adapter.device in
-    let s = server_of device (seen c.self.inside) in
-    let ready = finishing.ready_before device (seen c.self.inside) c.args.self.now c.self.view_is c.self.invariant c.args.port c.requires.ready in
-    let P : ServerView g.row.A.Denot → Type 0 = λ v. ServesPort c.args.port [] (server_of device v) (record s { device = device c.look_at-look.new.adapter }) in (
-      [],
-      sym (append-nil c.args.replies.now.items),
-      subst P c.self.view_is (c.a_port_is_served.ensures.told s (device c.look_at-look.new.adapter) c.args.port c.self.invariant ready c.in-Lost.ensures.looks c.look_at-look.ensures.followed),
-    )
-
-pub returns-in-Lost-clause-settled : goal.returns-in-Lost-clause-settled
-returns-in-Lost-clause-settled g c =
     let device = g.A.Adapter.device in
     let s = server_of device (seen c.self.inside) in
     let ready = finishing.ready_before device (seen c.self.inside) c.args.self.now c.self.view_is c.self.invariant c.args.port c.requires.ready in
@@ -57,19 +31,19 @@ mend_port-requires-clause-sees g c =
     let device = g.A.Adapter.device in
     let s = server_of device (seen c.self.inside) in
     let ready = finishing.ready_before device (seen c.self.inside) c.args.self.now c.self.view_is c.self.invariant c.args.port c.requires.ready in
-    (device c.self.inside.adapter, record { kept = c.self.invariant.kept; ready = ready; looks = c.look_at-look.ensures.looks; followed = c.look_at-look.ensures.followed; mends = leads c.in-Broken.is }, c.self.invariant)
+    (device c.self.inside.adapter, record { kept = c.self.invariant.kept; ready = ready; looks = c.look_at-look.ensures.looks; followed = c.look_at-look.ensures.followed; mends = leads c.in-Lost.is }, c.self.invariant)
 
-pub returns-in-Broken-clause-serves : goal.returns-in-Broken-clause-serves
-returns-in-Broken-clause-serves g c =
+pub returns-in-Lost-clause-serves : goal.returns-in-Lost-clause-serves
+returns-in-Lost-clause-serves g c =
     let device = g.A.Adapter.device in
     let s = server_of device (seen c.self.inside) in
     let ready = finishing.ready_before device (seen c.self.inside) c.args.self.now c.self.view_is c.self.invariant c.args.port c.requires.ready in
-    let done = c.mend_port.ensures.serves (device c.self.inside.adapter) (record { kept = c.self.invariant.kept; ready = ready; looks = c.look_at-look.ensures.looks; followed = c.look_at-look.ensures.followed; mends = leads c.in-Broken.is }) c.self.invariant in
+    let done = c.mend_port.ensures.serves (device c.self.inside.adapter) (record { kept = c.self.invariant.kept; ready = ready; looks = c.look_at-look.ensures.looks; followed = c.look_at-look.ensures.followed; mends = leads c.in-Lost.is }) c.self.invariant in
     let P : ServerView g.row.A.Denot → Type 0 = λ v. ServesPort c.args.port done.0 (server_of device v) (server_of device c.mend_port.new.self) in
     (done.0, done.1, subst P c.self.view_is done.2)
 
-pub returns-in-Broken-clause-ports : goal.returns-in-Broken-clause-ports
-returns-in-Broken-clause-ports g c = λ q other.
+pub returns-in-Lost-clause-ports : goal.returns-in-Lost-clause-ports
+returns-in-Lost-clause-ports g c = λ q other.
     c.mend_port.ensures.ports q other ∙ ap (λ (v : ServerView g.row.A.Denot). found_of v.ports q) c.self.view_is
 
 pub invariant_of-self-then-used-eq0 : goal.invariant_of-self-then-used-eq0
