@@ -1,4 +1,5 @@
--- How a port on which a command failed, or whose link or host bus did, is mended, and what becomes of its requests (this project's own).
+-- How a port is mended on which a command failed, whose link or host bus did, whose disk was lost, or whose request is hung, and what becomes of its
+-- requests (this project's own).
 use Rattle.std.specs.Prelude.{ℕ, Bool, true, ◌≡◌, ◌≢◌, ◌⊎◌, ◌<◌, ◌≤◌, ◌++◌, List, Option, Some, None, AllPairs, IsPermutation, filter, length, map, slice_set}
 use Rattle.ata_types.specs.declared.Port.{Port}
 use Rattle.ata_types.specs.declared.PortState.TheVariants.{Dead as DeadState}
@@ -22,45 +23,49 @@ use Rattle.identify.specs.declared.wanted.Wanted.{Wanted}
 use Rattle.ncq.specs.Masks.{ReadsDone}
 use Rattle.port_control.specs.declared.Running as running_token
 use Rattle.port_look.specs.Looks.{LooksAt}
-use Rattle.port_look.specs.declared.Look.{Look}
 use Rattle.port_look.specs.declared.Look.TheVariants as look
 use Rattle.request_queue.specs.Entries.{Held, IsEarlier, is_of}
 use Rattle.request_queue.specs.Fates.{Holdings, MeetFates, fate_of}
-use Rattle.request_queue.specs.declared.fate.Failed.{Failed}
+use Rattle.request_queue.specs.declared.fate.Failed as fate
 use Rattle.request_queue.specs.declared.fate.Prospect.{Prospect}
 use Rattle.request_queue.specs.declared.fate.Prospect.TheVariants.{SameDisk, DiskLost, Dead}
 use Rattle.slots.specs.Uses.{Uses as PortSlots, use_at}
 use Rattle.slots.specs.declared.Use.{Use as SlotUse}
 use Rattle.server_history.specs.Served.{AnswersEach, IsMaskOf, IssuesAll, done_reply}
+use Rattle.server_history.specs.declared.Trouble.{Trouble}
+use Rattle.server_history.specs.declared.Trouble.TheVariants.{Broken, Failed, Hung, Lost}
 use Rattle.server_history.specs.Server.{Server, kept_at, mode_found, slots_at, used_for}
 
 -- ---- a port is mended
 
--- The look leads to mending: it told that a command had failed, or the link or the host's bus, or that the disk was lost.
-abbrev pub LeadsToMending : Look → Type 0
-LeadsToMending told = (told ≡ look.Failed) ⊎ ((told ≡ look.Broken) ⊎ (told ≡ look.Lost))
+-- How the trouble is found out: a look at the port tells that a command had failed, or the link or the host's bus, or that the disk was lost. That a request
+-- is hung its age tells, and the port isn't looked at.
+abbrev pub IsFoundOut : Port → Trouble → Device → Device → Type 0
+IsFoundOut port Failed old seen = LooksAt port look.Failed old seen
+IsFoundOut port Broken old seen = LooksAt port look.Broken old seen
+IsFoundOut port Lost old seen = LooksAt port look.Lost old seen
+IsFoundOut port Hung old seen = seen ≡ old
 
 -- nobody is named, and the port doesn't run
 abbrev pub EndsGivenUp : Recovered → Type 0
 EndsGivenUp result = (result.failed ≡ None) × ((token : running_token.Running) → result.next ≢ next.Running token)
 
--- What is told after such a look. Where a command had failed, the port was recovered. Where its link or the host's bus had failed, or its disk was lost, the port was given up.
--- A look that told nothing leads to neither.
-abbrev pub TellsMending : Look → Port → ℕ → Bool → Recovered → List Access → Device → Device → Type 0
-TellsMending look.Failed port outstanding queued result accesses old new = TellsRecovery port outstanding queued result accesses old new
-TellsMending look.Undisturbed port outstanding queued result accesses old new = ⊥
-TellsMending told port outstanding queued result accesses old new = EndsGivenUp result
+-- What is told then. Where a command had failed, the port was recovered. Where its link or the host's bus had, its disk was lost, or a request is hung, the
+-- port was given up.
+abbrev pub TellsMending : Trouble → Port → ℕ → Bool → Recovered → List Access → Device → Device → Type 0
+TellsMending Failed port outstanding queued result accesses old new = TellsRecovery port outstanding queued result accesses old new
+TellsMending trouble port outstanding queued result accesses old new = EndsGivenUp result
 
 -- each used slot has a queued command, or each has a plain one
 abbrev pub AreQueued : Bool → PortSlots → Type 0
 AreQueued queued slots = (slot : ℕ) (used : SlotUse) → use_at slots slot ≡ Some used → used.queued ≡ queued
 
--- A look told of trouble. The masks were read; what was done was answered, in order of acceptance, and no slot of it is in use any more;
+-- Trouble was found out. The masks were read; what was done was answered, in order of acceptance, and no slot of it is in use any more;
 -- and the port was mended, with the commands of the other used slots outstanding. So it came to this server, and then to this device.
 pub record IsMended (port : Port) (old mid : Server) (new : Device) : Type 0 where
-  pub look : Look
+  pub trouble : Trouble
   pub seen : Device
-  pub looks : LooksAt port look old.device seen
+  pub finds : IsFoundOut port trouble old.device seen
   pub mask : ℕ
   pub its : IsMaskOf (slots_at old.slots port.0) mask
   pub done : ℕ
@@ -76,35 +81,35 @@ pub record IsMended (port : Port) (old mid : Server) (new : Device) : Type 0 whe
   pub alike : AreQueued queued (slots_at mid.slots port.0)
   pub result : Recovered
   pub mends : Mends port outstanding queued result mid.device new
-  pub tells : TellsMending look port outstanding queued result mends.accesses mid.device new
+  pub tells : TellsMending trouble port outstanding queued result mends.accesses mid.device new
 
 -- ---- what it is then
 
 -- It is booted; one whose disk was lost only if a device shows.
-abbrev pub BootsAfter : Look → Wanted → Port → Booted → Device → Device → Type 0
-BootsAfter look.Lost wanted port booted old new = BootsIfThere wanted port booted old new
-BootsAfter told wanted port booted old new = BootsAgain wanted port booted old new
+abbrev pub BootsAfter : Trouble → Wanted → Port → Booted → Device → Device → Type 0
+BootsAfter Lost wanted port booted old new = BootsIfThere wanted port booted old new
+BootsAfter trouble wanted port booted old new = BootsAgain wanted port booted old new
 
 -- It is found to be this: what it was, where it runs; what its boot has found, where it has to be booted; or dead.
-abbrev pub IsFoundAfter : Wanted → Port → Look → DiskInfo → Next → Device → Device → Found → Type 0
-IsFoundAfter wanted port told was (next.Running token) old new found = (found ≡ Ready was) × (new ≡ old)
-IsFoundAfter wanted port told was (next.Restart token) old new found = (booted : Booted) × (booted.found ≡ found) × BootsAfter told wanted port booted old new
-IsFoundAfter wanted port told was next.Dead old new found = (found ≡ Unready DeadState) × (new ≡ old)
+abbrev pub IsFoundAfter : Wanted → Port → Trouble → DiskInfo → Next → Device → Device → Found → Type 0
+IsFoundAfter wanted port trouble was (next.Running token) old new found = (found ≡ Ready was) × (new ≡ old)
+IsFoundAfter wanted port trouble was (next.Restart token) old new found = (booted : Booted) × (booted.found ≡ found) × BootsAfter trouble wanted port booted old new
+IsFoundAfter wanted port trouble was next.Dead old new found = (found ≡ Unready DeadState) × (new ≡ old)
 
 -- the disk has the serial number and the size of the one that was there
 abbrev pub IsSameDisk : DiskInfo → DiskInfo → Type 0
 IsSameDisk was info = (info.serial ≡ was.serial) × (info.sectors ≡ was.sectors)
 
 -- What its requests may expect. Where its disk was lost, it doesn't count that the same one is there again.
-abbrev pub IsProspect : Look → DiskInfo → Found → Prospect → Type 0
-IsProspect told was found SameDisk = (told ≢ look.Lost) × ((info : DiskInfo) × (found ≡ Ready info) × IsSameDisk was info)
-IsProspect told was found DiskLost = (found ≢ Unready DeadState) × ((told ≡ look.Lost) ⊎ ((info : DiskInfo) → found ≡ Ready info → IsSameDisk was info → ⊥))
-IsProspect told was found Dead = found ≡ Unready DeadState
+abbrev pub IsProspect : Trouble → DiskInfo → Found → Prospect → Type 0
+IsProspect trouble was found SameDisk = (trouble ≢ Lost) × ((info : DiskInfo) × (found ≡ Ready info) × IsSameDisk was info)
+IsProspect trouble was found DiskLost = (found ≢ Unready DeadState) × ((trouble ≡ Lost) ⊎ ((info : DiskInfo) → found ≡ Ready info → IsSameDisk was info → ⊥))
+IsProspect trouble was found Dead = found ≡ Unready DeadState
 
 -- ---- what becomes of its requests
 
 -- the request whose command failed is that of the slot that recovery names, with status and error
-abbrev pub IsFailed : PortSlots → Option Failure → Option Failed → Type 0
+abbrev pub IsFailed : PortSlots → Option Failure → Option fate.Failed → Type 0
 IsFailed slots None failed = failed ≡ None
 IsFailed slots (Some its) failed =
     (used : SlotUse) × (use_at slots its.slot.0 ≡ Some used) × (failed ≡ Some (record { id = used.id; status = its.status; error = its.error }))
@@ -145,22 +150,22 @@ pub record HasMetFates (port : Port) (later : List Reply) (old new : Server) : T
   pub device : Device
   pub mended : IsMended port old mid device
   pub found : Found
-  pub is : IsFoundAfter (wanted_of old.wanted port.0) port mended.look was mended.result.next device new.device found
+  pub is : IsFoundAfter (wanted_of old.wanted port.0) port mended.trouble was mended.result.next device new.device found
   pub mode : Mode
   pub mode_is : mode ≡ mode_found new.device.cap found
   pub slots : PortSlots
   pub unused : AreUnused mode slots
-  pub failed : Option Failed
+  pub failed : Option fate.Failed
   pub names : IsFailed (slots_at mid.slots port.0) mended.result.failed failed
   pub prospect : Prospect
-  pub expects : IsProspect mended.look was found prospect
+  pub expects : IsProspect mended.trouble was found prospect
   pub now : Holdings
   pub meets : MeetFates (fate_of failed prospect) (requests_of port mid.book) later (holdings_of port mid) now
   pub server : new ≡ with_port port new.device found was mode slots now mid
 
 -- ---- the whole
 
--- A port's turn in which a look told of trouble: it was mended, its requests met their fates, and then what is due on it was issued. The replies stand in
+-- A port's turn in which trouble was found out: it was mended, its requests met their fates, and then what is due on it was issued. The replies stand in
 -- order of acceptance.
 pub record MendsPort (port : Port) (replies : List Reply) (old new : Server) : Type 0 where
   pub later : List Reply

@@ -1,5 +1,5 @@
--- What a port's turn in a service makes of a machine that stands for the server (this project's own).
-use Rattle.std.specs.Prelude.{ℕ, Bool, true, false, ◌≡◌, ◌≢◌, ◌⊎◌, ◌<◌, ◌+◌, ◌++◌, List, [], ◌∷◌, All, Contains, None, Some}
+-- What a port's turn in a service, or in a tick, makes of a machine that stands for the server (this project's own).
+use Rattle.std.specs.Prelude.{ℕ, Bool, true, false, ◌≡◌, ◌≢◌, ◌⊎◌, ◌<◌, ◌≤◌, ◌+◌, ◌++◌, List, [], ◌∷◌, All, Contains, None, Some}
 use Rattle.ata_types.specs.declared.Port.{Port}
 use Rattle.ata_types.specs.declared.PortState.TheVariants.{Dead, Ready as ReadyState}
 use Rattle.ata_types.specs.declared.request.Reply.{Reply}
@@ -12,24 +12,25 @@ use Rattle.adapter.specs.declared.tape.Fault as tape_fault
 use Rattle.agreement.specs.Agrees.{port_at}
 use Rattle.agreement.specs.Driven.{IsOf, SendsNone}
 use Rattle.agreement.specs.Driver.{IsBacked}
-use Rattle.block_machine.specs.Events.{AllGrounded, AllLawful, AllMay, Belong, HadDisk, IsDevices, IssuesLast, Moment, Served, Service, Tells, UnplugsAll}
+use Rattle.block_machine.specs.Events.{Ask, AllGrounded, AllLawful, AllMay, AnswersEnded, Belong, FindsAnother, HadDisk, IsDevices, IssuesLast, Moment, NoneKeepsIssue, Served, Service, Tells, Tick, UnplugsAll}
 use Rattle.block_machine.specs.Due.{of_port}
 use Rattle.block_machine.specs.Histories.{Happening, Instant, IsReached}
 use Rattle.block_machine.specs.Left.{after}
-use Rattle.block_machine.specs.Ports.{Evidence, Fault, IsServiced, SameDisk, SamePort}
+use Rattle.block_machine.specs.Ports.{Evidence, Fault, IsInterrupted, IsServiced, Ports, SameDisk, SamePort}
 use Rattle.block_machine.specs.State.{Machine, Pending}
 use Rattle.block_machine.specs.Steps.{Step, Again, Answer, Issue}
 use Rattle.driver_history.specs.Evidence.{IsEvidencedOf}
 use Rattle.error_recovery.specs.Evidence.{BringsLog, HasFailed}
 use Rattle.error_log.specs.Log.{TellsError}
 use Rattle.driver_history.specs.Guard.{IsAskedOf}
-use Rattle.driver_history.specs.Histories.{FindsDone, IsIssuedOn, IssuesDue, TiesPort}
+use Rattle.driver_history.specs.Histories.{FindsDone, IsIssuedOn, IssuesDue, LosesNoTrouble, RunsWellAnew, TiesPort}
 use Rattle.driver_history.specs.Holds.{NoneWaits}
-use Rattle.driver_history.specs.Trace.{IsDriversOwn}
+use Rattle.driver_history.specs.Trace.{IsDriversOwn, ResetsLink}
 use Rattle.host_boot.specs.Taken.{found_of}
 use Rattle.host_boot.specs.declared.Found.{Found}
 use Rattle.host_boot.specs.declared.Found.TheVariants.{Ready}
-use Rattle.request_queue.specs.Entries.{asks_of}
+use Rattle.request_queue.specs.Entries.{Held, aged, asks_of}
+use Rattle.server_history.specs.declared.Trouble.TheVariants.{Hung}
 use Rattle.server_history.specs.Mended.{MendsPort}
 use Rattle.server_history.specs.Served.{AnswersTurn, HasTurn}
 use Rattle.server_history.specs.Server.{Server, IsMachineOf, IsSettled, mode_at, mode_in, ports_of, remembered_at, slots_at, state_of, used_for}
@@ -83,17 +84,34 @@ pub record TellsFault (port : Port) (accesses : List Access) (old new : Server) 
 
 -- ---- a turn
 
--- a turn, as though it were a service of its own
-abbrev pub turn_of : List Reply → Server → Evidence → List Step → Happening Device DeviceStep
-turn_of replies new evidence steps = record {
-  event = record { ask = Service; said = Served replies; evidence = evidence; steps = steps; ports = ports_of new };
+-- A port's turn: in a service it is served; in a tick it is restarted, or rests.
+pub data Turn : Type 0 where
+  InService InRestart AtRest : Turn
+
+-- the call that the turn is a part of
+abbrev pub call_of : Turn → Ask DeviceStep
+call_of InService = Service
+call_of InRestart = Tick
+call_of AtRest = Tick
+
+-- a turn, as though it were a call of its own
+abbrev pub turn_of : Turn → List Reply → Server → Evidence → List Step → Happening Device DeviceStep
+turn_of turn replies new evidence steps = record {
+  event = record { ask = call_of turn; said = Served replies; evidence = evidence; steps = steps; ports = ports_of new };
   device = new.device;
 }
 
--- As such it has done of its port, if that is asked, what a call does of a port.
-abbrev pub TiesTurn : Port → List Reply → List Access → Server → Server → Machine → Evidence → List Step → Type 0
-TiesTurn port replies accesses old new m evidence steps =
-    IsAskedOf port (instant_of old m) new.device → TiesPort (instant_of old m) (turn_of replies new evidence steps) accesses port
+-- Where it is asked of the port, what a call does of trouble: none is lost, and a port that was stopped runs well anew.
+pub record HeedsTrouble (port : Port) (accesses : List Access) (old : Instant Device) (evidence : Evidence) (ports : Ports) (new : Device) : Type 0 where
+  pub trouble : LosesNoTrouble evidence old ports new port
+  pub well : RunsWellAnew evidence accesses old ports new port
+
+-- As such a call it has done of its port, if that is asked, what a service does of a port; in a tick, what a call does of trouble.
+abbrev pub TiesTurn : Turn → Port → List Reply → List Access → Server → Server → Machine → Evidence → List Step → Type 0
+TiesTurn InService port replies accesses old new m evidence steps =
+    IsAskedOf port (instant_of old m) new.device → TiesPort (instant_of old m) (turn_of InService replies new evidence steps) accesses port
+TiesTurn turn port replies accesses old new m evidence steps =
+    IsAskedOf port (instant_of old m) new.device → HeedsTrouble port accesses (instant_of old m) evidence (ports_of new) new.device
 
 -- What was done was found by a reading of the masks, in which the bits of each slot that wasn't used when the turn began were clear. (The bytes of such a slot may say
 -- still the command of a request that has ended.)
@@ -101,32 +119,51 @@ pub record FindsTurn (port : Port) (accesses : List Access) (old : Server) (m : 
   pub done : FindsDone port accesses (instant_of old m) steps
   pub unused : (slot : ℕ) → slot < 32 → used_for old.slots port.0 slot ≡ None → (bit done.ci slot ≡ false) × (bit done.sact slot ≡ false)
 
+-- What a tick does of a port that it restarts. What was done was found by a reading of the masks, and the port was booted anew, unless it got stuck. What had ended is
+-- answered; the port was stopped, or got stuck; and none of its requests keeps its issue. Unplugged is told only where the port is neither dead nor ready with its disk; and it shows a
+-- disk only where one was in.
+pub record RestartsPort (port : Port) (accesses : List Access) (old new : Server) (m : Machine) (evidence : Evidence) (steps : List Step) : Type 0 where
+  pub finds : FindsTurn port accesses old m steps
+  pub boots : (state_of (found_of new.ports port.0) ≡ Dead) ⊎ ResetsLink port accesses
+  pub ended : AnswersEnded m steps port
+  pub interrupts : IsInterrupted evidence port
+  pub anew : NoneKeepsIssue steps (after m steps) port
+  pub another : FindsAnother steps (ports_of old) (ports_of new)
+  pub disk : HadDisk (moment_of old m) steps (moment_of new (after m steps)) port
+
+-- What a turn owes besides. In a service requests wait again, are aborted, or told a fault, on ports alone that failed. A restart owes what it does, and tells no
+-- fault. Where a port rests nothing is done.
+abbrev pub OwesTurn : Turn → Port → List Access → Server → Server → Machine → Evidence → List Step → Type 0
+OwesTurn InService port accesses old new m evidence steps = AllGrounded evidence steps
+OwesTurn InRestart port accesses old new m evidence steps = RestartsPort port accesses old new m evidence steps × (evidence.faults ≡ [])
+OwesTurn AtRest port accesses old new m evidence steps = (accesses ≡ []) × (steps ≡ []) × (evidence.faults ≡ []) × (IsInterrupted evidence port → ⊥)
+
 -- What a turn that made these accesses and said these replies has made of the machine: its steps may come, and lead to a machine that stands for
 -- the new server; the tape backs them; and they are the device's own, or of requests of the port. Its evidence names the port alone, and is
--- backed by the device. Of what a service owes and claims it owes and claims what the block machine asks; and where that is asked of the port, it has done what a call
+-- backed by the device. Of what its call owes and claims it owes and claims what the block machine asks; and where that is asked of the port, it has done what a call
 -- does of one.
-pub record MakesTurn (port : Port) (replies : List Reply) (accesses : List Access) (old new : Server) (m : Machine) : Type 0 where
+pub record MakesTurn (turn : Turn) (port : Port) (replies : List Reply) (accesses : List Access) (old new : Server) (m : Machine) : Type 0 where
   pub steps : List Step
   pub evidence : Evidence
   pub may : AllMay m steps
   pub stands : IsMachineOf new (after m steps)
   pub backed : IsBacked old.device new.device m steps
   pub own : All (IsOfTurn port) steps
-  pub belong : Belong {D = DeviceStep} Service (ports_of new) steps
+  pub belong : Belong (call_of turn) (ports_of new) steps
   pub last : IssuesLast steps
   pub names : NamesOnly port evidence
   pub lawful : AllLawful (moment_of old m) evidence (ports_of new) steps
-  pub grounded : AllGrounded evidence steps
+  pub owes : OwesTurn turn port accesses old new m evidence steps
   pub tells : Tells steps replies
   pub unplugs : UnplugsAll steps (after m steps)
   pub becomes : IsServiced (ports_of old) evidence (ports_of new) port
   pub disk : SamePort (ports_of old) (ports_of new) port ⊎ HadDisk (moment_of old m) steps (moment_of new (after m steps)) port
   pub keeps : SameDisk (ports_of old) (ports_of new) port ⊎ NoneWaits (after m steps) port
   pub issues : (ports_of new).state port ≡ ReadyState → IssuesDue (mode_in new port) steps (after m steps) port
-  pub evidenced : IsEvidencedOf Service (Served replies) accesses (instant_of old m) (ports_of new) new.device evidence port
+  pub evidenced : IsEvidencedOf (call_of turn) (Served replies) accesses (instant_of old m) (ports_of new) new.device evidence port
   pub faults : (told : Fault) → Contains evidence.faults told → TellsFault port accesses old new told
-  pub ties : TiesTurn port replies accesses old new m evidence steps
-  pub finds : IsAskedOf port (instant_of old m) new.device → (e : Pending) → IsIssuedOn port m e → FindsTurn port accesses old m steps
+  pub ties : TiesTurn turn port replies accesses old new m evidence steps
+  pub finds : turn ≡ InService → IsAskedOf port (instant_of old m) new.device → (e : Pending) → IsIssuedOn port m e → FindsTurn port accesses old m steps
 
 -- what a turn of the port leaves of the server: its grants, the disks that are wanted, the id that was handed out last, and what it has of other ports and their
 -- requests (the machine that stands for it has the owners, and the loans that are kept)
@@ -142,25 +179,25 @@ pub record LeavesOthers (port : Port) (old new : Server) : Type 0 where
 
 -- A port's turn, in which these replies were given: its accesses are of the port, and those of memory in the driver's frames; it leaves the other
 -- ports, of which each that isn't dead is sent no page of the log; and from each machine that stands for the old server it makes one that stands for the new.
-pub record HasPart (port : Port) (replies : List Reply) (old new : Server) : Type 0 where
+pub record HasPart (turn : Turn) (port : Port) (replies : List Reply) (old new : Server) : Type 0 where
   pub accesses : List Access
   pub does : DoesAll accesses old.device new.device
   pub of : All (IsOf port) accesses
   pub own : All IsDriversOwn accesses
   pub others : LeavesOthers port old new
   pub silent : (q : ℕ) → q ≢ port.0 → state_of (found_of old.ports q) ≢ Dead → SendsNone q ReadLog old.device new.device
-  pub makes : (m : Machine) → IsReached m → IsMachineOf old m → MakesTurn port replies accesses old new m
+  pub makes : (m : Machine) → IsReached m → IsMachineOf old m → MakesTurn turn port replies accesses old new m
 
 -- The port was mended, where a look told of trouble; else those of its requests were answered that were found done.
 abbrev pub DoesTurn : Port → List Reply → Server → Server → Type 0
 DoesTurn port replies old new =
     ((turn : HasTurn port (slots_at old.slots port.0) replies old.device new.device) × AnswersTurn port replies old new turn)
-    ⊎ MendsPort port replies old new
+    ⊎ ((mends : MendsPort port replies old new) × (mends.settled.mended.trouble ≢ Hung))
 
 -- What serving a port does: the port has its turn, which is a part of a service.
 pub record ServesPort (port : Port) (replies : List Reply) (old new : Server) : Type 0 where
   pub does : DoesTurn port replies old new
-  pub part : HasPart port replies old new
+  pub part : HasPart InService port replies old new
 
 -- so it was with each of these ports that was found ready, one after another, of which the first has this number
 abbrev pub ServePorts : ℕ → List Found → List Reply → Server → Server → Type 0
@@ -169,3 +206,36 @@ ServePorts port (Ready info ∷ rest) replies old new =
     (mid : Server) × (its later : List Reply) × (replies ≡ its ++ later)
     × IsSettled mid × ServesPort (port_at port) its old mid × ServePorts (port + 1) rest later mid new
 ServePorts port (found ∷ rest) replies old new = ServePorts (port + 1) rest replies old new
+
+-- ---- a tick
+
+-- an issued request of the port is three ticks old
+abbrev pub IsOverdue : Port → List Held → Type 0
+IsOverdue port book = (e : Held) × Contains book e × (e.entry.port ≡ port) × (e.entry.issued ≡ true) × (3 ≤ e.entry.age)
+
+-- the port is ready
+abbrev pub is_ready : Found → Bool
+is_ready (Ready info) = true
+is_ready found = false
+
+-- the server, with each issued request of a ready port a tick older
+abbrev pub a_tick_older : Server → Server
+a_tick_older s = record s { book = aged (λ port. is_ready (found_of s.ports port.0)) s.book }
+
+-- A ready port's turn in a tick, where the book was this when requests had got older: the port was mended, where one was overdue; else it rests.
+abbrev pub TicksPort : List Held → Port → List Reply → Server → Server → Type 0
+TicksPort book port replies old new =
+    (IsOverdue port book × (mends : MendsPort port replies old new) × (mends.settled.mended.trouble ≡ Hung) × HasPart InRestart port replies old new)
+    ⊎ ((IsOverdue port book → ⊥) × (replies ≡ []) × (new ≡ old))
+
+-- so it was with each of these ports that was found ready, one after another, of which the first has this number
+abbrev pub TickPorts : List Held → ℕ → List Found → List Reply → Server → Server → Type 0
+TickPorts book port [] replies old new = (replies ≡ []) × (new ≡ old)
+TickPorts book port (Ready info ∷ rest) replies old new =
+    (mid : Server) × (its later : List Reply) × (replies ≡ its ++ later)
+    × IsSettled mid × TicksPort book (port_at port) its old mid × TickPorts book (port + 1) rest later mid new
+TickPorts book port (found ∷ rest) replies old new = TickPorts book (port + 1) rest replies old new
+
+-- What a tick does: requests get older, and then each ready port has its turn, in rising number.
+abbrev pub Ticks : List Reply → Server → Server → Type 0
+Ticks replies old new = TickPorts (a_tick_older old).book 0 old.ports replies (a_tick_older old) new

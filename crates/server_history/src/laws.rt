@@ -22,7 +22,7 @@ ghost use Rattle.agreement.specs.Driven.{AgreesWith, AnyUse, IsFollowed};
 ghost use Rattle.agreement.specs.Facts.{RunsWell, Undisturbed};
 ghost use Rattle.agreement.specs.Slots.{IsOver};
 ghost use Rattle.block_machine.specs.Due.{IsDue, NoneDue, is_plain};
-ghost use Rattle.block_machine.specs.Events.{Submit, StoreAt, LoadAt, Service, State, Device as Told, Submitted, Served, Shown, Stepped};
+ghost use Rattle.block_machine.specs.Events.{Submit, StoreAt, LoadAt, Service, State, Tick, Device as Told, Submitted, Served, Shown, Stepped};
 ghost use Rattle.block_machine.specs.Refusals.{IsAcceptable, IsFirstRefusal, IsOpen, IsFirstMemFault};
 ghost use Rattle.block_machine.specs.Rules.{IsNamed};
 ghost use Rattle.command_table.specs.Written.{IsUnused};
@@ -43,7 +43,8 @@ ghost use Rattle.agreement.specs.Driver.{Known};
 ghost use Rattle.block_machine.specs.State.{Machine};
 ghost use Rattle.server_history.specs.Histories.{Adds, HasBegun, load_said, store_said};
 ghost use Rattle.server_history.specs.Served.{Accepts, AnswersDone, AnswersOne, HasNone, IsMaskOf, IssuesAll, IssuesOne, accepting};
-ghost use Rattle.server_history.specs.Turns.{ServePorts, ServesPort};
+ghost use Rattle.server_history.specs.Turns.{HasPart, InRestart, ServePorts, ServesPort, Ticks, a_tick_older};
+ghost use Rattle.server_history.specs.declared.Trouble.TheVariants.{Hung};
 ghost use Rattle.server_history.specs.Server.{AreOfTwo, Server, mode_found, IsKept, IsLentOut, IsNewServer, IsSettled, kept_at, mode_in, ports_of, situation_of, slots_at, state_of, used_for};
 ghost use Rattle.slots.specs.Uses.{IsLowestFree, IsTaken};
 ghost use Rattle.slots.specs.declared.Use.{Use as SlotUse};
@@ -214,8 +215,16 @@ pub fn a_port_is_served()
         → (HasNone mask → ⊥) → ReadsDone port mask done seen found → SeesClear port mask done seen → (HasNone done → ⊥)
         → AnswersDone port done replies (record s { device = found }) new → ServesPort port replies s new }
     ensures mended { (s new : Server) (port : Port) (replies : List Reply) → IsSettled s → state_of (found_of s.ports port.0) ≡ ReadyState
-        → (r : MendsPort port replies s new) → IsFollowed (IsLooking port) AnyUse s.device r.settled.mended.seen
+        → (r : MendsPort port replies s new) → r.settled.mended.trouble ≢ Hung → IsFollowed (IsLooking port) AnyUse s.device r.settled.mended.seen
         → ServesPort port replies s new × IsSettled new }
+{
+    the_laws_below_hold();
+}
+
+/// How a port is restarted of which a request is hung: it is mended, and that is its turn in a tick.
+pub fn a_hung_port_is_restarted()
+    ensures { (s new : Server) (port : Port) (replies : List Reply) → IsSettled s → state_of (found_of s.ports port.0) ≡ ReadyState
+        → (r : MendsPort port replies s new) → r.settled.mended.trouble ≡ Hung → HasPart InRestart port replies s new × IsSettled new }
 {
     the_laws_below_hold();
 }
@@ -277,6 +286,20 @@ pub fn acceptances_add()
 pub fn services_add()
     ensures { (s new : Server) (replies : List Reply) → IsSettled s → ServePorts 0 s.ports replies s new
         → Adds s new Service (Served replies) }
+{
+    the_laws_below_hold();
+}
+
+/// A server goes on while its requests get older.
+pub fn requests_get_older()
+    ensures { (s : Server) → IsSettled s → IsSettled (a_tick_older s) }
+{
+    the_laws_below_hold();
+}
+
+/// A tick adds an event: requests get older, and ready ports have their turns one after another.
+pub fn ticks_add()
+    ensures { (s new : Server) (replies : List Reply) → IsSettled s → Ticks replies s new → Adds s new Tick (Served replies) }
 {
     the_laws_below_hold();
 }
