@@ -41,6 +41,12 @@ pub mod Progress
 pub mod Clear
 pub mod Masked
 pub mod Lifting
+pub mod Plans
+pub mod Owing
+pub mod Staying
+pub mod Restarting
+pub mod Ageing
+pub mod Ticked
 pub mod Carrying
 pub mod Services
 pub mod Origins
