@@ -1,5 +1,5 @@
 -- What a change of one request makes of the book, and that the book stays in order.
-use Rattle.std.proofs.Common.{ℕ, zero, suc, ◌≡◌, ◌≢◌, ◌⊎◌, ◌<◌, ◌≤◌, ◌+◌, ◌==◌, ◌&&◌, Bool, true, false, cond, not, List, [], ◌∷◌, ◌++◌, length, get_or, set, map, Option, Some, None, refl, sym, ap, ◌∙◌, subst, arith, ⊎_elim, inl, inr, eqb-true, eq-eqb}
+use Rattle.std.proofs.Common.{min, ℕ, zero, suc, ◌≡◌, ◌≢◌, ◌⊎◌, ◌<◌, ◌≤◌, ◌+◌, ◌==◌, ◌&&◌, Bool, true, false, cond, not, List, [], ◌∷◌, ◌++◌, length, get_or, set, map, Option, Some, None, refl, sym, ap, ◌∙◌, subst, arith, ⊎_elim, inl, inr, eqb-true, eq-eqb}
 use Rattle.std.specs.List.{All, AllPairs, Contains, count_by, remove, slice_get}
 use Rattle.std.proofs.lemmas.Bool.{cond-true, cond-false, cases_eq, cases_lt, ne_eqb, false≢true}
 use Rattle.std.proofs.lemmas.List.{get_or-map, length-map, get_or-set_same, get_or-set_other, length-set, same_lists, get_or_default}
@@ -226,9 +226,9 @@ older_in_order ports es s = changed_in_order es (λ (e : Held). record e { entry
         left = All-contains (λ (x : Held). HasIssuesLeft x.entry) es e s.issues h
 
         go : (b : Bool) → (e.entry.issued && ports e.entry.port) ≡ b → Leaves e (record e { entry = older ports e.entry })
-        go true t = subst (λ (r : Entry). Leaves e (record e { entry = r })) (sym (cond-true (e.entry.issued && ports e.entry.port) (record (e.entry) { age = suc e.entry.age }) e.entry t))
+        go true t = subst (λ (r : Entry). Leaves e (record e { entry = r })) (sym (cond-true (e.entry.issued && ports e.entry.port) (record (e.entry) { age = min (suc e.entry.age) 3 }) e.entry t))
             (record { id = refl; client = refl; issues = left })
-        go false t = subst (λ (r : Entry). Leaves e (record e { entry = r })) (sym (cond-false (e.entry.issued && ports e.entry.port) (record (e.entry) { age = suc e.entry.age }) e.entry t))
+        go false t = subst (λ (r : Entry). Leaves e (record e { entry = r })) (sym (cond-false (e.entry.issued && ports e.entry.port) (record (e.entry) { age = min (suc e.entry.age) 3 }) e.entry t))
             (record { id = refl; client = refl; issues = left })
 
 -- those before a place are older, and the others are as they were

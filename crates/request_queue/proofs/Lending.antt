@@ -1,5 +1,5 @@
 -- Accepted requests, as frames change hands.
-use Rattle.std.proofs.Common.{ℕ, ◌≡◌, ◌≢◌, ◌&&◌, Bool, true, false, suc, List, get_or, map, Option, Some, None, sym, ap, ◌∙◌, subst, refl}
+use Rattle.std.proofs.Common.{min, ℕ, ◌≡◌, ◌≢◌, ◌&&◌, Bool, true, false, suc, List, get_or, map, Option, Some, None, sym, ap, ◌∙◌, subst, refl}
 use Rattle.std.specs.List.{All, Contains}
 use Rattle.std.proofs.lemmas.Bool.{cond-true, cond-false}
 use Rattle.std.proofs.lemmas.List.{get_or_default}
@@ -104,9 +104,9 @@ all_aged rows table es ports all = all_changed rows table es (λ (e : Held). rec
     keeps e a = go (e.entry.issued && ports e.entry.port) refl
       where
         go : (b : Bool) → (e.entry.issued && ports e.entry.port) ≡ b → IsAccepted rows table (record e { entry = older ports e.entry })
-        go true t = subst (λ (r : Entry). IsAccepted rows table (record e { entry = r })) (sym (cond-true (e.entry.issued && ports e.entry.port) (record (e.entry) { age = suc e.entry.age }) e.entry t))
-            (further rows table e e.entry.issued e.entry.issues (suc e.entry.age) a)
-        go false t = subst (λ (r : Entry). IsAccepted rows table (record e { entry = r })) (sym (cond-false (e.entry.issued && ports e.entry.port) (record (e.entry) { age = suc e.entry.age }) e.entry t)) a
+        go true t = subst (λ (r : Entry). IsAccepted rows table (record e { entry = r })) (sym (cond-true (e.entry.issued && ports e.entry.port) (record (e.entry) { age = min (suc e.entry.age) 3 }) e.entry t))
+            (further rows table e e.entry.issued e.entry.issues (min (suc e.entry.age) 3) a)
+        go false t = subst (λ (r : Entry). IsAccepted rows table (record e { entry = r })) (sym (cond-false (e.entry.issued && ports e.entry.port) (record (e.entry) { age = min (suc e.entry.age) 3 }) e.entry t)) a
 
 pub all_stand : (rows : List GrantRow) (table : Table) (es : List Held) → All (IsAccepted rows table) es → All (Stands table) es
 all_stand rows table es all = each (Stands table) es (λ e h. (All-contains (IsAccepted rows table) es e all h).lent)

@@ -1,5 +1,5 @@
 -- The book and the machine's book go together.
-use Rattle.std.proofs.Common.{ℕ, suc, ◌≡◌, ◌↔◌, ◌==◌, ◌&&◌, Bool, true, false, cond, not, List, [], ◌∷◌, ◌++◌, map, refl, sym, ap, ◌∙◌, subst, arith, ⊎_elim}
+use Rattle.std.proofs.Common.{min, ℕ, suc, ◌≡◌, ◌↔◌, ◌==◌, ◌&&◌, Bool, true, false, cond, not, List, [], ◌∷◌, ◌++◌, map, refl, sym, ap, ◌∙◌, subst, arith, ⊎_elim}
 use Rattle.std.specs.List.{AllZip, Contains, filter}
 use Rattle.std.proofs.lemmas.Bool.{cond-true, cond-false}
 use Rattle.ata_types.specs.declared.Port.{Port}
@@ -124,11 +124,11 @@ one_older ports e p s = go (e.entry.issued && ports e.entry.port) refl
 
     go : (b : Bool) → (e.entry.issued && ports e.entry.port) ≡ b → IsEntry (record e { entry = older ports e.entry }) (steps.older ports p)
     go true here =
-        subst (λ (r : Entry). IsEntry (record e { entry = r }) (steps.older ports p)) (sym (cond-true (e.entry.issued && ports e.entry.port) (record (e.entry) { age = suc e.entry.age }) e.entry here))
-        (subst (λ (y : machine.Pending). IsEntry (record e { entry = record (e.entry) { age = suc e.entry.age } }) y) (sym (cond-true (p.issued && ports p.request.port) (record p { age = suc p.age }) p (same ∙ here)))
-        (record { id = s.id; client = s.client; grant = s.grant; port = s.port; op = s.op; range = s.range; frames = s.frames; issued = s.issued; issues = s.issues; age = ap suc s.age }))
+        subst (λ (r : Entry). IsEntry (record e { entry = r }) (steps.older ports p)) (sym (cond-true (e.entry.issued && ports e.entry.port) (record (e.entry) { age = min (suc e.entry.age) 3 }) e.entry here))
+        (subst (λ (y : machine.Pending). IsEntry (record e { entry = record (e.entry) { age = min (suc e.entry.age) 3 } }) y) (sym (cond-true (p.issued && ports p.request.port) (record p { age = suc p.age }) p (same ∙ here)))
+        (record { id = s.id; client = s.client; grant = s.grant; port = s.port; op = s.op; range = s.range; frames = s.frames; issued = s.issued; issues = s.issues; age = (let a = s.age in omega (arith, a)) }))
     go false here =
-        subst (λ (r : Entry). IsEntry (record e { entry = r }) (steps.older ports p)) (sym (cond-false (e.entry.issued && ports e.entry.port) (record (e.entry) { age = suc e.entry.age }) e.entry here))
+        subst (λ (r : Entry). IsEntry (record e { entry = r }) (steps.older ports p)) (sym (cond-false (e.entry.issued && ports e.entry.port) (record (e.entry) { age = min (suc e.entry.age) 3 }) e.entry here))
         (subst (λ (y : machine.Pending). IsEntry e y) (sym (cond-false (p.issued && ports p.request.port) (record p { age = suc p.age }) p (same ∙ here))) s)
 
 -- ---- a step of each

@@ -1,5 +1,5 @@
 -- What the book's operations make of what says which requests are due.
-use Rattle.std.proofs.Common.{suc, ◌≡◌, ◌==◌, ◌&&◌, Bool, true, false, cond, not, List, [], ◌∷◌, map, refl, sym, ap, ◌∙◌, subst}
+use Rattle.std.proofs.Common.{min, suc, ◌≡◌, ◌==◌, ◌&&◌, Bool, true, false, cond, not, List, [], ◌∷◌, map, refl, sym, ap, ◌∙◌, subst}
 use Rattle.std.proofs.lemmas.Bool.{cond-true, cond-false, not-true, and_parts}
 use Rattle.ata_types.specs.declared.Port.{Port}
 use Rattle.ata_types.specs.declared.request.RequestId.{RequestId}
@@ -59,8 +59,8 @@ after_tick (e ∷ es) ports =
     ∙ ap (λ (us : List Unanswered). asks e.entry ∷ us) (after_tick es ports)
   where
     one : (b : Bool) → (e.entry.issued && ports e.entry.port) ≡ b → asks (older ports e.entry) ≡ asks e.entry
-    one true t = ap asks (cond-true (e.entry.issued && ports e.entry.port) (record (e.entry) { age = suc e.entry.age }) e.entry t)
-    one false t = ap asks (cond-false (e.entry.issued && ports e.entry.port) (record (e.entry) { age = suc e.entry.age }) e.entry t)
+    one true t = ap asks (cond-true (e.entry.issued && ports e.entry.port) (record (e.entry) { age = min (suc e.entry.age) 3 }) e.entry t)
+    one false t = ap asks (cond-false (e.entry.issued && ports e.entry.port) (record (e.entry) { age = min (suc e.entry.age) 3 }) e.entry t)
 
 -- ---- a walk that issues
 

@@ -1,5 +1,5 @@
 -- Unanswered requests of all ports, in order of acceptance (this project's own).
-use Rattle.std.specs.Prelude.{ℕ, suc, ◌≡◌, ◌≢◌, ◌^◌, ◌<◌, ◌≤◌, ◌==◌, Bool, true, false, not, ◌&&◌, if◌then◌else◌, List, map, filter, count_by, Option, Some, None, All, AllPairs, Contains, slice_index_or, length}
+use Rattle.std.specs.Prelude.{ℕ, suc, min, ◌≡◌, ◌≢◌, ◌^◌, ◌<◌, ◌≤◌, ◌==◌, Bool, true, false, not, ◌&&◌, if◌then◌else◌, List, map, filter, count_by, Option, Some, None, All, AllPairs, Contains, slice_index_or, length}
 use Rattle.std.specs.List.{find}
 use Rattle.ata_types.specs.Grant.{Allows, Covers}
 use Rattle.ata_types.specs.declared.Port.{Port}
@@ -57,9 +57,9 @@ issue r = record r { issued = true; issues = suc r.issues; age = 0 }
 abbrev pub requeued : Entry → Entry
 requeued r = record r { issued = false }
 
--- the request a tick older, if it is issued on one of these ports
+-- The request a tick older, if it is issued on one of these ports. An age counts to three: what it would be beyond nobody asks.
 abbrev pub older : (Port → Bool) → Entry → Entry
-older ports r = if r.issued && ports r.port then record r { age = suc r.age } else r
+older ports r = if r.issued && ports r.port then record r { age = min (suc r.age) 3 } else r
 
 -- each request a tick older that is issued on one of these ports
 abbrev pub aged : (Port → Bool) → List Held → List Held
@@ -105,9 +105,13 @@ IsFresh r = (r.issued ≡ false) × (r.issues ≡ 0) × (r.age ≡ 0)
 abbrev pub is_among : List Bool → Port → Bool
 is_among ports port = slice_index_or ports port.0 false
 
--- no issued request of these ports is so old that its age would not fit
-abbrev pub AreYoung : (Port → Bool) → List Held → Type 0
-AreYoung ports entries = All (λ e. e.entry.issued ≡ true → ports e.entry.port ≡ true → e.entry.age < 3) entries
+-- the request is an issued one of the port, and three ticks old
+abbrev pub IsOverdueOn : Port → Entry → Type 0
+IsOverdueOn port r = (r.port ≡ port) × (r.issued ≡ true) × (3 ≤ r.age)
+
+-- an issued request of the port is three ticks old
+abbrev pub IsOverdue : Port → List Held → Type 0
+IsOverdue port entries = (e : Held) × Contains entries e × IsOverdueOn port e.entry
 
 -- A request was issued four times at most; and fewer times where it waits, so that it may be issued.
 abbrev pub HasIssuesLeft : Entry → Type 0

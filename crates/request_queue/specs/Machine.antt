@@ -1,5 +1,5 @@
 -- The block machine's book, as the book holds it (this project's own).
-use Rattle.std.specs.Prelude.{◌≡◌, List}
+use Rattle.std.specs.Prelude.{◌≡◌, List, min}
 use Rattle.std.specs.List.{AllZip}
 use Rattle.ata_types.specs.declared.range.Range.{Range}
 use Rattle.block_machine.specs.State as machine
@@ -9,7 +9,7 @@ use Rattle.request_queue.specs.Entries.{Held}
 abbrev pub range_of : machine.Accepted → Range
 range_of r = record { first = r.asked.first; count = r.asked.count }
 
--- the machine's request is this one, and as far
+-- The machine's request is this one, and as far. (The machine's age has no bound, and the book's counts to three.)
 pub record IsEntry (e : Held) (p : machine.Pending) : Type 0 where
   pub id : p.request.id ≡ e.entry.id
   pub client : p.request.asked.client ≡ e.entry.client
@@ -20,7 +20,7 @@ pub record IsEntry (e : Held) (p : machine.Pending) : Type 0 where
   pub frames : p.request.asked.frames.items ≡ e.frames
   pub issued : p.issued ≡ e.entry.issued
   pub issues : p.issues ≡ e.entry.issues
-  pub age : p.age ≡ e.entry.age
+  pub age : min p.age 3 ≡ e.entry.age
 
 -- the machine's book has the same requests, as far, in the same order
 abbrev pub IsBook : List Held → List machine.Pending → Type 0

@@ -1,7 +1,7 @@
 // The book.
-ghost use Rattle.std.specs.Prelude.{◌≡◌, ◌<◌, ◌≤◌, ◌++◌, ◌∷◌, [], false, true, length, map, All, AllPairs, Contains, IfOk, Some, slice_get};
+ghost use Rattle.std.specs.Prelude.{◌≡◌, ◌↔◌, ◌<◌, ◌≤◌, ◌++◌, ◌∷◌, [], length, map, All, AllPairs, Contains, IfOk, IsTrue, Some, slice_get};
 ghost use Rattle.request_queue.specs.Entries.{due_ids};
-ghost use Rattle.request_queue.specs.Entries.{Held, GivesBack, IsEarlier, IsFresh, IsInOrder, IsUnanswered, IsWaiting, MayGoAgain, Stands, aged, asks_of, at, ids_where, is_among, is_of, issue, older, requeued, unanswered_of, waits_under, without, AreYoung};
+ghost use Rattle.request_queue.specs.Entries.{Held, GivesBack, IsEarlier, IsFresh, IsInOrder, IsUnanswered, IsWaiting, MayGoAgain, Stands, IsOverdue, IsOverdueOn, aged, asks_of, at, ids_where, is_among, is_of, issue, older, requeued, unanswered_of, waits_under, without};
 
 use crate::Entry;
 use crate::due::due;
@@ -12,6 +12,9 @@ use block_machine::Mode;
 use dma_frames::{FrameTable, Loan};
 use std::alloc::Global;
 use std::marker::Model;
+
+/// The age at which an issued request is overdue. Its port is restarted then, so no age counts further.
+const OVERDUE: u8 = 3;
 
 /// Memory was refused.
 #[derive(Clone, Copy, Debug, PartialEq, Eq)]
@@ -144,12 +147,23 @@ impl Book {
         );
     }
 
-    /// Notes a tick: the issued requests of these ports, by number, are a tick older.
+    /// Notes a tick: the issued requests of these ports, by number, are a tick older. An age counts to three and no further.
     pub fn tick(&mut self, ports: &[bool])
-        requires { AreYoung (is_among ports.now) self.old }
         ensures { self.new ≡ aged (is_among ports.now) self.old }
     {
         age(&mut self.store, ports);
+    }
+
+    /// Whether an issued request of the port is overdue: it was issued three ticks ago, and isn't answered.
+    pub fn overdue(&self, port: Port) -> bool
+        ensures { IsTrue result ↔ IsOverdue port self.now }
+    {
+        for place in 0..self.store.len() {
+            if is_overdue(self.store.request(place), port) {
+                return true;
+            }
+        }
+        false
     }
 
     /// Takes a request out; the others stay in their order.
@@ -228,7 +242,6 @@ fn waits_under(request: Entry, client: ClientId, grant: u8) -> bool
 
 /// Makes the issued requests of these ports a tick older.
 fn age(store: &mut Store, ports: &[bool])
-    requires { AreYoung (is_among ports.now) store.old }
     ensures { store.new ≡ aged (is_among ports.now) store.old }
 {
     for place in 0..store.len() {
@@ -239,17 +252,22 @@ fn age(store: &mut Store, ports: &[bool])
 
 /// The request a tick older, if it is issued on one of these ports.
 fn older(request: Entry, ports: &[bool]) -> Entry
-    requires { request.issued ≡ true → is_among ports.now request.port ≡ true → request.age < 3 }
     ensures { result ≡ older (is_among ports.now) request }
 {
     if request.issued && is_among(ports, request.port) {
         Entry {
-            age: request.age + 1,
+            age: request.age.saturating_add(1).min(OVERDUE),
             ..request
         }
     } else {
         request
     }
+}
+
+fn is_overdue(request: Entry, port: Port) -> bool
+    ensures { IsTrue result ↔ IsOverdueOn port request }
+{
+    request.issued && request.port == port && request.age >= OVERDUE
 }
 
 fn is_among(ports: &[bool], port: Port) -> bool

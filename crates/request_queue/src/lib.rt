@@ -25,6 +25,6 @@ pub struct Entry {
     pub issued: bool,
     /// How often it was issued: four times at most.
     pub issues: u8,
-    /// How many ticks ago it was issued last.
+    /// How many ticks ago it was issued last: three at most, since an older one is overdue all the same.
     pub age: u8,
 }

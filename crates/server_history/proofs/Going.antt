@@ -1,5 +1,5 @@
 -- A server goes on over steps of the device, and calls add events to its histories.
-use Rattle.std.proofs.Common.{false, ℕ, ◌≡◌, ◌≤◌, ◌<◌, ◌+◌, ◌*◌, get_or, length, not, Option, None, Some, List, [], ◌∷◌, refl, sym, ap, ◌∙◌, subst}
+use Rattle.std.proofs.Common.{false, ℕ, min, ◌≡◌, ◌≤◌, ◌<◌, ◌+◌, ◌*◌, get_or, length, not, Option, None, Some, List, [], ◌∷◌, refl, sym, ap, ◌∙◌, subst}
 use Rattle.std.specs.List.{All, AllZip, Contains}
 use Rattle.ata_types.specs.declared.Port.{Port}
 use Rattle.ata_types.specs.declared.PortState.TheVariants.{Ready as ReadyState}
@@ -53,7 +53,7 @@ entry_on e old new f is = record {
   frames = ap (λ r. r.asked.frames.items) f.request ∙ is.frames;
   issued = f.issued ∙ is.issued;
   issues = f.issues ∙ is.issues;
-  age = f.age ∙ is.age;
+  age = ap (λ (n : ℕ). min n 3) f.age ∙ is.age;
 }
 
 -- a book goes on as its requests go further

@@ -1,5 +1,5 @@
 -- What a port's turn in a service, or in a tick, makes of a machine that stands for the server (this project's own).
-use Rattle.std.specs.Prelude.{ℕ, Bool, true, false, ◌≡◌, ◌≢◌, ◌⊎◌, ◌<◌, ◌≤◌, ◌+◌, ◌++◌, List, [], ◌∷◌, All, Contains, None, Some}
+use Rattle.std.specs.Prelude.{ℕ, Bool, true, false, ◌≡◌, ◌≢◌, ◌⊎◌, ◌<◌, ◌+◌, ◌++◌, List, [], ◌∷◌, All, Contains, None, Some}
 use Rattle.ata_types.specs.declared.Port.{Port}
 use Rattle.ata_types.specs.declared.PortState.TheVariants.{Dead, Ready as ReadyState}
 use Rattle.ata_types.specs.declared.request.Reply.{Reply}
@@ -29,7 +29,7 @@ use Rattle.driver_history.specs.Trace.{IsDriversOwn, ResetsLink}
 use Rattle.host_boot.specs.Taken.{found_of}
 use Rattle.host_boot.specs.declared.Found.{Found}
 use Rattle.host_boot.specs.declared.Found.TheVariants.{Ready}
-use Rattle.request_queue.specs.Entries.{Held, aged, asks_of}
+use Rattle.request_queue.specs.Entries.{Held, IsOverdue, aged, asks_of}
 use Rattle.server_history.specs.declared.Trouble.TheVariants.{Hung}
 use Rattle.server_history.specs.Mended.{MendsPort}
 use Rattle.server_history.specs.Served.{AnswersTurn, HasTurn}
@@ -213,10 +213,6 @@ abbrev pub ServePorts : ℕ → List Found → List Reply → Server → Server 
 ServePorts port found replies old new = TakeTurns ServesPort port found replies old new
 
 -- ---- a tick
-
--- an issued request of the port is three ticks old
-abbrev pub IsOverdue : Port → List Held → Type 0
-IsOverdue port book = (e : Held) × Contains book e × (e.entry.port ≡ port) × (e.entry.issued ≡ true) × (3 ≤ e.entry.age)
 
 -- the port is ready
 abbrev pub is_ready : Found → Bool

@@ -1,4 +1,4 @@
-use Rattle.std.proofs.Common.{◌≡◌, ◌∙◌, ◌<◌, ◌&&◌, ◌+◌, Bool, true, false, [], List, Option, get_or, length, sym, ap, subst, arith, suc, refl}
+use Rattle.std.proofs.Common.{min, ◌≡◌, ◌∙◌, ◌&&◌, ◌+◌, Bool, true, false, [], List, Option, sym, ap, subst, arith, suc, refl}
 use Rattle.std.specs.Option.{IfSome}
 use Rattle.std.proofs.lemmas.Bool.{cond-true, cond-false}
 use Rattle.std.proofs.lemmas.Option.{slice_get-get_or}
@@ -12,18 +12,8 @@ keeps_id : (ports : Port → Bool) (r : Entry) → (older ports r).id ≡ r.id
 keeps_id ports r = go (r.issued && ports r.port) refl
   where
     go : (b : Bool) → (r.issued && ports r.port) ≡ b → (older ports r).id ≡ r.id
-    go true t = ap (λ (x : Entry). x.id) (cond-true (r.issued && ports r.port) (record r { age = suc r.age }) r t)
-    go false t = ap (λ (x : Entry). x.id) (cond-false (r.issued && ports r.port) (record r { age = suc r.age }) r t)
-
-pub older-requires : goal.older-requires
-older-requires c =
-    let d : Held = record { entry = c.request-request.result; frames = [] } in
-    let now = c.loop-place.store in
-    let i = c.loop-place.place in
-    let its : (get_or c.args.store.now i d).entry ≡ c.request-request.result =
-    ap (λ (e : Held). e.entry) (sym (c.loop-place.invariant.rest i d (omega arith))) ∙ request_is now i c.request-request.result d c.request-request.ensures in
-    let lt : i < length c.args.store.now = omega (arith, place_within now i c.request-request.result c.request-request.ensures, c.loop-place.invariant.long) in
-    subst (λ (r : Entry). r.issued ≡ true → is_among c.args.ports.now r.port ≡ true → r.age < 3) its (c.requires i d lt)
+    go true t = ap (λ (x : Entry). x.id) (cond-true (r.issued && ports r.port) (record r { age = min (suc r.age) 3 }) r t)
+    go false t = ap (λ (x : Entry). x.id) (cond-false (r.issued && ports r.port) (record r { age = min (suc r.age) 3 }) r t)
 
 pub replace-requires-clause-same_id : goal.replace-requires-clause-same_id
 replace-requires-clause-same_id c =
