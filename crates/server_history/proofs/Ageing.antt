@@ -1,5 +1,5 @@
 -- Requests that get older: in the book, and in a machine that stands for the server.
-use Rattle.std.proofs.Common.{get_or, not, ℕ, suc, ◌≡◌, ◌⊎◌, ◌≤◌, ◌&&◌, ◌||◌, ◌==◌, nat_le, Bool, true, false, if◌then◌else◌, List, [], ◌∷◌, map, refl, sym, ap, ◌∙◌, subst, inl, inr, ⊎_elim, eq-eqb, eqb-true}
+use Rattle.std.proofs.Common.{get_or, min, not, ℕ, suc, ◌≡◌, ◌⊎◌, ◌≤◌, ◌&&◌, ◌||◌, ◌==◌, nat_le, Bool, true, false, if◌then◌else◌, List, [], ◌∷◌, map, refl, sym, ap, ◌∙◌, subst, inl, inr, ⊎_elim, eq-eqb, eqb-true}
 use Rattle.std.specs.List.{All, Contains, list_any}
 use Rattle.std.proofs.lemmas.Bool.{cases_Bool, false≢true}
 use Rattle.std.proofs.lemmas.List.Elements.{All-map}
@@ -51,8 +51,8 @@ older_ended ready e = older_by (λ x. x.ended ≡ e.ended) ready e refl refl
 pub entry_by : (P : Entry → Type 0) (ready : Port → Bool) (r : Entry) → P r → ((age : ℕ) → P (record r { age = age })) → P (entries.older ready r)
 entry_by P ready r same other = by (r.issued && ready r.port)
   where
-    by : (b : Bool) → P (if b then record r { age = suc r.age } else r)
-    by true = other (suc r.age)
+    by : (b : Bool) → P (if b then record r { age = min (suc r.age) 3 } else r)
+    by true = other (min (suc r.age) 3)
     by false = same
 
 -- ---- its slot

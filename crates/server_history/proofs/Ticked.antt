@@ -41,12 +41,12 @@ use Rattle.driver_history.specs.Trace.{ClearsNone, IsDriversOwn, IsServing, Leav
 use Rattle.host_boot.specs.Taken.{found_of}
 use Rattle.host_boot.specs.declared.Found.{Found}
 use Rattle.host_boot.specs.declared.Found.TheVariants.{Ready, Unready, Unserved}
-use Rattle.request_queue.specs.Entries.{Held}
+use Rattle.request_queue.specs.Entries.{Held, IsOverdue}
 use Rattle.request_queue.specs.Machine.{IsEntry}
 use Rattle.server_history.specs.Below.{LawsBelow}
 use Rattle.server_history.specs.Histories.{Adds, Leads}
 use Rattle.server_history.specs.Server.{Server, IsKept, IsMachineOf, IsSettled, mode_in, ports_of, state_of}
-use Rattle.server_history.specs.Turns.{AtRest, HasPart, HeedsTrouble, InRestart, InService, IsOverdue, IsStepOf, MakesTurn, TakeTurns, Ticks, TicksPort, a_tick_older, instant_of, is_ready}
+use Rattle.server_history.specs.Turns.{AtRest, HasPart, HeedsTrouble, InRestart, InService, IsStepOf, MakesTurn, TakeTurns, Ticks, TicksPort, a_tick_older, instant_of, is_ready}
 use Rattle.server_history.proofs.Ageing.{older_by, older_ended, older_issued, older_request, older_settled, older_stands, serves_on}
 use Rattle.server_history.proofs.Accepting.{any_in}
 use Rattle.server_history.proofs.Asks.{none_due, none_issued}
@@ -77,14 +77,14 @@ overdue_is book port is =
     let w = any_in (is_overdue port) book is in
     let a = and_parts (w.0.entry.port.0 == port) (w.0.entry.issued && nat_le 3 w.0.entry.age) w.2 in
     let b = and_parts w.0.entry.issued (nat_le 3 w.0.entry.age) a.1 in
-    (w.0, w.1, ap port_at (eqb-true w.0.entry.port.0 port a.0), b.0, leb-true 3 w.0.entry.age b.1)
+    (w.0, w.1, (ap port_at (eqb-true w.0.entry.port.0 port a.0), b.0, leb-true 3 w.0.entry.age b.1))
 
 is_so_overdue : (book : List Held) (port : ℕ) → IsOverdue (port_at port) book → overdue_in book port ≡ true
 is_so_overdue book port o = ⊎_elim
     (λ so. so)
     (λ not_so.
     let none = none_of (is_overdue port) book o.0 not_so o.1 in
-    absurd (false≢true (sym none ∙ and_from (o.0.entry.port.0 == port) (o.0.entry.issued && nat_le 3 o.0.entry.age) (eq-eqb o.0.entry.port.0 port (ap (λ (q : Port). q.0) o.2)) (and_from o.0.entry.issued (nat_le 3 o.0.entry.age) o.3 (le-leb 3 o.0.entry.age o.4)))))
+    absurd (false≢true (sym none ∙ and_from (o.0.entry.port.0 == port) (o.0.entry.issued && nat_le 3 o.0.entry.age) (eq-eqb o.0.entry.port.0 port (ap (λ (q : Port). q.0) o.2.0)) (and_from o.0.entry.issued (nat_le 3 o.0.entry.age) o.2.1 (le-leb 3 o.0.entry.age o.2.2)))))
     (cases_Bool (overdue_in book port))
 
 -- ---- a port that rests
@@ -283,9 +283,9 @@ module _ (laws : LawsBelow) (s new : Server) (replies : List Reply) (start : IsS
       let o = overdue_is aged.book port.0 so in
       let y = at_left IsEntry aged.book old.machine.book aged_at.book o.0 o.1 in
       let w = map_in (older ready) was.machine.book y.0 y.1 in
-      let own = o.2 in
+      let own = o.2.0 in
       let age = y.2.age in
-      let three = o.4 in
+      let three = o.2.2 in
       let at_most = older_by (λ x. x.age ≤ suc w.0.age) ready w.0 (omega arith) (omega arith) in
       let its_age : y.0.age ≡ (older ready w.0).age = ap (λ (x : Pending). x.age) w.2 in
       record {
@@ -293,7 +293,7 @@ module _ (laws : LawsBelow) (s new : Server) (replies : List Reply) (start : IsS
         pending = w.0;
         here = w.1;
         port_is = sym (ap (λ r. r.port) (older_request ready w.0)) ∙ ap (λ (x : Pending). x.request.port) (sym w.2) ∙ y.2.port ∙ own;
-        issued = sym (older_issued ready w.0) ∙ ap (λ (x : Pending). x.issued) (sym w.2) ∙ y.2.issued ∙ o.3;
+        issued = sym (older_issued ready w.0) ∙ ap (λ (x : Pending). x.issued) (sym w.2) ∙ y.2.issued ∙ o.2.1;
         old_enough = omega (arith, age, three, at_most, its_age);
       }
 
@@ -316,9 +316,11 @@ module _ (laws : LawsBelow) (s new : Server) (replies : List Reply) (start : IsS
           let two = h.old_enough in (
             x.0,
             x.1,
-            sym x.2.port ∙ ap (λ r. r.port) (older_request ready h.pending) ∙ h.port_is,
-            sym x.2.issued ∙ older_issued ready h.pending ∙ h.issued,
-            omega (arith, age, its, two),
+            (
+              sym x.2.port ∙ ap (λ r. r.port) (older_request ready h.pending) ∙ h.port_is,
+              sym x.2.issued ∙ older_issued ready h.pending ∙ h.issued,
+              omega (arith, age, its, two),
+            ),
           )
 
   -- each port was restarted, or let rest
