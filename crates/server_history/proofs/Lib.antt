@@ -74,3 +74,6 @@ pub mod Binding
 pub mod Lists
 pub mod Starting
 pub mod Seen
+pub mod Named
+pub mod Sighted
+pub mod Restarting
