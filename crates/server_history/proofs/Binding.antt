@@ -1,5 +1,5 @@
 -- A turn that mends its port does of its port what a call does of a port.
-use Rattle.std.proofs.Common.{◌≡◌, Bool, false, subst, List, [], sym, ◌∙◌, ⊎_elim, ◌≢◌}
+use Rattle.std.proofs.Common.{◌≡◌, Bool, false, subst, List, [], refl, sym, ◌∙◌, ⊎_elim, ◌≢◌}
 use Rattle.std.specs.List.{Contains}
 use Rattle.ata_types.specs.declared.Port.{Port}
 use Rattle.ata_types.specs.declared.PortState.TheVariants as shown

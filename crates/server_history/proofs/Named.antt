@@ -1,5 +1,5 @@
 -- What stands behind the trouble that a turn which mends its port names: what a look told, or what the port showed when the turn began.
-use Rattle.std.proofs.Common.{◌≡◌, ◌≢◌, ◌⊎◌, inl, inr, refl, ⊎_elim}
+use Rattle.std.proofs.Common.{◌≡◌, ◌≢◌, ◌⊎◌, false, [], inl, inr, refl, ⊎_elim}
 use Rattle.std.specs.List.{Contains}
 use Rattle.ata_types.specs.declared.Port.{Port}
 use Rattle.hba_regs.specs.declared.reg.PortReg.TheVariants.{Is, Ssts}

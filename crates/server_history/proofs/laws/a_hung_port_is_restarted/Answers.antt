@@ -1,4 +1,4 @@
-use Rattle.std.proofs.Common.{◌≡◌, subst}
+use Rattle.std.proofs.Common.{subst}
 use Rattle.server_history.specs.Mended.{IsFoundOut}
 use Rattle.server_history.proofs.Mending.{restarted, settles, unlooked}
 use Rattle.server_history.proofs.laws.a_hung_port_is_restarted.Goals as goal
