@@ -1,19 +1,14 @@
 -- A port that a tick restarts: what the tick owes of it.
-use Rattle.std.proofs.Common.{◌≡◌, ◌≢◌, ◌⊎◌, List, [], ◌∷◌, inl, inr, refl, sym, ap, ◌∙◌, subst, ⊎_elim}
-use Rattle.std.specs.List.{Contains}
+use Rattle.std.proofs.Common.{◌≡◌, ◌≢◌, List, sym, ap, ◌∙◌, subst, ⊎_elim}
 use Rattle.ata_types.specs.declared.Port.{Port}
 use Rattle.ata_types.specs.declared.PortState.TheVariants.{Ready as ReadyState}
-use Rattle.ata_types.specs.declared.request.Outcome.{Outcome}
-use Rattle.ata_types.specs.declared.request.Outcome.TheVariants as outcome
 use Rattle.ata_types.specs.declared.request.Reply.{Reply}
 use Rattle.adapter.specs.declared.access.DeviceStep.{DeviceStep}
 use Rattle.agreement.specs.Driven.{AnyUse, IsFollowed}
-use Rattle.block_machine.specs.Events.{Belong, FindsAnother, GivesUp, IsDevices, IsServers, Service, Tick}
+use Rattle.block_machine.specs.Events.{Belong, FindsAnother, Tick}
 use Rattle.block_machine.specs.Histories.{IsReached}
-use Rattle.block_machine.specs.Ports.{Ports, SameDisk}
-use Rattle.block_machine.specs.State.{Machine, Pending}
-use Rattle.block_machine.specs.Steps.{Step, Again, Answer, Issue}
-use Rattle.block_machine.proofs.Members.{contains_here, contains_there}
+use Rattle.block_machine.specs.Ports.{SameDisk}
+use Rattle.block_machine.specs.State.{Machine}
 use Rattle.host_boot.specs.Taken.{found_of}
 use Rattle.port_look.specs.Looks.{IsLooking}
 use Rattle.request_queue.specs.declared.fate.Prospect.TheVariants.{DiskLost}
@@ -27,24 +22,9 @@ use Rattle.server_history.proofs.Deciding.{DecidesTurn, nobody}
 use Rattle.server_history.proofs.Evident.{IsEvident}
 use Rattle.server_history.proofs.Finding.{found_by_masks, heeding}
 use Rattle.server_history.proofs.Minding.{anew}
+use Rattle.server_history.proofs.Reasons.{belong_tick}
 use Rattle.server_history.proofs.Reboots.{restarts}
 use Rattle.server_history.proofs.Recovery.{evidence_by, faults_of}
-
--- steps that belong to a service belong to a tick, where no fault is told
-belong_tick : (ports : Ports) (steps : List Step) → ((e : Pending) (o : Outcome) → Contains steps (Answer e o) → GivesUp o ⊎ (o ≡ outcome.Ok))
-    → Belong {D = DeviceStep} Service ports steps → Belong {D = DeviceStep} Tick ports steps
-belong_tick ports [] gives b = tt
-belong_tick ports (step ∷ steps) gives b = (
-  belong_tick ports steps (λ e o there. gives e o (contains_there step steps (Answer e o) there)) b.0,
-  ⊎_elim (λ device. inl device) (λ its. one step (λ e o is. gives e o (contains_here step steps (Answer e o) is)) its) b.1,
-)
-  where
-    one : (step : Step) → ((e : Pending) (o : Outcome) → Answer e o ≡ step → GivesUp o ⊎ (o ≡ outcome.Ok)) → IsServers {D = DeviceStep} Service ports step
-        → IsDevices step ⊎ IsServers {D = DeviceStep} Tick ports step
-    one (Issue mode e) gives its = inr its
-    one (Again e) gives its = inr its
-    one (Answer e o) gives its = inr (gives e o refl)
-    one step gives its = absurd its
 
 module _ (laws : LawsBelow) (port : Port) (replies : List Reply) (old new : Server) (k : IsKept old) (ready : state_of (found_of old.ports port.0) ≡ ReadyState) (r : MendsPort port replies old new)
     (looks : IsFollowed (IsLooking port) AnyUse old.device r.settled.mended.seen) (kept : IsKept r.mid) (evident : IsEvident port replies old new r) (m : Machine) (reached : IsReached m) (is : IsMachineOf old m)
