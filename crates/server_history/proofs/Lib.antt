@@ -42,6 +42,7 @@ pub mod Clear
 pub mod Masked
 pub mod Lifting
 pub mod Plans
+pub mod Ties
 pub mod Owing
 pub mod Staying
 pub mod Restarting
@@ -80,3 +81,5 @@ pub mod Binding
 pub mod Lists
 pub mod Starting
 pub mod Seen
+pub mod Named
+pub mod Sighted

@@ -54,7 +54,7 @@ use Rattle.slots.specs.Uses.{Uses as PortSlots, use_at}
 use Rattle.block_machine.specs.declared.due.Mode.{Mode}
 use Rattle.server_history.proofs.Turns.{AreTurns, all_of_ports, answered_of, belong_join, lawful_join, lawful_on, present_before, turn_on, unplugs_join}
 use Rattle.server_history.proofs.Plans.{Plan, Uses, any_said, asks_for, asks_so, belong_on, owes_join, turn_at}
-use Rattle.server_history.proofs.Restarting.{serving, ties_carried, ties_turned}
+use Rattle.server_history.proofs.Ties.{serving, ties_carried, ties_turned}
 use Rattle.server_history.proofs.Progress.{none_evidenced, skipped}
 use Rattle.server_history.proofs.Progress as progress
 use Rattle.server_history.proofs.Joined.{NamesSome, alike_first, alike_then, all_pairs_append, answers_append, answers_there, joined, lawful_lift, names_joined, names_more, names_only, ready_or_not, same_at, same_disk, same_then, serviced_lift}
