@@ -1,7 +1,6 @@
 -- Requests that get older: in the book, and in a machine that stands for the server.
-use Rattle.std.proofs.Common.{get_or, min, not, ℕ, suc, ◌≡◌, ◌⊎◌, ◌≤◌, ◌&&◌, ◌||◌, ◌==◌, nat_le, Bool, true, false, if◌then◌else◌, List, [], ◌∷◌, map, refl, sym, ap, ◌∙◌, subst, inl, inr, ⊎_elim, eq-eqb, eqb-true}
-use Rattle.std.specs.List.{All, Contains, list_any}
-use Rattle.std.proofs.lemmas.Bool.{cases_Bool, false≢true}
+use Rattle.std.proofs.Common.{get_or, min, not, ℕ, suc, ◌≡◌, ◌≤◌, ◌&&◌, Bool, true, false, if◌then◌else◌, List, [], ◌∷◌, refl, sym, ap, ◌∙◌, subst, inl, inr, ⊎_elim}
+use Rattle.std.specs.List.{All, Contains}
 use Rattle.std.proofs.lemmas.List.Elements.{All-map}
 use Rattle.ata_types.specs.declared.Port.{Port}
 use Rattle.ata_types.specs.declared.PortState.TheVariants.{Ready as ReadyState}
@@ -10,14 +9,11 @@ use Rattle.ata_types.specs.declared.request.Op.TheVariants.{Flush, Read, Trim, W
 use Rattle.ata_types.specs.declared.request.RequestId.{RequestId}
 use Rattle.adapter.specs.Commands.{Meaning}
 use Rattle.adapter.specs.Device.{PortState, Taken}
-use Rattle.agreement.specs.Agrees.{port_at}
 use Rattle.agreement.specs.Driven.{known}
 use Rattle.agreement.specs.Slots.{Means, Progress, ServesRequest, Stage}
 use Rattle.block_machine.specs.Due.{NoneDue, is_plain}
-use Rattle.block_machine.specs.Histories.{IsReached}
-use Rattle.block_machine.specs.Left.{after}
 use Rattle.block_machine.specs.State.{Machine, Pending}
-use Rattle.block_machine.specs.Steps.{Step, Age, after_step, older}
+use Rattle.block_machine.specs.Steps.{Age, after_step, older}
 use Rattle.block_machine.specs.declared.due.Unanswered.{Unanswered}
 use Rattle.block_machine.proofs.Members.{into_map, map_in}
 use Rattle.host_boot.specs.Taken.{found_of}

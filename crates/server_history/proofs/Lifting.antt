@@ -1,12 +1,12 @@
 -- What a port's turn has found and answered, the call has so far.
-use Rattle.std.proofs.Common.{ℕ, ◌≡◌, ◌≢◌, ◌⊎◌, ◌<◌, ◌≤◌, true, false, List, [], ◌∷◌, ◌++◌, Some, None, length, drop, refl, sym, ap, ◌∙◌, subst, inl, inr, ⊎_elim, arith, append_assoc, append-nil}
+use Rattle.std.proofs.Common.{ℕ, ◌≡◌, ◌≢◌, ◌<◌, ◌≤◌, true, false, List, [], ◌∷◌, ◌++◌, Some, None, length, refl, sym, ap, ◌∙◌, subst, inl, inr, ⊎_elim, arith, append_assoc, append-nil}
 use Rattle.std.specs.List.{Contains, count_by, list_any}
 use Rattle.std.specs.Prelude.{◌↔◌}
-use Rattle.std.proofs.lemmas.Bool.{cases_Bool, cases_eq, false≢true, ne_eqb, or_from, or_left, or_right}
+use Rattle.std.proofs.lemmas.Bool.{cases_eq, false≢true, ne_eqb, or_from, or_left, or_right}
 use Rattle.std.proofs.lemmas.List.Elements.{All-append, All-contains_itself, All-head, All-nil, All-weaker, Contains-append_cases, Contains-append_left, Contains-append_right}
 use Rattle.ata_types.specs.declared.Port.{Port}
 use Rattle.ata_types.specs.declared.PortState.{PortState}
-use Rattle.ata_types.specs.declared.PortState.TheVariants.{Absent, Dead, Foreign, Ready as ReadyState, Unfit}
+use Rattle.ata_types.specs.declared.PortState.TheVariants.{Dead, Ready as ReadyState}
 use Rattle.ata_types.specs.declared.request.Outcome.{Outcome}
 use Rattle.ata_types.specs.declared.request.Outcome.TheVariants.{DeviceError, Ok}
 use Rattle.ata_types.specs.declared.request.Reply.{Reply}
@@ -16,15 +16,12 @@ use Rattle.hba_regs.specs.declared.reg.Reg.TheVariants.{Ghc, Px}
 use Rattle.hba_regs.specs.declared.reg.PortReg.TheVariants.{Ci, Sact}
 use Rattle.adapter.specs.Access.{Access}
 use Rattle.adapter.specs.Access.Access.{Reading}
-use Rattle.adapter.specs.Commands.{Meaning, is_queued}
 use Rattle.adapter.specs.Device.{Device}
-use Rattle.adapter.specs.Rules.{InUse, IsOn}
+use Rattle.adapter.specs.Rules.{IsOn}
 use Rattle.agreement.specs.Agrees.{port_at}
 use Rattle.agreement.specs.Driven.{IsOf}
-use Rattle.agreement.specs.Facts.{HasFaults, ShowsFault}
 use Rattle.agreement.specs.Links.{SparesRegister}
 use Rattle.agreement.specs.Slots.{IsFree, IsServed, Serves, ServesRequest, Stage, Use}
-use Rattle.agreement.proofs.Finding.{ended_is_clear}
 use Rattle.block_machine.specs.Events.{AnswersEnded, HadDisk, Moment, NoneKeepsIssue, changes_disk, tells_fault}
 use Rattle.block_machine.specs.Histories.{Instant, IsReached}
 use Rattle.block_machine.specs.Left.{after}
@@ -32,18 +29,16 @@ use Rattle.block_machine.specs.Ports.{Evidence, IsInterrupted, Ports, SamePort}
 use Rattle.block_machine.specs.State.{Pending, Machine}
 use Rattle.block_machine.specs.Steps.{Step, Again, Answer}
 use Rattle.block_machine.proofs.Calm.{counts_none}
-use Rattle.block_machine.proofs.Counting.{count_append}
 use Rattle.host_boot.specs.Taken.{found_of}
 use Rattle.driver_history.specs.Evidence.{ShowsFailure}
 use Rattle.driver_history.specs.Guard.{IsAskedOf}
-use Rattle.driver_history.specs.Histories.{BootsAnew, FindsDone, HasBadDisk, HasFaultAlone, IsAnsweredFaulty, IsAnsweredOk, IsIssuedOn, RunsWellAnew, TiesPort}
+use Rattle.driver_history.specs.Histories.{FindsDone, IsAnsweredOk, IsIssuedOn, RunsWellAnew}
 use Rattle.driver_history.specs.Parts.{HasTurnIn, IsOfOther, NamesAlike}
 use Rattle.driver_history.specs.Trace.{LeavesCommand, LeavesEngine}
 use Rattle.server_history.specs.Below.{LawsBelow}
 use Rattle.server_history.specs.Turns.{FindsTurn, HasPart, HeedsTrouble, MakesTurn, instant_of, moment_of}
 use Rattle.server_history.proofs.Plans.{Plan, not_reset, turn_at}
-use Rattle.server_history.specs.Server.{HasCommand, Server, IsKept, IsMachineOf, IsSettled, ports_of, state_of, used_for}
-use Rattle.server_history.proofs.Joined.{same_then}
+use Rattle.server_history.specs.Server.{Server, IsKept, IsMachineOf, IsSettled, ports_of, state_of, used_for}
 use Rattle.server_history.proofs.Origins.{IsSame}
 use Rattle.server_history.proofs.Progress.{others_leave}
 use Rattle.server_history.proofs.Progress as progress

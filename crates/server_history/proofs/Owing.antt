@@ -1,60 +1,43 @@
 -- What a port's turn in a service has done of it, the service has done so far.
-use Rattle.std.proofs.Common.{ℕ, ◌≡◌, ◌≢◌, ◌⊎◌, ◌<◌, ◌≤◌, true, false, List, [], ◌∷◌, ◌++◌, Some, None, length, drop, refl, sym, ap, ◌∙◌, subst, inl, inr, ⊎_elim, arith, append_assoc, append-nil}
+use Rattle.std.proofs.Common.{ℕ, ◌≡◌, ◌≢◌, ◌⊎◌, ◌<◌, true, false, List, [], ◌++◌, Some, None, drop, refl, sym, ap, ◌∙◌, subst, inl, inr, ⊎_elim, arith, append-nil}
 use Rattle.std.specs.List.{Contains, count_by, list_any}
-use Rattle.std.specs.Prelude.{◌↔◌}
-use Rattle.std.proofs.lemmas.Bool.{cases_Bool, cases_eq, false≢true, ne_eqb, or_from, or_left, or_right}
-use Rattle.std.proofs.lemmas.List.Elements.{All-append, All-contains_itself, All-head, All-nil, All-weaker, Contains-append_cases, Contains-append_left, Contains-append_right}
-use Rattle.ata_types.specs.declared.Port.{Port}
+use Rattle.std.proofs.lemmas.Bool.{cases_Bool, cases_eq, false≢true}
+use Rattle.std.proofs.lemmas.List.Elements.{Contains-append_cases, Contains-append_left}
 use Rattle.ata_types.specs.declared.PortState.{PortState}
 use Rattle.ata_types.specs.declared.PortState.TheVariants.{Absent, Dead, Foreign, Ready as ReadyState, Unfit}
 use Rattle.ata_types.specs.declared.request.Outcome.{Outcome}
-use Rattle.ata_types.specs.declared.request.Outcome.TheVariants.{DeviceError, Ok}
+use Rattle.ata_types.specs.declared.request.Outcome.TheVariants.{DeviceError}
 use Rattle.ata_types.specs.declared.request.Reply.{Reply}
-use Rattle.ata_types.specs.declared.request.RequestId.{RequestId}
-use Rattle.hba_regs.specs.Bits.{bit}
-use Rattle.hba_regs.specs.declared.reg.Reg.TheVariants.{Ghc, Px}
-use Rattle.hba_regs.specs.declared.reg.PortReg.TheVariants.{Ci, Sact}
 use Rattle.adapter.specs.Access.{Access}
-use Rattle.adapter.specs.Access.Access.{Reading}
 use Rattle.adapter.specs.Commands.{Meaning, is_queued}
 use Rattle.adapter.specs.Device.{Device}
 use Rattle.adapter.specs.Rules.{InUse, IsOn}
 use Rattle.agreement.specs.Agrees.{port_at}
-use Rattle.agreement.specs.Driven.{IsOf}
 use Rattle.agreement.specs.Facts.{HasFaults, ShowsFault}
-use Rattle.agreement.specs.Links.{SparesRegister}
-use Rattle.agreement.specs.Slots.{IsFree, IsServed, Serves, ServesRequest, Stage, Use}
+use Rattle.agreement.specs.Slots.{ServesRequest}
 use Rattle.agreement.proofs.Finding.{ended_is_clear}
 use Rattle.block_machine.specs.Events.{AreTold, IsLeftAlone, Moment, Served, Service, ServesReady, changes_disk, tells_fault}
 use Rattle.block_machine.specs.Histories.{Instant, IsReached}
 use Rattle.block_machine.specs.Left.{after}
-use Rattle.block_machine.specs.Ports.{Evidence, IsInterrupted, Ports, SamePort}
+use Rattle.block_machine.specs.Ports.{Evidence, IsInterrupted, SamePort}
 use Rattle.block_machine.specs.State.{Pending, Machine}
 use Rattle.block_machine.specs.Steps.{Step, Answer}
-use Rattle.block_machine.proofs.Calm.{counts_none}
 use Rattle.block_machine.proofs.Counting.{count_append}
 use Rattle.host_boot.specs.Taken.{found_of}
 use Rattle.driver_history.specs.Evidence.{ShowsFailure}
 use Rattle.driver_history.specs.Guard.{IsAskedOf}
-use Rattle.driver_history.specs.Histories.{BootsAnew, FindsDone, HasBadDisk, HasFaultAlone, IsAnsweredFaulty, IsAnsweredOk, IsIssuedOn, RunsWellAnew, TiesPort}
-use Rattle.driver_history.specs.Parts.{HasTurnIn, IsOfOther, NamesAlike}
-use Rattle.driver_history.specs.Trace.{LeavesCommand, LeavesEngine}
+use Rattle.driver_history.specs.Histories.{BootsAnew, FindsDone, HasBadDisk, HasFaultAlone, IsAnsweredFaulty, IsIssuedOn, TiesPort}
+use Rattle.driver_history.specs.Parts.{HasTurnIn, NamesAlike}
 use Rattle.server_history.specs.Below.{LawsBelow}
 use Rattle.server_history.specs.Turns.{HasPart, HeedsTrouble, InService, MakesTurn, instant_of, moment_of, turn_of}
-use Rattle.server_history.specs.Server.{HasCommand, Server, IsKept, IsMachineOf, IsSettled, ports_of, state_of, used_for}
+use Rattle.server_history.specs.Server.{HasCommand, Server, IsKept, IsMachineOf, IsSettled, ports_of, state_of}
 use Rattle.server_history.proofs.Joined.{same_then}
-use Rattle.server_history.proofs.Origins.{IsSame}
 use Rattle.server_history.proofs.Progress.{others_leave}
 use Rattle.server_history.proofs.Lifting as lifting
 use Rattle.server_history.proofs.Lifting.{counts_apart}
 use Rattle.server_history.proofs.Plans.{AService}
 use Rattle.server_history.proofs.Progress as progress
-use Rattle.server_history.proofs.Rounds.{any_append, issued_late}
-use Rattle.server_history.proofs.Said.{one_said}
-use Rattle.server_history.proofs.Slots.{HasSlot, IsServedBy, free_unused, issued_has, ready_found, served_request, serves_used, still_booked, used_or_not}
-use Rattle.server_history.proofs.Turns.{answered_of, present_before}
-use Rattle.slots.specs.declared.Use.{Use as SlotUse}
-use Rattle.slots.specs.Uses.{Uses as PortSlots, use_at}
+use Rattle.server_history.proofs.Slots.{free_unused}
 
 module _ (laws : LawsBelow) (s : Server) (start : IsSettled s) (old : Moment) (reached : IsReached old.machine) (at : IsMachineOf s old.machine) (ports_are : old.ports ≡ ports_of s) where
   abbrev kept : IsKept s

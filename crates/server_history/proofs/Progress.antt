@@ -16,7 +16,6 @@ use Rattle.adapter.specs.Access.{Access, DoesAll}
 use Rattle.adapter.specs.Commands.{is_queued}
 use Rattle.adapter.specs.Device.{Device}
 use Rattle.adapter.specs.Rules.{IsOn}
-use Rattle.adapter.specs.declared.access.DeviceStep.{DeviceStep}
 use Rattle.agreement.specs.Driver.{IsBacked}
 use Rattle.block_machine.specs.Events.{AllLawful, AnswersEnded, Belong, HadDisk, IsToldBefore, Moment, NoneKeepsIssue, Served, UnplugsAll, answers_of, reply_of}
 use Rattle.block_machine.specs.Histories.{Instant, IsReached}

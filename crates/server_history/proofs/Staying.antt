@@ -1,46 +1,36 @@
 -- What a service has done of a port so far it has done still when another port has had its turn.
-use Rattle.std.proofs.Common.{ℕ, ◌≡◌, ◌≢◌, ◌<◌, ◌≤◌, true, false, List, [], ◌∷◌, ◌++◌, length, refl, sym, ap, ◌∙◌, subst, inl, inr, ⊎_elim, arith, append_assoc}
-use Rattle.std.specs.List.{Contains, count_by, list_any}
-use Rattle.std.proofs.lemmas.Bool.{or_right}
-use Rattle.std.proofs.lemmas.List.Elements.{All-nil, All-weaker, Contains-append_cases, Contains-append_right}
+use Rattle.std.proofs.Common.{ℕ, ◌≡◌, ◌≢◌, true, false, List, [], ◌++◌, refl, sym, ap, ◌∙◌, inl, inr, ⊎_elim, arith}
+use Rattle.std.specs.List.{count_by, list_any}
+use Rattle.std.proofs.lemmas.List.Elements.{Contains-append_cases, Contains-append_right}
 use Rattle.ata_types.specs.declared.Port.{Port}
 use Rattle.ata_types.specs.declared.PortState.{PortState}
-use Rattle.ata_types.specs.declared.PortState.TheVariants.{Absent, Dead, Foreign, Ready as ReadyState, Unfit}
+use Rattle.ata_types.specs.declared.PortState.TheVariants.{Absent, Foreign, Ready as ReadyState, Unfit}
 use Rattle.ata_types.specs.declared.request.Outcome.{Outcome}
-use Rattle.ata_types.specs.declared.request.Outcome.TheVariants.{DeviceError, Ok}
+use Rattle.ata_types.specs.declared.request.Outcome.TheVariants.{DeviceError}
 use Rattle.ata_types.specs.declared.request.Reply.{Reply}
-use Rattle.hba_regs.specs.declared.reg.Reg.TheVariants.{Ghc, Px}
-use Rattle.hba_regs.specs.declared.reg.PortReg.TheVariants.{Ci, Sact}
 use Rattle.adapter.specs.Access.{Access}
-use Rattle.adapter.specs.Access.Access.{Reading}
 use Rattle.adapter.specs.Device.{Device}
 use Rattle.agreement.specs.Agrees.{port_at}
-use Rattle.agreement.specs.Driven.{IsOf}
-use Rattle.agreement.specs.Links.{SparesRegister}
-use Rattle.block_machine.specs.Events.{AreTold, IsLeftAlone, Moment, Served, ServesReady, ShowsDisk, changes_disk, issues_it, tells_fault}
+use Rattle.block_machine.specs.Events.{AreTold, IsLeftAlone, Moment, Served, ServesReady, changes_disk, tells_fault}
 use Rattle.block_machine.specs.Histories.{Instant, IsReached}
 use Rattle.block_machine.specs.Left.{after}
-use Rattle.block_machine.specs.Ports.{Evidence, IsInterrupted, Ports, SamePort}
-use Rattle.block_machine.specs.State.{Machine, Pending}
+use Rattle.block_machine.specs.Ports.{Evidence, IsInterrupted, SamePort}
+use Rattle.block_machine.specs.State.{Machine}
 use Rattle.block_machine.specs.Steps.{Step, Answer}
 use Rattle.block_machine.proofs.Counting.{count_append}
 use Rattle.host_boot.specs.Taken.{found_of}
 use Rattle.driver_history.specs.Evidence.{ShowsFailure}
 use Rattle.driver_history.specs.Guard.{IsAskedOf}
-use Rattle.driver_history.specs.Histories.{FindsDone, HasBadDisk, HasFaultAlone, IsAnsweredFaulty, TendsPort, TiesPort}
-use Rattle.driver_history.specs.Parts.{HasTurnIn, IsOfOther, NamesAlike}
-use Rattle.driver_history.specs.Trace.{IsServing}
+use Rattle.driver_history.specs.Histories.{HasBadDisk, HasFaultAlone, IsAnsweredFaulty, TiesPort}
+use Rattle.driver_history.specs.Parts.{HasTurnIn, NamesAlike}
 use Rattle.server_history.specs.Below.{LawsBelow}
 use Rattle.server_history.specs.Turns.{HasPart, HeedsTrouble, InService, MakesTurn, turn_of}
 use Rattle.server_history.specs.Server.{Server, IsKept, IsMachineOf, IsSettled, ports_of, state_of}
 use Rattle.server_history.proofs.Joined.{same_then}
-use Rattle.server_history.proofs.Origins.{others_were, stood}
+use Rattle.server_history.proofs.Origins.{stood}
 use Rattle.server_history.proofs.Carrying as carrying
 use Rattle.server_history.proofs.Plans.{AService}
 use Rattle.server_history.proofs.Progress as progress
-use Rattle.server_history.proofs.Rounds.{any_append, issued_early}
-use Rattle.server_history.proofs.Slots.{ready_found}
-use Rattle.server_history.proofs.Turns.{answered_of}
 use Rattle.server_history.proofs.Lifting.{counts_apart}
 
 module _ (laws : LawsBelow) (s : Server) (start : IsSettled s) (old : Moment) (reached : IsReached old.machine) (at : IsMachineOf s old.machine) (ports_are : old.ports ≡ ports_of s) where

@@ -1,9 +1,9 @@
 -- A tick adds an event to a history.
-use Rattle.std.proofs.Common.{ℕ, suc, ◌≡◌, ◌≢◌, ◌⊎◌, ◌+◌, ◌<◌, ◌≤◌, ◌&&◌, ◌||◌, ◌==◌, nat_le, Bool, true, false, if◌then◌else◌, List, [], ◌∷◌, ◌++◌, map, refl, sym, ap, ◌∙◌, subst, inl, inr, ⊎_elim, arith, append-nil, eq-eqb, eqb-true, leb-true, le-leb}
+use Rattle.std.proofs.Common.{ℕ, suc, ◌≡◌, ◌≢◌, ◌⊎◌, ◌<◌, ◌≤◌, ◌&&◌, ◌||◌, ◌==◌, nat_le, Bool, true, false, if◌then◌else◌, List, [], ◌∷◌, ◌++◌, map, refl, sym, ap, ◌∙◌, subst, inl, inr, ⊎_elim, arith, append-nil, eq-eqb, eqb-true, leb-true, le-leb}
 use Rattle.std.specs.Prelude.{IsTrue}
 use Rattle.std.specs.List.{All, Contains, count_by, list_any}
 use Rattle.std.specs.List.Sorted.{IsPermutation}
-use Rattle.std.proofs.lemmas.Bool.{and_from, and_parts, cases_Bool, cases_lt, cond-true, false≢true, or_cases, or_left, or_right}
+use Rattle.std.proofs.lemmas.Bool.{and_from, and_parts, cases_Bool, cases_lt, cond-true, false≢true}
 use Rattle.std.proofs.lemmas.List.Elements.{All-cons, All-head, All-nil, All-tail, All-weaker, Contains-append_cases, Contains-append_left}
 use Rattle.std.proofs.lemmas.List.Sorted.{IsPermutation-refl}
 use Rattle.ata_types.specs.declared.Port.{Port}
@@ -24,20 +24,19 @@ use Rattle.agreement.specs.Agrees.{port_at}
 use Rattle.agreement.specs.Driven.{IsOf}
 use Rattle.agreement.specs.Links.{SparesRegister}
 use Rattle.agreement.specs.Slots.{ServesRequest}
-use Rattle.block_machine.specs.Events.{AgesOnce, AllLawful, AnswersEnded, AnswersTick, Belong, FindsAnother, HadDisk, IsHung, IsIssuedIn, IssuesLast, KeepsDisks, Moment, NoneKeepsIssue, RestartsHung, Served, Tells, Tick, UnplugsAll, WasIssued, answers_of, changes_disk, is_age, issues_it}
+use Rattle.block_machine.specs.Events.{AllLawful, AnswersEnded, AnswersTick, IsHung, IssuesLast, KeepsDisks, Moment, NoneKeepsIssue, RestartsHung, Served, Tick, WasIssued, answers_of, changes_disk, is_age, issues_it}
 use Rattle.block_machine.specs.Histories.{Happening, Instant, IsReached, now}
 use Rattle.block_machine.specs.Left.{after}
-use Rattle.block_machine.specs.Ports.{IsInterrupted, MayBecome, Ports, SamePort}
+use Rattle.block_machine.specs.Ports.{IsInterrupted, Ports, SamePort}
 use Rattle.block_machine.specs.Due.{of_port}
 use Rattle.block_machine.specs.State.{Machine, Pending, unanswered}
 use Rattle.block_machine.specs.Steps.{Step, Age, Again, Answer, after_step, older}
-use Rattle.block_machine.specs.declared.due.Unanswered.{Unanswered}
 use Rattle.block_machine.proofs.Members.{contains_cases, contains_here, into_map, map_in, none_of}
 use Rattle.driver_history.specs.Evidence.{IsEvidenced}
 use Rattle.driver_history.specs.Guard.{IsAskedOf}
-use Rattle.driver_history.specs.Histories.{FindsDone, IsAnsweredOk, IsIssuedOn, IssuesDue, TiesPort}
+use Rattle.driver_history.specs.Histories.{FindsDone, IssuesDue, TiesPort}
 use Rattle.driver_history.specs.Parts.{IsOfOther}
-use Rattle.driver_history.specs.Trace.{ClearsNone, IsDriversOwn, IsServing, LeavesEngine, ResetsLink}
+use Rattle.driver_history.specs.Trace.{ClearsNone, IsDriversOwn, IsServing, LeavesEngine}
 use Rattle.host_boot.specs.Taken.{found_of}
 use Rattle.host_boot.specs.declared.Found.{Found}
 use Rattle.host_boot.specs.declared.Found.TheVariants.{Ready, Unready, Unserved}
@@ -46,7 +45,7 @@ use Rattle.request_queue.specs.Machine.{IsEntry}
 use Rattle.server_history.specs.Below.{LawsBelow}
 use Rattle.server_history.specs.Histories.{Adds, Leads}
 use Rattle.server_history.specs.Server.{Server, IsKept, IsMachineOf, IsSettled, mode_in, ports_of, state_of}
-use Rattle.server_history.specs.Turns.{AtRest, HasPart, HeedsTrouble, InRestart, InService, IsStepOf, MakesTurn, TakeTurns, Ticks, TicksPort, a_tick_older, instant_of, is_ready}
+use Rattle.server_history.specs.Turns.{AtRest, HasPart, HeedsTrouble, InRestart, InService, IsStepOf, Ticks, TicksPort, a_tick_older, instant_of, is_ready}
 use Rattle.server_history.proofs.Ageing.{older_by, older_ended, older_issued, older_request, older_settled, older_stands, serves_on}
 use Rattle.server_history.proofs.Accepting.{any_in}
 use Rattle.server_history.proofs.Asks.{none_due, none_issued}
@@ -55,7 +54,7 @@ use Rattle.server_history.proofs.Going.{happening_with, lead_with, with_device}
 use Rattle.server_history.proofs.Joined.{answers_append, lawful_lift, ready_or_not}
 use Rattle.server_history.proofs.Lists.{nowhere}
 use Rattle.server_history.proofs.Plans.{ATick, Plan, Uses, turn_at}
-use Rattle.server_history.proofs.Progress.{HasRested, HasTicked, IsDone, IsRestarted, Progress, begun, idle_done}
+use Rattle.server_history.proofs.Progress.{HasRested, IsDone, IsRestarted, Progress, begun, idle_done}
 use Rattle.server_history.proofs.Rounds.{any_append, dues_carried, issued_late, issued_parts, or_none}
 use Rattle.server_history.proofs.Services.{Whole, go, turns_kept}
 use Rattle.server_history.proofs.Silent.{silent_none}

@@ -1,7 +1,7 @@
 -- What a call has done of a port so far, in a service or in a tick: a port's turn, and what was so of another one before it.
-use Rattle.std.proofs.Common.{ℕ, ◌≡◌, ◌≢◌, ◌<◌, ◌⊎◌, Bool, true, false, if◌then◌else◌, List, [], ◌∷◌, ◌++◌, refl, sym, ap, ◌∙◌, subst, inl, inr, ⊎_elim, append_assoc, append-nil}
+use Rattle.std.proofs.Common.{ℕ, ◌≡◌, ◌≢◌, ◌<◌, Bool, true, false, if◌then◌else◌, List, [], ◌∷◌, ◌++◌, refl, sym, ap, ◌∙◌, subst, inl, inr, ⊎_elim, append_assoc, append-nil}
 use Rattle.std.specs.List.{All, Contains}
-use Rattle.std.proofs.lemmas.Bool.{cases_Bool, false≢true}
+use Rattle.std.proofs.lemmas.Bool.{cases_Bool}
 use Rattle.std.proofs.lemmas.List.Elements.{All-append, All-cons, All-head, All-nil, All-tail, All-weaker, Contains-append_cases}
 use Rattle.ata_types.specs.declared.Port.{Port}
 use Rattle.ata_types.specs.declared.PortState.TheVariants.{Dead, Ready as ReadyState}
@@ -20,20 +20,18 @@ use Rattle.agreement.specs.Links.{SparesRegister}
 use Rattle.block_machine.specs.Events.{Moment}
 use Rattle.block_machine.specs.Histories.{Instant, IsReached}
 use Rattle.block_machine.specs.Left.{after}
-use Rattle.block_machine.specs.Ports.{Evidence, IsInterrupted, Ports, SameDisk, SamePort}
+use Rattle.block_machine.specs.Ports.{Evidence, Ports, SameDisk, SamePort}
 use Rattle.block_machine.specs.State.{Machine, Pending}
 use Rattle.block_machine.specs.Steps.{Step, Again, Answer}
-use Rattle.driver_history.specs.Guard.{IsAskedOf}
 use Rattle.driver_history.specs.Parts.{IsOfOther, NamesAlike}
 use Rattle.driver_history.specs.Trace.{IsDriversOwn, IsServing, LeavesEngine, ResetsLink}
 use Rattle.host_boot.specs.Taken.{found_of}
 use Rattle.server_history.specs.Below.{LawsBelow}
 use Rattle.server_history.specs.Server.{Server, IsMachineOf, IsSettled, ports_of, state_of}
-use Rattle.server_history.specs.Turns.{AtRest, HasPart, InRestart, MakesTurn, OwesTurn, RestartsPort, TiesTurn, instant_of}
+use Rattle.server_history.specs.Turns.{AtRest, HasPart, InRestart, MakesTurn, OwesTurn, RestartsPort, TiesTurn}
 use Rattle.server_history.proofs.Carrying as carrying
 use Rattle.server_history.proofs.Joined.{same_then}
 use Rattle.server_history.proofs.Lifting as lifting
-use Rattle.server_history.proofs.Lists.{nowhere}
 use Rattle.server_history.proofs.Owing.{ties_whole}
 use Rattle.server_history.proofs.Plans.{AService, ATick, Plan, Uses, turn_at}
 use Rattle.server_history.proofs.Progress as progress
