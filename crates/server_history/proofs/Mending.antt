@@ -80,14 +80,14 @@ module _ (laws : LawsBelow) (port : Port) (replies : List Reply) (old new : Serv
   e : IsEvident port replies old new r
   e = evident laws port replies old new k ready r looks kept
 
-  -- what it makes of a machine that stands for the server, but for what the call makes of it
-  module _ (turn : Turn) (m : Machine) (reached : IsReached m) (is : IsMachineOf old m) where
+  -- what it makes of a machine that stands for the server, where it is such a part of its call
+  module _ (m : Machine) (reached : IsReached m) (is : IsMachineOf old m) where
     d : DecidesTurn port replies old new r (evidence_by r.settled) m
     d = recovered_decides laws port replies old new k ready r looks kept m reached is
 
-    makes : Belong {D = DeviceStep} (call_of turn) (ports_of new) d.steps → OwesTurn turn port e.accesses old new m (evidence_by r.settled) d.steps
+    makes : (turn : Turn) → Belong {D = DeviceStep} (call_of turn) (ports_of new) d.steps → OwesTurn turn port e.accesses old new m (evidence_by r.settled) d.steps
         → TiesTurn turn port replies e.accesses old new m (evidence_by r.settled) d.steps → MakesTurn turn port replies e.accesses old new m
-    makes belong owes ties = record {
+    makes turn belong owes ties = record {
       steps = d.steps;
       evidence = evidence_by r.settled;
       may = d.may;
@@ -126,14 +126,14 @@ module _ (laws : LawsBelow) (port : Port) (replies : List Reply) (old new : Serv
   recovered unhung = record {
     does = inr (r, unhung);
     part = has_part InService (λ m reached is.
-        let its = d InService m reached is in
-        makes InService m reached is its.belong (its.grounded unhung) (ties_recovered laws port replies old new k ready r looks kept e m reached is its unhung));
+        let its = d m reached is in
+        makes m reached is InService its.belong (its.grounded unhung) (ties_recovered laws port replies old new k ready r looks kept e m reached is its unhung));
   }
 
   pub restarted : r.settled.mended.trouble ≡ Hung → HasPart InRestart port replies old new
   restarted hung = has_part InRestart (λ m reached is.
-      let its = d InRestart m reached is in
-      makes InRestart m reached is (belongs laws port replies old new k ready r looks kept e m reached is its hung) (owes laws port replies old new k ready r looks kept e m reached is its hung)
+      let its = d m reached is in
+      makes m reached is InRestart (belongs laws port replies old new k ready r looks kept e m reached is its hung) (owes laws port replies old new k ready r looks kept e m reached is its hung)
       (heeds_trouble laws port replies old new k ready r looks kept e m reached is its))
 
   -- nothing is due on another port, as before

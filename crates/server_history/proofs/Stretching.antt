@@ -127,7 +127,7 @@ module _ (laws : LawsBelow) (port : Port) (replies : List Reply) (old new : Serv
 
   -- ---- accesses
 
-  -- of those before recovery each leaves PxSCTL
+  -- one of those before recovery, and it doesn't write PxSCTL
   abbrev IsLookingOn : Access → Type 0
   IsLookingOn access = IsEarlyPart port access × SparesRegister (Px port Sctl) access
 
