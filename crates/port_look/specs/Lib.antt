@@ -1,3 +1,4 @@
 pub mod Laws
 pub mod Looks
+pub mod Glances
 pub mod Services

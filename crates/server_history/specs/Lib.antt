@@ -2,6 +2,7 @@ pub mod Server
 pub mod Histories
 pub mod Served
 pub mod Mended
+pub mod Tried
 pub mod Turns
 pub mod After
 pub mod Basics

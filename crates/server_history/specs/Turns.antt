@@ -28,10 +28,11 @@ use Rattle.driver_history.specs.Holds.{NoneWaits}
 use Rattle.driver_history.specs.Trace.{IsDriversOwn, ResetsLink}
 use Rattle.host_boot.specs.Taken.{found_of}
 use Rattle.host_boot.specs.declared.Found.{Found}
-use Rattle.host_boot.specs.declared.Found.TheVariants.{Ready}
+use Rattle.host_boot.specs.declared.Found.TheVariants.{Ready, Unready, Unserved}
 use Rattle.request_queue.specs.Entries.{Held, IsOverdue, aged, asks_of}
 use Rattle.server_history.specs.declared.Trouble.TheVariants.{Hung}
 use Rattle.server_history.specs.Mended.{MendsPort}
+use Rattle.server_history.specs.Tried.{TriesPort}
 use Rattle.server_history.specs.Served.{AnswersTurn, HasTurn}
 use Rattle.server_history.specs.Server.{Server, IsMachineOf, IsSettled, mode_at, mode_in, ports_of, remembered_at, slots_at, state_of, used_for}
 use Rattle.slots.specs.declared.Use.{Use as SlotUse}
@@ -84,13 +85,14 @@ pub record TellsFault (port : Port) (accesses : List Access) (old new : Server) 
 
 -- ---- a turn
 
--- A port's turn: in a service it is served; in a tick it is restarted, or rests.
+-- A port's turn: in a service a ready port is served, and another one tried; in a tick a ready one is restarted, or rests.
 pub data Turn : Type 0 where
-  InService InRestart AtRest : Turn
+  InService InTry InRestart AtRest : Turn
 
 -- the call that the turn is a part of
 abbrev pub call_of : Turn → Ask DeviceStep
 call_of InService = Service
+call_of InTry = Service
 call_of InRestart = Tick
 call_of AtRest = Tick
 
@@ -112,6 +114,7 @@ TiesTurn InService port replies accesses old new m evidence steps =
     IsAskedOf port (instant_of old m) new.device → TiesPort (instant_of old m) (turn_of InService replies new evidence steps) accesses port
 TiesTurn InRestart port replies accesses old new m evidence steps =
     IsAskedOf port (instant_of old m) new.device → HeedsTrouble port accesses (instant_of old m) evidence (ports_of new) new.device
+TiesTurn InTry port replies accesses old new m evidence steps = Unit {0}
 TiesTurn AtRest port replies accesses old new m evidence steps = Unit {0}
 
 -- What was done was found by a reading of the masks, in which the bits of each slot that wasn't used when the turn began were clear. (The bytes of such a slot may say
@@ -132,10 +135,11 @@ pub record RestartsPort (port : Port) (accesses : List Access) (old new : Server
   pub another : FindsAnother steps (ports_of old) (ports_of new)
   pub disk : HadDisk (moment_of old m) steps (moment_of new (after m steps)) port
 
--- What a turn owes besides. In a service requests wait again, are aborted, or told a fault, on ports alone that failed. A restart owes what it does, and tells no
--- fault. Where a port rests nothing is done.
+-- What a turn owes besides. In a service requests wait again, are aborted, or told a fault, on ports alone that failed; of a port that isn't ready no fault is told, and
+-- no loss. A restart owes what it does, and tells no fault. Where a port rests nothing is done.
 abbrev pub OwesTurn : Turn → Port → List Access → Server → Server → Machine → Evidence → List Step → Type 0
 OwesTurn InService port accesses old new m evidence steps = AllGrounded evidence steps
+OwesTurn InTry port accesses old new m evidence steps = AllGrounded evidence steps × (evidence.faults ≡ []) × (evidence.lost ≡ [])
 OwesTurn InRestart port accesses old new m evidence steps = RestartsPort port accesses old new m evidence steps × (evidence.faults ≡ [])
 OwesTurn AtRest port accesses old new m evidence steps = (accesses ≡ []) × (steps ≡ []) × (evidence.faults ≡ []) × (IsInterrupted evidence port → ⊥)
 
@@ -200,17 +204,24 @@ pub record ServesPort (port : Port) (replies : List Reply) (old new : Server) : 
   pub does : DoesTurn port replies old new
   pub part : HasPart InService port replies old new
 
--- Ports that were found ready have such turns, one after another; the first of these ports has this number.
-abbrev pub TakeTurns : (Port → List Reply → Server → Server → Type 0) → ℕ → List Found → List Reply → Server → Server → Type 0
-TakeTurns Such port [] replies old new = (replies ≡ []) × (new ≡ old)
-TakeTurns Such port (Ready info ∷ rest) replies old new =
+-- What serving a port that isn't ready does: it is looked at, and tried where it may have a disk, which is a part of a service.
+pub record TriesOther (port : Port) (old new : Server) : Type 0 where
+  pub does : TriesPort port old new
+  pub part : HasPart InTry port [] old new
+
+-- Ports that were found ready have such turns, and other ones that are served have theirs, one after another; the first of these ports has this number.
+abbrev pub TakeTurns : (Port → List Reply → Server → Server → Type 0) → (Port → Server → Server → Type 0) → ℕ → List Found → List Reply → Server → Server → Type 0
+TakeTurns Such Other port [] replies old new = (replies ≡ []) × (new ≡ old)
+TakeTurns Such Other port (Ready info ∷ rest) replies old new =
     (mid : Server) × (its later : List Reply) × (replies ≡ its ++ later)
-    × IsSettled mid × Such (port_at port) its old mid × TakeTurns Such (port + 1) rest later mid new
-TakeTurns Such port (found ∷ rest) replies old new = TakeTurns Such (port + 1) rest replies old new
+    × IsSettled mid × Such (port_at port) its old mid × TakeTurns Such Other (port + 1) rest later mid new
+TakeTurns Such Other port (Unready state ∷ rest) replies old new =
+    (mid : Server) × IsSettled mid × Other (port_at port) old mid × TakeTurns Such Other (port + 1) rest replies mid new
+TakeTurns Such Other port (Unserved ∷ rest) replies old new = TakeTurns Such Other (port + 1) rest replies old new
 
 -- so they are served
 abbrev pub ServePorts : ℕ → List Found → List Reply → Server → Server → Type 0
-ServePorts port found replies old new = TakeTurns ServesPort port found replies old new
+ServePorts port found replies old new = TakeTurns ServesPort TriesOther port found replies old new
 
 -- ---- a tick
 
@@ -229,6 +240,6 @@ TicksPort book port replies old new =
     (IsOverdue port book × (mends : MendsPort port replies old new) × (mends.settled.mended.trouble ≡ Hung) × HasPart InRestart port replies old new)
     ⊎ ((IsOverdue port book → ⊥) × (replies ≡ []) × (new ≡ old))
 
--- What a tick does: requests get older, and then each ready port has its turn, in rising number.
+-- What a tick does: requests get older, and then each ready port has its turn, in rising number; nothing is done of another one.
 abbrev pub Ticks : List Reply → Server → Server → Type 0
-Ticks replies old new = TakeTurns (TicksPort (a_tick_older old).book) 0 old.ports replies (a_tick_older old) new
+Ticks replies old new = TakeTurns (TicksPort (a_tick_older old).book) (λ port before then. then ≡ before) 0 old.ports replies (a_tick_older old) new

@@ -43,14 +43,17 @@ ghost use Rattle.agreement.specs.Driver.{Known};
 ghost use Rattle.block_machine.specs.State.{Machine};
 ghost use Rattle.server_history.specs.Histories.{Adds, HasBegun, load_said, store_said};
 ghost use Rattle.server_history.specs.Served.{Accepts, AnswersDone, AnswersOne, HasNone, IsMaskOf, IssuesAll, IssuesOne, accepting};
-ghost use Rattle.server_history.specs.Turns.{HasPart, InRestart, ServePorts, ServesPort, Ticks, a_tick_older};
+ghost use Rattle.server_history.specs.Tried.{TriesPort};
+ghost use Rattle.server_history.specs.Turns.{HasPart, InRestart, ServePorts, ServesPort, Ticks, TriesOther, a_tick_older};
 ghost use Rattle.server_history.specs.declared.Trouble.TheVariants.{Hung};
 ghost use Rattle.server_history.specs.Server.{AreOfTwo, Server, mode_found, IsKept, IsLentOut, IsNewServer, IsSettled, kept_at, mode_in, ports_of, situation_of, slots_at, state_of, used_for};
 ghost use Rattle.slots.specs.Uses.{IsLowestFree, IsTaken};
 ghost use Rattle.slots.specs.declared.Use.{Use as SlotUse};
 ghost use Rattle.port_look.specs.Looks.{IsLooking, LooksAt};
 ghost use Rattle.port_look.specs.declared.Look.TheVariants.{Failed as Fails, Undisturbed as Calm};
-ghost use Rattle.error_recovery.specs.Recovery.{FitsFor, IsAloneIn, MayRecover};
+ghost use Rattle.ata_types.specs.declared.PortState.{PortState};
+ghost use Rattle.error_recovery.specs.Recovery.{FitsFor, GivesUp, IsAloneIn, MayRecover};
+ghost use Rattle.error_recovery.specs.declared.Recovered.{Recovered};
 ghost use Rattle.error_recovery.specs.declared.Next.TheVariants.{Restart};
 ghost use Rattle.port_boot.specs.States.{IsBootable};
 ghost use Rattle.port_control.specs.Ports.{IsStopped};
@@ -287,6 +290,20 @@ pub fn acceptances_add()
 pub fn services_add()
     ensures { (s new : Server) (replies : List Reply) → IsSettled s → ServePorts 0 s.ports replies s new
         → Adds s new Service (Served replies) }
+{
+    the_laws_below_hold();
+}
+
+/// How a port that isn't ready has its turn in a service: it is looked at, and booted where it may have a disk by now. Where it is looked at, the server goes on; it may be given up
+/// and booted then, which is a part of a service.
+pub fn an_unready_port_is_tried()
+    ensures looking { (s : Server) (seen : Device) (port : Port) (state : PortState) → IsKept s → found_of s.ports port.0 ≡ Unready state → state ≢ Dead
+        → IsFollowed (IsLooking port) AnyUse s.device seen → IsKept (record s { device = seen }) }
+    ensures bootable { (s : Server) (stopped : Device) (port : Port) (state : PortState) (result : Recovered) (token : Stopped) → IsKept s
+        → found_of s.ports port.0 ≡ Unready state → state ≢ Dead → GivesUp port 0 true result s.device stopped → result.next ≡ Restart token
+        → (token.port ≡ port) × IsBootable port stopped × IsStopped (stopped.port port.0) }
+    ensures tried { (s new : Server) (port : Port) → IsSettled s → (tries : TriesPort port s new)
+        → (tries.state ≢ Dead → IsFollowed (IsLooking port) AnyUse s.device tries.seen) → TriesOther port s new × IsSettled new }
 {
     the_laws_below_hold();
 }
