@@ -55,11 +55,11 @@ module _ (plan : Plan) (laws : LawsBelow) (s : Server) (start : IsSettled s) (ol
   abbrev Progress : ℕ → Server → List Reply → Type 0
   Progress n c replies = progress.Progress plan laws s start old reached at ports_are n c replies
 
-  module _ (n : ℕ) (c mid : Server) (before its : List Reply) (p : Progress n c before) (part : HasPart (turn_at plan n) (port_at n) its c mid) (m_reached : IsReached (after old.machine p.steps)) where
+  module _ (n : ℕ) (c mid : Server) (before its : List Reply) (p : Progress n c before) (part : HasPart (turn_at plan (found_of s.ports n) n) (port_at n) its c mid) (m_reached : IsReached (after old.machine p.steps)) where
     abbrev m : Machine
     m = after old.machine p.steps
 
-    abbrev x : MakesTurn (turn_at plan n) (port_at n) its part.accesses c mid m
+    abbrev x : MakesTurn (turn_at plan (found_of s.ports n) n) (port_at n) its part.accesses c mid m
     x = part.makes m m_reached p.stands
 
     abbrev all : List Step

@@ -37,7 +37,7 @@ use Rattle.driver_history.specs.Parts.{HasTurnIn, IsOfOther, NamesAlike}
 use Rattle.driver_history.specs.Trace.{LeavesCommand, LeavesEngine}
 use Rattle.server_history.specs.Below.{LawsBelow}
 use Rattle.server_history.specs.Turns.{FindsTurn, HasPart, HeedsTrouble, MakesTurn, instant_of, moment_of}
-use Rattle.server_history.proofs.Plans.{Plan, not_reset, turn_at}
+use Rattle.server_history.proofs.Plans.{Plan, TakesTurn, not_reset, turn_at}
 use Rattle.server_history.specs.Server.{Server, IsKept, IsMachineOf, IsSettled, ports_of, state_of, used_for}
 use Rattle.server_history.proofs.Origins.{IsSame}
 use Rattle.server_history.proofs.Progress.{others_leave}
@@ -72,17 +72,17 @@ module _ (plan : Plan) (laws : LawsBelow) (s : Server) (start : IsSettled s) (ol
   state_at q = state_of (found_of s.ports q)
 
   abbrev HadTurn : ℕ → Port → Type 0
-  HadTurn n q = (q.0 < n) × (state_at q.0 ≡ ReadyState)
+  HadTurn n q = (q.0 < n) × TakesTurn plan (found_of s.ports q.0)
 
   abbrev Progress : ℕ → Server → List Reply → Type 0
   Progress n c replies = progress.Progress plan laws s start old reached at ports_are n c replies
 
-  module _ (n : ℕ) (c mid : Server) (before its : List Reply) (ready : state_at n ≡ ReadyState) (p : Progress n c before) (next : IsSettled mid) (part : HasPart (turn_at plan n) (port_at n) its c mid)
+  module _ (n : ℕ) (c mid : Server) (before its : List Reply) (ready : state_at n ≡ ReadyState) (p : Progress n c before) (next : IsSettled mid) (part : HasPart (turn_at plan (found_of s.ports n) n) (port_at n) its c mid)
       (m_reached : IsReached (after old.machine p.steps)) (on_mid : IsOn mid.device) where
     abbrev m : Machine
     m = after old.machine p.steps
 
-    abbrev x : MakesTurn (turn_at plan n) (port_at n) its part.accesses c mid m
+    abbrev x : MakesTurn (turn_at plan (found_of s.ports n) n) (port_at n) its part.accesses c mid m
     x = part.makes m m_reached p.stands
 
     abbrev all : List Step
@@ -288,7 +288,7 @@ module _ (plan : Plan) (laws : LawsBelow) (s : Server) (start : IsSettled s) (ol
         (λ stopped. ⊎_elim
         (λ stops. laws.calls.set_since (port_at n) part.accesses c.device mid.device p.on
         (All-weaker (IsOf (port_at n)) (SparesRegister Ghc) (λ access of. laws.of_host (port_at n) access of) part.accesses part.of) part.does stops ((next.kept.behind n low).runs ready_mid).st)
-        (λ (reset : _ × _). absurd (not_reset plan n its reset.0))
+        (λ (reset : _ × _). absurd (not_reset plan (found_of s.ports n) n its reset.0))
         (x.evidenced.stopped_only stopped))
         (λ stuck.
         let lives = x.becomes.1 (λ dead. let z : ReadyState ≡ Dead = sym ready_c ∙ dead in absurd cc) in

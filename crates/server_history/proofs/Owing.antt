@@ -24,20 +24,21 @@ use Rattle.block_machine.specs.State.{Pending, Machine}
 use Rattle.block_machine.specs.Steps.{Step, Answer}
 use Rattle.block_machine.proofs.Counting.{count_append}
 use Rattle.host_boot.specs.Taken.{found_of}
+use Rattle.host_boot.specs.declared.Found.{Found}
 use Rattle.driver_history.specs.Evidence.{ShowsFailure}
 use Rattle.driver_history.specs.Guard.{IsAskedOf}
 use Rattle.driver_history.specs.Histories.{BootsAnew, FindsDone, HasBadDisk, HasFaultAlone, IsAnsweredFaulty, IsIssuedOn, TiesPort}
 use Rattle.driver_history.specs.Parts.{HasTurnIn, NamesAlike}
 use Rattle.server_history.specs.Below.{LawsBelow}
-use Rattle.server_history.specs.Turns.{HasPart, HeedsTrouble, InService, MakesTurn, instant_of, moment_of, turn_of}
+use Rattle.server_history.specs.Turns.{HasPart, HeedsTrouble, InService, MakesTurn, TiesTurn, Turn, instant_of, moment_of, turn_of}
 use Rattle.server_history.specs.Server.{HasCommand, Server, IsKept, IsMachineOf, IsSettled, ports_of, state_of}
 use Rattle.server_history.proofs.Joined.{same_then}
 use Rattle.server_history.proofs.Progress.{others_leave}
 use Rattle.server_history.proofs.Lifting as lifting
 use Rattle.server_history.proofs.Lifting.{counts_apart}
-use Rattle.server_history.proofs.Plans.{AService}
+use Rattle.server_history.proofs.Plans.{AService, turn_at}
 use Rattle.server_history.proofs.Progress as progress
-use Rattle.server_history.proofs.Slots.{free_unused}
+use Rattle.server_history.proofs.Slots.{ready_found, free_unused}
 
 module _ (laws : LawsBelow) (s : Server) (start : IsSettled s) (old : Moment) (reached : IsReached old.machine) (at : IsMachineOf s old.machine) (ports_are : old.ports ≡ ports_of s) where
   abbrev kept : IsKept s
@@ -52,12 +53,12 @@ module _ (laws : LawsBelow) (s : Server) (start : IsSettled s) (old : Moment) (r
   abbrev Progress : ℕ → Server → List Reply → Type 0
   Progress n c replies = progress.Progress AService laws s start old reached at ports_are n c replies
 
-  module _ (n : ℕ) (c mid : Server) (before its : List Reply) (ready : state_at n ≡ ReadyState) (p : Progress n c before) (next : IsSettled mid) (part : HasPart InService (port_at n) its c mid)
+  module _ (n : ℕ) (c mid : Server) (before its : List Reply) (ready : state_at n ≡ ReadyState) (p : Progress n c before) (next : IsSettled mid) (part : HasPart (turn_at AService (found_of s.ports n) n) (port_at n) its c mid)
       (m_reached : IsReached (after old.machine p.steps)) (on_mid : IsOn mid.device) where
     abbrev m : Machine
     m = after old.machine p.steps
 
-    abbrev x : MakesTurn InService (port_at n) its part.accesses c mid m
+    abbrev x : MakesTurn (turn_at AService (found_of s.ports n) n) (port_at n) its part.accesses c mid m
     x = part.makes m m_reached p.stands
 
     abbrev all : List Step
@@ -65,6 +66,13 @@ module _ (laws : LawsBelow) (s : Server) (start : IsSettled s) (old : Moment) (r
 
     abbrev accesses : List Access
     accesses = p.accesses ++ part.accesses
+
+    -- it is ready, and so its turn is one in which it is served
+    is_service : turn_at AService (found_of s.ports n) n ≡ InService
+    is_service = ap (λ (found : Found). turn_at AService found n) (ready_found s n kept ready).1.1
+
+    its_ties : TiesTurn InService (port_at n) its part.accesses c mid m x.evidence x.steps
+    its_ties = subst (λ (turn : Turn). TiesTurn turn (port_at n) its part.accesses c mid m x.evidence x.steps) is_service x.ties
 
     low : n < 4
     low = lifting.low AService laws s start old reached at ports_are n c mid before its ready p next part m_reached on_mid
@@ -101,13 +109,13 @@ module _ (laws : LawsBelow) (s : Server) (start : IsSettled s) (old : Moment) (r
       asked_now = lifting.asked_now AService laws s start old reached at ports_are n c mid before its ready p next part m_reached on_mid asked
 
       abbrev did : TiesPort (instant_of c m) (turn_of InService its mid x.evidence x.steps) part.accesses (port_at n)
-      did = x.ties asked_now
+      did = its_ties asked_now
 
       abbrev serves : ServesReady (moment_of c m) x.evidence x.steps (record { machine = after m x.steps; ports = ports_of mid }) (port_at n)
       serves = did.heeds ready_c
 
       finding : (e : Pending) → IsIssuedOn (port_at n) old.machine e → FindsDone (port_at n) accesses began all
-      finding e leads = lifting.finding AService laws s start old reached at ports_are n c mid before its ready p next part m_reached on_mid (x.finds refl asked_now (leading e leads).now_is (then_issued e leads (leading e leads))) serves.ended
+      finding e leads = lifting.finding AService laws s start old reached at ports_are n c mid before its ready p next part m_reached on_mid (x.finds is_service asked_now (leading e leads).now_is (then_issued e leads (leading e leads))) serves.ended
 
       -- ---- a plain request's fault
 

@@ -29,7 +29,7 @@ use Rattle.server_history.specs.Server.{Server, IsKept, IsMachineOf, IsSettled, 
 use Rattle.server_history.proofs.Joined.{same_then}
 use Rattle.server_history.proofs.Origins.{stood}
 use Rattle.server_history.proofs.Carrying as carrying
-use Rattle.server_history.proofs.Plans.{AService}
+use Rattle.server_history.proofs.Plans.{AService, turn_at}
 use Rattle.server_history.proofs.Progress as progress
 use Rattle.server_history.proofs.Lifting.{counts_apart}
 
@@ -49,11 +49,11 @@ module _ (laws : LawsBelow) (s : Server) (start : IsSettled s) (old : Moment) (r
   abbrev Progress : ℕ → Server → List Reply → Type 0
   Progress n c replies = progress.Progress AService laws s start old reached at ports_are n c replies
 
-  module _ (n : ℕ) (c mid : Server) (before its : List Reply) (p : Progress n c before) (part : HasPart InService (port_at n) its c mid) (m_reached : IsReached (after old.machine p.steps)) where
+  module _ (n : ℕ) (c mid : Server) (before its : List Reply) (p : Progress n c before) (part : HasPart (turn_at AService (found_of s.ports n) n) (port_at n) its c mid) (m_reached : IsReached (after old.machine p.steps)) where
     abbrev m : Machine
     m = after old.machine p.steps
 
-    abbrev x : MakesTurn InService (port_at n) its part.accesses c mid m
+    abbrev x : MakesTurn (turn_at AService (found_of s.ports n) n) (port_at n) its part.accesses c mid m
     x = part.makes m m_reached p.stands
 
     abbrev all : List Step

@@ -242,4 +242,4 @@ TicksPort book port replies old new =
 
 -- What a tick does: requests get older, and then each ready port has its turn, in rising number; nothing is done of another one.
 abbrev pub Ticks : List Reply → Server → Server → Type 0
-Ticks replies old new = TakeTurns (TicksPort (a_tick_older old).book) (λ port before then. then ≡ before) 0 old.ports replies (a_tick_older old) new
+Ticks replies old new = TakeTurns (TicksPort (a_tick_older old).book) (λ port one other. other ≡ one) 0 old.ports replies (a_tick_older old) new
