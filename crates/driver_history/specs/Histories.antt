@@ -252,7 +252,7 @@ pub record Ties (wanted : List Wanted) (old : Instant Device) (h : Happening Dev
   pub backed : IsBacked old.device h.device old.moment.machine h.event.steps
   pub evidenced : IsEvidenced h.event.ask h.event.said accesses old h.event.ports h.device h.event.evidence
   pub issues : (port : Port) → Issues h.event.ask h.event.steps (moment_after old.moment h.event).machine h.event.ports port
-  pub port : (port : Port) → IsAskedOf port old h.device → TiesPort old h accesses port
+  pub port : (port : Port) → IsAskedOf port old → TiesPort old h accesses port
   pub holds : HoldsAt wanted (record { device = h.device; moment = moment_after old.moment h.event })
 
 -- What a new server leaves is what holds at each instant, with the adapter on. (Its book is empty, since the machine is a start.)
