@@ -77,7 +77,7 @@ module _ (laws : LawsBelow) (port : Port) (replies : List Reply) (old new : Serv
       (leads r.settled.mended.look port r.settled.mended.outstanding r.settled.mended.queued r.settled.mended.result r.settled.mended.mends.accesses r.settled.mid.device r.settled.device r.settled.mended.tells)
 
   pub ties_recovered : TiesTurn port replies evident.accesses old new m (evidence_by r.settled) d.steps
-  ties_recovered asked = record {
+  ties_recovered = record {
     finds = λ _ e issued. finding laws port replies old new k ready r looks kept evident m reached is d;
     faults = λ alone e slot issued unended says plain. faulting laws port replies old new k ready r looks kept m reached is d (failing alone) e slot issued unended says plain;
     tries = λ _ _. record {
@@ -88,6 +88,6 @@ module _ (laws : LawsBelow) (port : Port) (replies : List Reply) (old new : Serv
     };
     boots = reboots laws port replies old new k ready r looks kept evident m;
     trouble = lasting laws port replies old new k ready r looks kept evident.parts m;
-    well = going_well laws port replies old new k ready r looks kept evident plainly m asked;
+    well = going_well laws port replies old new k ready r looks kept evident plainly m;
     heeds = λ _. serves_ready laws port replies old new k ready r looks kept evident m reached is d;
   }

@@ -1,5 +1,5 @@
 -- What a service has done of a port so far it has done still when another port has had its turn.
-use Rattle.std.proofs.Common.{ℕ, ◌≡◌, ◌≢◌, ◌<◌, ◌≤◌, true, false, List, [], ◌∷◌, ◌++◌, length, refl, sym, ap, ◌∙◌, subst, inl, inr, ⊎_elim, arith, append_assoc}
+use Rattle.std.proofs.Common.{ℕ, ◌≡◌, ◌≢◌, ◌⊎◌, ◌<◌, ◌≤◌, true, false, List, [], ◌∷◌, ◌++◌, length, refl, sym, ap, ◌∙◌, subst, inl, inr, ⊎_elim, arith, append_assoc}
 use Rattle.std.specs.List.{Contains, count_by, list_any}
 use Rattle.std.proofs.lemmas.Bool.{or_right}
 use Rattle.std.proofs.lemmas.List.Elements.{All-nil, All-weaker, Contains-append_cases, Contains-append_right}
@@ -25,7 +25,7 @@ use Rattle.block_machine.specs.State.{Machine, Pending}
 use Rattle.block_machine.specs.Steps.{Step, Answer}
 use Rattle.block_machine.proofs.Counting.{count_append}
 use Rattle.host_boot.specs.Taken.{found_of}
-use Rattle.driver_history.specs.Evidence.{ShowsFailure}
+use Rattle.driver_history.specs.Evidence.{ShowsChange, ShowsFailure}
 use Rattle.driver_history.specs.Guard.{IsAskedOf}
 use Rattle.driver_history.specs.Histories.{FindsDone, HasBadDisk, HasFaultAlone, IsAnsweredFaulty, TendsPort, TiesPort}
 use Rattle.driver_history.specs.Parts.{HasTurnIn, IsOfOther, NamesAlike}
@@ -74,9 +74,9 @@ module _ (laws : LawsBelow) (s : Server) (start : IsSettled s) (old : Moment) (r
     whole_is = laws.basic.joined old.machine x.steps p.steps
 
     module _ (q : Port) (apart : q ≢ port_at n) (d : IsDone c p.accesses p.steps p.evidence q) (evidence : Evidence) (alike : NamesAlike q p.evidence evidence) (same : SamePort (ports_of c) (ports_of mid) q)
-        (asked : IsAskedOf q began mid.device) where
+        (asked : IsAskedOf q began) where
       ready : state_at q.0 ≡ ReadyState
-      ready = sym (ap (λ (ports : Ports). ports.state q) ports_are) ∙ asked.ready
+      ready = sym (ap (λ (ports : Ports). ports.state q) ports_are) ∙ asked
 
       low : q.0 < 4
       low = (ready_found s q.0 kept ready).0
@@ -102,14 +102,11 @@ module _ (laws : LawsBelow) (s : Server) (start : IsSettled s) (old : Moment) (r
         others_later = All-weaker (IsOf (port_at n)) (IsOfOther q) (λ access of. (port_at n, other, of)) part.accesses part.of;
       }
 
-      asked_so_far : IsAskedOf q began c.device
-      asked_so_far = laws.calls.asked_then q began old mid.device kept.on undue t p.on asked.ready asked
-
       abbrev did : TiesPort began (turn_of [] c p.evidence p.steps) p.accesses q
-      did = d.ties asked_so_far
+      did = d.ties asked
 
       abbrev serves : ServesReady old p.evidence p.steps (record { machine = m; ports = ports_of c }) q
-      serves = did.heeds asked.ready
+      serves = did.heeds asked
 
       -- the turn answers nobody of it
       not_late : (e : Pending) (o : Outcome) → Contains x.steps (Answer e o) → e.request.port ≢ q
@@ -142,7 +139,7 @@ module _ (laws : LawsBelow) (s : Server) (start : IsSettled s) (old : Moment) (r
       }
 
       alone_so_far : HasFaultAlone q began mid.device → HasFaultAlone q began c.device
-      alone_so_far alone = laws.calls.alone_then q began old mid.device kept.on undue t p.on asked.ready alone
+      alone_so_far alone = laws.calls.alone_then q began old mid.device kept.on undue t p.on asked alone
 
       -- ---- what the call heeds of it
 
@@ -210,23 +207,23 @@ module _ (laws : LawsBelow) (s : Server) (start : IsSettled s) (old : Moment) (r
           (λ (reset : _ × _). absurd reset.0)
           (d.evidenced.stopped_only stopped))
           (λ stuck.
-          let lives = d.becomes.1 (λ dead. let z : ReadyState ≡ Dead = sym asked.ready ∙ dead in absurd cc) in
+          let lives = d.becomes.1 (λ dead. let z : ReadyState ≡ Dead = sym asked ∙ dead in absurd cc) in
           let dead = lives.0.dies stuck in
           let z : ReadyState ≡ Dead = sym ready_c ∙ dead in absurd cc)
           i
 
-      -- and where it showed a failure when the call began, it was stopped
-      stops_failed : ShowsFailure (s.device.port q.0) → IsInterrupted p.evidence q
-      stops_failed failure = serves.interrupts (inl (d.evidenced.failed_all asked.ready failure))
+      -- and where it showed a failure when the call began, or a change of its link, it was stopped
+      stops_troubled : ShowsFailure (s.device.port q.0) ⊎ ShowsChange (s.device.port q.0) → IsInterrupted p.evidence q
+      stops_troubled trouble = serves.interrupts (⊎_elim (λ failure. inl (d.evidenced.failed_all asked failure)) (λ change. inr (d.evidenced.gone_all asked (inl change))) trouble)
 
       -- ---- the whole
 
       not_bad : HasBadDisk old.ports q → ⊥
-      not_bad (inl foreign) = let z : Foreign ≡ ReadyState = sym foreign ∙ asked.ready in absurd cc
-      not_bad (inr (cause, unfit)) = let z : Unfit cause ≡ ReadyState = sym unfit ∙ asked.ready in absurd cc
+      not_bad (inl foreign) = let z : Foreign ≡ ReadyState = sym foreign ∙ asked in absurd cc
+      not_bad (inr (cause, unfit)) = let z : Unfit cause ≡ ReadyState = sym unfit ∙ asked in absurd cc
 
       not_absent : old.ports.state q ≡ Absent → ⊥
-      not_absent absent = let z : Absent ≡ ReadyState = sym absent ∙ asked.ready in absurd cc
+      not_absent absent = let z : Absent ≡ ReadyState = sym absent ∙ asked in absurd cc
 
       pub ties_still : TiesPort began (turn_of [] mid evidence all) accesses q
       ties_still = record {
@@ -241,8 +238,8 @@ module _ (laws : LawsBelow) (s : Server) (start : IsSettled s) (old : Moment) (r
           missing = λ bad. absurd (not_bad bad);
           changed = λ bad. absurd (not_bad bad);
         };
-        boots = laws.calls.call_boots q began old (ports_of c) (ports_of mid) mid.device (Served []) (Served []) kept.on undue t p.on asked.ready asked same same_self did.boots;
-        trouble = laws.calls.call_trouble q began old (ports_of c) (ports_of mid) mid.device p.evidence evidence kept.on undue t p.on asked.ready asked same alike set_since stops_failed did.trouble;
-        well = laws.calls.call_well q began old (ports_of c) (ports_of mid) mid.device p.evidence evidence kept.on undue t p.on asked.ready asked same alike (λ ready_c. ((p.settled.kept.behind q.0 low).runs ready_c).recorded.known) did.well;
+        boots = laws.calls.call_boots q began old (ports_of c) (ports_of mid) mid.device (Served []) (Served []) kept.on undue t p.on same same_self did.boots;
+        trouble = laws.calls.call_trouble q began old (ports_of c) (ports_of mid) mid.device p.evidence evidence kept.on t p.on same alike same_self set_since stops_troubled did.trouble;
+        well = laws.calls.call_well q began old (ports_of c) (ports_of mid) mid.device p.evidence evidence kept.on undue t p.on same alike (λ ready_c. ((p.settled.kept.behind q.0 low).runs ready_c).recorded.known) did.well;
         heeds = λ _. heeds_whole;
       }

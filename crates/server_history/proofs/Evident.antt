@@ -354,14 +354,14 @@ module _ (laws : LawsBelow) (port : Port) (replies : List Reply) (old new : Serv
           boots_driven shown.Foreign told = told.followed.driven
           boots_driven (shown.Unfit n) told = told.followed.driven
 
-  had_seen : (x.look ≡ Failed) ⊎ (x.look ≡ Broken) → (m : Machine) → IsMachineOf old m → (steps : List Step) → IsBacked old.device new.device m steps → (m.present port ≡ true) ⊎ (list_any (changes_disk port) steps ≡ true)
-  had_seen error = had_at (look_list port x.looks.causes x.looks.own x.looks.status) x.seen (look_does port _ old.device x.seen x.looks) (shows_device laws port old.device x.seen x.look x.looks k.on error) grown_seen
+  had_seen : x.look ≢ Lost → (m : Machine) → IsMachineOf old m → (steps : List Step) → IsBacked old.device new.device m steps → (m.present port ≡ true) ⊎ (list_any (changes_disk port) steps ≡ true)
+  had_seen not_lost = had_at (look_list port x.looks.causes x.looks.own x.looks.status) x.seen (look_does port _ old.device x.seen x.looks) (shows_device laws port old.device x.seen x.look x.looks k.on not_lost) grown_seen
 
   had : (m : Machine) → IsMachineOf old m → (steps : List Step) → IsBacked old.device new.device m steps → HadDisk (moment_of old m) steps (moment_of new (after m steps)) port
   had m stands steps backed shows = ⊎_elim
-      (λ failed. had_seen (inl failed) m stands steps backed)
-      (λ rest. ⊎_elim (λ broken. had_seen (inr broken) m stands steps backed) (λ lost. by lost x.result.next refl) rest)
-      mending
+      (λ lost. by lost x.result.next refl)
+      (λ not_lost. had_seen not_lost m stands steps backed)
+      (lost_or_not x.look)
     where
       shows_found : ShowsDisk (state_of a.found)
       shows_found = subst ShowsDisk (state_new laws port replies old new k ready r looks kept) shows

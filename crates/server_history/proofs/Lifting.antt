@@ -34,8 +34,7 @@ use Rattle.block_machine.specs.Steps.{Step, Answer}
 use Rattle.block_machine.proofs.Calm.{counts_none}
 use Rattle.block_machine.proofs.Counting.{count_append}
 use Rattle.host_boot.specs.Taken.{found_of}
-use Rattle.driver_history.specs.Evidence.{ShowsFailure}
-use Rattle.driver_history.specs.Guard.{IsAskedOf}
+use Rattle.driver_history.specs.Evidence.{ShowsChange, ShowsFailure}
 use Rattle.driver_history.specs.Histories.{BootsAnew, FindsDone, HasBadDisk, HasFaultAlone, IsAnsweredFaulty, IsAnsweredOk, IsIssuedOn, RunsWellAnew, TiesPort}
 use Rattle.driver_history.specs.Parts.{HasTurnIn, IsOfOther, NamesAlike}
 use Rattle.driver_history.specs.Trace.{LeavesCommand, LeavesEngine}
@@ -210,12 +209,9 @@ module _ (laws : LawsBelow) (s : Server) (start : IsSettled s) (old : Moment) (r
         (λ early. absurd (not_early a.0 Ok early (ap (λ r. r.port) a.1 ∙ own)))
         (Contains-append_cases x.steps p.steps (Answer a.0 Ok) a.2)
 
-    module _ (evidence : Evidence) (alike : NamesAlike (port_at n) x.evidence evidence) (same_n : SamePort old.ports (ports_of c) (port_at n)) (asked : IsAskedOf (port_at n) began mid.device) where
-      asked_now : IsAskedOf (port_at n) (instant_of c m) mid.device
-      asked_now = laws.calls.asked_then (port_at n) began (moment_of c m) mid.device kept.on undue t on_mid ready_c asked
-
+    module _ (evidence : Evidence) (alike : NamesAlike (port_at n) x.evidence evidence) (same_n : SamePort old.ports (ports_of c) (port_at n))  where
       abbrev did : TiesPort (instant_of c m) (turn_of its mid x.evidence x.steps) part.accesses (port_at n)
-      did = x.ties asked_now
+      did = x.ties
 
       abbrev serves : ServesReady (moment_of c m) x.evidence x.steps (record { machine = after m x.steps; ports = ports_of mid }) (port_at n)
       serves = did.heeds ready_c
@@ -224,7 +220,7 @@ module _ (laws : LawsBelow) (s : Server) (start : IsSettled s) (old : Moment) (r
 
       module _ (e : Pending) (leads : IsIssuedOn (port_at n) old.machine e) where
         abbrev f : FindsTurn (port_at n) part.accesses c m x.steps
-        f = x.finds asked_now (leading e leads).now_is (then_issued e leads (leading e leads))
+        f = x.finds (leading e leads).now_is (then_issued e leads (leading e leads))
 
         abbrev AreClear : ℕ → Type 0
         AreClear slot = (bit f.done.ci slot ≡ false) × (bit f.done.sact slot ≡ false)
@@ -395,9 +391,9 @@ module _ (laws : LawsBelow) (s : Server) (start : IsSettled s) (old : Moment) (r
           let z : ReadyState ≡ Dead = sym ready_mid ∙ dead in absurd cc)
           i
 
-      -- where the port showed a failure when it began, the turn stopped it
-      stops_failed : ShowsFailure (c.device.port n) → IsInterrupted x.evidence (port_at n)
-      stops_failed failure = serves.interrupts (inl (x.evidenced.failed_all ready_c failure))
+      -- where the port showed a failure when it began, or a change of its link, the turn stopped it
+      stops_troubled : ShowsFailure (c.device.port n) ⊎ ShowsChange (c.device.port n) → IsInterrupted x.evidence (port_at n)
+      stops_troubled trouble = serves.interrupts (⊎_elim (λ failure. inl (x.evidenced.failed_all ready_c failure)) (λ change. inr (x.evidenced.gone_all ready_c (inl change))) trouble)
 
       -- ---- the whole
 
@@ -419,9 +415,9 @@ module _ (laws : LawsBelow) (s : Server) (start : IsSettled s) (old : Moment) (r
           changed = λ bad. absurd (not_bad bad);
         };
         boots = subst (λ (list : List Access). BootsAnew Service (Served []) (p.accesses ++ list) began (ports_of mid) mid.device (port_at n)) (append-nil part.accesses)
-            (laws.calls.call_boots (port_at n) began (moment_of c m) (ports_of mid) (ports_of mid) mid.device (Served its) (Served []) kept.on undue t on_mid ready_c asked same_self same_n did.boots);
-        trouble = laws.calls.call_trouble (port_at n) began (moment_of c m) (ports_of mid) (ports_of mid) mid.device x.evidence evidence kept.on undue t on_mid ready_c asked same_self alike set_since stops_failed did.trouble;
+            (laws.calls.call_boots (port_at n) began (moment_of c m) (ports_of mid) (ports_of mid) mid.device (Served its) (Served []) kept.on undue t on_mid same_self same_n did.boots);
+        trouble = laws.calls.call_trouble (port_at n) began (moment_of c m) (ports_of mid) (ports_of mid) mid.device x.evidence evidence kept.on t on_mid same_self alike same_n set_since stops_troubled did.trouble;
         well = subst (λ (list : List Access). RunsWellAnew evidence (p.accesses ++ list) began (ports_of mid) mid.device (port_at n)) (append-nil part.accesses)
-            (laws.calls.call_well (port_at n) began (moment_of c m) (ports_of mid) (ports_of mid) mid.device x.evidence evidence kept.on undue t on_mid ready_c asked same_self alike (λ ready_mid. ((next.kept.behind n low).runs ready_mid).recorded.known) did.well);
+            (laws.calls.call_well (port_at n) began (moment_of c m) (ports_of mid) (ports_of mid) mid.device x.evidence evidence kept.on undue t on_mid same_self alike (λ ready_mid. ((next.kept.behind n low).runs ready_mid).recorded.known) did.well);
         heeds = λ _. heeds_whole;
       }

@@ -62,7 +62,7 @@ module _ (laws : LawsBelow) (s : Server) (start : IsSettled s) (old : Moment) (r
     pub disk : SamePort old.ports (ports_of c) q ⊎ HadDisk old steps (moment_of c (after old.machine steps)) q
     pub keeps : SameDisk old.ports (ports_of c) q ⊎ NoneWaits (after old.machine steps) q
     pub evidenced : IsEvidencedOf Service (Served []) accesses began (ports_of c) c.device evidence q
-    pub ties : IsAskedOf q began c.device → TiesPort began (turn_of [] c evidence steps) accesses q
+    pub ties : IsAskedOf q began → TiesPort began (turn_of [] c evidence steps) accesses q
 
   -- a fault that is told of a port that had its turn
   pub record HasTold (n : ℕ) (c : Server) (accesses : List Access) (told : Fault) : Type 0 where
@@ -200,7 +200,7 @@ module _ (laws : LawsBelow) (s : Server) (start : IsSettled s) (old : Moment) (r
         disk = inl same;
         keeps = inl (same.2, same.3);
         evidenced = none_evidenced p.accesses c.device (ports_of c) p.evidence q unready (names_more (HadTurn n) (λ r. state_at r.0 ≡ ReadyState) (λ r served. served.1) p.evidence p.names) (p.others q none);
-        ties = λ asked. absurd (unready (sym (ap (λ (ports : Ports). ports.state q) ports_are) ∙ asked.ready));
+        ties = λ asked. absurd (unready (sym (ap (λ (ports : Ports). ports.state q) ports_are) ∙ asked));
       }
 
   -- a port that isn't ready has no turn

@@ -350,7 +350,7 @@ module _ (laws : LawsBelow) (s : Server) (start : IsSettled s) (old : Moment) (r
           (λ none. inr (λ e here. none e (subst (λ (k : Machine). Contains k.book e) whole_is here)))
           x.keeps;
       evidenced = evidenced_n;
-      ties = λ asked. ties_whole laws s start old reached at ports_are n c mid before its ready p next part m_reached on_mid evidence alike_n same_n asked;
+      ties = λ _. ties_whole laws s start old reached at ports_are n c mid before its ready p next part m_reached on_mid evidence alike_n same_n;
     }
 
     done_before : (q : Port) → q.0 < n → IsDone c p.accesses p.steps p.evidence q → IsDone mid accesses all evidence q

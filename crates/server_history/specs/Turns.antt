@@ -22,7 +22,6 @@ use Rattle.block_machine.specs.Steps.{Step, Again, Answer, Issue}
 use Rattle.driver_history.specs.Evidence.{IsEvidencedOf}
 use Rattle.error_recovery.specs.Evidence.{BringsLog, HasFailed}
 use Rattle.error_log.specs.Log.{TellsError}
-use Rattle.driver_history.specs.Guard.{IsAskedOf}
 use Rattle.driver_history.specs.Histories.{FindsDone, IsIssuedOn, IssuesDue, TiesPort}
 use Rattle.driver_history.specs.Holds.{NoneWaits}
 use Rattle.driver_history.specs.Trace.{IsDriversOwn}
@@ -90,10 +89,10 @@ turn_of replies new evidence steps = record {
   device = new.device;
 }
 
--- As such it has done of its port, if that is asked, what a call does of a port.
+-- As such it has done of its port what a call does of a port.
 abbrev pub TiesTurn : Port → List Reply → List Access → Server → Server → Machine → Evidence → List Step → Type 0
 TiesTurn port replies accesses old new m evidence steps =
-    IsAskedOf port (instant_of old m) new.device → TiesPort (instant_of old m) (turn_of replies new evidence steps) accesses port
+    TiesPort (instant_of old m) (turn_of replies new evidence steps) accesses port
 
 -- What was done was found by a reading of the masks, in which the bits of each slot that wasn't used when the turn began were clear. (The bytes of such a slot may say
 -- still the command of a request that has ended.)
@@ -103,8 +102,7 @@ pub record FindsTurn (port : Port) (accesses : List Access) (old : Server) (m : 
 
 -- What a turn that made these accesses and said these replies has made of the machine: its steps may come, and lead to a machine that stands for
 -- the new server; the tape backs them; and they are the device's own, or of requests of the port. Its evidence names the port alone, and is
--- backed by the device. Of what a service owes and claims it owes and claims what the block machine asks; and where that is asked of the port, it has done what a call
--- does of one.
+-- backed by the device. Of what a service owes and claims it owes and claims what the block machine asks; and it has done what a call does of a port.
 pub record MakesTurn (port : Port) (replies : List Reply) (accesses : List Access) (old new : Server) (m : Machine) : Type 0 where
   pub steps : List Step
   pub evidence : Evidence
@@ -126,7 +124,7 @@ pub record MakesTurn (port : Port) (replies : List Reply) (accesses : List Acces
   pub evidenced : IsEvidencedOf Service (Served replies) accesses (instant_of old m) (ports_of new) new.device evidence port
   pub faults : (told : Fault) → Contains evidence.faults told → TellsFault port accesses old new told
   pub ties : TiesTurn port replies accesses old new m evidence steps
-  pub finds : IsAskedOf port (instant_of old m) new.device → (e : Pending) → IsIssuedOn port m e → FindsTurn port accesses old m steps
+  pub finds : (e : Pending) → IsIssuedOn port m e → FindsTurn port accesses old m steps
 
 -- what a turn of the port leaves of the server: its grants, the disks that are wanted, the id that was handed out last, and what it has of other ports and their
 -- requests (the machine that stands for it has the owners, and the loans that are kept)
