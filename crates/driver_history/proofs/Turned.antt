@@ -21,7 +21,7 @@ use Rattle.block_machine.specs.Histories.{Instant}
 use Rattle.block_machine.specs.Ports.{Evidence, IsInterrupted, Ports, SamePort}
 use Rattle.error_recovery.specs.Evidence.{GainsRunning, ShowsFatal}
 use Rattle.driver_history.specs.Evidence.{Gains, ShowsChange, ShowsFailure}
-use Rattle.driver_history.specs.Histories.{BootsAnew, HasFaultAlone, LosesNoTrouble, RunsWellAnew, StayedUp}
+use Rattle.driver_history.specs.Histories.{BootsAnew, HasFaultAlone, LosesNoTrouble, RunsWellAnew}
 use Rattle.driver_history.specs.Laws.{Laws}
 use Rattle.driver_history.specs.Parts.{HasTurnIn, IsOfOther, NamesAlike, all_of}
 use Rattle.driver_history.specs.Trace.{ResetsLink}
@@ -73,12 +73,6 @@ module _ (laws : Laws) (port : Port) where
     plug_parts none =
         let a = laws.plugs_parts port.0 old.device t.start new first.grows.0 since.0 first.grows.1 since.1 none in
         (a.0, (laws.plugs_parts port.0 t.start t.end new middle.0 last.grows.0 middle.1 last.grows.1 a.1).0)
-
-    -- no fatal error of the call came in the turn
-    within_turn : NoneFatal port.0 old.device new → NoneFatal port.0 t.start t.end
-    within_turn none =
-        let a = laws.fatal_parts port.0 old.device t.start new first.grows.0 since.0 first.grows.1 since.1 none in
-        (laws.fatal_parts port.0 t.start t.end new middle.0 last.grows.0 middle.1 last.grows.1 a.1).0
 
     -- ---- and what was done then was done in the whole
 
@@ -204,8 +198,7 @@ module _ (laws : Laws) (port : Port) where
             let same : (new.port port.0).notes.st_set_at ≡ (t.end.port port.0).notes.st_set_at = ap (λ n. n.st_set_at) last.leaves.notes in
             let small = known is_ready in
             let parts = plug_parts plugs in
-            let stayed : ResetsLink port t.turn ⊎ StayedUp port t.start t.end =
-            ⊎_elim (λ r. inl (reset_in_turn r)) (λ (up : StayedUp port old.device new). inr (record { fresh = first.fresh undue parts.0 ∙ up.fresh; unbroken = within_turn up.unbroken })) how in
+            let up : ResetsLink port t.turn ⊎ ((t.start.port port.0).fresh ≡ true) = ⊎_elim (λ r. inl (reset_in_turn r)) (λ fresh. inr (first.fresh undue parts.0 ∙ fresh)) how in
             laws.well port.0 t.end new
             (laws.runs port t.later t.end new on_then t.last
             (All-weaker (IsOfOther port) (SparesRegister Ghc) (λ access x. laws.spares_host x.0 access x.2) t.later t.others_later)
@@ -215,7 +208,7 @@ module _ (laws : Laws) (port : Port) where
             (its (unnamed i) is_ready parts.1
             (λ g. unfailed (running_in_part (IsFaultOf port.0) port.0 old.device t.start t.end new first.grows last.grows same g))
             (λ g. unbroken (running_in_part (IsFatalOf port.0) port.0 old.device t.start t.end new first.grows last.grows same g))
-            stayed)
+            up)
 
 -- ---- a plain request's fault
 

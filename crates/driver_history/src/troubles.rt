@@ -28,7 +28,8 @@ ghost use Rattle.port_control.specs.Engines.{Stops};
 use super::lawful::laws_hold;
 
 /// A service heeds the failure that a ready port showed when it began, a fault or a fatal error, whatever else it showed: what had ended is answered, the port
-/// was stopped, who waits keeps no issue, and one request is told a fault at most. With a fatal error nobody is told one; with TFES alone, and no fatal error in the call, a plain request always is.
+/// was stopped, who waits keeps no issue, and one request is told a fault at most. With a fatal error nobody is told one; with TFES alone, and in the call no fatal error,
+/// and no disk that goes or comes, a plain request always is.
 pub fn shown_faults_are_heeded()
     ensures { (wanted : List Wanted) (first : Instant Device) (past : List (Happening Device DeviceStep)) (h : Happening Device DeviceStep)
         (port : Port) → IsHistory wanted first (h ∷ past) → h.event.ask ≡ Service → IsAskedOf port (now first past)
@@ -90,6 +91,13 @@ pub fn what_is_untroubled_since_st_was_set_is_calm()
 {
     laws_hold();
 }
+
+/// A fatal error that came in a part of a call since ST of its port was last set has come since then in the whole, where ST wasn't set again after the part.
+pub fn a_fatal_error_of_a_part_is_of_the_whole()
+    ensures { (port : ℕ) (old start end new : Device) → Grows old start → Grows end new
+        → (new.port port).notes.st_set_at ≡ (end.port port).notes.st_set_at → GainsRunning (IsFatalOf port) port start end
+        → GainsRunning (IsFatalOf port) port old new }
+{}
 
 /// Where accesses that leave the adapter on stopped a port, and its ST is one after them, it was set since they began.
 pub fn a_port_that_was_stopped_was_set_since()

@@ -19,7 +19,7 @@ use Rattle.agreement.specs.Facts.{IsFaultOf, RunsWell, Undisturbed}
 use Rattle.agreement.specs.Links.{PlugsNone, SparesRegister}
 use Rattle.agreement.specs.Recovering.{IsLinked, WorksPlainly}
 use Rattle.block_machine.specs.State.{Machine}
-use Rattle.driver_history.specs.Histories.{RunsWellAnew, StayedUp}
+use Rattle.driver_history.specs.Histories.{RunsWellAnew}
 use Rattle.driver_history.specs.Trace.{ResetsLink}
 use Rattle.error_recovery.specs.Evidence.{GainsRunning}
 use Rattle.error_recovery.specs.declared.Next.{Next}
@@ -160,23 +160,22 @@ module _ (laws : LawsBelow) (port : Port) (replies : List Reply) (old new : Serv
             (subst (λ (f : Found). StillStandsBehind (wanted_of a.mid.wanted port.0) f port.0 a.mid.device) f.1.1 (then_kept.behind port.0 low).behind).1.det
 
     runs_well : PlugsNone port.0 old.device new.device → (old.device.port port.0).ssts_det ≡ 3 → (GainsRunning (IsFaultOf port.0) port.0 old.device new.device → ⊥) → (GainsRunning (IsFatalOf port.0) port.0 old.device new.device → ⊥)
-        → ResetsLink port evident.accesses ⊎ StayedUp port old.device new.device → RunsWell (new.device.port port.0)
+        → ResetsLink port evident.accesses ⊎ ((old.device.port port.0).fresh ≡ true) → RunsWell (new.device.port port.0)
     runs_well none det unfailed unbroken how =
-        let stayed : StayedUp port old.device new.device = ⊎_elim
+        let fresh : (old.device.port port.0).fresh ≡ true = ⊎_elim
         (λ reset. absurd (never_reset port (t.early.accesses ++ (x.mends.accesses ++ t.late.accesses)) unreset (subst (ResetsLink port) evident.accesses_are reset)))
         (λ is. is) how in
         let rest = laws.looks.grows_more a.mid.device a.device new.device part_grows late_grows in
         let plugs = laws.trouble.plugs_parts port.0 a.mid.device a.device new.device part_grows.0 late_grows.0 part_grows.1 late_grows.1
         (laws.trouble.plugs_parts port.0 old.device a.mid.device new.device early_grows.0 rest.0 early_grows.1 rest.1 none).1 in
-        let fatal = laws.trouble.fatal_parts port.0 a.mid.device a.device new.device part_grows.0 late_grows.0 part_grows.1 late_grows.1
-        (laws.trouble.fatal_parts port.0 old.device a.mid.device new.device early_grows.0 rest.0 early_grows.1 rest.1 stayed.unbroken).1 in
         let runs = again laws port replies old new k ready r looks kept t token is in
         let on = recovered_on laws port replies old new k ready r looks kept t in
         let last = then_issuing laws port replies old new k ready r looks kept t token is in
         let same = (shows_over laws port last.accesses a.device new.device on last.only last.all).same in
         let known = runs.recorded.known in
         let calm = laws.calls.calm_since port.0 old.device a.device new.device (laws.looks.grows_more old.device a.mid.device a.device early_grows part_grows) late_grows (omega (arith, same, known)) none unfailed unbroken in
-        well_over laws port a.device new.device on last calm (runs.well plugs.0 fatal.0 (linked none det stayed.fresh) plainly)
+        well_over laws port a.device new.device on last calm
+        (runs.well plugs.0 (λ g. unbroken (laws.calls.fatal_in_part port.0 old.device a.mid.device a.device new.device early_grows late_grows same g)) (linked none det fresh) plainly)
 
   -- ---- one that was booted
 

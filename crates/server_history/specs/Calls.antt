@@ -99,5 +99,7 @@ pub record CallLaws : Type 0 where
   pub set_since : (port : Port) (accesses : List Access) (old new : Device) → IsOn old → All (SparesRegister Ghc) accesses → DoesAll accesses old new → Stops port accesses → (new.port port.0).st ≡ true
       → length old.tape ≤ (new.port port.0).notes.st_set_at
   -- what came since ST was set
+  pub fatal_in_part : (port : ℕ) (old start end new : Device) → Grows old start → Grows end new → (new.port port).notes.st_set_at ≡ (end.port port).notes.st_set_at
+      → GainsRunning (IsFatalOf port) port start end → GainsRunning (IsFatalOf port) port old new
   pub calm_since : (port : ℕ) (old mid new : Device) → Grows old mid → Grows mid new → (new.port port).notes.st_set_at ≤ length mid.tape → PlugsNone port old new
       → (GainsRunning (IsFaultOf port) port old new → ⊥) → (GainsRunning (IsFatalOf port) port old new → ⊥) → Undisturbed port mid new

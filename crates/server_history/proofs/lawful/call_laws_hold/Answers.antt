@@ -12,5 +12,6 @@ returns c = record {
   call_boots = c.a_turns_trouble_is_the_calls.ensures.boots;
   call_well = c.a_turns_trouble_is_the_calls.ensures.well;
   set_since = c.a_port_that_was_stopped_was_set_since.ensures;
+  fatal_in_part = c.a_fatal_error_of_a_part_is_of_the_whole.ensures;
   calm_since = c.what_is_untroubled_since_st_was_set_is_calm.ensures;
 }
