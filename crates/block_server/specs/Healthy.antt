@@ -56,17 +56,18 @@ DoesItsPart port old h =
     (accesses : List Access) × CameBy old.moment h.event.ask h.event.said accesses old.device h.device × TiesPort old h accesses port
 
 -- In a call after these ones, moves and clears keep to their places; and each port is served well that the call is healthy for. On each port that is ready when the
--- call begins, and keeps its disk in it (IsAskedOf), the call does its part, whether or not commands fail or fatal errors come; and a service answers each request of such a
--- port of which the bits of PxCI and PxSACT were clear when it began, and heeds the failure that the port showed then, a fault or a fatal error.
+-- call begins (IsAskedOf), the call does its part, whether or not commands fail, fatal errors come, or its disk is lost; and a service answers each request of such a
+-- port of which the bits of PxCI and PxSACT were clear when it began, and heeds the failure that the port showed then, a fault or a fatal error. (That it heeds the loss
+-- of a disk that the port showed then is in its part.)
 pub record IsSound (first : Instant Device) (past : List (Happening Device DeviceStep)) (h : Happening Device DeviceStep) : Type 0 where
   pub moves : KeepsMoves first.moment.machine (steps_of (events_of past)) h.event.steps (now first past).device h.device
   pub served : (port : Port) → IsHealthyFor (now first past) h port → IsServedWell port (now first past) h
-  pub part : (port : Port) → IsAskedOf port (now first past) h.device → DoesItsPart port (now first past) h
-  pub seen : (port : Port) (slot : ℕ) (id : RequestId) → h.event.ask ≡ Service → IsAskedOf port (now first past) h.device
+  pub part : (port : Port) → IsAskedOf port (now first past) → DoesItsPart port (now first past) h
+  pub seen : (port : Port) (slot : ℕ) (id : RequestId) → h.event.ask ≡ Service → IsAskedOf port (now first past)
       → ServesRequest (now first past).moment.machine (now first past).device.memory ((now first past).device.port port.0) port.0 slot id
       → ((now first past).device.port port.0).ci slot ≡ false → ((now first past).device.port port.0).sact slot ≡ false
       → (done : Pending) × (done.request.id ≡ id) × Contains h.event.steps (Answer done outcome.Ok)
-  pub heeded : (port : Port) → h.event.ask ≡ Service → IsAskedOf port (now first past) h.device → ShowsFailure ((now first past).device.port port.0)
+  pub heeded : (port : Port) → h.event.ask ≡ Service → IsAskedOf port (now first past) → ShowsFailure ((now first past).device.port port.0)
       → HeedsFailure port (now first past) h
 
 -- What a list of calls is that said this, after a history that leads to the server before them. Each call adds an event with what was asked and

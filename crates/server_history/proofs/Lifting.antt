@@ -30,8 +30,7 @@ use Rattle.block_machine.specs.State.{Pending, Machine}
 use Rattle.block_machine.specs.Steps.{Step, Again, Answer}
 use Rattle.block_machine.proofs.Calm.{counts_none}
 use Rattle.host_boot.specs.Taken.{found_of}
-use Rattle.driver_history.specs.Evidence.{ShowsFailure}
-use Rattle.driver_history.specs.Guard.{IsAskedOf}
+use Rattle.driver_history.specs.Evidence.{ShowsChange, ShowsFailure}
 use Rattle.driver_history.specs.Histories.{FindsDone, IsAnsweredOk, IsIssuedOn, RunsWellAnew}
 use Rattle.driver_history.specs.Parts.{HasTurnIn, IsOfOther, NamesAlike}
 use Rattle.driver_history.specs.Trace.{LeavesCommand, LeavesEngine}
@@ -296,18 +295,15 @@ module _ (plan : Plan) (laws : LawsBelow) (s : Server) (start : IsSettled s) (ol
         let z : ReadyState ≡ Dead = sym ready_mid ∙ dead in absurd cc)
         i
 
-    pub asked_now : IsAskedOf (port_at n) began mid.device → IsAskedOf (port_at n) (instant_of c m) mid.device
-    asked_now asked = laws.calls.asked_then (port_at n) began (moment_of c m) mid.device kept.on undue t on_mid ready_c asked
-
     -- what it did of trouble the call did so far
-    module _ (evidence : Evidence) (alike : NamesAlike (port_at n) x.evidence evidence) (same_n : SamePort old.ports (ports_of c) (port_at n)) (asked : IsAskedOf (port_at n) began mid.device)
-        (stops_failed : ShowsFailure (c.device.port n) → IsInterrupted x.evidence (port_at n)) (did : HeedsTrouble (port_at n) part.accesses (instant_of c m) x.evidence (ports_of mid) mid.device) where
+    module _ (evidence : Evidence) (alike : NamesAlike (port_at n) x.evidence evidence) (same_n : SamePort old.ports (ports_of c) (port_at n))
+        (stops_troubled : ShowsFailure (c.device.port n) ⊎ ShowsChange (c.device.port n) → IsInterrupted x.evidence (port_at n)) (did : HeedsTrouble (port_at n) part.accesses (instant_of c m) x.evidence (ports_of mid) mid.device) where
       same_self : SamePort (ports_of mid) (ports_of mid) (port_at n)
       same_self = (refl, refl, refl, refl, refl, refl)
 
       pub trouble_whole : HeedsTrouble (port_at n) accesses began evidence (ports_of mid) mid.device
       trouble_whole = record {
-        trouble = laws.calls.call_trouble (port_at n) began (moment_of c m) (ports_of mid) (ports_of mid) mid.device x.evidence evidence kept.on undue t on_mid ready_c asked same_self alike set_since stops_failed did.trouble;
+        trouble = laws.calls.call_trouble (port_at n) began (moment_of c m) (ports_of mid) (ports_of mid) mid.device x.evidence evidence kept.on t on_mid same_self alike same_n set_since stops_troubled did.trouble;
         well = subst (λ (list : List Access). RunsWellAnew evidence (p.accesses ++ list) began (ports_of mid) mid.device (port_at n)) (append-nil part.accesses)
-            (laws.calls.call_well (port_at n) began (moment_of c m) (ports_of mid) (ports_of mid) mid.device x.evidence evidence kept.on undue t on_mid ready_c asked same_self alike (λ ready_mid. ((next.kept.behind n low).runs ready_mid).recorded.known) did.well);
+            (laws.calls.call_well (port_at n) began (moment_of c m) (ports_of mid) (ports_of mid) mid.device x.evidence evidence kept.on undue t on_mid same_self alike (λ ready_mid. ((next.kept.behind n low).runs ready_mid).recorded.known) did.well);
       }

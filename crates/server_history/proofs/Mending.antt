@@ -107,7 +107,7 @@ module _ (laws : LawsBelow) (port : Port) (replies : List Reply) (old new : Serv
       issues = d.issues;
       evidenced = e.evidenced (call_of turn) m;
       faults = e.faults;
-      finds = λ _ _ x issued. found_by_masks laws port replies old new k ready r looks kept e m reached is d;
+      finds = λ _ x issued. found_by_masks laws port replies old new k ready r looks kept e m reached is d;
       ties = ties;
     }
 

@@ -52,7 +52,7 @@ pub record IsRestarted (old : Instant Device) (port : Port) (accesses : List Acc
   pub another : (e : Pending) → Contains steps (Answer e Unplugged) → e.request.port ≡ port
       → (state_of (found_of c.ports port.0) ≢ Dead) × (state_of (found_of c.ports port.0) ≡ ReadyState → SameDisk old.moment.ports (ports_of c) port → ⊥)
   pub disk : HadDisk old.moment steps (moment_of c (after old.moment.machine steps)) port
-  pub heeds : IsAskedOf port old c.device → HeedsTrouble port accesses old evidence (ports_of c) c.device
+  pub heeds : HeedsTrouble port accesses old evidence (ports_of c) c.device
 
 -- It has let the port rest.
 pub record HasRested (old : Moment) (port : Port) (accesses : List Access) (c : Server) (evidence : Evidence) (steps : List Step) : Type 0 where
@@ -69,13 +69,13 @@ pub record HasTicked (hung : ℕ → Bool) (s : Server) (old : Moment) (port : P
 
 abbrev pub TiesSoFar : Plan → Server → Moment → Port → List Access → Server → Evidence → List Step → Type 0
 TiesSoFar AService s old port accesses c evidence steps =
-    IsAskedOf port (record { device = s.device; moment = old }) c.device → TiesPort (record { device = s.device; moment = old }) (turn_of InService [] c evidence steps) accesses port
+    IsAskedOf port (record { device = s.device; moment = old }) → TiesPort (record { device = s.device; moment = old }) (turn_of InService [] c evidence steps) accesses port
 TiesSoFar (ATick hung) s old port accesses c evidence steps = HasTicked hung s old port accesses c evidence steps
 
 -- nothing is done of a port that isn't ready, and that had no turn
 unready_ties : (plan : Plan) (s : Server) (old : Moment) (port : Port) (accesses : List Access) (c : Server) (evidence : Evidence) (steps : List Step) → old.ports.state port ≢ ReadyState → HasRested old port accesses c evidence steps
     → TiesSoFar plan s old port accesses c evidence steps
-unready_ties AService s old port accesses c evidence steps unready rests = λ asked. absurd (unready asked.ready)
+unready_ties AService s old port accesses c evidence steps unready rests = λ asked. absurd (unready asked)
 unready_ties (ATick hung) s old port accesses c evidence steps unready rests = record {
   restarted = λ ready. absurd (unready ready);
   rested = λ _. rests;

@@ -139,7 +139,7 @@ module _ (laws : LawsBelow) (s new : Server) (replies : List Reply) (start : IsS
   }
 
   -- what the service has done of each port of which that is asked
-  port_part : (port : Port) → IsAskedOf port began new.device → TiesPort began (happening_with p.evidence new.device Service (Served replies) p.steps (ports_of new)) p.accesses port
+  port_part : (port : Port) → IsAskedOf port began → TiesPort began (happening_with p.evidence new.device Service (Served replies) p.steps (ports_of new)) p.accesses port
   port_part port asked =
       let did = (done port).ties asked in
       record { finds = did.finds; faults = did.faults; tries = did.tries; boots = did.boots; trouble = did.trouble; well = did.well; heeds = did.heeds }

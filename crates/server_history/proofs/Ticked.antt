@@ -487,23 +487,20 @@ module _ (laws : LawsBelow) (s new : Server) (replies : List Reply) (start : IsS
 
   -- ---- what it has done of each port
 
-  asked_then : (port : Port) → IsAskedOf port (with_device s.device (now first past)) new.device → IsAskedOf port (record { device = s.device; moment = old }) new.device
-  asked_then port asked = record { ready = asked.ready; change = asked.change; device = asked.device; plugged = asked.plugged }
-
-  trouble_of : (port : Port) → IsAskedOf port (with_device s.device (now first past)) new.device → HeedsTrouble port p.accesses (record { device = s.device; moment = old }) p.evidence (ports_of new) new.device
-  trouble_of port asked = ⊎_elim
-      (λ r. r.1.heeds (asked_then port asked))
+  trouble_of : (port : Port) → HeedsTrouble port p.accesses (record { device = s.device; moment = old }) p.evidence (ports_of new) new.device
+  trouble_of port = ⊎_elim
+      (λ r. r.1.heeds)
       (λ r. record {
-        trouble = laws.calls.ordinary port (record { device = s.device; moment = old }) new.device p.accesses p.evidence (ports_of new) kept.on (asked_then port asked) p.does
+        trouble = laws.calls.ordinary port (record { device = s.device; moment = old }) new.device p.accesses p.evidence (ports_of new) kept.on p.does
             (All-weaker (IsServing (Uses plan old.ports)) (SparesRegister Ghc) (λ access serving. serving.1) p.accesses p.serving)
             (All-weaker (IsOfOther port) (ClearsNone port) (other_clears_none port) p.accesses r.1.others);
         well = λ i. absurd (r.1.uninterrupted i);
       })
       (restarted_or_not port)
 
-  port_part : (port : Port) → IsAskedOf port (with_device s.device (now first past)) new.device → TiesPort (with_device s.device (now first past)) (happening_with p.evidence new.device Tick (Served replies) steps (ports_of new)) p.accesses port
+  port_part : (port : Port) → IsAskedOf port (with_device s.device (now first past)) → TiesPort (with_device s.device (now first past)) (happening_with p.evidence new.device Tick (Served replies) steps (ports_of new)) p.accesses port
   port_part port asked =
-      let t = trouble_of port asked in
+      let t = trouble_of port in
       record {
         finds = λ h. finds_before port (restart port h).finds;
         faults = tt;

@@ -152,8 +152,7 @@ module _ (hung : ℕ → Bool) (laws : LawsBelow) (s : Server) (start : IsSettle
             (λ early. absurd (not_early e Unplugged early own))
             (Contains-append_cases x.steps p.steps (Answer e Unplugged) here);
         disk = lifting.disk_whole plan laws s start old reached at ports_are n c mid before its ready p next part m_reached on_mid r.disk;
-        heeds = λ asked. lifting.trouble_whole plan laws s start old reached at ports_are n c mid before its ready p next part m_reached on_mid evidence alike same_n asked (λ _. r.interrupts)
-            (ties (lifting.asked_now plan laws s start old reached at ports_are n c mid before its ready p next part m_reached on_mid asked));
+        heeds = lifting.trouble_whole plan laws s start old reached at ports_are n c mid before its ready p next part m_reached on_mid evidence alike same_n (λ _. r.interrupts) ties;
       }
         where
           r : RestartsPort (port_at n) part.accesses c mid m x.evidence x.steps
@@ -225,8 +224,7 @@ module _ (hung : ℕ → Bool) (laws : LawsBelow) (s : Server) (start : IsSettle
                 (λ early. let w = r.another e early own in (λ dead. w.0 (sym same.1 ∙ dead), λ is_ready disk. w.1 (sym same.1 ∙ is_ready) (sym same.2 ∙ disk.0, sym same.3 ∙ disk.1)))
                 (Contains-append_cases y.steps p.steps (Answer e Unplugged) here);
             disk = carrying.disk_still plan laws s start old reached at ports_are n c mid before its p part m_reached q apart same r.disk;
-            heeds = λ asked. carrying.trouble_still plan laws s start old reached at ports_are n c mid before its p part m_reached q apart d was_ready evidence alike same asked (λ _. r.interrupts)
-                (r.heeds (carrying.asked_so_far plan laws s start old reached at ports_are n c mid before its p part m_reached q apart d was_ready asked));
+            heeds = carrying.trouble_still plan laws s start old reached at ports_are n c mid before its p part m_reached q apart d was_ready evidence alike same (λ _. r.interrupts) r.heeds;
           };
       rested = λ not.
           let r = d.ties.rested not in
@@ -253,7 +251,7 @@ pub ties_turned : (plan : Plan) (laws : LawsBelow) (s : Server) (start : IsSettl
     (m_reached : IsReached (after old.machine p.steps)) (on_mid : IsOn mid.device) (evidence : Evidence) → NamesAlike (port_at n) (part.makes (after old.machine p.steps) m_reached p.stands).evidence evidence → SamePort old.ports (ports_of c) (port_at n)
     → TiesSoFar plan s old (port_at n) (p.accesses ++ part.accesses) mid evidence ((part.makes (after old.machine p.steps) m_reached p.stands).steps ++ p.steps)
 ties_turned AService laws s start old reached at ports_are n c mid before its takes p next part m_reached on_mid evidence alike same_n =
-    λ asked. ties_whole laws s start old reached at ports_are n c mid before its (sym (ap (λ (ports : Ports). ports.state (port_at n)) ports_are) ∙ asked.ready) p next part m_reached on_mid evidence alike same_n asked
+    λ asked. ties_whole laws s start old reached at ports_are n c mid before its (sym (ap (λ (ports : Ports). ports.state (port_at n)) ports_are) ∙ asked) p next part m_reached on_mid evidence alike same_n
 ties_turned (ATick hung) laws s start old reached at ports_are n c mid before its takes p next part m_reached on_mid evidence alike same_n = ticked hung laws s start old reached at ports_are n c mid before its takes p next part m_reached on_mid evidence alike same_n
 
 pub ties_carried : (plan : Plan) (laws : LawsBelow) (s : Server) (start : IsSettled s) (old : Moment) (reached : IsReached old.machine) (at : IsMachineOf s old.machine) (ports_are : old.ports ≡ ports_of s) (n : ℕ) (c mid : Server) (before its : List Reply)
