@@ -25,7 +25,7 @@ use Rattle.error_recovery.specs.declared.Recovered.{Recovered}
 use Rattle.port_boot.specs.States.{RunsOn}
 use Rattle.port_look.specs.Looks.{LooksAt, look_of}
 use Rattle.port_look.specs.declared.Look.{Look}
-use Rattle.port_look.specs.declared.Look.TheVariants.{Broken, Failed, Lost}
+use Rattle.port_look.specs.declared.Look.TheVariants.{Broken, Failed, Lost, Undisturbed}
 use Rattle.server_history.specs.Below.{LawsBelow}
 use Rattle.server_history.specs.Mended.{EndsGivenUp, TellsMending}
 use Rattle.server_history.specs.declared.Trouble.{Trouble}

@@ -1,5 +1,6 @@
 -- The evidence of a call in which no port is stopped: it names each ready port that showed trouble when the call began.
 use Rattle.std.proofs.Common.{ℕ, ◌≡◌, ◌≢◌, ◌⊎◌, ◌<◌, ◌||◌, ◌&&◌, not, nat_eq, Bool, true, false, cond, eq-eqb, List, [], ◌∷◌, inl, inr, refl, sym, ap, ◌∙◌, subst, arith, ⊎_elim}
+use Rattle.std.proofs.lemmas.List.Elements.{All-cons, All-head, All-tail}
 use Rattle.std.specs.List.{All, Contains}
 use Rattle.std.proofs.lemmas.Bool.{cases_Bool, cases_eq, cond-true, cond-false, false≢true, or_cases, or_left, or_right, and_from, and_parts, ne_eqb}
 use Rattle.ata_types.specs.declared.Port.{Port}
@@ -57,6 +58,16 @@ is_chosen is (first ∷ ports) port here so = ⊎_elim
     (λ (there : Contains ports port). is_chosen is ports port there so)
     (contains_cases first ports port here)))
     (cases_Bool (is first))
+
+-- and they are among these
+pub chosen_of : (Such : Port → Type 0) (is : Port → Bool) (ports : List Port) → All Such ports → All Such (chosen is ports)
+unfolding chosen
+chosen_of Such is [] all = all
+chosen_of Such is (port ∷ ports) all = by (is port) (chosen_of Such is ports (All-tail Such port ports all))
+  where
+    by : (b : Bool) → All Such (chosen is ports) → All Such (cond b (port ∷ chosen is ports) (chosen is ports))
+    by true rest = All-cons Such port (chosen is ports) (All-head Such port ports all) rest
+    by false rest = rest
 
 pub four : List Port
 four = port_at 0 ∷ port_at 1 ∷ port_at 2 ∷ port_at 3 ∷ []

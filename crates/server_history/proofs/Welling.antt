@@ -28,8 +28,9 @@ use Rattle.host_boot.specs.Taken.{StillStandsBehind, found_of, wanted_of}
 use Rattle.host_boot.specs.declared.Found.{Found}
 use Rattle.port_boot.specs.States.{told_causes}
 use Rattle.port_look.specs.Looks.{IsLooking}
-use Rattle.port_look.specs.declared.Look.{Look}
-use Rattle.port_look.specs.declared.Look.TheVariants.{Failed}
+use Rattle.server_history.specs.declared.Trouble.{Trouble}
+use Rattle.server_history.specs.declared.Trouble.TheVariants.{Failed}
+use Rattle.block_machine.specs.Events.{Service}
 use Rattle.server_history.specs.Below.{LawsBelow}
 use Rattle.server_history.specs.Mended.{IsMended, HasMetFates, MendsPort}
 use Rattle.server_history.specs.Server.{Server, IsKept, ports_of, state_of}
@@ -212,9 +213,9 @@ module _ (laws : LawsBelow) (port : Port) (replies : List Reply) (old new : Serv
   showed m token is none = ⊎_elim
       (λ shows. shows)
       (λ (missing : (old.device.port port.0).ssts_det ≢ 3).
-      let failed : x.look ≢ Failed = λ failed.
-      nowhere port (subst (λ (l : Look). Contains (gone_of port l) port) failed ((evident.evidenced m).gone_all ready (inr (missing, none_comes port.0 old.device new.device none)))) in
-      absurd ((given_up x.look port x.outstanding x.queued x.result x.mends.accesses a.mid.device a.device x.tells failed).1 token is))
+      let failed : x.trouble ≢ Failed = λ failed.
+      nowhere port (subst (λ (t : Trouble). Contains (gone_of port t (old.device.port port.0)) port) failed ((evident.evidenced Service m).gone_all ready (inr (missing, none_comes port.0 old.device new.device none)))) in
+      absurd ((given_up x.trouble port x.outstanding x.queued x.result x.mends.accesses a.mid.device a.device x.tells failed).1 token is))
       (cases_eq (old.device.port port.0).ssts_det 3)
 
   pub going_well : (m : Machine) → RunsWellAnew (evidence_by a) evident.accesses (instant_of old m) (ports_of new) new.device port
