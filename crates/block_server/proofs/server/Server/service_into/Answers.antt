@@ -1,11 +1,11 @@
-use Rattle.std.proofs.Common.{◌≡◌, ◌++◌, List, append_assoc, arith, length, sym, ap, ◌∙◌, subst, rules}
+use Rattle.std.proofs.Common.{◌≡◌, ◌++◌, List, append_assoc, arith, length, refl, sym, ap, ◌∙◌, subst, rules}
 use Rattle.ata_types.specs.declared.request.Reply.{Reply}
 use Rattle.block_server.specs.View.{ServerView, server_of}
 use Rattle.host_boot.specs.Taken.{found_of}
 use Rattle.host_boot.specs.declared.Found.{Found}
 use Rattle.server_history.specs.Turns.{ServePorts}
 use Rattle.server_history.specs.Server.{IsSettled}
-use Rattle.block_server.proofs.Turns.{all_served, one_served}
+use Rattle.block_server.proofs.Turns.{all_had, one_served}
 use Rattle.block_server.proofs.server.Server.service_into.Goals as goal
 
 pub loop-number-preserved : goal.loop-number-preserved
@@ -33,8 +33,9 @@ returns-clause-services g c =
     let so_far = c.loop-number.invariant in
     let ports = c.self.inside.ports in
     let four : length ports ≡ 4 = search rules in
-    all_served ports c.args.self.now.ports c.loop-number.number c.loop-number.replies.items (server_of device c.args.self.now) (server_of device c.loop-number.self)
-    (omega (arith, four, c.loop-number-test.false)) so_far.rest
+    all_had (λ number left told s new. ServePorts number left told s new) (λ number s. (refl, refl))
+    (λ told new. ServePorts 0 c.args.self.now.ports told (server_of device c.args.self.now) new)
+    ports c.loop-number.number c.loop-number.replies.items (server_of device c.loop-number.self) (omega (arith, four, c.loop-number-test.false)) so_far.rest
 
 pub returns-clause-adds : goal.returns-clause-adds
 returns-clause-adds g c =
