@@ -78,7 +78,7 @@ issuing_clears_none port other (Reading r v) here = absurd here.2
 
 -- ---- lending
 
-any_in : {X : Type 0} (p : X → Bool) (xs : List X) → list_any p xs ≡ true → (x : X) × Contains xs x × (p x ≡ true)
+pub any_in : {X : Type 0} (p : X → Bool) (xs : List X) → list_any p xs ≡ true → (x : X) × Contains xs x × (p x ≡ true)
 any_in p [] h = absurd (false≢true h)
 any_in p (y ∷ ys) h = ⊎_elim
     (λ here. (y, first_here y ys, here))

@@ -23,8 +23,8 @@ use Rattle.request_queue.specs.Entries.{asks_of, due_ids}
 use Rattle.request_queue.specs.declared.fate.Failed.{Failed}
 use Rattle.request_queue.specs.declared.fate.Prospect.{Prospect}
 use Rattle.request_queue.specs.declared.fate.Prospect.TheVariants.{Dead, DiskLost, SameDisk as SameProspect}
-use Rattle.port_look.specs.declared.Look.{Look}
-use Rattle.port_look.specs.declared.Look.TheVariants as look_is
+use Rattle.server_history.specs.declared.Trouble.{Trouble}
+use Rattle.server_history.specs.declared.Trouble.TheVariants.{Broken, Failed as Fails, Hung, Lost}
 use Rattle.server_history.specs.Below.{LawsBelow}
 use Rattle.server_history.specs.Mended.{IsFoundAfter, IsProspect, IsMended, IsSameDisk, HasMetFates, MendsPort}
 use Rattle.server_history.specs.Server.{Server, IsKept, disk_in, disk_of, is_served, mode_in, ports_of, remembered_at, sectors_of, serial_of, state_of}
@@ -36,7 +36,7 @@ use Rattle.server_history.proofs.Slots.{ready_found}
 use Rattle.server_history.proofs.Stretching.{found_is}
 use Rattle.server_history.proofs.Lists.{nowhere}
 use Rattle.server_history.proofs.Starting.{boots_or_absent}
-use Rattle.server_history.proofs.Told.{shows_failure, shows_fatal}
+use Rattle.server_history.proofs.Told.{shows_failure, shows_fatal, shows_loss}
 
 -- ---- states and prospects
 
@@ -51,35 +51,35 @@ disk_is (Ready info) was other = absurd (other refl)
 disk_is (Unready state) was other = refl
 
 -- a dead port's requests may expect nothing else
-prospect_is : (told : Look) (was : DiskInfo) (found : Found) (prospect : Prospect) → IsProspect told was found prospect → found ≡ Unready DeadState → prospect ≡ Dead
-prospect_is told was found SameProspect is dead = let z : Ready is.1.0 ≡ Unready DeadState = sym is.1.1 ∙ dead in absurd cc
-prospect_is told was found DiskLost is dead = absurd (is.0 dead)
-prospect_is told was found Dead is dead = refl
+prospect_is : (trouble : Trouble) (was : DiskInfo) (found : Found) (prospect : Prospect) → IsProspect trouble was found prospect → found ≡ Unready DeadState → prospect ≡ Dead
+prospect_is trouble was found SameProspect is dead = let z : Ready is.1.0 ≡ Unready DeadState = sym is.1.1 ∙ dead in absurd cc
+prospect_is trouble was found DiskLost is dead = absurd (is.0 dead)
+prospect_is trouble was found Dead is dead = refl
 
-found_dead : (wanted : Wanted) (port : Port) (told : Look) (was : DiskInfo) (then : Next) (old new : Device) (found : Found) → IsFoundAfter wanted port told was then old new found → then ≡ next.Dead → found ≡ Unready DeadState
-found_dead wanted port told was (next.Running token) old new found is same = let z : next.Running token ≡ next.Dead = same in absurd cc
-found_dead wanted port told was (next.Restart token) old new found is same = let z : next.Restart token ≡ next.Dead = same in absurd cc
-found_dead wanted port told was next.Dead old new found is same = is.0
+found_dead : (wanted : Wanted) (port : Port) (trouble : Trouble) (was : DiskInfo) (then : Next) (old new : Device) (found : Found) → IsFoundAfter wanted port trouble was then old new found → then ≡ next.Dead → found ≡ Unready DeadState
+found_dead wanted port trouble was (next.Running token) old new found is same = let z : next.Running token ≡ next.Dead = same in absurd cc
+found_dead wanted port trouble was (next.Restart token) old new found is same = let z : next.Restart token ≡ next.Dead = same in absurd cc
+found_dead wanted port trouble was next.Dead old new found is same = is.0
 
-found_served : (wanted : Wanted) (port : Port) (told : Look) (was : DiskInfo) (then : Next) (old new : Device) (found : Found) → IsFoundAfter wanted port told was then old new found → is_served found ≡ true
-found_served wanted port told was (next.Running token) old new found is = ap is_served is.0
-found_served wanted port told was (next.Restart token) old new found is = ap is_served (sym is.1) ∙ ⊎_elim
+found_served : (wanted : Wanted) (port : Port) (trouble : Trouble) (was : DiskInfo) (then : Next) (old new : Device) (found : Found) → IsFoundAfter wanted port trouble was then old new found → is_served found ≡ true
+found_served wanted port trouble was (next.Running token) old new found is = ap is_served is.0
+found_served wanted port trouble was (next.Restart token) old new found is = ap is_served (sym is.1) ∙ ⊎_elim
     (λ (b : BootsAgain wanted port is.0 old new). by b is.0.found b.boots)
     (λ absent. ap is_served absent.is)
-    (boots_or_absent told wanted port is.0 old new is.2)
+    (boots_or_absent trouble wanted port is.0 old new is.2)
   where
     by : (b : BootsAgain wanted port is.0 old new) (f : Found) → BootsStopped wanted port f b.asked new → is_served f ≡ true
     by b Unserved none = absurd none
     by b (Ready info) x = refl
     by b (Unready state) x = refl
-found_served wanted port told was next.Dead old new found is = ap is_served is.0
+found_served wanted port trouble was next.Dead old new found is = ap is_served is.0
 
 -- ---- who is named
 
-interrupted_by : (port : Port) (look : Look) (shown : DevicePort) (failed : Option Failed) (prospect : Prospect) (then : Next) → (then ≡ next.Dead → prospect ≡ Dead) → IsInterrupted (evidence_of port look shown failed prospect then) port
-interrupted_by port look shown failed prospect (next.Running token) dies = inl (0, omega arith, refl)
-interrupted_by port look shown failed prospect (next.Restart token) dies = inl (0, omega arith, refl)
-interrupted_by port look shown failed prospect next.Dead dies = inr (subst (λ (p : Prospect). Contains (stuck_of port p) port) (sym (dies refl)) (0, omega arith, refl))
+interrupted_by : (port : Port) (trouble : Trouble) (shown : DevicePort) (failed : Option Failed) (prospect : Prospect) (then : Next) → (then ≡ next.Dead → prospect ≡ Dead) → IsInterrupted (evidence_of port trouble shown failed prospect then) port
+interrupted_by port trouble shown failed prospect (next.Running token) dies = inl (0, omega arith, refl)
+interrupted_by port trouble shown failed prospect (next.Restart token) dies = inl (0, omega arith, refl)
+interrupted_by port trouble shown failed prospect next.Dead dies = inr (subst (λ (p : Prospect). Contains (stuck_of port p) port) (sym (dies refl)) (0, omega arith, refl))
 
 pub stuck_is : (port : Port) (prospect : Prospect) → Contains (stuck_of port prospect) port → prospect ≡ Dead
 stuck_is port SameProspect here = absurd (nowhere port here)
@@ -91,12 +91,12 @@ lost_is port SameProspect here = absurd (nowhere port here)
 lost_is port DiskLost here = refl
 lost_is port Dead here = absurd (nowhere port here)
 
-pub names_only : (port : Port) (look : Look) (shown : DevicePort) (failed : Option Failed) (prospect : Prospect) (then : Next) → NamesOnly port (evidence_of port look shown failed prospect then)
-names_only port look shown failed prospect then = record {
+pub names_only : (port : Port) (trouble : Trouble) (shown : DevicePort) (failed : Option Failed) (prospect : Prospect) (then : Next) → NamesOnly port (evidence_of port trouble shown failed prospect then)
+names_only port trouble shown failed prospect then = record {
   lost = lost prospect;
-  gone = gone look;
-  failed = failing look;
-  fatal = fatal look;
+  gone = gone trouble;
+  failed = failing trouble;
+  fatal = fatal trouble;
   stopped = stopped then;
   stuck = stuck prospect;
 }
@@ -111,23 +111,23 @@ names_only port look shown failed prospect then = record {
     some true = one
     some false = none
 
-    gone : (l : Look) → All (λ q. q ≡ port) (gone_of port l)
-    gone look_is.Lost = one
-    gone look_is.Failed = none
-    gone look_is.Broken = none
-    gone look_is.Undisturbed = none
+    gone : (t : Trouble) → All (λ q. q ≡ port) (gone_of port t shown)
+    gone Lost = one
+    gone Fails = none
+    gone Broken = none
+    gone Hung = some (shows_loss shown)
 
-    failing : (l : Look) → All (λ q. q ≡ port) (failed_of port l shown)
-    failing look_is.Lost = some (shows_failure shown)
-    failing look_is.Failed = one
-    failing look_is.Broken = one
-    failing look_is.Undisturbed = one
+    failing : (t : Trouble) → All (λ q. q ≡ port) (failed_of port t shown)
+    failing Lost = some (shows_failure shown)
+    failing Fails = one
+    failing Broken = one
+    failing Hung = some (shows_failure shown)
 
-    fatal : (l : Look) → All (λ q. q ≡ port) (fatal_of port l shown)
-    fatal look_is.Failed = none
-    fatal look_is.Broken = one
-    fatal look_is.Lost = some (shows_fatal shown)
-    fatal look_is.Undisturbed = none
+    fatal : (t : Trouble) → All (λ q. q ≡ port) (fatal_of port t shown)
+    fatal Fails = none
+    fatal Broken = one
+    fatal Lost = some (shows_fatal shown)
+    fatal Hung = some (shows_fatal shown)
 
     lost : (p : Prospect) → All (λ q. q ≡ port) (lost_of port p)
     lost SameProspect = none
@@ -203,23 +203,23 @@ module _ (laws : LawsBelow) (port : Port) (replies : List Reply) (old new : Serv
       let f = ready_found r.mid port.0 kept (ap state_of e ∙ sym state_new ∙ is) in (f.1.0, sym e ∙ f.1.1)
 
   pub dead_prospect : a.prospect ≡ Dead → a.found ≡ Unready DeadState
-  dead_prospect is = subst (IsProspect x.look a.was a.found) is a.expects
+  dead_prospect is = subst (IsProspect x.trouble a.was a.found) is a.expects
 
   pub next_dead : x.result.next ≡ next.Dead → a.found ≡ Unready DeadState
-  next_dead is = found_dead (wanted_of old.wanted port.0) port x.look a.was x.result.next a.device r.mid.device a.found a.is is
+  next_dead is = found_dead (wanted_of old.wanted port.0) port x.trouble a.was x.result.next a.device r.mid.device a.found a.is is
 
   pub found_prospect : a.found ≡ Unready DeadState → a.prospect ≡ Dead
-  found_prospect dead = prospect_is x.look a.was a.found a.prospect a.expects dead
+  found_prospect dead = prospect_is x.trouble a.was a.found a.prospect a.expects dead
 
   pub interrupted : IsInterrupted its port
-  interrupted = interrupted_by port x.look (old.device.port port.0) a.failed a.prospect x.result.next (λ is. found_prospect (next_dead is))
+  interrupted = interrupted_by port x.trouble (old.device.port port.0) a.failed a.prospect x.result.next (λ is. found_prospect (next_dead is))
 
   pub becomes : IsServiced (ports_of old) its (ports_of new) port
   becomes = (
     λ dead. (let z : ReadyState ≡ DeadState = sym ready ∙ dead in absurd cc),
     λ lives. (
       record {
-        served = ap is_served found_new ∙ found_served (wanted_of old.wanted port.0) port x.look a.was x.result.next a.device r.mid.device a.found a.is ∙ sym (ap is_served a.ready);
+        served = ap is_served found_new ∙ found_served (wanted_of old.wanted port.0) port x.trouble a.was x.result.next a.device r.mid.device a.found a.is ∙ sym (ap is_served a.ready);
         stuck = λ dead. subst (λ (p : Prospect). Contains (stuck_of port p) port) (sym (found_prospect (dead_found dead))) ((0, omega arith, refl));
         dies = λ stuck. state_new ∙ ap state_of (dead_prospect (stuck_is port a.prospect stuck));
         keeps = λ other. same_disk (disk_is a.found a.was (λ is. other (state_new ∙ is)));
@@ -229,4 +229,4 @@ module _ (laws : LawsBelow) (port : Port) (replies : List Reply) (old new : Serv
   )
 
   pub names : NamesOnly port its
-  names = names_only port x.look (old.device.port port.0) a.failed a.prospect x.result.next
+  names = names_only port x.trouble (old.device.port port.0) a.failed a.prospect x.result.next

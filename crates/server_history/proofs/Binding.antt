@@ -1,5 +1,5 @@
 -- A turn that mends its port does of its port what a call does of a port.
-use Rattle.std.proofs.Common.{◌≡◌, Bool, false, subst, List, [], sym, ◌∙◌, ⊎_elim, ◌≢◌}
+use Rattle.std.proofs.Common.{◌≡◌, Bool, false, subst, List, [], refl, sym, ◌∙◌, ⊎_elim, ◌≢◌}
 use Rattle.std.specs.List.{Contains}
 use Rattle.ata_types.specs.declared.Port.{Port}
 use Rattle.ata_types.specs.declared.PortState.TheVariants as shown
@@ -8,20 +8,21 @@ use Rattle.ata_types.specs.declared.request.Reply.{Reply}
 use Rattle.agreement.specs.Driven.{AnyUse, IsFollowed}
 use Rattle.agreement.specs.Errors.{IsFatalOf}
 use Rattle.agreement.specs.Recovering.{WorksPlainly}
+use Rattle.block_machine.specs.Events.{Service}
 use Rattle.block_machine.specs.Histories.{IsReached}
 use Rattle.block_machine.specs.State.{Machine}
 use Rattle.driver_history.specs.Histories.{HasBadDisk, HasFaultAlone}
 use Rattle.host_boot.specs.Taken.{found_of}
 use Rattle.port_look.specs.Looks.{IsLooking}
-use Rattle.port_look.specs.declared.Look.{Look}
-use Rattle.port_look.specs.declared.Look.TheVariants.{Failed}
+use Rattle.server_history.specs.declared.Trouble.{Trouble}
+use Rattle.server_history.specs.declared.Trouble.TheVariants.{Broken, Failed, Hung, Lost}
 use Rattle.server_history.specs.Below.{LawsBelow}
 use Rattle.server_history.specs.Mended.{AreQueued, MendsPort}
 use Rattle.server_history.specs.Server.{Server, IsKept, IsMachineOf, ports_of, slots_at, state_of}
-use Rattle.server_history.specs.Turns.{TiesTurn, instant_of}
+use Rattle.driver_history.specs.Guard.{IsAskedOf}
+use Rattle.server_history.specs.Turns.{HeedsTrouble, InService, TiesTurn, instant_of}
 use Rattle.server_history.proofs.Deciding.{DecidesTurn}
 use Rattle.server_history.proofs.Evident.{IsEvident}
-use Rattle.server_history.proofs.Faulted.{leads}
 use Rattle.server_history.proofs.Faulting.{faulting}
 use Rattle.server_history.proofs.Finding.{finding}
 use Rattle.server_history.proofs.Following.{mid_kept, mid_ready}
@@ -60,26 +61,33 @@ module _ (laws : LawsBelow) (port : Port) (replies : List Reply) (old new : Serv
   plainly : r.settled.mended.queued ≡ false → WorksPlainly (r.settled.mid.device.port port.0)
   plainly plain = works_plainly laws r.settled.mid then_kept port then_ready (subst (λ (queued : Bool). AreQueued queued (slots_at r.settled.mid.slots port.0)) plain r.settled.mended.alike) ((then_kept.behind port.0 (ready_found old port.0 k ready).0).halts then_ready)
 
-  -- where TFES alone was shown, and no fatal error came, the look told that a command had failed
-  failing : HasFaultAlone port (instant_of old m) new.device → r.settled.mended.look ≡ Failed
-  failing alone = ⊎_elim
-      (λ failed. failed)
-      (λ rest. absurd (⊎_elim
-      (λ broken.
-      let here : Contains (fatal_of port r.settled.mended.look (old.device.port port.0)) port = subst (λ (l : Look). Contains (fatal_of port l (old.device.port port.0)) port) (sym broken) (first_here port []) in
-      ⊎_elim alone.shows.fatal (gains_none (IsFatalOf port.0) old.device new.device alone.fatal.gained alone.fatal.tape alone.fatal.none) ((evident.evidenced m).fatal_only here).1)
-      (λ lost.
-      let here : Contains (gone_of port r.settled.mended.look) port = subst (λ (l : Look). Contains (gone_of port l) port) (sym lost) (first_here port []) in
-      ⊎_elim alone.shows.change
-      (λ more. ⊎_elim (λ (out : (old.device.port port.0).ssts_det ≢ 3). out alone.shows.device) (gains_none (IsPlugging port.0) old.device new.device alone.plugged.gained alone.plugged.tape alone.plugged.none) more)
-      ((evident.evidenced m).gone_only here).1)
-      rest))
-      (leads r.settled.mended.look port r.settled.mended.outstanding r.settled.mended.queued r.settled.mended.result r.settled.mended.mends.accesses r.settled.mid.device r.settled.device r.settled.mended.tells)
+  -- where TFES alone was shown, and no fatal error came, a command had failed
+  failing : r.settled.mended.trouble ≢ Hung → HasFaultAlone port (instant_of old m) new.device → r.settled.mended.trouble ≡ Failed
+  failing unhung alone = by r.settled.mended.trouble refl
+    where
+      by : (t : Trouble) → r.settled.mended.trouble ≡ t → r.settled.mended.trouble ≡ Failed
+      by Failed is = is
+      by Broken is =
+          let here : Contains (fatal_of port r.settled.mended.trouble (old.device.port port.0)) port = subst (λ (t : Trouble). Contains (fatal_of port t (old.device.port port.0)) port) (sym is) (first_here port []) in
+          absurd (⊎_elim alone.shows.fatal (gains_none (IsFatalOf port.0) old.device new.device alone.fatal.gained alone.fatal.tape alone.fatal.none) ((evident.evidenced Service m).fatal_only here).1)
+      by Lost is =
+          let here : Contains (gone_of port r.settled.mended.trouble (old.device.port port.0)) port = subst (λ (t : Trouble). Contains (gone_of port t (old.device.port port.0)) port) (sym is) (first_here port []) in
+          absurd (⊎_elim alone.shows.change
+          (λ more. ⊎_elim (λ (out : (old.device.port port.0).ssts_det ≢ 3). out alone.shows.device) (gains_none (IsPlugging port.0) old.device new.device alone.plugged.gained alone.plugged.tape alone.plugged.none) more)
+          ((evident.evidenced Service m).gone_only here).1)
+      by Hung is = absurd (unhung is)
 
-  pub ties_recovered : TiesTurn port replies evident.accesses old new m (evidence_by r.settled) d.steps
-  ties_recovered asked = record {
+  -- where it is restarted, what is asked of trouble
+  pub heeds_trouble : IsAskedOf port (instant_of old m) new.device → HeedsTrouble port evident.accesses (instant_of old m) (evidence_by r.settled) (ports_of new) new.device
+  heeds_trouble asked = record {
+    trouble = lasting laws port replies old new k ready r looks kept evident.parts m;
+    well = going_well laws port replies old new k ready r looks kept evident plainly m asked;
+  }
+
+  pub ties_recovered : r.settled.mended.trouble ≢ Hung → TiesTurn InService port replies evident.accesses old new m (evidence_by r.settled) d.steps
+  ties_recovered unhung asked = record {
     finds = λ _ e issued. finding laws port replies old new k ready r looks kept evident m reached is d;
-    faults = λ alone e slot issued unended says plain. faulting laws port replies old new k ready r looks kept m reached is d (failing alone) e slot issued unended says plain;
+    faults = λ alone e slot issued unended says plain. faulting laws port replies old new k ready r looks kept m reached is d (failing unhung alone) e slot issued unended says plain;
     tries = λ _ _. record {
       shown = λ absent. absurd (not_absent absent);
       absent = λ absent. absurd (not_absent absent);
@@ -87,7 +95,7 @@ module _ (laws : LawsBelow) (port : Port) (replies : List Reply) (old new : Serv
       changed = λ bad. absurd (not_bad bad);
     };
     boots = reboots laws port replies old new k ready r looks kept evident m;
-    trouble = lasting laws port replies old new k ready r looks kept evident.parts m;
-    well = going_well laws port replies old new k ready r looks kept evident plainly m asked;
-    heeds = λ _. serves_ready laws port replies old new k ready r looks kept evident m reached is d;
+    trouble = (heeds_trouble asked).trouble;
+    well = (heeds_trouble asked).well;
+    heeds = λ _. serves_ready laws port replies old new k ready r looks kept evident m reached is d unhung;
   }

@@ -15,7 +15,7 @@ use Rattle.ata_types.specs.declared.request.RequestId.{RequestId}
 use Rattle.adapter.specs.declared.access.DeviceStep.{DeviceStep}
 use Rattle.agreement.specs.Driven.{AnyUse, IsFollowed}
 use Rattle.agreement.specs.Driver.{IsBacked}
-use Rattle.block_machine.specs.Events.{AllDevices, AllGrounded, AreTold, AllLawful, AllMay, Belong, IsIssuedIn, IsLawful, IssuesLast, IsToldBefore, Moment, Service, Tells, UnplugsAll, WasIssued, answers_of, issues_it, reply_of}
+use Rattle.block_machine.specs.Events.{AllDevices, AllGrounded, AreTold, AllLawful, AllMay, Belong, GivesUp, IsIssuedIn, IsLawful, IssuesLast, IsToldBefore, Moment, Service, Tells, UnplugsAll, WasIssued, answers_of, issues_it, reply_of}
 use Rattle.block_machine.specs.Histories.{IsReached}
 use Rattle.block_machine.specs.Left.{after}
 use Rattle.block_machine.specs.Ports.{Evidence, Ports, SameDisk}
@@ -35,11 +35,12 @@ use Rattle.host_boot.specs.declared.Found.{Found}
 use Rattle.host_boot.specs.declared.Found.TheVariants.{Unserved, Ready, Unready}
 use Rattle.identify.specs.declared.DiskInfo.{DiskInfo}
 use Rattle.port_look.specs.Looks.{IsLooking}
-use Rattle.port_look.specs.declared.Look.{Look}
-use Rattle.port_look.specs.declared.Look.TheVariants as look_is
+use Rattle.server_history.specs.declared.Trouble.{Trouble}
+use Rattle.server_history.specs.declared.Trouble.TheVariants.{Broken, Failed as Fails, Hung, Lost}
 use Rattle.request_queue.specs.Entries.{Held, asks, asks_of, due_ids, is_of}
 use Rattle.request_queue.specs.Fates.{fate_of}
 use Rattle.request_queue.specs.Machine.{IsEntry}
+use Rattle.request_queue.specs.declared.Entry.{Entry}
 use Rattle.request_queue.specs.declared.fate.Failed.{Failed}
 use Rattle.request_queue.specs.declared.fate.Fate.TheVariants.{Ends}
 use Rattle.request_queue.specs.declared.fate.Prospect.{Prospect}
@@ -82,13 +83,15 @@ pub record DecidesTurn (port : Port) (replies : List Reply) (old new : Server) (
   pub belong : Belong {D = DeviceStep} Service (ports_of new) steps
   pub last : IssuesLast steps
   pub lawful : AllLawful (moment_of old m) evidence (ports_of new) steps
-  pub grounded : AllGrounded evidence steps
+  pub grounded : r.settled.mended.trouble ≢ Hung → AllGrounded evidence steps
   pub tells : Tells steps replies
   pub unplugs : UnplugsAll steps (after m steps)
   pub keeps : SameDisk (ports_of old) (ports_of new) port ⊎ NoneWaits (after m steps) port
   pub issues : (ports_of new).state port ≡ ReadyState → IssuesDue (mode_in new port) steps (after m steps) port
-  pub emptied : r.settled.mended.look ≡ look_is.Lost → NoneWaits (after m steps) port
-  pub told : r.settled.mended.look ≡ look_is.Lost → AreTold outcome.Unplugged steps port ⊎ AreTold outcome.PortDead steps port
+  pub gives : r.settled.mended.trouble ≢ Fails → (e : Pending) (o : Outcome) → Contains steps (Answer e o) → GivesUp o ⊎ (o ≡ outcome.Ok)
+  pub unplugged : (e : Pending) → Contains steps (Answer e outcome.Unplugged) → (r.settled.prospect ≡ DiskLost) × (e.request.port ≡ port)
+  pub emptied : r.settled.mended.trouble ≡ Lost → NoneWaits (after m steps) port
+  pub told : r.settled.mended.trouble ≡ Lost → AreTold outcome.Unplugged steps port ⊎ AreTold outcome.PortDead steps port
 
 -- ---- evidence
 
@@ -168,7 +171,7 @@ module _ (laws : LawsBelow) (port : Port) (replies : List Reply) (old new : Serv
   -- the same disk
   module _ (is : a.prospect ≡ Same) where
     info : (info : DiskInfo) × (a.found ≡ Ready info) × ((info.serial ≡ a.was.serial) × (info.sectors ≡ a.was.sectors))
-    info = (subst (IsProspect a.mended.look a.was a.found) is a.expects).1
+    info = (subst (IsProspect a.mended.trouble a.was a.found) is a.expects).1
 
     same_ready : (ports_of new).state port ≡ ReadyState
     same_ready = state_new ∙ ap state_of info.1
@@ -182,7 +185,7 @@ module _ (laws : LawsBelow) (port : Port) (replies : List Reply) (old new : Serv
   -- another one
   module _ (is : a.prospect ≡ DiskLost) where
     other_stopped : Contains evidence.stopped port
-    other_stopped = stopped_named port a.mended.result.next (λ stuck. (subst (IsProspect a.mended.look a.was a.found) is a.expects).0 (no_way stuck).0)
+    other_stopped = stopped_named port a.mended.result.next (λ stuck. (subst (IsProspect a.mended.trouble a.was a.found) is a.expects).0 (no_way stuck).0)
 
     other_lost : Contains evidence.lost port
     other_lost = subst (λ (p : Prospect). Contains (lost_of port p) port) (sym is) (first_here port [])
@@ -196,28 +199,28 @@ module _ (laws : LawsBelow) (port : Port) (replies : List Reply) (old new : Serv
   -- ---- who is named
 
   -- nobody, unless a command had failed
-  pub nobody : a.mended.look ≢ look_is.Failed → a.failed ≡ None
+  pub nobody : a.mended.trouble ≢ Fails → a.failed ≡ None
   nobody other =
-      let none = (given_up a.mended.look port a.mended.outstanding a.mended.queued a.mended.result a.mended.mends.accesses a.mid.device a.device a.mended.tells other).0 in
+      let none = (given_up a.mended.trouble port a.mended.outstanding a.mended.queued a.mended.result a.mended.mends.accesses a.mid.device a.device a.mended.tells other).0 in
       subst (λ (f : Option Failure). IsFailed (slots_at a.mid.slots port.0) f a.failed) none a.names
 
   -- where its disk was lost, no request goes on as on the same disk
-  not_same : a.mended.look ≡ look_is.Lost → a.prospect ≢ Same
-  not_same lost same = (subst (IsProspect a.mended.look a.was a.found) same a.expects).0 lost
+  not_same : a.mended.trouble ≡ Lost → a.prospect ≢ Same
+  not_same lost same = (subst (IsProspect a.mended.trouble a.was a.found) same a.expects).0 lost
 
-  -- the port failed, unless its disk was lost
-  pub failed_named : a.mended.look ≢ look_is.Lost → Contains evidence.failed port
-  failed_named other = by a.mended.look refl
+  -- the port failed, unless its disk was lost, or a request is hung
+  pub failed_named : a.mended.trouble ≢ Hung → a.mended.trouble ≢ Lost → Contains evidence.failed port
+  failed_named unhung other = by a.mended.trouble refl
     where
-      by : (l : Look) → a.mended.look ≡ l → Contains (failed_of port l (old.device.port port.0)) port
-      by look_is.Lost is = absurd (other is)
-      by look_is.Failed is = first_here port []
-      by look_is.Broken is = first_here port []
-      by look_is.Undisturbed is = first_here port []
+      by : (t : Trouble) → a.mended.trouble ≡ t → Contains (failed_of port t (old.device.port port.0)) port
+      by Lost is = absurd (other is)
+      by Fails is = first_here port []
+      by Broken is = first_here port []
+      by Hung is = absurd (unhung is)
 
   -- a dead port
   dead_state : a.prospect ≡ NoEnd → (ports_of new).state port ≡ Dead
-  dead_state is = state_new ∙ ap state_of (subst (IsProspect a.mended.look a.was a.found) is a.expects)
+  dead_state is = state_new ∙ ap state_of (subst (IsProspect a.mended.trouble a.was a.found) is a.expects)
 
   -- a request that met its fate was in the book
   of_its : (e : Held) → Contains its e → Contains a.mid.book e × (e.entry.port ≡ port)
@@ -327,25 +330,25 @@ module _ (laws : LawsBelow) (port : Port) (replies : List Reply) (old new : Serv
         (lawful_join began evidence (ports_of new) f.middle (answers_in f.ended ++ f.first) (devices_lawful began evidence (ports_of new) f.middle f.middle_only)
         (answers_all (AllLawful began evidence (ports_of new)) f.ended f.first (λ e steps here l. (l, ok_lawful e here)) (devices_lawful began evidence (ports_of new) f.first f.first_only))))
 
-    again_failed : (e : Pending) → Contains f.fates (Again e) → Contains evidence.failed port
-    again_failed e here = ⊎_elim (λ lost. absurd (not_same lost (again_same e here).0)) failed_named (lost_or_not a.mended.look)
+    again_failed : a.mended.trouble ≢ Hung → (e : Pending) → Contains f.fates (Again e) → Contains evidence.failed port
+    again_failed unhung e here = ⊎_elim (λ lost. absurd (not_same lost (again_same e here).0)) (failed_named unhung) (lost_or_not a.mended.trouble)
 
-    answer_failed : (e : Pending) (o : Outcome) → Contains f.fates (Answer e o) → RestsOnFailure o → Contains evidence.failed port
-    answer_failed e o here rests = ⊎_elim (λ lost. absurd (none lost (why a.failed a.prospect w.0.entry o w.3))) failed_named (lost_or_not a.mended.look)
+    answer_failed : a.mended.trouble ≢ Hung → (e : Pending) (o : Outcome) → Contains f.fates (Answer e o) → RestsOnFailure o → Contains evidence.failed port
+    answer_failed unhung e o here rests = ⊎_elim (λ lost. absurd (none lost (why a.failed a.prospect w.0.entry o w.3))) (failed_named unhung) (lost_or_not a.mended.trouble)
       where
         w : (request : Held) × Contains its request × IsEntry request e × (fate_of a.failed a.prospect request.entry ≡ Ends o)
         w = f.answered e o here
 
-        none : a.mended.look ≡ look_is.Lost → Why a.failed a.prospect w.0.entry o → ⊥
-        none lost (inl x) = let y : None ≡ Some x.0 = sym (nobody (λ failed. let z : look_is.Lost ≡ look_is.Failed = sym lost ∙ failed in absurd cc)) ∙ x.1 in absurd cc
+        none : a.mended.trouble ≡ Lost → Why a.failed a.prospect w.0.entry o → ⊥
+        none lost (inl x) = let y : None ≡ Some x.0 = sym (nobody (λ failed. let z : Lost ≡ Fails = sym lost ∙ failed in absurd cc)) ∙ x.1 in absurd cc
         none lost (inr (inl x)) = not_same lost x.0
         none lost (inr (inr (inl x))) = subst RestsOnFailure x.1 rests
         none lost (inr (inr (inr x))) = subst RestsOnFailure x.1 rests
 
-    grounded : AllGrounded evidence (z.steps ++ base)
-    grounded =
+    grounded : a.mended.trouble ≢ Hung → AllGrounded evidence (z.steps ++ base)
+    grounded unhung =
         issues_all (AllGrounded evidence) (mode_in r.mid port) port (device_grounded evidence) (λ e steps own g. g) z.steps base z.only
-        (grounded_join evidence f.fates (f.middle ++ (answers_in f.ended ++ f.first)) (deciding_grounded port evidence f.fates f.own again_failed answer_failed)
+        (grounded_join evidence f.fates (f.middle ++ (answers_in f.ended ++ f.first)) (deciding_grounded port evidence f.fates f.own (again_failed unhung) (answer_failed unhung))
         (grounded_join evidence f.middle (answers_in f.ended ++ f.first) (devices_all (AllGrounded evidence) (device_grounded evidence) tt f.middle f.middle_only)
         (answers_all (AllGrounded evidence) f.ended f.first (λ e steps here g. g) (devices_all (AllGrounded evidence) (device_grounded evidence) tt f.first f.first_only))))
 
@@ -376,9 +379,9 @@ module _ (laws : LawsBelow) (port : Port) (replies : List Reply) (old new : Serv
 
     belong : Belong {D = DeviceStep} Service (ports_of new) (z.steps ++ base)
     belong =
-        belong_join (ports_of new) z.steps base (issuing_belong port (mode_in r.mid port) (ports_of new) mode_new z.steps z.only issued_ready)
-        (belong_join (ports_of new) f.fates (f.middle ++ (answers_in f.ended ++ f.first)) (deciding_belong port (ports_of new) f.fates f.own (λ e here. let s = again_same e here in ap (ports_of new).state s.1 ∙ same_ready s.0))
-        (belong_join (ports_of new) f.middle (answers_in f.ended ++ f.first) (devices_belong {D = DeviceStep} Service (ports_of new) f.middle f.middle_only)
+        belong_join Service (ports_of new) z.steps base (issuing_belong port (mode_in r.mid port) (ports_of new) mode_new z.steps z.only issued_ready)
+        (belong_join Service (ports_of new) f.fates (f.middle ++ (answers_in f.ended ++ f.first)) (deciding_belong port (ports_of new) f.fates f.own (λ e here. let s = again_same e here in ap (ports_of new).state s.1 ∙ same_ready s.0))
+        (belong_join Service (ports_of new) f.middle (answers_in f.ended ++ f.first) (devices_belong {D = DeviceStep} Service (ports_of new) f.middle f.middle_only)
         (answers_all (Belong {D = DeviceStep} Service (ports_of new)) f.ended f.first (λ e rest here b. (b, inr tt)) (devices_belong {D = DeviceStep} Service (ports_of new) f.first f.first_only))))
 
     none_in_base : (id : RequestId) → list_any (issues_it id) base ≡ false
@@ -463,6 +466,20 @@ module _ (laws : LawsBelow) (port : Port) (replies : List Reply) (old new : Serv
         (Contains-append_cases f.fates (f.middle ++ (answers_in f.ended ++ f.first)) (Answer e o) rest))
         (Contains-append_cases z.steps base (Answer e o) here)
 
+    -- no fault is told unless a command had failed
+    gives : a.mended.trouble ≢ Fails → (e : Pending) (o : Outcome) → Contains (z.steps ++ base) (Answer e o) → GivesUp o ⊎ (o ≡ outcome.Ok)
+    gives other e o here = by_ok (ok_or_not o)
+      where
+        by : (entry : Entry) → Why a.failed a.prospect entry o → GivesUp o
+        by entry (inl x) = let y : None ≡ Some x.0 = sym (nobody other) ∙ x.1 in absurd cc
+        by entry (inr (inl x)) = subst GivesUp (sym x.3) tt
+        by entry (inr (inr (inl x))) = subst GivesUp (sym x.1) tt
+        by entry (inr (inr (inr x))) = subst GivesUp (sym x.1) tt
+
+        by_ok : (o ≡ outcome.Ok) ⊎ (o ≢ outcome.Ok) → GivesUp o ⊎ (o ≡ outcome.Ok)
+        by_ok (inl ok) = inr ok
+        by_ok (inr told) = let w = f.answered e o (fated e o told here) in inl (by w.0.entry (why a.failed a.prospect w.0.entry o w.3))
+
     -- it is of the port, and has another disk for its reason
     unplugged_why : (e : Pending) → Contains (z.steps ++ base) (Answer e outcome.Unplugged) → (a.prospect ≡ DiskLost) × (e.request.port ≡ port)
     unplugged_why e here = (by (why a.failed a.prospect w.0.entry outcome.Unplugged w.3), w.2.port ∙ (of_its w.0 w.1).1)
@@ -499,7 +516,7 @@ module _ (laws : LawsBelow) (port : Port) (replies : List Reply) (old new : Serv
     disk_lost lost same = let y : DiskLost ≡ Same = sym lost ∙ same in absurd cc
 
     -- and where its disk was lost, all are told alike
-    told_lost : a.mended.look ≡ look_is.Lost → AreTold outcome.Unplugged (z.steps ++ base) port ⊎ AreTold outcome.PortDead (z.steps ++ base) port
+    told_lost : a.mended.trouble ≡ Lost → AreTold outcome.Unplugged (z.steps ++ base) port ⊎ AreTold outcome.PortDead (z.steps ++ base) port
     told_lost lost = by a.prospect refl
       where
         told_as : (told : Outcome) → ((e : Held) (o : Outcome) → Why a.failed a.prospect e.entry o → o ≡ told) → AreTold told (z.steps ++ base) port
@@ -512,7 +529,7 @@ module _ (laws : LawsBelow) (port : Port) (replies : List Reply) (old new : Serv
                 inr (alike w.0 o (why a.failed a.prospect w.0.entry o w.3))
 
         unnamed_then : (x : Failed) → a.failed ≡ Some x → ⊥
-        unnamed_then x is = let y : None ≡ Some x = sym (nobody (λ failed. let z : look_is.Lost ≡ look_is.Failed = sym lost ∙ failed in absurd cc)) ∙ is in absurd cc
+        unnamed_then x is = let y : None ≡ Some x = sym (nobody (λ failed. let z : Lost ≡ Fails = sym lost ∙ failed in absurd cc)) ∙ is in absurd cc
 
         by : (p : Prospect) → a.prospect ≡ p → AreTold outcome.Unplugged (z.steps ++ base) port ⊎ AreTold outcome.PortDead (z.steps ++ base) port
         by Same x = absurd (not_same lost x)
@@ -543,7 +560,7 @@ module _ (laws : LawsBelow) (port : Port) (replies : List Reply) (old new : Serv
         by : (p : Prospect) → a.prospect ≡ p → SameDisk (ports_of old) (ports_of new) port ⊎ NoneWaits (after m (z.steps ++ base)) port
         by Same x = inl (same_shown x)
         by DiskLost x = inr (none_waits (disk_lost x))
-        by NoEnd x = inl (same_disk a.was (ap (λ (found : Found). disk_of found (Some a.was)) (subst (IsProspect a.mended.look a.was a.found) x a.expects)) refl refl)
+        by NoEnd x = inl (same_disk a.was (ap (λ (found : Found). disk_of found (Some a.was)) (subst (IsProspect a.mended.trouble a.was a.found) x a.expects)) refl refl)
 
     pub decides_turn : DecidesTurn port replies old new r evidence m
     decides_turn = record {
@@ -563,6 +580,8 @@ module _ (laws : LawsBelow) (port : Port) (replies : List Reply) (old new : Serv
       unplugs = unplugs;
       keeps = keeps;
       issues = λ is_ready. issues;
+      gives = gives;
+      unplugged = unplugged_why;
       emptied = λ lost. none_waits (not_same lost);
       told = told_lost;
     }

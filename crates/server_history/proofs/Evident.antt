@@ -6,35 +6,34 @@ use Rattle.ata_types.specs.declared.Port.{Port}
 use Rattle.ata_types.specs.declared.PortState.TheVariants.{Dead as DeadState, Ready as ReadyState}
 use Rattle.ata_types.specs.declared.request.Reply.{Reply}
 use Rattle.ata_types.specs.declared.request.RequestId.{RequestId}
-use Rattle.hba_regs.specs.declared.reg.PortReg.TheVariants.{Cmd, Is, Ssts}
-use Rattle.hba_regs.specs.declared.reg.Reg.TheVariants as reg
+use Rattle.hba_regs.specs.declared.reg.PortReg.TheVariants.{Cmd}
 use Rattle.hba_regs.specs.declared.reg.Reg.TheVariants.{Ghc, Px}
 use Rattle.adapter.specs.Access.{Access, DoesAll}
-use Rattle.adapter.specs.Access.Access.{Reading, Writing}
 use Rattle.adapter.specs.Device.{Device}
 use Rattle.adapter.specs.declared.command.Operation.TheVariants.{ReadLog}
 use Rattle.adapter.specs.declared.tape.Fault as tape_fault
-use Rattle.agreement.specs.Driven.{AnyAccess, AnyUse, Grows, IsFollowed, IsOf, SendsNone, IsDrivenBy}
+use Rattle.agreement.specs.Driven.{AnyAccess, AnyUse, Grows, IsFollowed, IsOf, SendsNone}
 use Rattle.agreement.specs.Driver.{IsBacked}
-use Rattle.agreement.specs.Links.{SparesRegister, IsPlugging}
+use Rattle.agreement.specs.Links.{SparesRegister}
 use Rattle.agreement.proofs.Driven.{along}
-use Rattle.block_machine.specs.Events.{HadDisk, Served, Service, ShowsDisk, changes_disk}
+use Rattle.block_machine.specs.Events.{Ask, HadDisk, Served, ShowsDisk, changes_disk}
+use Rattle.adapter.specs.declared.access.DeviceStep.{DeviceStep}
 use Rattle.block_machine.specs.Left.{after}
 use Rattle.block_machine.specs.Ports.{Fault, IsServiced}
 use Rattle.block_machine.specs.State.{Machine}
 use Rattle.block_machine.specs.Steps.{Step}
 use Rattle.block_machine.proofs.Members.{contains_cases}
-use Rattle.driver_history.specs.Evidence.{HasErrors, HasFatalErrors, IsEvidencedOf, Gains, ShowsChange, ShowsFailure, ShowsLoss}
+use Rattle.driver_history.specs.Evidence.{IsEvidencedOf}
 use Rattle.driver_history.specs.Trace.{IsDriversOwn}
-use Rattle.error_recovery.specs.Evidence.{HasFailed, ShowsFatal}
+use Rattle.error_recovery.specs.Evidence.{HasFailed}
 use Rattle.error_recovery.specs.Recovery.{EndsIn, Rests, TellsEngine}
 use Rattle.error_recovery.specs.declared.Next.{Next}
 use Rattle.error_recovery.specs.declared.Next.TheVariants as next
 use Rattle.error_log.specs.declared.Failure.{Failure}
 use Rattle.host_boot.specs.Taken.{found_of, wanted_of}
-use Rattle.host_boot.specs.declared.Found.TheVariants.{Ready, Unready, Unserved}
+use Rattle.host_boot.specs.declared.Found.TheVariants.{Ready, Unready}
 use Rattle.port_control.specs.Engines.{Sticks, Stops}
-use Rattle.port_look.specs.Looks.{IsLooking}
+use Rattle.port_look.specs.Looks.{IsLooking, LooksAt}
 use Rattle.port_look.specs.declared.Look.{Look}
 use Rattle.request_queue.specs.Entries.{Held, asks_of, due_ids}
 use Rattle.request_queue.specs.declared.fate.Failed as failed_request
@@ -42,31 +41,32 @@ use Rattle.request_queue.specs.declared.fate.Prospect.TheVariants.{DiskLost}
 use Rattle.slots.specs.Uses.{use_at}
 use Rattle.slots.specs.declared.Use.{Use as SlotUse}
 use Rattle.server_history.specs.Below.{LawsBelow}
-use Rattle.server_history.specs.Mended.{IsFailed, IsFoundAfter, IsProspect, IsMended, HasMetFates, LeadsToMending, MendsPort}
+use Rattle.server_history.specs.Mended.{IsFailed, IsFoundAfter, IsFoundOut, IsProspect, IsMended, HasMetFates, MendsPort}
 use Rattle.server_history.specs.Served.{AnswersEach}
 use Rattle.server_history.specs.Server.{Server, IsKept, IsMachineOf, ports_of, slots_at, state_of, used_for, mode_in}
 use Rattle.server_history.specs.Turns.{IsOfCommand, LeavesOthers, NamesOnly, TellsFault, instant_of, moment_of}
 use Rattle.server_history.proofs.Answering.{answer_kept}
 use Rattle.server_history.proofs.Apart.{leaves_others}
 use Rattle.server_history.proofs.Becoming.{becomes, dead_found, dead_prospect, disk_same, interrupted, its, lost_is, names, ready_info, state_new, stuck_is, next_dead}
-use Rattle.server_history.proofs.Faulted.{errors_shown, fatal_shown, leads, no_change, no_fatal, not_missing, lost_or_not, loss_shown, given_up}
+use Rattle.server_history.proofs.Faulted.{given_up}
+use Rattle.server_history.proofs.Named.{failed_all, failed_only, fatal_all, fatal_only, gone_all, gone_only, loss}
+use Rattle.server_history.proofs.Sighted.{boot_sees}
+use Rattle.server_history.proofs.Starting.{boots_or_absent}
 use Rattle.server_history.proofs.Placing.{freed_was}
 use Rattle.server_history.proofs.Recovering.{IsEarlyPart, IsPart}
-use Rattle.server_history.proofs.Recovery.{evidence_by, fatal_of, faults_of, stopped_of, failed_of, gone_of, is_named_if, named_if_is}
+use Rattle.server_history.proofs.Recovery.{evidence_by, faults_of, stopped_of}
 use Rattle.server_history.proofs.Settling.{over_on, ready_on}
 use Rattle.server_history.proofs.Shown.{had_disk, shows_device}
 use Rattle.server_history.proofs.Slots.{AreOver, ready_found}
 use Rattle.server_history.proofs.Stretching.{TurnParts, accesses_in, done_over, found_is, found_kept, mid_device, turn_parts}
-use Rattle.server_history.proofs.Lists.{nowhere, first_here}
-use Rattle.server_history.proofs.Told.{failure_shows, fatal_shows, shows_failure, shows_fatal, unfailed, unfatal}
-use Rattle.port_look.specs.declared.Look.TheVariants.{Broken, Failed, Lost, Undisturbed}
+use Rattle.server_history.proofs.Lists.{nowhere}
+use Rattle.port_look.specs.declared.Look.TheVariants as look
+use Rattle.server_history.specs.declared.Trouble.{Trouble}
+use Rattle.server_history.specs.declared.Trouble.TheVariants.{Broken, Failed, Hung, Lost}
 use Rattle.server_history.proofs.Coming.{look_list, look_does}
-use Rattle.host_boot.specs.Again.{BootsAgain, BootsStopped}
+use Rattle.host_boot.specs.Again.{BootsAgain, IsOfStart}
 use Rattle.host_boot.specs.declared.Booted.{Booted}
 use Rattle.host_boot.specs.declared.Found.{Found}
-use Rattle.port_boot.specs.States.{IsBootTo, IsOfBoot, StopsOnWay}
-use Rattle.ata_types.specs.declared.PortState.{PortState}
-use Rattle.ata_types.specs.declared.PortState.TheVariants as shown
 use Rattle.server_history.proofs.Rounds.{each_driven}
 
 -- ---- what recovery tells of the port's engine
@@ -115,7 +115,7 @@ pub record IsEvident (port : Port) (replies : List Reply) (old new : Server) (r 
   pub silent : (q : ℕ) → q ≢ port.0 → state_of (found_of old.ports q) ≢ DeadState → SendsNone q ReadLog old.device new.device
   pub names : NamesOnly port (evidence_by r.settled)
   pub becomes : IsServiced (ports_of old) (evidence_by r.settled) (ports_of new) port
-  pub evidenced : (m : Machine) → IsEvidencedOf Service (Served replies) accesses (instant_of old m) (ports_of new) new.device (evidence_by r.settled) port
+  pub evidenced : (ask : Ask DeviceStep) (m : Machine) → IsEvidencedOf ask (Served replies) accesses (instant_of old m) (ports_of new) new.device (evidence_by r.settled) port
   pub faults : (told : Fault) → Contains (evidence_by r.settled).faults told → TellsFault port accesses old new told
   pub had : (m : Machine) → IsMachineOf old m → (steps : List Step) → IsBacked old.device new.device m steps
       → HadDisk (moment_of old m) steps (moment_of new (after m steps)) port
@@ -150,75 +150,10 @@ module _ (laws : LawsBelow) (port : Port) (replies : List Reply) (old new : Serv
       laws.looks.grows_more x.seen x.found new.device (grown x.reads.driven.accesses x.seen x.found x.reads.driven.all)
       (subst (λ (d : Device). Grows d new.device) (mid_device laws port replies old new k ready r looks kept) grown_late)
 
-  grown_read : Grows x.looks.seen new.device
-  grown_read =
-      laws.looks.grows_more x.looks.seen x.looks.cleared new.device (laws.looks.access_grows (Writing (Px port Is) x.looks.causes) x.looks.seen x.looks.cleared x.looks.clears)
-      (laws.looks.grows_more x.looks.cleared x.looks.acknowledged new.device (laws.looks.access_grows (Writing reg.Is x.looks.own) x.looks.cleared x.looks.acknowledged x.looks.acknowledges)
-      (laws.looks.grows_more x.looks.acknowledged x.seen new.device (laws.looks.access_grows (Reading (Px port Ssts) x.looks.status) x.looks.acknowledged x.seen x.looks.shows) grown_seen))
-
   -- ---- ports
-
-  mending : LeadsToMending x.look
-  mending = leads x.look port x.outstanding x.queued x.result x.mends.accesses a.mid.device a.device x.tells
 
   undue : (old.device.port port.0).link_due ≡ false
   undue = ((k.behind port.0 low).runs ready).recorded.linked
-
-  failed_all : ShowsFailure (old.device.port port.0) → Contains (failed_of port x.look (old.device.port port.0)) port
-  failed_all shows = by x.look
-    where
-      by : (l : Look) → Contains (failed_of port l (old.device.port port.0)) port
-      by Lost = is_named_if (shows_failure (old.device.port port.0)) port (failure_shows (old.device.port port.0) shows)
-      by Failed = first_here port []
-      by Broken = first_here port []
-      by Undisturbed = first_here port []
-
-  failed_only : (m : Machine) → Contains (failed_of port x.look (old.device.port port.0)) port → HasErrors port (instant_of old m) new.device
-  failed_only m here = ⊎_elim
-      (λ failed. (ready, errors_shown laws port x.look old.device x.seen x.looks k.on (inl failed) new.device grown_read))
-      (λ rest. ⊎_elim
-      (λ broken. (ready, errors_shown laws port x.look old.device x.seen x.looks k.on (inr broken) new.device grown_read))
-      (λ lost. (ready, inl (unfailed (old.device.port port.0) (named_if_is (shows_failure (old.device.port port.0)) port (subst (λ (l : Look). Contains (failed_of port l (old.device.port port.0)) port) lost here)))))
-      rest)
-      mending
-
-  -- ---- a loss
-
-  loss : x.look ≡ Lost → ShowsChange (old.device.port port.0) ⊎ (((old.device.port port.0).ssts_det ≢ 3) ⊎ Gains (IsPlugging port.0) old.device new.device)
-  loss lost = loss_shown laws port x.look old.device x.seen x.looks k.on lost undue new.device grown_seen
-
-  gone_all : ShowsLoss port old.device new.device → Contains (gone_of port x.look) port
-  gone_all shows = ⊎_elim
-      (λ lost. subst (λ (l : Look). Contains (gone_of port l) port) (sym lost) (first_here port []))
-      (λ other. absurd (⊎_elim (no_change laws port x.look old.device x.seen x.looks k.on other) (λ missing. not_missing laws port x.look old.device x.seen x.looks k.on other new.device grown_seen undue missing.0 missing.1) shows))
-      (lost_or_not x.look)
-
-  pub gone_is : Contains (gone_of port x.look) port → x.look ≡ Lost
-  gone_is here = by x.look refl
-    where
-      by : (l : Look) → x.look ≡ l → x.look ≡ Lost
-      by Lost is = is
-      by Failed is = absurd (nowhere port (subst (λ (l : Look). Contains (gone_of port l) port) is here))
-      by Broken is = absurd (nowhere port (subst (λ (l : Look). Contains (gone_of port l) port) is here))
-      by Undisturbed is = absurd (nowhere port (subst (λ (l : Look). Contains (gone_of port l) port) is here))
-
-  fatal_all : ShowsFatal (old.device.port port.0) → Contains (fatal_of port x.look (old.device.port port.0)) port
-  fatal_all fatal = ⊎_elim
-      (λ failed. absurd (no_fatal laws port x.look old.device x.seen x.looks k.on failed fatal))
-      (λ rest. ⊎_elim
-      (λ broken. subst (λ (l : Look). Contains (fatal_of port l (old.device.port port.0)) port) (sym broken) (first_here port []))
-      (λ lost. subst (λ (l : Look). Contains (fatal_of port l (old.device.port port.0)) port) (sym lost) (is_named_if (shows_fatal (old.device.port port.0)) port (fatal_shows (old.device.port port.0) fatal)))
-      rest)
-      mending
-
-  fatal_only : (m : Machine) → Contains (fatal_of port x.look (old.device.port port.0)) port → HasFatalErrors port (instant_of old m) new.device
-  fatal_only m here = ⊎_elim
-      (λ failed. absurd (nowhere port (subst (λ (l : Look). Contains (fatal_of port l (old.device.port port.0)) port) failed here)))
-      (λ rest. ⊎_elim
-      (λ broken. (ready, fatal_shown laws port x.look old.device x.seen x.looks k.on broken new.device grown_read))
-      (λ lost. (ready, inl (unfatal (old.device.port port.0) (named_if_is (shows_fatal (old.device.port port.0)) port (subst (λ (l : Look). Contains (fatal_of port l (old.device.port port.0)) port) lost here)))))
-      rest)
-      mending
 
   -- a dead port's engine was awaited in vain, at last
   counted : a.found ≡ Unready DeadState → (new.device.port port.0).notes.engine_count ≡ 64
@@ -228,28 +163,28 @@ module _ (laws : LawsBelow) (port : Port) (replies : List Reply) (old new : Serv
       by (next.Running token) is = t.stuck dead (λ e. let z : next.Running token ≡ next.Dead = sym is ∙ e in cc)
       by (next.Restart token) is = t.stuck dead (λ e. let z : next.Restart token ≡ next.Dead = sym is ∙ e in cc)
       by next.Dead is =
-          let still : IsFoundAfter (wanted_of old.wanted port.0) port x.look a.was next.Dead a.device r.mid.device a.found = subst (λ (n : Next). IsFoundAfter (wanted_of old.wanted port.0) port x.look a.was n a.device r.mid.device a.found) is a.is in
+          let still : IsFoundAfter (wanted_of old.wanted port.0) port x.trouble a.was next.Dead a.device r.mid.device a.found = subst (λ (n : Next). IsFoundAfter (wanted_of old.wanted port.0) port x.trouble a.was n a.device r.mid.device a.found) is a.is in
           ap (λ (s : Server). (s.device.port port.0).notes.engine_count) (t.unissued dead) ∙ ap (λ (d : Device). (d.port port.0).notes.engine_count) still.1
           ∙ ends_stuck laws port [] [] [] x.queued x.result.next a.mid.device a.device x.mends.leaves.ends is
 
-  evidenced : (m : Machine) → IsEvidencedOf Service (Served replies) (accesses_in t) (instant_of old m) (ports_of new) new.device (its laws port replies old new k ready r looks kept) port
-  evidenced m = record {
+  evidenced : (ask : Ask DeviceStep) (m : Machine) → IsEvidencedOf ask (Served replies) (accesses_in t) (instant_of old m) (ports_of new) new.device (its laws port replies old new k ready r looks kept) port
+  evidenced ask m = record {
     lost = λ here.
         let other = lost_is port a.prospect here in
-        let e : IsProspect x.look a.was a.found DiskLost = subst (IsProspect x.look a.was a.found) other a.expects in
+        let e : IsProspect x.trouble a.was a.found DiskLost = subst (IsProspect x.trouble a.was a.found) other a.expects in
         ⊎_elim
-        (λ lost. ⊎_elim (λ change. inl change) (λ more. inr (⊎_elim (λ out. inl out) (λ came. inr (inl came)) more)) (loss lost))
+        (λ lost. ⊎_elim (λ change. inl change) (λ more. inr (⊎_elim (λ out. inl out) (λ came. inr (inl came)) more)) (loss laws port old.device x.seen new.device k.on undue grown_seen x.trouble x.finds lost))
         (λ another. inr (inr (inr (
           (λ dead. e.0 (dead_found laws port replies old new k ready r looks kept dead)),
           (λ is same. let i = ready_info laws port replies old new k ready r looks kept is in another i.0 i.1 (disk_same laws port replies old new k ready r looks kept i.0 i.1 same)),
         ))))
         e.1;
-    gone_all = λ _ shows. gone_all shows;
-    gone_only = λ here. (ready, loss (gone_is here));
-    failed_all = λ _ shows. failed_all shows;
-    failed_only = failed_only m;
-    fatal_all = λ _ fatal. fatal_all fatal;
-    fatal_only = fatal_only m;
+    gone_all = λ _ shows. gone_all laws port old.device x.seen new.device k.on undue grown_seen x.trouble x.finds shows;
+    gone_only = λ here. (ready, gone_only laws port old.device x.seen new.device k.on undue grown_seen x.trouble x.finds here);
+    failed_all = λ _ shows. failed_all laws port old.device x.seen new.device k.on undue grown_seen x.trouble shows;
+    failed_only = λ here. (ready, failed_only laws port old.device x.seen new.device k.on undue grown_seen x.trouble x.finds here);
+    fatal_all = λ _ fatal. fatal_all laws port old.device x.seen new.device k.on undue grown_seen x.trouble x.finds fatal;
+    fatal_only = λ here. (ready, fatal_only laws port old.device x.seen new.device k.on undue grown_seen x.trouble x.finds here);
     stopped_all = inr (interrupted laws port replies old new k ready r looks kept);
     stopped_only = λ here. inl (engine_stops laws port t.early.accesses part t.late.accesses x.result.next x.mends.does.engine here);
     stuck_only = λ here.
@@ -264,8 +199,8 @@ module _ (laws : LawsBelow) (port : Port) (replies : List Reply) (old new : Serv
     runs_then : x.queued ≡ true → (a.found ≡ Ready a.was) × (r.mid.device ≡ a.device)
     runs_then queued = by x.result.next refl
       where
-        then_is : (then : Next) → x.result.next ≡ then → IsFoundAfter (wanted_of old.wanted port.0) port x.look a.was then a.device r.mid.device a.found
-        then_is then is = subst (λ (n : Next). IsFoundAfter (wanted_of old.wanted port.0) port x.look a.was n a.device r.mid.device a.found) is a.is
+        then_is : (then : Next) → x.result.next ≡ then → IsFoundAfter (wanted_of old.wanted port.0) port x.trouble a.was then a.device r.mid.device a.found
+        then_is then is = subst (λ (n : Next). IsFoundAfter (wanted_of old.wanted port.0) port x.trouble a.was n a.device r.mid.device a.found) is a.is
 
         by : (then : Next) → x.result.next ≡ then → (a.found ≡ Ready a.was) × (r.mid.device ≡ a.device)
         by (next.Running token) is = then_is (next.Running token) is
@@ -338,50 +273,57 @@ module _ (laws : LawsBelow) (port : Port) (replies : List Reply) (old new : Serv
   grown_issuing : Grows r.mid.device new.device
   grown_issuing = let issued = each_driven laws port (due_ids (mode_in r.mid port) port (asks_of r.mid.book)) r.mid new r.issued in grown issued.accesses r.mid.device new.device issued.all
 
-  boots_grow : {booted : Booted} (b : BootsAgain (wanted_of old.wanted port.0) port booted a.device r.mid.device) → Grows b.asked r.mid.device
-  boots_grow {booted} b = let made = by booted.found b.boots in grown made.accesses b.asked r.mid.device made.all
-    where
-      by : (f : Found) → BootsStopped (wanted_of old.wanted port.0) port f b.asked r.mid.device → IsDrivenBy (IsOfBoot port) b.asked r.mid.device
-      by Unserved none = absurd none
-      by (Ready info) e = e.boots.followed.driven
-      by (Unready state) e = boots_driven state e.boots
-        where
-          boots_driven : (s : PortState) → IsBootTo (StopsOnWay port s) port s b.asked r.mid.device → IsDrivenBy (IsOfBoot port) b.asked r.mid.device
-          boots_driven DeadState (inl told) = told.followed.driven
-          boots_driven DeadState (inr told) = told.followed.driven
-          boots_driven shown.Absent told = told.followed.driven
-          boots_driven ReadyState told = told.followed.driven
-          boots_driven shown.Foreign told = told.followed.driven
-          boots_driven (shown.Unfit n) told = told.followed.driven
+  -- a boot that finds a disk sees a device; so did the look that told of an error
+  module _ (m : Machine) (stands : IsMachineOf old m) (steps : List Step) (backed : IsBacked old.device new.device m steps) where
+    abbrev Had : Type 0
+    Had = (m.present port ≡ true) ⊎ (list_any (changes_disk port) steps ≡ true)
 
-  had_seen : (x.look ≡ Failed) ⊎ (x.look ≡ Broken) → (m : Machine) → IsMachineOf old m → (steps : List Step) → IsBacked old.device new.device m steps → (m.present port ≡ true) ⊎ (list_any (changes_disk port) steps ≡ true)
-  had_seen error = had_at (look_list port x.looks.causes x.looks.own x.looks.status) x.seen (look_does port _ old.device x.seen x.looks) (shows_device laws port old.device x.seen x.look x.looks k.on error) grown_seen
+    had_seen : (told : Look) (l : LooksAt port told old.device x.seen) → (told ≡ look.Failed) ⊎ (told ≡ look.Broken) → Had
+    had_seen told l error =
+        had_at (look_list port l.causes l.own l.status) x.seen (look_does port told old.device x.seen l) (shows_device laws port old.device x.seen told l k.on error) grown_seen m stands steps backed
 
-  had : (m : Machine) → IsMachineOf old m → (steps : List Step) → IsBacked old.device new.device m steps → HadDisk (moment_of old m) steps (moment_of new (after m steps)) port
-  had m stands steps backed shows = ⊎_elim
-      (λ failed. had_seen (inl failed) m stands steps backed)
-      (λ rest. ⊎_elim (λ broken. had_seen (inr broken) m stands steps backed) (λ lost. by lost x.result.next refl) rest)
-      mending
-    where
-      shows_found : ShowsDisk (state_of a.found)
-      shows_found = subst ShowsDisk (state_new laws port replies old new k ready r looks kept) shows
+    had_booted : (booted : Booted) → BootsAgain (wanted_of old.wanted port.0) port booted a.device r.mid.device → ShowsDisk (state_of booted.found) → Had
+    had_booted booted b shows =
+        let asks = b.asks.driven in
+        let until = t.early.accesses ++ (part ++ asks.accesses) in
+        let does = laws.basic.does_append t.early.accesses (part ++ asks.accesses) old.device a.mid.device b.asked t.early.all (laws.basic.does_append part asks.accesses a.mid.device a.device b.asked t.does asks.all) in
+        let on = laws.of_on port old.device b.asked k.on (record {
+          accesses = until;
+          all = does;
+          only = All-append (IsOf port) t.early.accesses (part ++ asks.accesses) (All-weaker (IsEarlyPart port) (IsOf port) (λ access is. is.0.1) t.early.accesses t.early.only)
+              (All-append (IsOf port) part asks.accesses (All-weaker (IsPart port) (IsOf port) (λ access is. is.1) part t.kinds) (All-weaker (IsOfStart port) (IsOf port) (laws.recovery.start_of port) asks.accesses asks.only));
+        }) in
+        let sees = boot_sees laws port (wanted_of old.wanted port.0) booted.found b.asked r.mid.device on b.boots shows in
+        had_at (until ++ sees.early.accesses) sees.seen (laws.basic.does_append until sees.early.accesses old.device b.asked sees.seen does sees.early.all) sees.shows
+        (laws.looks.grows_more sees.seen r.mid.device new.device (grown sees.late.accesses sees.seen r.mid.device sees.late.all) grown_issuing)
+        m stands steps backed
 
-      by : x.look ≡ Lost → (n : Next) → x.result.next ≡ n → (m.present port ≡ true) ⊎ (list_any (changes_disk port) steps ≡ true)
-      by lost (next.Running token) is = absurd ((given_up x.look port x.outstanding x.queued x.result x.mends.accesses a.mid.device a.device x.tells (λ failed. let z : Lost ≡ Failed = sym lost ∙ failed in cc)).1 token is)
-      by lost next.Dead is = absurd (subst (λ (f : Found). ShowsDisk (state_of f)) (next_dead laws port replies old new k ready r looks kept is) shows_found)
-      by lost (next.Restart token) is = ⊎_elim
-          (λ boots.
-          had_at (t.early.accesses ++ (part ++ boots.0.asks.driven.accesses)) boots.0.asked
-          (laws.basic.does_append t.early.accesses (part ++ boots.0.asks.driven.accesses) old.device a.mid.device boots.0.asked t.early.all (laws.basic.does_append part boots.0.asks.driven.accesses a.mid.device a.device boots.0.asked t.does boots.0.asks.driven.all))
-          boots.1
-          (laws.looks.grows_more boots.0.asked r.mid.device new.device (boots_grow boots.0) grown_issuing)
-          m stands steps backed)
-          (λ absent. absurd (subst (λ (f : Found). ShowsDisk (state_of f)) (sym after.1 ∙ absent.0) shows_found))
-          after.2
-        where
-          after : IsFoundAfter (wanted_of old.wanted port.0) port Lost a.was (next.Restart token) a.device r.mid.device a.found
-          after = subst (λ (l : Look). IsFoundAfter (wanted_of old.wanted port.0) port l a.was (next.Restart token) a.device r.mid.device a.found) lost
-              (subst (λ (n : Next). IsFoundAfter (wanted_of old.wanted port.0) port x.look a.was n a.device r.mid.device a.found) is a.is)
+    -- where no command had failed, the port was booted
+    had_stopped : x.trouble ≢ Failed → ShowsDisk (state_of a.found) → Had
+    had_stopped other shows = by x.result.next refl
+      where
+        by : (n : Next) → x.result.next ≡ n → Had
+        by (next.Running token) is = absurd ((given_up x.trouble port x.outstanding x.queued x.result x.mends.accesses a.mid.device a.device x.tells other).1 token is)
+        by next.Dead is = absurd (subst (λ (f : Found). ShowsDisk (state_of f)) (next_dead laws port replies old new k ready r looks kept is) shows)
+        by (next.Restart token) is = ⊎_elim
+            (λ boots. had_booted after.0 boots (subst (λ (f : Found). ShowsDisk (state_of f)) (sym after.1) shows))
+            (λ absent. absurd (subst (λ (f : Found). ShowsDisk (state_of f)) (sym after.1 ∙ absent.is) shows))
+            (boots_or_absent x.trouble (wanted_of old.wanted port.0) port after.0 a.device r.mid.device after.2)
+          where
+            after : IsFoundAfter (wanted_of old.wanted port.0) port x.trouble a.was (next.Restart token) a.device r.mid.device a.found
+            after = subst (λ (n : Next). IsFoundAfter (wanted_of old.wanted port.0) port x.trouble a.was n a.device r.mid.device a.found) is a.is
+
+    had : HadDisk (moment_of old m) steps (moment_of new (after m steps)) port
+    had shows = by x.trouble refl x.finds
+      where
+        shows_found : ShowsDisk (state_of a.found)
+        shows_found = subst ShowsDisk (state_new laws port replies old new k ready r looks kept) shows
+
+        by : (trouble : Trouble) → x.trouble ≡ trouble → IsFoundOut port trouble old.device x.seen → Had
+        by Failed is l = had_seen look.Failed l (inl refl)
+        by Broken is l = had_seen look.Broken l (inr refl)
+        by Lost is l = had_stopped (λ failed. let z : Lost ≡ Failed = sym is ∙ failed in cc) shows_found
+        by Hung is same = had_stopped (λ failed. let z : Hung ≡ Failed = sym is ∙ failed in cc) shows_found
 
   -- ---- all of it
 

@@ -1,4 +1,4 @@
--- What a look that tells of an error says of the port when the turn began.
+-- What trouble leads to, and what a look that tells of it says of the port when the turn began.
 use Rattle.std.proofs.Common.{ℕ, Bool, ◌≡◌, ◌≢◌, ◌%◌, ◌⊎◌, ◌≤◌, ◌++◌, ◌||◌, true, false, List, [], ◌∷◌, append_assoc, inl, inr, refl, sym, ap, ◌∙◌, subst, arith, ⊎_elim}
 use Rattle.std.specs.List.{All, Contains}
 use Rattle.std.proofs.lemmas.Bool.{cases_Bool, cases_eq, false≢true, or_cases}
@@ -25,9 +25,11 @@ use Rattle.error_recovery.specs.declared.Recovered.{Recovered}
 use Rattle.port_boot.specs.States.{RunsOn}
 use Rattle.port_look.specs.Looks.{LooksAt, look_of}
 use Rattle.port_look.specs.declared.Look.{Look}
-use Rattle.port_look.specs.declared.Look.TheVariants.{Broken, Failed, Lost, Undisturbed}
+use Rattle.port_look.specs.declared.Look.TheVariants.{Broken, Failed, Lost}
 use Rattle.server_history.specs.Below.{LawsBelow}
-use Rattle.server_history.specs.Mended.{EndsGivenUp, LeadsToMending, TellsMending}
+use Rattle.server_history.specs.Mended.{EndsGivenUp, TellsMending}
+use Rattle.server_history.specs.declared.Trouble.{Trouble}
+use Rattle.server_history.specs.declared.Trouble.TheVariants as kinds
 use Rattle.server_history.proofs.Told.{fatal_shows}
 use Rattle.server_history.proofs.Lists.{first_here}
 
@@ -81,28 +83,23 @@ gains_more Such old mid new grows g = record {
   is = g.is;
 }
 
--- ---- what the look saw
-
-pub leads : (look : Look) (port : Port) (outstanding : ℕ) (queued : Bool) (result : Recovered) (accesses : List Access) (old new : Device)
-    → TellsMending look port outstanding queued result accesses old new → LeadsToMending look
-leads Failed port outstanding queued result accesses old new t = inl refl
-leads Broken port outstanding queued result accesses old new t = inr (inl refl)
-leads Lost port outstanding queued result accesses old new t = inr (inr refl)
-leads Undisturbed port outstanding queued result accesses old new t = absurd t
+-- ---- kinds of trouble
 
 -- no command is named, and the port doesn't run, unless a command had failed
-pub given_up : (look : Look) (port : Port) (outstanding : ℕ) (queued : Bool) (result : Recovered) (accesses : List Access) (old new : Device)
-    → TellsMending look port outstanding queued result accesses old new → look ≢ Failed → EndsGivenUp result
-given_up Failed port outstanding queued result accesses old new t other = absurd (other refl)
-given_up Broken port outstanding queued result accesses old new t other = t
-given_up Lost port outstanding queued result accesses old new t other = t
-given_up Undisturbed port outstanding queued result accesses old new t other = absurd t
+pub given_up : (trouble : Trouble) (port : Port) (outstanding : ℕ) (queued : Bool) (result : Recovered) (accesses : List Access) (old new : Device)
+    → TellsMending trouble port outstanding queued result accesses old new → trouble ≢ kinds.Failed → EndsGivenUp result
+given_up kinds.Failed port outstanding queued result accesses old new t other = absurd (other refl)
+given_up kinds.Broken port outstanding queued result accesses old new t other = t
+given_up kinds.Lost port outstanding queued result accesses old new t other = t
+given_up kinds.Hung port outstanding queued result accesses old new t other = t
 
-pub lost_or_not : (look : Look) → (look ≡ Lost) ⊎ (look ≢ Lost)
-lost_or_not Lost = inl refl
-lost_or_not Failed = inr (λ e. let z : Failed ≡ Lost = e in absurd cc)
-lost_or_not Broken = inr (λ e. let z : Broken ≡ Lost = e in absurd cc)
-lost_or_not Undisturbed = inr (λ e. let z : Undisturbed ≡ Lost = e in absurd cc)
+pub lost_or_not : (trouble : Trouble) → (trouble ≡ kinds.Lost) ⊎ (trouble ≢ kinds.Lost)
+lost_or_not kinds.Lost = inl refl
+lost_or_not kinds.Failed = inr (λ e. let z : kinds.Failed ≡ kinds.Lost = e in absurd cc)
+lost_or_not kinds.Broken = inr (λ e. let z : kinds.Broken ≡ kinds.Lost = e in absurd cc)
+lost_or_not kinds.Hung = inr (λ e. let z : kinds.Hung ≡ kinds.Lost = e in absurd cc)
+
+-- ---- what a look saw
 
 module _ (laws : LawsBelow) (port : Port) (look : Look) (old seen : Device) (l : LooksAt port look old seen) (on : IsOn old) where
   its : (told : Look) → look ≡ told → look_of l.causes l.status ≡ told

@@ -29,9 +29,9 @@ use Rattle.error_recovery.specs.Recovery.{MayRecover, Rests, TellsRecovery}
 use Rattle.error_recovery.specs.declared.Next.{Next}
 use Rattle.error_recovery.specs.declared.Next.TheVariants as next
 use Rattle.host_boot.specs.Taken.{found_of}
-use Rattle.port_look.specs.Looks.{IsLooking, LooksAt}
-use Rattle.port_look.specs.declared.Look.{Look}
-use Rattle.port_look.specs.declared.Look.TheVariants.{Failed as Fails}
+use Rattle.port_look.specs.Looks.{IsLooking}
+use Rattle.server_history.specs.declared.Trouble.{Trouble}
+use Rattle.server_history.specs.declared.Trouble.TheVariants.{Failed as Fails}
 use Rattle.request_queue.specs.Entries.{Held, is_of}
 use Rattle.request_queue.specs.Fates.{Holdings, MeetFates, MeetsFate, fate_of, fate_on, reply_to}
 use Rattle.request_queue.specs.declared.Entry.{Entry}
@@ -41,7 +41,7 @@ use Rattle.request_queue.specs.declared.fate.Fate.TheVariants.{Ends}
 use Rattle.request_queue.specs.declared.fate.Prospect.{Prospect}
 use Rattle.slots.specs.declared.Use.{Use as SlotUse}
 use Rattle.server_history.specs.Below.{LawsBelow}
-use Rattle.server_history.specs.Mended.{IsFailed, IsMended, HasMetFates, MendsPort, holdings_of, requests_of, TellsMending}
+use Rattle.server_history.specs.Mended.{IsFailed, IsFoundOut, IsMended, HasMetFates, MendsPort, holdings_of, requests_of, TellsMending}
 use Rattle.server_history.specs.Served.{AnswersEach, is_used}
 use Rattle.server_history.specs.Server.{Server, IsKept, IsMachineOf, ports_of, slots_at, state_of, used_for}
 use Rattle.server_history.specs.Turns.{IsOfTurn}
@@ -135,15 +135,15 @@ module _ (laws : LawsBelow) (port : Port) (replies : List Reply) (old new : Serv
       sym w.request ∙ ap (λ (y : Pending). y.request) one
 
   -- the port's last fault was of a slot that is in use still
-  module _ (failing : x.look ≡ Fails) (slot : ℕ) (used : SlotUse) (its : used_for old.slots port.0 slot ≡ Some used) (plain : used.queued ≡ false) where
+  module _ (failing : x.trouble ≡ Fails) (slot : ℕ) (used : SlotUse) (its : used_for old.slots port.0 slot ≡ Some used) (plain : used.queued ≡ false) where
     healed : TellsRecovery port x.outstanding x.queued x.result x.mends.accesses a.mid.device a.device
-    healed = subst (λ (l : Look). TellsMending l port x.outstanding x.queued x.result x.mends.accesses a.mid.device a.device) failing x.tells
+    healed = subst (λ (t : Trouble). TellsMending t port x.outstanding x.queued x.result x.mends.accesses a.mid.device a.device) failing x.tells
 
     is_zero : slot ≡ 0
     is_zero = (k.alone port.0 slot used its plain).0
 
     fault : ShowsFault (drop (x.found.port port.0).notes.st_set_at x.found.tape) (x.found.port port.0) port.0
-    fault = let may : MayRecover port.0 x.found = may_recover laws old x.seen x.found port x.mask x.done k ready (subst (λ (l : Look). LooksAt port l old.device x.seen) failing x.looks) looks x.reads in may.recorded.fault may.halted
+    fault = let may : MayRecover port.0 x.found = may_recover laws old x.seen x.found port x.mask x.done k ready (subst (λ (t : Trouble). IsFoundOut port t old.device x.seen) failing x.finds) looks x.reads in may.recorded.fault may.halted
 
     unused_free : (other : ℕ) → other ≢ 0 → IsFree (x.found.port port.0) other
     unused_free other ne = subst (λ (u : Use). IsServed from_kept.machine x.found.memory x.found.tape (x.found.port port.0) port.0 other u)
@@ -220,7 +220,7 @@ module _ (laws : LawsBelow) (port : Port) (replies : List Reply) (old new : Serv
           by next.Dead same = inr (state_new laws port replies old new k ready r looks kept ∙ ap state_of (next_dead laws port replies old new k ready r looks kept same))
 
   -- a plain request that is outstanding is told its fault
-  pub faulting : x.look ≡ Fails → (e : Pending) (slot : ℕ) → IsIssuedOn port m e → e.ended ≡ false → (s : ServesRequest m old.device.memory (old.device.port port.0) port.0 slot e.request.id) → is_queued s.command.operation ≡ false
+  pub faulting : x.trouble ≡ Fails → (e : Pending) (slot : ℕ) → IsIssuedOn port m e → e.ended ≡ false → (s : ServesRequest m old.device.memory (old.device.port port.0) port.0 slot e.request.id) → is_queued s.command.operation ≡ false
       → IsAnsweredFaulty e d.steps ⊎ ((ports_of new).state port ≡ DeadState)
   faulting failing e slot own unended says plain = ⊎_elim
       (λ (same : slot ≡ h.slot). faulty failing h.slot h.used h.used_is (its_kind same) e own.here h.id_is)

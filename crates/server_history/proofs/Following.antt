@@ -59,7 +59,7 @@ use Rattle.server_history.proofs.Settling.{AreAnswered, answers_kept, answers_se
 use Rattle.server_history.proofs.Slots.{AreOver, not_dead, ready_found, served_request}
 use Rattle.server_history.proofs.Zips.{at_left}
 use Rattle.server_history.proofs.Lists.{nowhere}
-use Rattle.port_look.specs.declared.Look.{Look}
+use Rattle.server_history.specs.declared.Trouble.{Trouble}
 
 -- ---- lists
 
@@ -113,14 +113,14 @@ fates_owners fate (request ∷ requests) replies old new (mid, its, later, split
 -- ---- the port's requests meet their fates
 
 -- a dead port has no other prospect
-pub dead_end : (told : Look) (was : DiskInfo) (found : Found) (prospect : Prospect) → IsProspect told was found prospect → found ≡ Unready Dead → prospect ≡ NoEnd
-dead_end told was found SameDisk (_, (info, is, same)) dead = let z : Ready info ≡ Unready Dead = sym is ∙ dead in absurd cc
-dead_end told was found DiskLost x dead = absurd (x.0 dead)
-dead_end told was found NoEnd x dead = refl
+pub dead_end : (trouble : Trouble) (was : DiskInfo) (found : Found) (prospect : Prospect) → IsProspect trouble was found prospect → found ≡ Unready Dead → prospect ≡ NoEnd
+dead_end trouble was found SameDisk (_, (info, is, same)) dead = let z : Ready info ≡ Unready Dead = sym is ∙ dead in absurd cc
+dead_end trouble was found DiskLost x dead = absurd (x.0 dead)
+dead_end trouble was found NoEnd x dead = refl
 
 module _ (laws : LawsBelow) (port : Port) (mid : Server) (k : IsKept mid) (ready : state_of (found_of mid.ports port.0) ≡ ReadyState) (n : Machine) (reached : IsReached n) (is : IsMachineOf mid n)
     (way : Next) (found : Found) (device : Device) (passed : IsPassed port.0 way found mid.device device (record { uses = is.uses; parked = is.parked }) n)
-    (failed : Option Failed) (prospect : Prospect) (told : Look) (was : DiskInfo) (expects : IsProspect told was found prospect) (unnamed : way ≡ Stuck → (found ≡ Unready Dead) × (failed ≡ None)) where
+    (failed : Option Failed) (prospect : Prospect) (trouble : Trouble) (was : DiskInfo) (expects : IsProspect trouble was found prospect) (unnamed : way ≡ Stuck → (found ≡ Unready Dead) × (failed ≡ None)) where
   abbrev t : InSlots
   t = passed.slots
 
@@ -173,7 +173,7 @@ module _ (laws : LawsBelow) (port : Port) (mid : Server) (k : IsKept mid) (ready
       of Stuck z issued =
           let u = unnamed z in
           let keeps : keeps_fate (fate e.entry) e.entry ≡ true =
-          ap (λ (f : Option Failed). keeps_fate (fate_of f prospect e.entry) e.entry) u.1 ∙ ap (λ (p : Prospect). keeps_fate (fate_on p e.entry) e.entry) (dead_end told was found prospect expects u.0) ∙ issued in
+          ap (λ (f : Option Failed). keeps_fate (fate_of f prospect e.entry) e.entry) u.1 ∙ ap (λ (p : Prospect). keeps_fate (fate_on p e.entry) e.entry) (dead_end trouble was found prospect expects u.0) ∙ issued in
           absurd (false≢true (sym never ∙ keeps))
 
       by : (b : Bool) → e.entry.issued ≡ b → HasNoSlot t.uses e.entry.id
@@ -226,11 +226,11 @@ module _ (laws : LawsBelow) (port : Port) (mid : Server) (k : IsKept mid) (ready
         by : (p : Prospect) → prospect ≡ p → found ≡ Unready Dead
         by SameDisk same = absurd (lives (λ dead. let y : SameDisk ≡ NoEnd = sym same ∙ dead in absurd cc))
         by DiskLost same = absurd (lives (λ dead. let y : DiskLost ≡ NoEnd = sym same ∙ dead in absurd cc))
-        by NoEnd same = subst (IsProspect told was found) same expects
+        by NoEnd same = subst (IsProspect trouble was found) same expects
 
     -- on another port nothing is decided
     quiet : found ≢ Unready Dead → (e : Entry) → keeps_fate (fate e) e ≡ false
-    quiet other e = (tame failed prospect e).alive (λ dead. other (subst (IsProspect told was found) dead expects))
+    quiet other e = (tame failed prospect e).alive (λ dead. other (subst (IsProspect trouble was found) dead expects))
 
     module _ (mode : Mode) (slots : PortSlots) (unused : AreUnused mode slots) where
       abbrev new : Server
@@ -368,7 +368,7 @@ module _ (laws : LawsBelow) (port : Port) (later : List Reply) (old new : Server
   -- nobody is named on a port whose engine is stuck
   pub unnamed : a.mended.result.next ≡ Stuck → (a.found ≡ Unready Dead) × (a.failed ≡ None)
   unnamed stuck = (
-    (subst (λ (way : Next). IsFoundAfter (wanted_of old.wanted port.0) port a.mended.look a.was way a.device new.device a.found) stuck a.is).0,
+    (subst (λ (way : Next). IsFoundAfter (wanted_of old.wanted port.0) port a.mended.trouble a.was way a.device new.device a.found) stuck a.is).0,
     subst (λ (its : Option _). IsFailed (slots_at a.mid.slots port.0) its a.failed) (a.mended.mends.tells.dead stuck) a.names,
   )
 
@@ -387,7 +387,7 @@ module _ (laws : LawsBelow) (port : Port) (later : List Reply) (old new : Server
         (laws.backed_parts old.device a.mid.device new.device m base p.passes.steps base_backed p.passes.backed) (subst (λ (s : Machine). IsBacked new.device new.device s f.steps) (sym then_is) (f.backed new.device));
     stands = subst (IsMachineOf new) (sym (laws.basic.joined m f.steps (p.passes.steps ++ base) ∙ ap (λ (s : Machine). after s f.steps) then_is))
         (subst (λ (s : Server). IsMachineOf s (after (after n p.passes.steps) f.steps)) (sym a.server)
-        (stands laws port a.mid mid_kept mid_ready n n_reached is_mid a.mended.result.next a.found new.device p a.failed a.prospect a.mended.look a.was a.expects unnamed later a.now a.meets a.mode a.slots a.unused));
+        (stands laws port a.mid mid_kept mid_ready n n_reached is_mid a.mended.result.next a.found new.device p a.failed a.prospect a.mended.trouble a.was a.expects unnamed later a.now a.meets a.mode a.slots a.unused));
     own = f.own;
     answered = f.answered;
     again = f.again;
@@ -435,11 +435,11 @@ module _ (laws : LawsBelow) (port : Port) (later : List Reply) (old new : Server
       is_mid = subst (IsMachineOf a.mid) (sym (laws.basic.joined m (answers_in y.ended) x.0)) y.stands
 
       p : IsPassed port.0 a.mended.result.next a.found a.mid.device new.device (record { uses = is_mid.uses; parked = is_mid.parked }) n
-      p = passed laws (wanted_of old.wanted port.0) port a.mended.look a.was a.mended.result.next a.mended.mends.accesses a.mid.device a.device new.device a.found a.mended.mends.does.slots a.is
+      p = passed laws (wanted_of old.wanted port.0) port a.mended.trouble a.was a.mended.result.next a.mended.mends.accesses a.mid.device a.device new.device a.found a.mended.mends.does.slots a.is
           (record { uses = is_mid.uses; parked = is_mid.parked }) n n_reached is_mid.knows
 
       f : MeetsInMachine port (fate_of a.failed a.prospect) (requests_of port a.mid.book) later (holdings_of port a.mid) a.now (at_slots p.slots new.device) (after n p.passes.steps)
-      f = met laws port a.mid mid_kept mid_ready n n_reached is_mid a.mended.result.next a.found new.device p a.failed a.prospect a.mended.look a.was a.expects unnamed later a.now a.meets
+      f = met laws port a.mid mid_kept mid_ready n n_reached is_mid a.mended.result.next a.found new.device p a.failed a.prospect a.mended.trouble a.was a.expects unnamed later a.now a.meets
 
       then_is : after m (p.passes.steps ++ base) ≡ after n p.passes.steps
       then_is = laws.basic.joined m p.passes.steps base

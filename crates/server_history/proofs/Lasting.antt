@@ -116,8 +116,8 @@ module _ (laws : LawsBelow) (port : Port) (replies : List Reply) (old new : Serv
 
   -- a port that runs again
   module _ (token : _) (is : x.result.next ≡ next.Running token) where
-    again_is : IsFoundAfter (wanted_of old.wanted port.0) port x.look a.was (next.Running token) a.device r.mid.device a.found
-    again_is = subst (λ (n : Next). IsFoundAfter (wanted_of old.wanted port.0) port x.look a.was n a.device r.mid.device a.found) is a.is
+    again_is : IsFoundAfter (wanted_of old.wanted port.0) port x.trouble a.was (next.Running token) a.device r.mid.device a.found
+    again_is = subst (λ (n : Next). IsFoundAfter (wanted_of old.wanted port.0) port x.trouble a.was n a.device r.mid.device a.found) is a.is
 
     pub again : RunsAgain x.queued port.0 a.mid.device a.device
     again = (subst (λ (n : Next). EndsIn x.queued port n a.mid.device a.device) is x.mends.leaves.ends).1
@@ -136,14 +136,14 @@ module _ (laws : LawsBelow) (port : Port) (replies : List Reply) (old new : Serv
 
     pub again_booted : (booted : Booted) × (booted.found ≡ a.found) × BootsAgain (wanted_of old.wanted port.0) port booted a.device r.mid.device
     again_booted =
-        let after : IsFoundAfter (wanted_of old.wanted port.0) port x.look a.was (next.Restart token) a.device r.mid.device a.found =
-        subst (λ (n : Next). IsFoundAfter (wanted_of old.wanted port.0) port x.look a.was n a.device r.mid.device a.found) is a.is in (
+        let after : IsFoundAfter (wanted_of old.wanted port.0) port x.trouble a.was (next.Restart token) a.device r.mid.device a.found =
+        subst (λ (n : Next). IsFoundAfter (wanted_of old.wanted port.0) port x.trouble a.was n a.device r.mid.device a.found) is a.is in (
           after.0,
           after.1,
           ⊎_elim
               (λ (boots : BootsAgain (wanted_of old.wanted port.0) port after.0 a.device r.mid.device). boots)
               (λ absent. let z : Unready AbsentState ≡ Ready info.0 = sym absent.is ∙ after.1 ∙ info.1 in absurd cc)
-              (boots_or_absent x.look (wanted_of old.wanted port.0) port after.0 a.device r.mid.device after.2),
+              (boots_or_absent x.trouble (wanted_of old.wanted port.0) port after.0 a.device r.mid.device after.2),
         )
 
     abbrev pub asked : Device

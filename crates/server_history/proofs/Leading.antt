@@ -36,7 +36,7 @@ use Rattle.port_boot.specs.States.{IsBoot, IsBootTo, IsOfBoot, StopsOnWay}
 use Rattle.port_control.specs.Engines.{Sticks}
 use Rattle.server_history.specs.Below.{LawsBelow}
 use Rattle.server_history.specs.Mended.{IsFoundAfter}
-use Rattle.port_look.specs.declared.Look.{Look}
+use Rattle.server_history.specs.declared.Trouble.{Trouble}
 use Rattle.server_history.proofs.Starting.{IsFoundAbsent, boots_or_absent}
 
 -- ---- steps of the device
@@ -173,22 +173,22 @@ module _ (laws : LawsBelow) (wanted : Wanted) (port : Port) (old mid new : Devic
         by Foreign boots = plainly (StopsOnWay port Foreign) boots Foreign
         by (Unfit cause) boots = plainly (StopsOnWay port (Unfit cause)) boots (Unfit cause)
 
-pub passed : LawsBelow → (wanted : Wanted) (port : Port) (told : Look) (was : DiskInfo) (way : Next) (accesses : List Access) (old mid new : Device) (found : Found) → LeavesSlots port.0 way accesses old mid → IsFoundAfter wanted port told was way mid new found
+pub passed : LawsBelow → (wanted : Wanted) (port : Port) (trouble : Trouble) (was : DiskInfo) (way : Next) (accesses : List Access) (old mid new : Device) (found : Found) → LeavesSlots port.0 way accesses old mid → IsFoundAfter wanted port trouble was way mid new found
     → (s : InSlots) (m : Machine) → IsReached m → Knows m (at s old) → IsPassed port.0 way found old new s m
-passed laws wanted port told was (Running token) accesses old mid new found performs (is, same) s m reached knows = record {
+passed laws wanted port trouble was (Running token) accesses old mid new found performs (is, same) s m reached knows = record {
   slots = given_up port.0 s;
   left = left_given laws port.0 s old (Running token) found;
   passes = subst (λ (d : Device). Passes (at s old) (at (given_up port.0 s) d) m) (sym same) (passes_performs laws accesses (given_up port.0) old mid performs s m reached knows);
 }
-passed laws wanted port told was (Restart token) accesses old mid new found performs (its, is, again) s m reached knows =
+passed laws wanted port trouble was (Restart token) accesses old mid new found performs (its, is, again) s m reached knows =
     subst (λ (f : Found). IsPassed port.0 (Restart token) f old new s m) is (⊎_elim
     (λ (b : BootsAgain wanted port its mid new). booted laws wanted port old b.asked new s m reached knows (started b.asked b.asks) (Restart token) its.found b.boots)
-    (λ (absent : IsFoundAbsent wanted port its.found mid new). record {
+    (λ (absent : IsFoundAbsent wanted port trouble its.found mid new). record {
       slots = given_up port.0 s;
       left = left_given laws port.0 s old (Restart token) its.found;
       passes = started new absent.starts;
     })
-    (boots_or_absent told wanted port its mid new again))
+    (boots_or_absent trouble wanted port its mid new again))
   where
     x : Passes (at s old) (at (given_up port.0 s) mid) m
     x = passes_performs laws accesses (given_up port.0) old mid performs s m reached knows
@@ -197,17 +197,17 @@ passed laws wanted port told was (Restart token) accesses old mid new found perf
     started d asks =
         passes_then laws (at s old) (at (given_up port.0 s) mid) (at (given_up port.0 s) d) m x
         (passes_followed (IsOfStart port) (λ uses. AllFree uses port.0) (λ uses. uses) mid d asks (given_up port.0 s) (after m x.steps) (free_then laws port.0 s old) (laws.basic.reached m x.steps reached x.may) x.knows)
-passed laws wanted port told was Stuck accesses old mid new found (inl performs) (is, same) s m reached knows = record {
+passed laws wanted port trouble was Stuck accesses old mid new found (inl performs) (is, same) s m reached knows = record {
   slots = s;
   left = left_stuck laws port.0 s old found is;
   passes = subst (λ (d : Device). Passes (at s old) (at s d) m) (sym same) (passes_performs laws accesses (λ s. s) old mid performs s m reached knows);
 }
-passed laws wanted port told was Stuck accesses old mid new found (inr (inl performs)) (is, same) s m reached knows = record {
+passed laws wanted port trouble was Stuck accesses old mid new found (inr (inl performs)) (is, same) s m reached knows = record {
   slots = given_up port.0 s;
   left = left_given laws port.0 s old Stuck found;
   passes = subst (λ (d : Device). Passes (at s old) (at (given_up port.0 s) d) m) (sym same) (passes_performs laws accesses (given_up port.0) old mid performs s m reached knows);
 }
-passed laws wanted port told was Stuck accesses old mid new found (inr (inr performs)) (is, same) s m reached knows = record {
+passed laws wanted port trouble was Stuck accesses old mid new found (inr (inr performs)) (is, same) s m reached knows = record {
   slots = with_own port.0 ReadLog (given_up port.0 s);
   left = left_own laws port.0 s old Stuck found ReadLog is;
   passes = subst (λ (d : Device). Passes (at s old) (at (with_own port.0 ReadLog (given_up port.0 s)) d) m) (sym same)

@@ -41,6 +41,13 @@ pub mod Progress
 pub mod Clear
 pub mod Masked
 pub mod Lifting
+pub mod Plans
+pub mod Ties
+pub mod Owing
+pub mod Staying
+pub mod Restarting
+pub mod Ageing
+pub mod Ticked
 pub mod Carrying
 pub mod Services
 pub mod Origins
@@ -74,3 +81,5 @@ pub mod Binding
 pub mod Lists
 pub mod Starting
 pub mod Seen
+pub mod Named
+pub mod Sighted

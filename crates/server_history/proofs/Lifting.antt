@@ -1,12 +1,12 @@
--- What a port's turn has done of it, the service has done so far.
-use Rattle.std.proofs.Common.{ℕ, ◌≡◌, ◌≢◌, ◌⊎◌, ◌<◌, ◌≤◌, true, false, List, [], ◌∷◌, ◌++◌, Some, None, length, drop, refl, sym, ap, ◌∙◌, subst, inl, inr, ⊎_elim, arith, append_assoc, append-nil}
+-- What a port's turn has found and answered, the call has so far.
+use Rattle.std.proofs.Common.{ℕ, ◌≡◌, ◌≢◌, ◌<◌, ◌≤◌, true, false, List, [], ◌∷◌, ◌++◌, Some, None, length, refl, sym, ap, ◌∙◌, subst, inl, inr, ⊎_elim, arith, append_assoc, append-nil}
 use Rattle.std.specs.List.{Contains, count_by, list_any}
 use Rattle.std.specs.Prelude.{◌↔◌}
-use Rattle.std.proofs.lemmas.Bool.{cases_Bool, cases_eq, false≢true, ne_eqb, or_from, or_left, or_right}
+use Rattle.std.proofs.lemmas.Bool.{cases_eq, false≢true, ne_eqb, or_from, or_left, or_right}
 use Rattle.std.proofs.lemmas.List.Elements.{All-append, All-contains_itself, All-head, All-nil, All-weaker, Contains-append_cases, Contains-append_left, Contains-append_right}
 use Rattle.ata_types.specs.declared.Port.{Port}
 use Rattle.ata_types.specs.declared.PortState.{PortState}
-use Rattle.ata_types.specs.declared.PortState.TheVariants.{Absent, Dead, Foreign, Ready as ReadyState, Unfit}
+use Rattle.ata_types.specs.declared.PortState.TheVariants.{Dead, Ready as ReadyState}
 use Rattle.ata_types.specs.declared.request.Outcome.{Outcome}
 use Rattle.ata_types.specs.declared.request.Outcome.TheVariants.{DeviceError, Ok}
 use Rattle.ata_types.specs.declared.request.Reply.{Reply}
@@ -16,40 +16,36 @@ use Rattle.hba_regs.specs.declared.reg.Reg.TheVariants.{Ghc, Px}
 use Rattle.hba_regs.specs.declared.reg.PortReg.TheVariants.{Ci, Sact}
 use Rattle.adapter.specs.Access.{Access}
 use Rattle.adapter.specs.Access.Access.{Reading}
-use Rattle.adapter.specs.Commands.{Meaning, is_queued}
 use Rattle.adapter.specs.Device.{Device}
-use Rattle.adapter.specs.Rules.{InUse, IsOn}
+use Rattle.adapter.specs.Rules.{IsOn}
 use Rattle.agreement.specs.Agrees.{port_at}
 use Rattle.agreement.specs.Driven.{IsOf}
-use Rattle.agreement.specs.Facts.{HasFaults, ShowsFault}
 use Rattle.agreement.specs.Links.{SparesRegister}
 use Rattle.agreement.specs.Slots.{IsFree, IsServed, Serves, ServesRequest, Stage, Use}
-use Rattle.agreement.proofs.Finding.{ended_is_clear}
-use Rattle.block_machine.specs.Events.{AreTold, IsLeftAlone, Moment, Served, Service, ServesReady, changes_disk, tells_fault}
+use Rattle.block_machine.specs.Events.{AnswersEnded, HadDisk, Moment, NoneKeepsIssue, changes_disk, tells_fault}
 use Rattle.block_machine.specs.Histories.{Instant, IsReached}
 use Rattle.block_machine.specs.Left.{after}
 use Rattle.block_machine.specs.Ports.{Evidence, IsInterrupted, Ports, SamePort}
 use Rattle.block_machine.specs.State.{Pending, Machine}
-use Rattle.block_machine.specs.Steps.{Step, Answer}
+use Rattle.block_machine.specs.Steps.{Step, Again, Answer}
 use Rattle.block_machine.proofs.Calm.{counts_none}
-use Rattle.block_machine.proofs.Counting.{count_append}
 use Rattle.host_boot.specs.Taken.{found_of}
 use Rattle.driver_history.specs.Evidence.{ShowsFailure}
 use Rattle.driver_history.specs.Guard.{IsAskedOf}
-use Rattle.driver_history.specs.Histories.{BootsAnew, FindsDone, HasBadDisk, HasFaultAlone, IsAnsweredFaulty, IsAnsweredOk, IsIssuedOn, RunsWellAnew, TiesPort}
+use Rattle.driver_history.specs.Histories.{FindsDone, IsAnsweredOk, IsIssuedOn, RunsWellAnew}
 use Rattle.driver_history.specs.Parts.{HasTurnIn, IsOfOther, NamesAlike}
 use Rattle.driver_history.specs.Trace.{LeavesCommand, LeavesEngine}
 use Rattle.server_history.specs.Below.{LawsBelow}
-use Rattle.server_history.specs.Turns.{FindsTurn, HasPart, MakesTurn, instant_of, moment_of, turn_of}
-use Rattle.server_history.specs.Server.{HasCommand, Server, IsKept, IsMachineOf, IsSettled, ports_of, state_of, used_for}
-use Rattle.server_history.proofs.Joined.{same_then}
+use Rattle.server_history.specs.Turns.{FindsTurn, HasPart, HeedsTrouble, MakesTurn, instant_of, moment_of}
+use Rattle.server_history.proofs.Plans.{Plan, not_reset, turn_at}
+use Rattle.server_history.specs.Server.{Server, IsKept, IsMachineOf, IsSettled, ports_of, state_of, used_for}
 use Rattle.server_history.proofs.Origins.{IsSame}
 use Rattle.server_history.proofs.Progress.{others_leave}
 use Rattle.server_history.proofs.Progress as progress
 use Rattle.server_history.proofs.Rounds.{any_append, issued_late}
 use Rattle.server_history.proofs.Said.{one_said}
 use Rattle.server_history.proofs.Slots.{HasSlot, IsServedBy, free_unused, issued_has, ready_found, served_request, serves_used, still_booked, used_or_not}
-use Rattle.server_history.proofs.Turns.{answered_of, present_before}
+use Rattle.server_history.proofs.Turns.{again_of, answered_of, present_before}
 use Rattle.slots.specs.declared.Use.{Use as SlotUse}
 use Rattle.slots.specs.Uses.{Uses as PortSlots, use_at}
 
@@ -65,7 +61,7 @@ none_told q (step ∷ steps) apart = none_told q steps (λ y o here. apart y o (
 pub counts_apart : (q : Port) (steps : List Step) → ((e : Pending) (o : Outcome) → Contains steps (Answer e o) → e.request.port ≢ q) → count_by (tells_fault q) steps ≡ 0
 counts_apart q steps apart = counts_none (tells_fault q) q (λ step t. t) steps (none_told q steps apart)
 
-module _ (laws : LawsBelow) (s : Server) (start : IsSettled s) (old : Moment) (reached : IsReached old.machine) (at : IsMachineOf s old.machine) (ports_are : old.ports ≡ ports_of s) where
+module _ (plan : Plan) (laws : LawsBelow) (s : Server) (start : IsSettled s) (old : Moment) (reached : IsReached old.machine) (at : IsMachineOf s old.machine) (ports_are : old.ports ≡ ports_of s) where
   abbrev kept : IsKept s
   kept = start.kept
 
@@ -79,14 +75,14 @@ module _ (laws : LawsBelow) (s : Server) (start : IsSettled s) (old : Moment) (r
   HadTurn n q = (q.0 < n) × (state_at q.0 ≡ ReadyState)
 
   abbrev Progress : ℕ → Server → List Reply → Type 0
-  Progress n c replies = progress.Progress laws s start old reached at ports_are n c replies
+  Progress n c replies = progress.Progress plan laws s start old reached at ports_are n c replies
 
-  module _ (n : ℕ) (c mid : Server) (before its : List Reply) (ready : state_at n ≡ ReadyState) (p : Progress n c before) (next : IsSettled mid) (part : HasPart (port_at n) its c mid)
+  module _ (n : ℕ) (c mid : Server) (before its : List Reply) (ready : state_at n ≡ ReadyState) (p : Progress n c before) (next : IsSettled mid) (part : HasPart (turn_at plan n) (port_at n) its c mid)
       (m_reached : IsReached (after old.machine p.steps)) (on_mid : IsOn mid.device) where
     abbrev m : Machine
     m = after old.machine p.steps
 
-    abbrev x : MakesTurn (port_at n) its part.accesses c mid m
+    abbrev x : MakesTurn (turn_at plan n) (port_at n) its part.accesses c mid m
     x = part.makes m m_reached p.stands
 
     abbrev all : List Step
@@ -95,33 +91,39 @@ module _ (laws : LawsBelow) (s : Server) (start : IsSettled s) (old : Moment) (r
     abbrev accesses : List Access
     accesses = p.accesses ++ part.accesses
 
-    low : n < 4
+    pub low : n < 4
     low = (ready_found s n kept ready).0
 
-    not_yet : HadTurn n (port_at n) → ⊥
+    pub not_yet : HadTurn n (port_at n) → ⊥
     not_yet served = let lt = served.0 in omega (arith, lt)
 
-    ready_c : state_of (found_of c.ports n) ≡ ReadyState
+    pub ready_c : state_of (found_of c.ports n) ≡ ReadyState
     ready_c = ap state_of (p.found (port_at n) not_yet) ∙ ready
 
-    was_ready : old.ports.state (port_at n) ≡ ReadyState
+    pub was_ready : old.ports.state (port_at n) ≡ ReadyState
     was_ready = ap (λ (ports : Ports). ports.state (port_at n)) ports_are ∙ ready
 
-    whole_is : after old.machine all ≡ after m x.steps
+    pub whole_is : after old.machine all ≡ after m x.steps
     whole_is = laws.basic.joined old.machine x.steps p.steps
 
     same_ids : (a b d : Pending) → b.request.id ≡ a.request.id → b.request ≡ d.request → a.request.id.0 ≡ d.request.id.0
     same_ids a b d one other = ap (λ (i : RequestId). i.0) (sym one ∙ ap (λ r. r.id) other)
 
     -- so far, no answer is of the port
-    not_early : (e : Pending) (o : Outcome) → Contains p.steps (Answer e o) → e.request.port ≢ port_at n
+    pub not_early : (e : Pending) (o : Outcome) → Contains p.steps (Answer e o) → e.request.port ≢ port_at n
     not_early e o early own =
         let small = answered_of (λ q. q.0 < n) p.steps p.turns.below e o early in
         let is : e.request.port.0 ≡ n = ap (λ (q : Port). q.0) own in
         omega (arith, small, is)
 
+    pub not_again : (e : Pending) → Contains p.steps (Again e) → e.request.port ≢ port_at n
+    not_again e early own =
+        let small = again_of (λ q. q.0 < n) p.steps p.turns.below e early in
+        let is : e.request.port.0 ≡ n = ap (λ (q : Port). q.0) own in
+        omega (arith, small, is)
+
     -- the call so far, with the turn after it
-    abbrev t : HasTurnIn (port_at n) s.device mid.device
+    abbrev pub t : HasTurnIn (port_at n) s.device mid.device
     t = record {
       before = p.accesses;
       turn = part.accesses;
@@ -135,41 +137,41 @@ module _ (laws : LawsBelow) (s : Server) (start : IsSettled s) (old : Moment) (r
       others_later = All-nil (IsOfOther (port_at n));
     }
 
-    undue : (s.device.port n).link_due ≡ false
+    pub undue : (s.device.port n).link_due ≡ false
     undue = ((kept.behind n low).runs ready).recorded.linked
 
     -- ---- requests, when the call began and when the turn did
 
     -- a request that was issued on the port has a slot
-    record IsLeading (e : Pending) : Type 0 where
-      now_is : Pending
-      here : Contains m.book now_is
-      same_as : IsSame e now_is
-      issued_now : now_is.issued ≡ true
-      has : HasSlot c (port_at n) now_is.request.id
+    pub record IsLeading (e : Pending) : Type 0 where
+      pub now_is : Pending
+      pub here : Contains m.book now_is
+      pub same_as : IsSame e now_is
+      pub issued_now : now_is.issued ≡ true
+      pub has : HasSlot c (port_at n) now_is.request.id
 
-    leading : (e : Pending) → IsIssuedOn (port_at n) old.machine e → IsLeading e
+    pub leading : (e : Pending) → IsIssuedOn (port_at n) old.machine e → IsLeading e
     leading e own =
         let w = p.turns.further e own.here (let q = ap (λ (x : Port). x.0) own.port_is in omega (arith, q)) in
         let issued : w.0.issued ≡ true = w.2.issued ∙ own.issued in
         record { now_is = w.0; here = w.1; same_as = w.2; issued_now = issued; has = issued_has c m (port_at n) p.stands p.settled.kept ready_c w.0 w.1 (ap (λ r. r.port) w.2.request ∙ own.port_is) issued }
 
-    then_issued : (e : Pending) → IsIssuedOn (port_at n) old.machine e → (h : IsLeading e) → IsIssuedOn (port_at n) m h.now_is
+    pub then_issued : (e : Pending) → IsIssuedOn (port_at n) old.machine e → (h : IsLeading e) → IsIssuedOn (port_at n) m h.now_is
     then_issued e own h = record { here = h.here; port_is = ap (λ r. r.port) h.same_as.request ∙ own.port_is; issued = h.issued_now }
 
     -- one that had ended was issued
-    ended_on : (e : Pending) → Contains old.machine.book e → e.request.port ≡ port_at n → e.ended ≡ true → IsIssuedOn (port_at n) old.machine e
+    pub ended_on : (e : Pending) → Contains old.machine.book e → e.request.port ≡ port_at n → e.ended ≡ true → IsIssuedOn (port_at n) old.machine e
     ended_on e there own ended = record { here = there; port_is = own; issued = laws.basic.ended_issued old.machine e reached there ended }
 
     -- its slot serves it when the turn begins
-    slot_serves : (e : Pending) → (h : IsLeading e) → p.stands.uses n h.has.slot ≡ Serves h.now_is.request.id
+    pub slot_serves : (e : Pending) → (h : IsLeading e) → p.stands.uses n h.has.slot ≡ Serves h.now_is.request.id
     slot_serves e h = serves_used c m n p.stands ready_c h.has.slot h.has.used h.has.used_is ∙ ap Serves h.has.id_is
 
-    by : (e : Pending) → (h : IsLeading e) → IsServedBy c m n h.has.slot h.now_is.request.id
+    pub by : (e : Pending) → (h : IsLeading e) → IsServedBy c m n h.has.slot h.now_is.request.id
     by e h = served_request c m n h.has.slot p.stands ready_c h.now_is.request.id (slot_serves e h)
 
     -- the port's slots are what they were when the service began
-    used_then : (i : ℕ) → used_for c.slots n i ≡ used_for s.slots n i
+    pub used_then : (i : ℕ) → used_for c.slots n i ≡ used_for s.slots n i
     used_then i = ap (λ (slots : PortSlots). use_at slots i) (p.slots (port_at n) not_yet)
 
     -- bytes of another slot may say its command still: then it has ended, and that slot isn't used
@@ -188,7 +190,7 @@ module _ (laws : LawsBelow) (s : Server) (start : IsSettled s) (old : Moment) (r
           (λ none. none)
           (used_or_not (used_for s.slots n slot))
 
-      has_ended : e.ended ≡ true
+      pub has_ended : e.ended ≡ true
       has_ended = ap (λ (y : Pending). y.ended) (sym same) ∙ staged says.stage
         where
           free : IsFree (s.device.port n) slot
@@ -210,218 +212,102 @@ module _ (laws : LawsBelow) (s : Server) (start : IsSettled s) (old : Moment) (r
         (λ early. absurd (not_early a.0 Ok early (ap (λ r. r.port) a.1 ∙ own)))
         (Contains-append_cases x.steps p.steps (Answer a.0 Ok) a.2)
 
-    module _ (evidence : Evidence) (alike : NamesAlike (port_at n) x.evidence evidence) (same_n : SamePort old.ports (ports_of c) (port_at n)) (asked : IsAskedOf (port_at n) began mid.device) where
-      asked_now : IsAskedOf (port_at n) (instant_of c m) mid.device
-      asked_now = laws.calls.asked_then (port_at n) began (moment_of c m) mid.device kept.on undue t on_mid ready_c asked
+    -- ---- what is found done
 
-      abbrev did : TiesPort (instant_of c m) (turn_of its mid x.evidence x.steps) part.accesses (port_at n)
-      did = x.ties asked_now
+    module _ (f : FindsTurn (port_at n) part.accesses c m x.steps) (ended : AnswersEnded m x.steps (port_at n)) where
+      abbrev AreClear : ℕ → Type 0
+      AreClear slot = (bit f.done.ci slot ≡ false) × (bit f.done.sact slot ≡ false)
 
-      abbrev serves : ServesReady (moment_of c m) x.evidence x.steps (record { machine = after m x.steps; ports = ports_of mid }) (port_at n)
-      serves = did.heeds ready_c
+      module _ (other : Pending) (own : IsIssuedOn (port_at n) old.machine other) where
+        abbrev now : IsLeading other
+        now = leading other own
 
-      -- ---- what is found done
+        -- a request's slot tells whether it was answered
+        at_slot : IsAnsweredOk other all ↔ AreClear now.has.slot
+        at_slot =
+            let exact = f.done.exact now.now_is now.has.slot (then_issued other own now) (by other now).serves in (
+              (λ ok. exact.0 (ok.0, ok.1 ∙ sym now.same_as.request, answered_late other own.port_is ok)),
+              (λ clear. let ok = exact.1 clear in (ok.0, ok.1 ∙ now.same_as.request, Contains-append_left x.steps p.steps (Answer ok.0 Ok) ok.2)),
+            )
 
-      module _ (e : Pending) (leads : IsIssuedOn (port_at n) old.machine e) where
-        abbrev f : FindsTurn (port_at n) part.accesses c m x.steps
-        f = x.finds asked_now (leading e leads).now_is (then_issued e leads (leading e leads))
+        apart_too : (slot : ℕ) → slot ≢ now.has.slot → ServesRequest old.machine s.device.memory (s.device.port n) n slot other.request.id → IsAnsweredOk other all ↔ AreClear slot
+        apart_too slot apart says = (
+          (λ _. f.unused slot says.placed.slot_below (used_then slot ∙ unused other own slot apart says)),
+          (λ _.
+              let ok = ended now.now_is now.here (ap (λ r. r.port) now.same_as.request ∙ own.port_is) (now.same_as.ended (has_ended other own slot apart says)) in
+              (ok.0, ok.1 ∙ now.same_as.request, Contains-append_left x.steps p.steps (Answer ok.0 Ok) ok.2)),
+        )
 
-        abbrev AreClear : ℕ → Type 0
-        AreClear slot = (bit f.done.ci slot ≡ false) × (bit f.done.sact slot ≡ false)
-
-        module _ (other : Pending) (own : IsIssuedOn (port_at n) old.machine other) where
-          abbrev now : IsLeading other
-          now = leading other own
-
-          -- a request's slot tells whether it was answered
-          at_slot : IsAnsweredOk other all ↔ AreClear now.has.slot
-          at_slot =
-              let exact = f.done.exact now.now_is now.has.slot (then_issued other own now) (by other now).serves in (
-                (λ ok. exact.0 (ok.0, ok.1 ∙ sym now.same_as.request, answered_late other own.port_is ok)),
-                (λ clear. let ok = exact.1 clear in (ok.0, ok.1 ∙ now.same_as.request, Contains-append_left x.steps p.steps (Answer ok.0 Ok) ok.2)),
-              )
-
-          apart_too : (slot : ℕ) → slot ≢ now.has.slot → ServesRequest old.machine s.device.memory (s.device.port n) n slot other.request.id → IsAnsweredOk other all ↔ AreClear slot
-          apart_too slot apart says = (
-            (λ _. f.unused slot says.placed.slot_below (used_then slot ∙ unused other own slot apart says)),
-            (λ _.
-                let ok = serves.ended now.now_is now.here (ap (λ r. r.port) now.same_as.request ∙ own.port_is) (now.same_as.ended (has_ended other own slot apart says)) in
-                (ok.0, ok.1 ∙ now.same_as.request, Contains-append_left x.steps p.steps (Answer ok.0 Ok) ok.2)),
-          )
-
-        finding : FindsDone (port_at n) accesses began all
-        finding = record {
-          ci = f.done.ci;
-          sact = f.done.sact;
-          reads = record {
-            before = p.accesses ++ f.done.reads.before;
-            later = f.done.reads.later;
-            here = ap (λ (late : List Access). p.accesses ++ late) f.done.reads.here
-                ∙ sym (append_assoc p.accesses f.done.reads.before (Reading (Px (port_at n) Ci) f.done.ci ∷ Reading (Px (port_at n) Sact) f.done.sact ∷ f.done.reads.later));
-            running = All-append (LeavesCommand (port_at n)) p.accesses f.done.reads.before
-                (All-weaker (LeavesEngine (port_at n)) (LeavesCommand (port_at n)) (λ access leaves. leaves.0) p.accesses (others_leave laws s start old reached at ports_are (port_at n) p.accesses (p.others (port_at n) not_yet)))
-                f.done.reads.running;
-          };
-          exact = λ other slot own says. ⊎_elim
-              (λ (same : slot ≡ (leading other own).has.slot). subst (λ (i : ℕ). IsAnsweredOk other all ↔ AreClear i) (sym same) (at_slot other own))
-              (λ (apart : slot ≢ (leading other own).has.slot). apart_too other own slot apart says)
-              (cases_eq slot (leading other own).has.slot);
-        }
-
-      -- ---- a plain request's fault
-
-      module _ (alone : HasFaultAlone (port_at n) began mid.device) (e : Pending) (slot : ℕ) (own : IsIssuedOn (port_at n) old.machine e) (unended : e.ended ≡ false)
-          (says : ServesRequest old.machine s.device.memory (s.device.port n) n slot e.request.id) (plain : is_queued says.command.operation ≡ false) where
-        abbrev it : IsLeading e
-        it = leading e own
-
-        -- it is in its slot, which was used when the call began
-        its_slot : slot ≡ it.has.slot
-        its_slot = ⊎_elim (λ same. same) (λ apart. absurd (false≢true (sym unended ∙ has_ended e own slot apart says))) (cases_eq slot it.has.slot)
-
-        -- whose command is a plain one
-        used_plain : it.has.used.queued ≡ false
-        used_plain =
-            let k = subst (HasCommand it.has.used.queued s.device n) (sym its_slot) (kept.commands n it.has.slot it.has.used (sym (used_then it.has.slot) ∙ it.has.used_is)) in
-            let same = laws.slots.one_said s.device.memory (s.device.port n).bases.clb slot says.command k.command says.places k.places says.told.says k.stored.told.says in
-            sym k.kind ∙ sym (ap (λ (y : Meaning). is_queued y.operation) same.0) ∙ plain
-
-        plain_now : is_queued (by e it).serves.command.operation ≡ false
-        plain_now =
-            let k = p.settled.kept.commands n it.has.slot it.has.used it.has.used_is in
-            let its = (by e it).serves in
-            let same = laws.slots.one_said c.device.memory (c.device.port n).bases.clb it.has.slot its.command k.command its.places k.places its.told.says k.stored.told.says in
-            ap (λ (y : Meaning). is_queued y.operation) same.0 ∙ k.kind ∙ used_plain
-
-        -- so it is in the turn
-        alone_now : HasFaultAlone (port_at n) (instant_of c m) mid.device
-        alone_now = laws.calls.alone_then (port_at n) began (moment_of c m) mid.device kept.on undue t on_mid ready_c alone
-
-        -- the fault that is shown then is of that slot, which is in use
-        faults : HasFaults c.device.tape (c.device.port n) n
-        faults = ((p.settled.kept.behind n low).runs ready_c).recorded
-
-        fault : ShowsFault (drop (c.device.port n).notes.st_set_at c.device.tape) (c.device.port n) n
-        fault = faults.fault (faults.flag alone_now.shows.fault)
-
-        used_still : InUse (c.device.port n) it.has.slot
-        used_still =
-            let sole = p.settled.kept.alone n it.has.slot it.has.used it.has.used_is used_plain in
-            subst (InUse (c.device.port n)) (laws.slots.fault_sole p.stands.uses m c.device n it.has.slot (drop (c.device.port n).notes.st_set_at c.device.tape) p.stands.knows.agrees fault
-            (λ other apart. free_unused c m n p.stands ready_c other (sole.1 other (λ zero. apart (zero ∙ sym sole.0))))) fault.used
-
-        -- so it hasn't ended
-        unended_now : it.now_is.ended ≡ false
-        unended_now = ⊎_elim
-            (λ (is : it.now_is.ended ≡ true).
-            let over = (ended_is_clear p.stands.uses m c.device (port_at n) it.has.slot it.now_is m_reached p.stands.knows.agrees (inl (it.here, it.issued_now)) is (slot_serves e it)).0.over in
-            absurd (⊎_elim (λ issued. false≢true (sym over.issued ∙ issued)) (λ (taken : _ × _). let z : None ≡ Some taken.0 = sym over.free ∙ taken.1 in cc) used_still))
-            (λ no. no)
-            (cases_Bool it.now_is.ended)
-
-        fault_told : IsAnsweredFaulty e all ⊎ (state_of (found_of mid.ports n) ≡ Dead)
-        fault_told = ⊎_elim
-            (λ (a : IsAnsweredFaulty it.now_is x.steps). inl (a.0, a.1, a.2, a.3 ∙ it.same_as.request, Contains-append_left x.steps p.steps (Answer a.0 (DeviceError a.1 a.2)) a.4))
-            (λ dead. inr dead)
-            (did.faults alone_now it.now_is it.has.slot (then_issued e own it) unended_now (by e it).serves plain_now)
-
-      -- ---- what it heeds
-
-      named : IsInterrupted x.evidence (port_at n) → IsInterrupted evidence (port_at n)
-      named i = ⊎_elim (λ stopped. inl (alike.stopped.0 stopped)) (λ stuck. inr (alike.stuck.0 stuck)) i
-
-      unnamed : IsInterrupted evidence (port_at n) → IsInterrupted x.evidence (port_at n)
-      unnamed i = ⊎_elim (λ stopped. inl (alike.stopped.1 stopped)) (λ stuck. inr (alike.stuck.1 stuck)) i
-
-      told_whole : (o : Outcome) → AreTold o x.steps (port_at n) → AreTold o all (port_at n)
-      told_whole o told e answer here own = ⊎_elim
-          (λ late. told e answer late own)
-          (λ early. absurd (not_early e answer early own))
-          (Contains-append_cases x.steps p.steps (Answer e answer) here)
-
-      counted : count_by (tells_fault (port_at n)) all ≡ count_by (tells_fault (port_at n)) x.steps
-      counted =
-          let whole = count_append (tells_fault (port_at n)) x.steps p.steps in
-          let none = counts_apart (port_at n) p.steps not_early in
-          omega (arith, whole, none)
-
-      changed_whole : list_any (changes_disk (port_at n)) x.steps ≡ true → list_any (changes_disk (port_at n)) all ≡ true
-      changed_whole is = any_append (changes_disk (port_at n)) x.steps p.steps ∙ or_left _ _ is
-
-      heeds_whole : ServesReady old evidence all (record { machine = after old.machine all; ports = ports_of mid }) (port_at n)
-      heeds_whole = record {
-        ended = λ e there own ended.
-            let h = leading e (ended_on e there own ended) in
-            let y = serves.ended h.now_is h.here (ap (λ r. r.port) h.same_as.request ∙ own) (h.same_as.ended ended) in
-            (y.0, y.1 ∙ h.same_as.request, Contains-append_left x.steps p.steps (Answer y.0 Ok) y.2);
-        emptied = λ gone e here. serves.emptied (alike.gone.1 gone) e (subst (λ (k : Machine). Contains k.book e) whole_is here);
-        told = λ gone. ⊎_elim (λ a. inl (told_whole _ a)) (λ b. inr (told_whole _ b)) (serves.told (alike.gone.1 gone));
-        interrupts = λ trouble. named (serves.interrupts (⊎_elim (λ failed. inl (alike.failed.1 failed)) (λ gone. inr (alike.gone.1 gone)) trouble));
-        anew = λ trouble e here own issued.
-            issued_late e.request.id x.steps p.steps
-            (serves.anew (⊎_elim (λ failed. inl (alike.failed.1 failed)) (λ stopped. inr (alike.stopped.1 stopped)) trouble) e (subst (λ (k : Machine). Contains k.book e) whole_is here) own issued);
-        single = let one = serves.single in omega (arith, counted, one);
-        fatal = λ here. let y = serves.fatal (alike.fatal.1 here) in (alike.failed.0 y.0, counted ∙ y.1);
-        disk = λ shows. ⊎_elim
-            (λ present. ⊎_elim (λ was. inl was) (λ changed. inr (any_append (changes_disk (port_at n)) x.steps p.steps ∙ or_right _ _ changed)) (present_before old.machine (port_at n) p.steps present))
-            (λ changed. inr (changed_whole changed))
-            (serves.disk shows);
-        calm = ⊎_elim
-            (λ disturbed. inl (⊎_elim (λ failed. inl (alike.failed.0 failed)) (λ rest. inr (⊎_elim (λ gone. inl (alike.gone.0 gone)) (λ changed. inr (changed_whole changed)) rest)) disturbed))
-            (λ (a : IsLeftAlone (ports_of c) x.evidence x.steps (ports_of mid) (port_at n)). inr (record {
-              same = same_then old.ports (ports_of c) (ports_of mid) (port_at n) same_n a.same;
-              told = told_whole _ a.told;
-              uninterrupted = λ i. a.uninterrupted (unnamed i);
-            }))
-            serves.calm;
+      pub finding : FindsDone (port_at n) accesses began all
+      finding = record {
+        ci = f.done.ci;
+        sact = f.done.sact;
+        reads = record {
+          before = p.accesses ++ f.done.reads.before;
+          later = f.done.reads.later;
+          here = ap (λ (late : List Access). p.accesses ++ late) f.done.reads.here
+              ∙ sym (append_assoc p.accesses f.done.reads.before (Reading (Px (port_at n) Ci) f.done.ci ∷ Reading (Px (port_at n) Sact) f.done.sact ∷ f.done.reads.later));
+          running = All-append (LeavesCommand (port_at n)) p.accesses f.done.reads.before
+              (All-weaker (LeavesEngine (port_at n)) (LeavesCommand (port_at n)) (λ access leaves. leaves.0) p.accesses (others_leave plan laws s start old reached at ports_are (port_at n) p.accesses (p.others (port_at n) not_yet)))
+              f.done.reads.running;
+        };
+        exact = λ other slot own says. ⊎_elim
+            (λ (same : slot ≡ (leading other own).has.slot). subst (λ (i : ℕ). IsAnsweredOk other all ↔ AreClear i) (sym same) (at_slot other own))
+            (λ (apart : slot ≢ (leading other own).has.slot). apart_too other own slot apart says)
+            (cases_eq slot (leading other own).has.slot);
       }
 
-      -- ---- trouble
+    -- ---- what is answered, and what keeps its issue
 
+    pub ended_whole : AnswersEnded m x.steps (port_at n) → AnswersEnded old.machine all (port_at n)
+    ended_whole answers e there own ended =
+        let h = leading e (ended_on e there own ended) in
+        let y = answers h.now_is h.here (ap (λ r. r.port) h.same_as.request ∙ own) (h.same_as.ended ended) in
+        (y.0, y.1 ∙ h.same_as.request, Contains-append_left x.steps p.steps (Answer y.0 Ok) y.2)
+
+    pub anew_whole : NoneKeepsIssue x.steps (after m x.steps) (port_at n) → NoneKeepsIssue all (after old.machine all) (port_at n)
+    anew_whole none e here own issued = issued_late e.request.id x.steps p.steps (none e (subst (λ (k : Machine). Contains k.book e) whole_is here) own issued)
+
+    pub changed_whole : list_any (changes_disk (port_at n)) x.steps ≡ true → list_any (changes_disk (port_at n)) all ≡ true
+    changed_whole is = any_append (changes_disk (port_at n)) x.steps p.steps ∙ or_left _ _ is
+
+    pub disk_whole : HadDisk (moment_of c m) x.steps (moment_of mid (after m x.steps)) (port_at n) → HadDisk old all (moment_of mid (after old.machine all)) (port_at n)
+    disk_whole had shows = ⊎_elim
+        (λ present. ⊎_elim (λ was. inl was) (λ changed. inr (any_append (changes_disk (port_at n)) x.steps p.steps ∙ or_right _ _ changed)) (present_before old.machine (port_at n) p.steps present))
+        (λ changed. inr (changed_whole changed))
+        (had shows)
+
+    -- ---- its part of the call
+
+    pub named : (evidence : Evidence) → NamesAlike (port_at n) x.evidence evidence → IsInterrupted x.evidence (port_at n) → IsInterrupted evidence (port_at n)
+    named evidence alike i = ⊎_elim (λ stopped. inl (alike.stopped.0 stopped)) (λ stuck. inr (alike.stuck.0 stuck)) i
+
+    -- where the turn stopped the port and left it ready, ST was set in it
+    pub set_since : state_of (found_of mid.ports n) ≡ ReadyState → IsInterrupted x.evidence (port_at n) → length c.device.tape ≤ (mid.device.port n).notes.st_set_at
+    set_since ready_mid i = ⊎_elim
+        (λ stopped. ⊎_elim
+        (λ stops. laws.calls.set_since (port_at n) part.accesses c.device mid.device p.on
+        (All-weaker (IsOf (port_at n)) (SparesRegister Ghc) (λ access of. laws.of_host (port_at n) access of) part.accesses part.of) part.does stops ((next.kept.behind n low).runs ready_mid).st)
+        (λ (reset : _ × _). absurd (not_reset plan n its reset.0))
+        (x.evidenced.stopped_only stopped))
+        (λ stuck.
+        let lives = x.becomes.1 (λ dead. let z : ReadyState ≡ Dead = sym ready_c ∙ dead in absurd cc) in
+        let dead = lives.0.dies stuck in
+        let z : ReadyState ≡ Dead = sym ready_mid ∙ dead in absurd cc)
+        i
+
+    pub asked_now : IsAskedOf (port_at n) began mid.device → IsAskedOf (port_at n) (instant_of c m) mid.device
+    asked_now asked = laws.calls.asked_then (port_at n) began (moment_of c m) mid.device kept.on undue t on_mid ready_c asked
+
+    -- what it did of trouble the call did so far
+    module _ (evidence : Evidence) (alike : NamesAlike (port_at n) x.evidence evidence) (same_n : SamePort old.ports (ports_of c) (port_at n)) (asked : IsAskedOf (port_at n) began mid.device)
+        (stops_failed : ShowsFailure (c.device.port n) → IsInterrupted x.evidence (port_at n)) (did : HeedsTrouble (port_at n) part.accesses (instant_of c m) x.evidence (ports_of mid) mid.device) where
       same_self : SamePort (ports_of mid) (ports_of mid) (port_at n)
       same_self = (refl, refl, refl, refl, refl, refl)
 
-      -- where the turn stopped the port and left it ready, ST was set in it
-      set_since : state_of (found_of mid.ports n) ≡ ReadyState → IsInterrupted x.evidence (port_at n) → length c.device.tape ≤ (mid.device.port n).notes.st_set_at
-      set_since ready_mid i = ⊎_elim
-          (λ stopped. ⊎_elim
-          (λ stops. laws.calls.set_since (port_at n) part.accesses c.device mid.device p.on
-          (All-weaker (IsOf (port_at n)) (SparesRegister Ghc) (λ access of. laws.of_host (port_at n) access of) part.accesses part.of) part.does stops ((next.kept.behind n low).runs ready_mid).st)
-          (λ (reset : _ × _). absurd reset.0)
-          (x.evidenced.stopped_only stopped))
-          (λ stuck.
-          let lives = x.becomes.1 (λ dead. let z : ReadyState ≡ Dead = sym ready_c ∙ dead in absurd cc) in
-          let dead = lives.0.dies stuck in
-          let z : ReadyState ≡ Dead = sym ready_mid ∙ dead in absurd cc)
-          i
-
-      -- where the port showed a failure when it began, the turn stopped it
-      stops_failed : ShowsFailure (c.device.port n) → IsInterrupted x.evidence (port_at n)
-      stops_failed failure = serves.interrupts (inl (x.evidenced.failed_all ready_c failure))
-
-      -- ---- the whole
-
-      not_bad : HasBadDisk old.ports (port_at n) → ⊥
-      not_bad (inl foreign) = let z : Foreign ≡ ReadyState = sym foreign ∙ was_ready in absurd cc
-      not_bad (inr (cause, unfit)) = let z : Unfit cause ≡ ReadyState = sym unfit ∙ was_ready in absurd cc
-
-      not_absent : old.ports.state (port_at n) ≡ Absent → ⊥
-      not_absent absent = let z : Absent ≡ ReadyState = sym absent ∙ was_ready in absurd cc
-
-      pub ties_whole : TiesPort began (turn_of [] mid evidence all) accesses (port_at n)
-      ties_whole = record {
-        finds = λ _ e own. finding e own;
-        faults = λ alone e slot own unended says plain. fault_told alone e slot own unended says plain;
-        tries = λ served coming. record {
-          shown = λ absent det. absurd (not_absent absent);
-          absent = λ absent det fresh. absurd (not_absent absent);
-          missing = λ bad. absurd (not_bad bad);
-          changed = λ bad. absurd (not_bad bad);
-        };
-        boots = subst (λ (list : List Access). BootsAnew Service (Served []) (p.accesses ++ list) began (ports_of mid) mid.device (port_at n)) (append-nil part.accesses)
-            (laws.calls.call_boots (port_at n) began (moment_of c m) (ports_of mid) (ports_of mid) mid.device (Served its) (Served []) kept.on undue t on_mid ready_c asked same_self same_n did.boots);
+      pub trouble_whole : HeedsTrouble (port_at n) accesses began evidence (ports_of mid) mid.device
+      trouble_whole = record {
         trouble = laws.calls.call_trouble (port_at n) began (moment_of c m) (ports_of mid) (ports_of mid) mid.device x.evidence evidence kept.on undue t on_mid ready_c asked same_self alike set_since stops_failed did.trouble;
         well = subst (λ (list : List Access). RunsWellAnew evidence (p.accesses ++ list) began (ports_of mid) mid.device (port_at n)) (append-nil part.accesses)
             (laws.calls.call_well (port_at n) began (moment_of c m) (ports_of mid) (ports_of mid) mid.device x.evidence evidence kept.on undue t on_mid ready_c asked same_self alike (λ ready_mid. ((next.kept.behind n low).runs ready_mid).recorded.known) did.well);
-        heeds = λ _. heeds_whole;
       }

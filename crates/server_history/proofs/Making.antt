@@ -33,7 +33,7 @@ use Rattle.slots.specs.declared.Use.{Use as SlotUse}
 use Rattle.server_history.specs.Below.{LawsBelow}
 use Rattle.server_history.specs.Served.{AnswersBy, AnswersTurn, HasEnded, HasTurn, IsAnsweredIn, IssuesOnly, SameSettings, answers_in}
 use Rattle.server_history.specs.Server.{Server, IsMachineOf, IsSettled, mode_in, ports_of, remembered_at, slots_at, state_of, used_for}
-use Rattle.server_history.specs.Turns.{ServesPort, IsOfTurn, LeavesOthers, MakesTurn, NamesOnly, moment_of}
+use Rattle.server_history.specs.Turns.{InService, ServesPort, IsOfTurn, LeavesOthers, MakesTurn, NamesOnly, moment_of}
 use Rattle.server_history.proofs.Answered.{answered_in, ended_stood, issuing_answers, may_parts, no_answer, no_answer_issuing, told_so, with_ok}
 use Rattle.server_history.proofs.Coming.{TurnList, turn_list}
 use Rattle.server_history.proofs.Settling.{turn_apart, turn_settings, turn_slots}
@@ -286,7 +286,7 @@ module _ (laws : LawsBelow) (port : Port) (replies : List Reply) (old new : Serv
       ),
     )
 
-    makes : MakesTurn port replies list.driven.accesses old new m
+    makes : MakesTurn InService port replies list.driven.accesses old new m
     makes = record {
       steps = x.steps;
       evidence = its;
@@ -298,7 +298,7 @@ module _ (laws : LawsBelow) (port : Port) (replies : List Reply) (old new : Serv
       last = x.last;
       names = names;
       lawful = lawful;
-      grounded = grounded;
+      owes = grounded;
       tells = tells;
       unplugs = record { emptied = λ e other here. absurd (never_unplugged e here); alike = λ e other here. absurd (never_unplugged e here) };
       becomes = becomes;
@@ -309,7 +309,7 @@ module _ (laws : LawsBelow) (port : Port) (replies : List Reply) (old new : Serv
           (λ _. Contains-get_or (port ∷ []) 0 port (omega arith)) list.leaves;
       faults = λ told here. absurd (nowhere told here);
       ties = ties laws port replies old new t ready turn list port_same m reached is x.steps x.may b answered;
-      finds = finds laws port replies old new t ready turn list port_same m reached is x.steps x.may b answered;
+      finds = λ _. finds laws port replies old new t ready turn list port_same m reached is x.steps x.may b answered;
     }
 
   module _ (adds : (m : Machine) → IsReached m → IsMachineOf old m → AddsTurn port replies old new m)

@@ -1,14 +1,19 @@
--- A port's turn that mends it is a part of a service, and leaves the server settled.
-use Rattle.std.proofs.Common.{ℕ, List, [], map, ◌≡◌, ◌≢◌, inr, sym, ap, ◌∙◌, subst}
+-- A port's turn that mends it is a part of a service, or of a tick, and leaves the server settled.
+use Rattle.std.proofs.Common.{ℕ, List, [], map, ◌≡◌, ◌≢◌, inr, refl, sym, ap, ◌∙◌, subst}
+use Rattle.std.proofs.lemmas.List.Elements.{All-nil}
 use Rattle.ata_types.specs.declared.Port.{Port}
 use Rattle.ata_types.specs.declared.PortState.TheVariants.{Ready as ReadyState}
 use Rattle.ata_types.specs.declared.request.Reply.{Reply}
+use Rattle.adapter.specs.Device.{Device}
+use Rattle.adapter.specs.declared.access.DeviceStep.{DeviceStep}
+use Rattle.agreement.specs.Acts.{Act}
 use Rattle.agreement.specs.Driven.{AnyUse, IsFollowed}
 use Rattle.block_machine.specs.declared.due.Unanswered.{Unanswered}
 use Rattle.block_machine.proofs.Members.{map_in}
 use Rattle.std.specs.List.{Contains}
 use Rattle.server_history.proofs.Meeting.{nobody}
 use Rattle.block_machine.specs.Due.{due_of, IsDue, NoneDue, of_port}
+use Rattle.block_machine.specs.Events.{Belong}
 use Rattle.block_machine.specs.Histories.{IsReached}
 use Rattle.block_machine.specs.State.{Machine}
 use Rattle.block_machine.specs.declared.due.Mode.{Mode}
@@ -19,16 +24,31 @@ use Rattle.port_look.specs.Looks.{IsLooking}
 use Rattle.request_queue.specs.Entries.{Held, asks, asks_of, due_ids}
 use Rattle.server_history.specs.Below.{LawsBelow}
 use Rattle.server_history.specs.Mended.{HasMetFates, MendsPort}
-use Rattle.server_history.specs.Server.{IsKept, IsMachineOf, IsSettled, Server, mode_in, state_of}
-use Rattle.server_history.specs.Turns.{MakesTurn, ServesPort}
-use Rattle.server_history.proofs.Binding.{ties_recovered}
-use Rattle.server_history.proofs.Deciding.{recovered_decides}
+use Rattle.server_history.specs.declared.Trouble.TheVariants.{Hung}
+use Rattle.server_history.specs.Server.{IsKept, IsMachineOf, IsSettled, Server, mode_in, ports_of, state_of}
+use Rattle.server_history.specs.Turns.{HasPart, InRestart, InService, MakesTurn, OwesTurn, ServesPort, TiesTurn, Turn, call_of}
+use Rattle.server_history.proofs.Binding.{heeds_trouble, ties_recovered}
+use Rattle.server_history.proofs.Deciding.{DecidesTurn, recovered_decides}
 use Rattle.server_history.proofs.Evident.{IsEvident, evident}
 use Rattle.server_history.proofs.Finding.{found_by_masks}
 use Rattle.server_history.proofs.Following.{adds_fates}
 use Rattle.server_history.proofs.Recovered.{recovered_kept}
+use Rattle.server_history.proofs.Recovery.{evidence_by}
+use Rattle.server_history.proofs.Restarting.{belongs, owes}
 use Rattle.server_history.proofs.Rounds.{each_apart, each_settings, settled}
 use Rattle.server_history.proofs.Slots.{of_ready, ready_found}
+
+-- where nobody looked, it is as after a look without accesses
+pub unlooked : (port : Port) (old seen : Device) → seen ≡ old → IsFollowed (IsLooking port) AnyUse old seen
+unlooked port old seen same = subst (IsFollowed (IsLooking port) AnyUse old) (sym same) (record {
+  driven = record { accesses = []; all = refl; only = All-nil (IsLooking port) };
+  comes = λ s m reached knows any. record {
+    acts = [];
+    done = refl;
+    accesses_are = refl;
+    tells = record { only = tt; kept = λ q issues arms. All-nil (λ (act : Act). act.later.uses q.0 ≡ s.uses q.0) };
+  };
+})
 
 -- once its requests met their fates, the server keeps what it keeps
 pub goes_on : LawsBelow → (port : Port) (later : List Reply) (old new : Server) → IsKept old → state_of (found_of old.ports port.0) ≡ ReadyState → (a : HasMetFates port later old new)
@@ -60,46 +80,61 @@ module _ (laws : LawsBelow) (port : Port) (replies : List Reply) (old new : Serv
   e : IsEvident port replies old new r
   e = evident laws port replies old new k ready r looks kept
 
-  makes : (m : Machine) → IsReached m → IsMachineOf old m → MakesTurn port replies e.accesses old new m
-  makes m reached is =
-      let d = recovered_decides laws port replies old new k ready r looks kept m reached is in
-      record {
-        steps = d.steps;
-        evidence = _;
-        may = d.may;
-        stands = d.stands;
-        backed = d.backed;
-        own = d.own;
-        belong = d.belong;
-        last = d.last;
-        names = e.names;
-        lawful = d.lawful;
-        grounded = d.grounded;
-        tells = d.tells;
-        unplugs = d.unplugs;
-        becomes = e.becomes;
-        disk = inr (e.had m is d.steps d.backed);
-        keeps = d.keeps;
-        issues = d.issues;
-        evidenced = e.evidenced m;
-        faults = e.faults;
-        finds = λ _ x issued. found_by_masks laws port replies old new k ready r looks kept e m reached is d;
-        ties = ties_recovered laws port replies old new k ready r looks kept e m reached is d;
-      }
+  -- what it makes of a machine that stands for the server, where it is such a part of its call
+  module _ (m : Machine) (reached : IsReached m) (is : IsMachineOf old m) where
+    d : DecidesTurn port replies old new r (evidence_by r.settled) m
+    d = recovered_decides laws port replies old new k ready r looks kept m reached is
 
-  pub recovered : ServesPort port replies old new
-  recovered = record {
-    does = inr r;
-    part = record {
-      accesses = e.accesses;
-      does = e.does;
-      of = e.of;
-      own = e.own;
-      others = e.others;
-      silent = e.silent;
-      makes = makes;
-    };
+    makes : (turn : Turn) → Belong {D = DeviceStep} (call_of turn) (ports_of new) d.steps → OwesTurn turn port e.accesses old new m (evidence_by r.settled) d.steps
+        → TiesTurn turn port replies e.accesses old new m (evidence_by r.settled) d.steps → MakesTurn turn port replies e.accesses old new m
+    makes turn belong owes ties = record {
+      steps = d.steps;
+      evidence = evidence_by r.settled;
+      may = d.may;
+      stands = d.stands;
+      backed = d.backed;
+      own = d.own;
+      belong = belong;
+      last = d.last;
+      names = e.names;
+      lawful = d.lawful;
+      owes = owes;
+      tells = d.tells;
+      unplugs = d.unplugs;
+      becomes = e.becomes;
+      disk = inr (e.had m is d.steps d.backed);
+      keeps = d.keeps;
+      issues = d.issues;
+      evidenced = e.evidenced (call_of turn) m;
+      faults = e.faults;
+      finds = λ _ _ x issued. found_by_masks laws port replies old new k ready r looks kept e m reached is d;
+      ties = ties;
+    }
+
+  has_part : (turn : Turn) → ((m : Machine) → IsReached m → IsMachineOf old m → MakesTurn turn port replies e.accesses old new m) → HasPart turn port replies old new
+  has_part turn made = record {
+    accesses = e.accesses;
+    does = e.does;
+    of = e.of;
+    own = e.own;
+    others = e.others;
+    silent = e.silent;
+    makes = made;
   }
+
+  pub recovered : r.settled.mended.trouble ≢ Hung → ServesPort port replies old new
+  recovered unhung = record {
+    does = inr (r, unhung);
+    part = has_part InService (λ m reached is.
+        let its = d m reached is in
+        makes m reached is InService its.belong (its.grounded unhung) (ties_recovered laws port replies old new k ready r looks kept e m reached is its unhung));
+  }
+
+  pub restarted : r.settled.mended.trouble ≡ Hung → HasPart InRestart port replies old new
+  restarted hung = has_part InRestart (λ m reached is.
+      let its = d m reached is in
+      makes m reached is InRestart (belongs laws port replies old new k ready r looks kept e m reached is its hung) (owes laws port replies old new k ready r looks kept e m reached is its hung)
+      (heeds_trouble laws port replies old new k ready r looks kept e m reached is its))
 
   -- nothing is due on another port, as before
   none_other : (other : Port) → other ≢ port → NoneDue (mode_in r.mid other) (asks_of r.mid.book) other

@@ -24,8 +24,8 @@ use Rattle.block_machine.specs.declared.due.Mode.{Mode}
 use Rattle.block_machine.proofs.Members.{at_cases, contains_cases, contains_here, contains_there, map_in}
 use Rattle.host_boot.specs.Taken.{found_of}
 use Rattle.port_look.specs.Looks.{IsLooking}
-use Rattle.port_look.specs.declared.Look.{Look}
-use Rattle.port_look.specs.declared.Look.TheVariants.{Broken, Failed, Lost, Undisturbed}
+use Rattle.server_history.specs.declared.Trouble.{Trouble}
+use Rattle.server_history.specs.declared.Trouble.TheVariants.{Broken, Failed, Hung, Lost}
 use Rattle.request_queue.specs.Entries.{Held}
 use Rattle.request_queue.specs.Fates.{fate_of}
 use Rattle.request_queue.specs.Machine.{IsEntry}
@@ -40,14 +40,15 @@ use Rattle.server_history.specs.Turns.{IsOfTurn, moment_of}
 use Rattle.server_history.proofs.Answered.{answered_in, no_answer, no_answer_issuing}
 use Rattle.server_history.proofs.Becoming.{interrupted}
 use Rattle.server_history.proofs.Deciding.{DecidesTurn, failed_named, nobody}
-use Rattle.server_history.proofs.Evident.{IsEvident, gone_is}
+use Rattle.server_history.proofs.Evident.{IsEvident}
+use Rattle.server_history.proofs.Named.{gone_is}
 use Rattle.server_history.proofs.Finding.{heeding}
 use Rattle.server_history.proofs.Following.{mid_kept}
 use Rattle.server_history.proofs.Ordering.{AreDifferent, answered_id, still_differ, told_differ}
 use Rattle.server_history.proofs.Joined.{answers_there}
 use Rattle.server_history.proofs.Reasons.{Why, why}
 use Rattle.server_history.proofs.Faulted.{lost_or_not}
-use Rattle.server_history.proofs.Recovery.{evidence_by, failed_of, fatal_of, gone_of, is_named_if, named_if_is, until_issues}
+use Rattle.server_history.proofs.Recovery.{evidence_by, failed_of, fatal_of, gone_of, is_named_if, named_if, named_if_is, until_issues}
 use Rattle.server_history.proofs.Told.{failure_shows, shows_failure, shows_fatal, unfatal}
 use Rattle.server_history.proofs.Rounds.{issued_late}
 use Rattle.server_history.proofs.Slots.{HasSlot, issued_has, of_ready, ready_found}
@@ -187,7 +188,7 @@ module _ (laws : LawsBelow) (port : Port) (replies : List Reply) (old new : Serv
       let h : HasSlot r.mid port e.request.id = issued_has r.mid (after m base) port d.fates.stands kept is_ready e here own issued in
       let z : None ≡ Some h.used = sym (unused h.slot) ∙ h.used_is in absurd cc
 
-  anew : NoneKeepsIssue d.steps (after m d.steps) port
+  pub anew : NoneKeepsIssue d.steps (after m d.steps) port
   anew e here own issued =
       let all : after m d.steps ≡ after (after m base) d.issuing.steps = ap (after m) d.steps_are ∙ laws.basic.joined m d.issuing.steps base in
       subst (IsIssuedIn e.request.id) (sym d.steps_are) (⊎_elim
@@ -269,28 +270,26 @@ module _ (laws : LawsBelow) (port : Port) (replies : List Reply) (old new : Serv
   -- an error that was fatal was a failure
   fatal : Contains (evidence_by a).fatal port → Contains (evidence_by a).failed port × (count_by (tells_fault port) d.steps ≡ 0)
   fatal here = (
-    is_failure a.mended.look here,
-    counted ∙ untold (nobody laws port replies old new k ready r looks kept (λ failed. nowhere port (subst (λ (l : Look). Contains (fatal_of port l shown) port) failed here))),
+    is_failure a.mended.trouble here,
+    counted ∙ untold (nobody laws port replies old new k ready r looks kept (λ failed. nowhere port (subst (λ (t : Trouble). Contains (fatal_of port t shown) port) failed here))),
   )
     where
-      is_failure : (l : Look) → Contains (fatal_of port l shown) port → Contains (failed_of port l shown) port
+      shows : Contains (named_if (shows_fatal shown) port) port → Contains (named_if (shows_failure shown) port) port
+      shows there = is_named_if (shows_failure shown) port (failure_shows shown (inl (unfatal shown (named_if_is (shows_fatal shown) port there))))
+
+      is_failure : (t : Trouble) → Contains (fatal_of port t shown) port → Contains (failed_of port t shown) port
       is_failure Broken there = first_here port []
       is_failure Failed there = first_here port []
-      is_failure Undisturbed there = first_here port []
-      is_failure Lost there = is_named_if (shows_failure shown) port (failure_shows shown (inl (unfatal shown (named_if_is (shows_fatal shown) port there))))
-
-  -- ---- a lost disk
-
-  gone_lost : Contains (evidence_by a).gone port → a.mended.look ≡ Lost
-  gone_lost = gone_is laws port replies old new k ready r looks kept
+      is_failure Lost there = shows there
+      is_failure Hung there = shows there
 
   -- ---- all of it
 
-  pub serves_ready : ServesReady (moment_of old m) (evidence_by a) d.steps (moment_of new (after m d.steps)) port
-  serves_ready = record {
+  pub serves_ready : a.mended.trouble ≢ Hung → ServesReady (moment_of old m) (evidence_by a) d.steps (moment_of new (after m d.steps)) port
+  serves_ready unhung = record {
     ended = heeding laws port replies old new k ready r looks kept evident m reached is d;
-    emptied = λ here. d.emptied (gone_lost here);
-    told = λ here. d.told (gone_lost here);
+    emptied = λ here. d.emptied (gone_is port shown a.mended.trouble unhung here);
+    told = λ here. d.told (gone_is port shown a.mended.trouble unhung here);
     interrupts = λ _. interrupted laws port replies old new k ready r looks kept;
     anew = λ _. anew;
     single = single;
@@ -301,6 +300,6 @@ module _ (laws : LawsBelow) (port : Port) (replies : List Reply) (old new : Serv
     where
       disturbed : IsDisturbed (evidence_by a) d.steps port
       disturbed = ⊎_elim
-          (λ lost. inr (inl (subst (λ (l : Look). Contains (gone_of port l) port) (sym lost) (first_here port []))))
-          (λ other. inl (failed_named laws port replies old new k ready r looks kept other))
-          (lost_or_not a.mended.look)
+          (λ lost. inr (inl (subst (λ (t : Trouble). Contains (gone_of port t shown) port) (sym lost) (first_here port []))))
+          (λ other. inl (failed_named laws port replies old new k ready r looks kept unhung other))
+          (lost_or_not a.mended.trouble)

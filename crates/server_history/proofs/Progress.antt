@@ -1,5 +1,5 @@
--- What was done so far in a service, in which ports have their turns one after another.
-use Rattle.std.proofs.Common.{◌⊎◌, ℕ, ◌≡◌, ◌≢◌, ◌≤◌, ◌<◌, ◌+◌, true, List, [], map, refl, sym, ap, ◌∙◌, subst, inl, ⊎_elim, arith}
+-- What was done so far in a call, in which ports have their turns one after another.
+use Rattle.std.proofs.Common.{Bool, ◌⊎◌, ℕ, ◌≡◌, ◌≢◌, ◌≤◌, ◌<◌, ◌+◌, true, List, [], map, refl, sym, ap, ◌∙◌, subst, inl, ⊎_elim, arith}
 use Rattle.std.specs.List.{All, AllPairs, Contains}
 use Rattle.std.specs.List.Sorted.{IsPermutation}
 use Rattle.std.proofs.lemmas.Bool.{cases_lt}
@@ -16,33 +16,74 @@ use Rattle.adapter.specs.Access.{Access, DoesAll}
 use Rattle.adapter.specs.Commands.{is_queued}
 use Rattle.adapter.specs.Device.{Device}
 use Rattle.adapter.specs.Rules.{IsOn}
-use Rattle.adapter.specs.declared.access.DeviceStep.{DeviceStep}
 use Rattle.agreement.specs.Driver.{IsBacked}
-use Rattle.block_machine.specs.Events.{AllGrounded, AllLawful, Belong, HadDisk, IsToldBefore, Moment, Served, Service, UnplugsAll, answers_of, reply_of}
+use Rattle.block_machine.specs.Events.{AllLawful, AnswersEnded, Belong, HadDisk, IsToldBefore, Moment, NoneKeepsIssue, Served, UnplugsAll, answers_of, reply_of}
 use Rattle.block_machine.specs.Histories.{Instant, IsReached}
 use Rattle.block_machine.specs.Left.{after}
-use Rattle.block_machine.specs.Ports.{Evidence, Fault, IsServiced, Ports, SameDisk, SamePort}
+use Rattle.block_machine.specs.Ports.{Evidence, Fault, IsInterrupted, IsServiced, Ports, SameDisk, SamePort}
 use Rattle.block_machine.specs.State.{Pending}
-use Rattle.block_machine.specs.Steps.{Step, Answer}
+use Rattle.block_machine.specs.Steps.{Step, Again, Answer}
 use Rattle.host_boot.specs.Taken.{found_of}
 use Rattle.driver_history.specs.Evidence.{IsEvidencedOf, IsFaultTold}
 use Rattle.driver_history.specs.Guard.{IsAskedOf}
-use Rattle.driver_history.specs.Histories.{IssuesDue, TendsPort, TiesPort}
+use Rattle.driver_history.specs.Histories.{FindsDone, IssuesDue, TiesPort}
 use Rattle.driver_history.specs.Holds.{NoneWaits}
 use Rattle.driver_history.specs.Parts.{IsOfOther}
-use Rattle.driver_history.specs.Trace.{IsServing, LeavesEngine}
+use Rattle.driver_history.specs.Trace.{IsServing, LeavesEngine, ResetsLink}
 use Rattle.server_history.specs.Below.{LawsBelow}
-use Rattle.server_history.specs.Turns.{IsStepOf, moment_of, turn_of}
+use Rattle.server_history.specs.Turns.{HeedsTrouble, InService, IsStepOf, moment_of, turn_of}
+use Rattle.server_history.proofs.Plans.{AService, ATick, OwesBy, Plan, Uses, asks_for, owes_nothing}
 use Rattle.server_history.specs.Server.{Server, IsKept, IsMachineOf, IsSettled, mode_at, mode_in, ports_of, remembered_at, slots_at, state_of}
 use Rattle.server_history.proofs.Asks.{none_issued}
 use Rattle.server_history.proofs.Told.{no_evidence}
-use Rattle.server_history.proofs.Turns.{AreTurns, all_of_ports, answered_of, no_turns, turns_more}
+use Rattle.server_history.proofs.Turns.{AreTurns, again_of, all_of_ports, answered_of, no_turns, turns_more}
 use Rattle.server_history.proofs.Joined.{NamesSome, names_more, same_at}
 use Rattle.server_history.proofs.Lists.{nowhere}
 
--- ---- what was done so far
+-- ---- what was done so far of a port
 
-module _ (laws : LawsBelow) (s : Server) (start : IsSettled s) (old : Moment) (reached : IsReached old.machine) (at : IsMachineOf s old.machine) (ports_are : old.ports ≡ ports_of s) where
+-- A tick has restarted the port.
+pub record IsRestarted (old : Instant Device) (port : Port) (accesses : List Access) (c : Server) (evidence : Evidence) (steps : List Step) : Type 0 where
+  pub finds : FindsDone port accesses old steps
+  pub boots : (state_of (found_of c.ports port.0) ≡ Dead) ⊎ ResetsLink port accesses
+  pub ended : AnswersEnded old.moment.machine steps port
+  pub interrupts : IsInterrupted evidence port
+  pub anew : NoneKeepsIssue steps (after old.moment.machine steps) port
+  pub another : (e : Pending) → Contains steps (Answer e Unplugged) → e.request.port ≡ port
+      → (state_of (found_of c.ports port.0) ≢ Dead) × (state_of (found_of c.ports port.0) ≡ ReadyState → SameDisk old.moment.ports (ports_of c) port → ⊥)
+  pub disk : HadDisk old.moment steps (moment_of c (after old.moment.machine steps)) port
+  pub heeds : IsAskedOf port old c.device → HeedsTrouble port accesses old evidence (ports_of c) c.device
+
+-- It has let the port rest.
+pub record HasRested (old : Moment) (port : Port) (accesses : List Access) (c : Server) (evidence : Evidence) (steps : List Step) : Type 0 where
+  pub others : All (IsOfOther port) accesses
+  pub same : SamePort old.ports (ports_of c) port
+  pub uninterrupted : IsInterrupted evidence port → ⊥
+  pub again : (e : Pending) → Contains steps (Again e) → e.request.port ≢ port
+  pub answer : (e : Pending) (o : Outcome) → Contains steps (Answer e o) → e.request.port ≢ port
+
+-- A tick has restarted the port, or let it rest.
+pub record HasTicked (hung : ℕ → Bool) (s : Server) (old : Moment) (port : Port) (accesses : List Access) (c : Server) (evidence : Evidence) (steps : List Step) : Type 0 where
+  pub restarted : old.ports.state port ≡ ReadyState → hung port.0 ≡ true → IsRestarted (record { device = s.device; moment = old }) port accesses c evidence steps
+  pub rested : (old.ports.state port ≡ ReadyState → hung port.0 ≡ true → ⊥) → HasRested old port accesses c evidence steps
+
+abbrev pub TiesSoFar : Plan → Server → Moment → Port → List Access → Server → Evidence → List Step → Type 0
+TiesSoFar AService s old port accesses c evidence steps =
+    IsAskedOf port (record { device = s.device; moment = old }) c.device → TiesPort (record { device = s.device; moment = old }) (turn_of InService [] c evidence steps) accesses port
+TiesSoFar (ATick hung) s old port accesses c evidence steps = HasTicked hung s old port accesses c evidence steps
+
+-- nothing is done of a port that isn't ready, and that had no turn
+unready_ties : (plan : Plan) (s : Server) (old : Moment) (port : Port) (accesses : List Access) (c : Server) (evidence : Evidence) (steps : List Step) → old.ports.state port ≢ ReadyState → HasRested old port accesses c evidence steps
+    → TiesSoFar plan s old port accesses c evidence steps
+unready_ties AService s old port accesses c evidence steps unready rests = λ asked. absurd (unready asked.ready)
+unready_ties (ATick hung) s old port accesses c evidence steps unready rests = record {
+  restarted = λ ready. absurd (unready ready);
+  rested = λ _. rests;
+}
+
+-- ---- and of all
+
+module _ (plan : Plan) (laws : LawsBelow) (s : Server) (start : IsSettled s) (old : Moment) (reached : IsReached old.machine) (at : IsMachineOf s old.machine) (ports_are : old.ports ≡ ports_of s) where
   abbrev pub kept : IsKept s
   kept = start.kept
 
@@ -61,8 +102,8 @@ module _ (laws : LawsBelow) (s : Server) (start : IsSettled s) (old : Moment) (r
     pub becomes : IsServiced old.ports evidence (ports_of c) q
     pub disk : SamePort old.ports (ports_of c) q ⊎ HadDisk old steps (moment_of c (after old.machine steps)) q
     pub keeps : SameDisk old.ports (ports_of c) q ⊎ NoneWaits (after old.machine steps) q
-    pub evidenced : IsEvidencedOf Service (Served []) accesses began (ports_of c) c.device evidence q
-    pub ties : IsAskedOf q began c.device → TiesPort began (turn_of [] c evidence steps) accesses q
+    pub evidenced : IsEvidencedOf (asks_for plan) (Served []) accesses began (ports_of c) c.device evidence q
+    pub ties : TiesSoFar plan s old q accesses c evidence steps
 
   -- a fault that is told of a port that had its turn
   pub record HasTold (n : ℕ) (c : Server) (accesses : List Access) (told : Fault) : Type 0 where
@@ -77,17 +118,17 @@ module _ (laws : LawsBelow) (s : Server) (start : IsSettled s) (old : Moment) (r
     pub on : IsOn c.device
     pub accesses : List Access
     pub does : DoesAll accesses s.device c.device
-    pub serving : All (IsServing (TendsPort (ports_of s))) accesses
+    pub serving : All (IsServing (Uses plan old.ports)) accesses
     pub others : (q : Port) → (HadTurn n q → ⊥) → All (IsOfOther q) accesses
     pub steps : List Step
     pub turns : AreTurns old n steps
     pub stands : IsMachineOf c (after old.machine steps)
     pub backed : IsBacked s.device c.device old.machine steps
-    pub belong : Belong {D = DeviceStep} Service (ports_of c) steps
+    pub belong : Belong (asks_for plan) (ports_of c) steps
     pub evidence : Evidence
     pub names : NamesSome (HadTurn n) evidence
     pub lawful : AllLawful old evidence (ports_of c) steps
-    pub grounded : AllGrounded evidence steps
+    pub owes : OwesBy plan evidence steps
     pub unplugs : UnplugsAll steps (after old.machine steps)
     pub answers : List (Pending × Outcome)
     pub permuted : IsPermutation answers (answers_of steps)
@@ -110,7 +151,7 @@ module _ (laws : LawsBelow) (s : Server) (start : IsSettled s) (old : Moment) (r
     on = kept.on;
     accesses = [];
     does = refl;
-    serving = All-nil (IsServing (TendsPort (ports_of s)));
+    serving = All-nil (IsServing (Uses plan old.ports));
     others = λ q none. All-nil (IsOfOther q);
     steps = [];
     turns = no_turns laws old reached;
@@ -127,7 +168,7 @@ module _ (laws : LawsBelow) (s : Server) (start : IsSettled s) (old : Moment) (r
       stuck = All-nil (HadTurn 0);
     };
     lawful = tt;
-    grounded = tt;
+    owes = owes_nothing plan;
     unplugs = record { emptied = λ e other here there. absurd (nowhere (Answer e Unplugged) here); alike = λ e other here there. absurd (nowhere (Answer e Unplugged) here) };
     answers = [];
     permuted = IsPermutation-refl [];
@@ -161,7 +202,7 @@ module _ (laws : LawsBelow) (s : Server) (start : IsSettled s) (old : Moment) (r
 
   -- nothing is asked of the evidence of a port that isn't ready, and that it doesn't name
   pub none_evidenced : (accesses : List Access) (new : Device) (ports : Ports) (evidence : Evidence) (q : Port) → state_at q.0 ≢ ReadyState → NamesSome (λ r. state_at r.0 ≡ ReadyState) evidence → All (IsOfOther q) accesses
-      → IsEvidencedOf Service (Served []) accesses began ports new evidence q
+      → IsEvidencedOf (asks_for plan) (Served []) accesses began ports new evidence q
   none_evidenced accesses new ports evidence q unready names of =
       let Such : Port → Type 0 = λ r. state_at r.0 ≡ ReadyState in
       let was_ready : old.ports.state q ≡ ReadyState → ⊥ = λ is. unready (sym (ap (λ (ports : Ports). ports.state q) ports_are) ∙ is) in
@@ -200,7 +241,13 @@ module _ (laws : LawsBelow) (s : Server) (start : IsSettled s) (old : Moment) (r
         disk = inl same;
         keeps = inl (same.2, same.3);
         evidenced = none_evidenced p.accesses c.device (ports_of c) p.evidence q unready (names_more (HadTurn n) (λ r. state_at r.0 ≡ ReadyState) (λ r served. served.1) p.evidence p.names) (p.others q none);
-        ties = λ asked. absurd (unready (sym (ap (λ (ports : Ports). ports.state q) ports_are) ∙ asked.ready));
+        ties = unready_ties plan s old q p.accesses c p.evidence p.steps (λ is. unready (sym (ap (λ (ports : Ports). ports.state q) ports_are) ∙ is)) (record {
+          others = p.others q none;
+          same = same;
+          uninterrupted = λ i. ⊎_elim un.4 un.5 i;
+          again = λ e here own. unready (ap (λ (r : Port). state_at r.0) (sym own) ∙ (again_of (HadTurn n) p.steps p.of e here).1);
+          answer = λ e o here own. unready (ap (λ (r : Port). state_at r.0) (sym own) ∙ (answered_of (HadTurn n) p.steps p.of e o here).1);
+        });
       }
 
   -- a port that isn't ready has no turn
@@ -221,7 +268,7 @@ module _ (laws : LawsBelow) (s : Server) (start : IsSettled s) (old : Moment) (r
     evidence = p.evidence;
     names = names_more (HadTurn n) (HadTurn (n + 1)) (λ q served. let small = served.0 in (omega (arith, small), served.1)) p.evidence p.names;
     lawful = p.lawful;
-    grounded = p.grounded;
+    owes = p.owes;
     unplugs = p.unplugs;
     answers = p.answers;
     permuted = p.permuted;

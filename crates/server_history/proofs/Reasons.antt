@@ -10,7 +10,7 @@ use Rattle.ata_types.specs.declared.request.Outcome.TheVariants as outcome
 use Rattle.ata_types.specs.declared.request.Reply.{Reply}
 use Rattle.ata_types.specs.declared.request.RequestId.{RequestId}
 use Rattle.adapter.specs.declared.access.DeviceStep.{DeviceStep}
-use Rattle.block_machine.specs.Events.{AllGrounded, AllLawful, Belong, IsIssuedIn, IsLawful, Moment, Service, issues_it}
+use Rattle.block_machine.specs.Events.{AllGrounded, AllLawful, Belong, GivesUp, IsDevices, IsIssuedIn, IsLawful, IsServers, Moment, Service, Tick, issues_it}
 use Rattle.block_machine.specs.Ports.{Evidence, Ports}
 use Rattle.block_machine.specs.State.{Pending}
 use Rattle.block_machine.specs.Steps.{Step, Again, Answer, Issue}
@@ -207,3 +207,21 @@ module _ (port : Port) where
     issuing_belong mode ports its steps only.1 (λ id there. ready id (or_right (issues_it id step) (list_any (issues_it id) steps) there)),
     inl only.0,
   )
+
+-- ---- a tick
+
+-- steps that belong to a service belong to a tick, where no fault is told
+pub belong_tick : (ports : Ports) (steps : List Step) → ((e : Pending) (o : Outcome) → Contains steps (Answer e o) → GivesUp o ⊎ (o ≡ outcome.Ok))
+    → Belong {D = DeviceStep} Service ports steps → Belong {D = DeviceStep} Tick ports steps
+belong_tick ports [] gives b = tt
+belong_tick ports (step ∷ steps) gives b = (
+  belong_tick ports steps (λ e o there. gives e o (contains_there step steps (Answer e o) there)) b.0,
+  ⊎_elim (λ device. inl device) (λ its. one step (λ e o is. gives e o (subst (λ (s : Step). Contains (step ∷ steps) s) (sym is) (first_here step steps))) its) b.1,
+)
+  where
+    one : (step : Step) → ((e : Pending) (o : Outcome) → Answer e o ≡ step → GivesUp o ⊎ (o ≡ outcome.Ok)) → IsServers {D = DeviceStep} Service ports step
+        → IsDevices step ⊎ IsServers {D = DeviceStep} Tick ports step
+    one (Issue mode e) gives its = inr its
+    one (Again e) gives its = inr its
+    one (Answer e o) gives its = inr (gives e o refl)
+    one step gives its = absurd its

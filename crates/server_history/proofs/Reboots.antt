@@ -23,8 +23,8 @@ use Rattle.host_boot.specs.declared.Found.{Found}
 use Rattle.host_boot.specs.declared.Found.TheVariants.{Ready, Unready, Unserved}
 use Rattle.port_control.specs.declared.Running as running_token
 use Rattle.port_look.specs.Looks.{IsLooking}
-use Rattle.port_look.specs.declared.Look.{Look}
-use Rattle.port_look.specs.declared.Look.TheVariants.{Failed}
+use Rattle.server_history.specs.declared.Trouble.{Trouble}
+use Rattle.server_history.specs.declared.Trouble.TheVariants.{Failed, Lost}
 use Rattle.server_history.specs.Below.{LawsBelow}
 use Rattle.server_history.specs.Mended.{IsFoundAfter, IsMended, HasMetFates, MendsPort}
 use Rattle.server_history.specs.Server.{Server, IsKept, disk_in, disk_of, is_served, mode_found, mode_in, plain_mode, ports_of, sectors_of, serial_of, state_of, trims_of}
@@ -89,8 +89,15 @@ module _ (laws : LawsBelow) (port : Port) (replies : List Reply) (old new : Serv
 
   -- ---- one that was booted
 
+  -- It is dead; or its link was reset; or its disk was lost, and it is absent.
   abbrev Stopped : Type 0
-  Stopped = ((ports_of new).state port ≡ DeadState) ⊎ (((ports_of new).state port ≡ shown.Absent) ⊎ ResetsLink port evident.accesses)
+  Stopped = ((ports_of new).state port ≡ DeadState) ⊎ (((x.trouble ≡ Lost) × ((ports_of new).state port ≡ shown.Absent)) ⊎ ResetsLink port evident.accesses)
+
+  abbrev Rebooted : Type 0
+  Rebooted = ((ports_of new).state port ≡ DeadState) ⊎ (((ports_of new).state port ≡ shown.Absent) ⊎ ResetsLink port evident.accesses)
+
+  rebooted : Stopped → Rebooted
+  rebooted s = ⊎_elim (λ dead. inl dead) (λ more. inr (⊎_elim (λ absent. inl absent.1) (λ resets. inr resets) more)) s
 
   reset : ResetsLink port t.late.accesses → ResetsLink port evident.accesses
   reset late = subst (ResetsLink port) (sym evident.accesses_are) (resets_since port t.early.accesses (x.mends.accesses ++ t.late.accesses) (resets_since port x.mends.accesses t.late.accesses late))
@@ -111,7 +118,7 @@ module _ (laws : LawsBelow) (port : Port) (replies : List Reply) (old new : Serv
   stops (next.Running token) is halts = absurd (halts token refl)
   stops (next.Restart token) is halts = ⊎_elim
       (λ (dies : a.found ≡ Unready DeadState). inl (dead dies))
-      (λ (lives : a.found ≢ Unready DeadState). inr (⊎_elim (λ absent. inl (state_new laws port replies old new k ready r looks kept ∙ ap state_of absent)) (λ resets. inr (reset resets)) (t.resets token is lives)))
+      (λ (lives : a.found ≢ Unready DeadState). inr (⊎_elim (λ absent. inl (absent.0, state_new laws port replies old new k ready r looks kept ∙ ap state_of absent.1)) (λ resets. inr (reset resets)) (t.resets token is lives)))
       (dead_or_not a.found)
   stops next.Dead is halts = inl (dead (next_dead laws port replies old new k ready r looks kept is))
 
@@ -120,20 +127,24 @@ module _ (laws : LawsBelow) (port : Port) (replies : List Reply) (old new : Serv
     where
       by : (n : Next) → x.result.next ≡ n → SamePort (ports_of old) (ports_of new) port ⊎ Stopped
       by (next.Running token) is =
-          let then_is : IsFoundAfter (wanted_of old.wanted port.0) port x.look a.was (next.Running token) a.device r.mid.device a.found = subst (λ (n : Next). IsFoundAfter (wanted_of old.wanted port.0) port x.look a.was n a.device r.mid.device a.found) is a.is in
+          let then_is : IsFoundAfter (wanted_of old.wanted port.0) port x.trouble a.was (next.Running token) a.device r.mid.device a.found = subst (λ (n : Next). IsFoundAfter (wanted_of old.wanted port.0) port x.trouble a.was n a.device r.mid.device a.found) is a.is in
           inl (same then_is.0 then_is.1)
       by (next.Restart token) is = inr (stops (next.Restart token) is (λ at e. let z : next.Restart token ≡ next.Running at = e in cc))
       by next.Dead is = inr (stops next.Dead is (λ at e. let z : next.Dead ≡ next.Running at = e in cc))
 
   -- but after a command that failed it doesn't run on
-  unless_failed : x.look ≢ Failed → Stopped
-  unless_failed other = stops x.result.next refl ((given_up x.look port x.outstanding x.queued x.result x.mends.accesses a.mid.device a.device x.tells other).1)
+  unless_failed : x.trouble ≢ Failed → Stopped
+  unless_failed other = stops x.result.next refl ((given_up x.trouble port x.outstanding x.queued x.result x.mends.accesses a.mid.device a.device x.tells other).1)
+
+  -- and where its disk wasn't lost either, its link was reset, unless it is dead
+  pub restarts : x.trouble ≢ Failed → x.trouble ≢ Lost → ((ports_of new).state port ≡ DeadState) ⊎ ResetsLink port evident.accesses
+  restarts other there = ⊎_elim (λ dead. inl dead) (λ more. inr (⊎_elim (λ absent. absurd (there absent.0)) (λ resets. resets) more)) (unless_failed other)
 
   pub reboots : (m : Machine) → BootsAnew Service (Served replies) evident.accesses (instant_of old m) (ports_of new) new.device port
   reboots m = (
-    (λ is_ready trouble. unless_failed (λ failed. ⊎_elim
-        (λ fatal. nowhere port (subst (λ (l : Look). Contains (fatal_of port l (old.device.port port.0)) port) failed ((evident.evidenced m).fatal_all is_ready fatal)))
-        (λ loss. nowhere port (subst (λ (l : Look). Contains (gone_of port l) port) failed ((evident.evidenced m).gone_all is_ready loss)))
-        trouble)),
-    ends,
+    (λ is_ready trouble. rebooted (unless_failed (λ failed. ⊎_elim
+        (λ fatal. nowhere port (subst (λ (t : Trouble). Contains (fatal_of port t (old.device.port port.0)) port) failed ((evident.evidenced Service m).fatal_all is_ready fatal)))
+        (λ loss. nowhere port (subst (λ (t : Trouble). Contains (gone_of port t (old.device.port port.0)) port) failed ((evident.evidenced Service m).gone_all is_ready loss)))
+        trouble))),
+    ⊎_elim (λ same. inl same) (λ stops. inr (rebooted stops)) ends,
   )

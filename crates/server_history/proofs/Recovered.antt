@@ -208,8 +208,8 @@ module _ (laws : LawsBelow) (port : Port) (later : List Reply) (old new : Server
   abbrev wanted : Wanted
   wanted = wanted_of mid.wanted port.0
 
-  is_after : IsFoundAfter wanted port r.look a.was r.result.next a.device new.device a.found
-  is_after = subst (λ (list : List Wanted). IsFoundAfter (wanted_of list port.0) port r.look a.was r.result.next a.device new.device a.found) (sym (wanted_same laws port old mid a.device k ready r looks)) a.is
+  is_after : IsFoundAfter wanted port r.trouble a.was r.result.next a.device new.device a.found
+  is_after = subst (λ (list : List Wanted). IsFoundAfter (wanted_of list port.0) port r.trouble a.was r.result.next a.device new.device a.found) (sym (wanted_same laws port old mid a.device k ready r looks)) a.is
 
   done : PassesTo laws mid port m small r.result.next a.device
   done = recovery_passes laws mid port m small r.outstanding r.queued r.result a.device r.mends
@@ -217,14 +217,14 @@ module _ (laws : LawsBelow) (port : Port) (later : List Reply) (old new : Server
   -- ---- accesses
 
   -- the whole way leaves the other ports
-  then_passes : (after_it : Next) → (slots : InSlots) → Passes mid port slots a.device → (after_it ≢ next.Dead → AllFree slots.uses port.0) → IsFoundAfter wanted port r.look a.was after_it a.device new.device a.found
+  then_passes : (after_it : Next) → (slots : InSlots) → Passes mid port slots a.device → (after_it ≢ next.Dead → AllFree slots.uses port.0) → IsFoundAfter wanted port r.trouble a.was after_it a.device new.device a.found
       → (then_slots : InSlots) × Passes mid port then_slots new.device
   then_passes (next.Running token) slots p free (found, same) = (slots, subst (Passes mid port slots) (sym same) p)
   then_passes (next.Restart token) slots p free (booted, found, b) =
       let free_then = free (λ dead. let z : next.Restart token ≡ next.Dead = dead in absurd cc) in ⊎_elim
       (λ (boots : BootsAgain wanted port booted a.device new.device). again_passes laws mid port m small slots a.device new.device p free_then wanted booted boots)
       (λ absent. (slots, start_passes laws mid port m small slots a.device new.device p free_then absent.starts))
-      (boots_or_absent r.look wanted port booted a.device new.device b)
+      (boots_or_absent r.trouble wanted port booted a.device new.device b)
   then_passes next.Dead slots p free (found, same) = (slots, subst (Passes mid port slots) (sym same) p)
 
   whole : (slots : InSlots) × Passes mid port slots new.device
@@ -326,13 +326,13 @@ module _ (laws : LawsBelow) (port : Port) (later : List Reply) (old new : Server
       halts = halts_as booted.found b.boots;
     }
 
-  stands_then : (after_it : Next) → EndsIn r.queued port after_it mid.device a.device → IsFoundAfter wanted port r.look a.was after_it a.device new.device a.found → Stands a.found new.device
+  stands_then : (after_it : Next) → EndsIn r.queued port after_it mid.device a.device → IsFoundAfter wanted port r.trouble a.was after_it a.device new.device a.found → Stands a.found new.device
   stands_then (next.Running token) ends (found, same) =
       subst (λ (f : Found). Stands f new.device) (sym found) (subst (λ (d : Device). Stands (Ready a.was) d) (sym same) (runs_then token ends))
   stands_then (next.Restart token) ends (booted, found, b) = subst (λ (f : Found). Stands f new.device) found (⊎_elim
       (boots_then booted)
-      (λ (absent : IsFoundAbsent wanted port booted.found a.device new.device). subst (λ (f : Found). Stands f new.device) (sym absent.is) (absent_then absent.ended))
-      (boots_or_absent r.look wanted port booted a.device new.device b))
+      (λ (absent : IsFoundAbsent wanted port r.trouble booted.found a.device new.device). subst (λ (f : Found). Stands f new.device) (sym absent.is) (absent_then absent.ended))
+      (boots_or_absent r.trouble wanted port booted a.device new.device b))
   stands_then next.Dead ends (found, same) =
       subst (λ (f : Found). Stands f new.device) (sym found) (subst (λ (d : Device). Stands (Unready DeadState) d) (sym same) (dies_then ends))
 
@@ -445,7 +445,7 @@ module _ (laws : LawsBelow) (port : Port) (later : List Reply) (old new : Server
           let end = ends_of a.failed a.prospect other w.was.entry in
           left.gone w.was end.0 (kept_in (λ (x : Held). is_of port x.entry) mid.book w.was w.there (eq-eqb w.was.entry.port.0 port.0 (ap (λ (p : Port). p.0) (sym w.port) ∙ own))) end.1 e here w.id
 
-      by : (p : Prospect) → a.prospect ≡ p → IsProspect r.look a.was a.found p → state_of a.found ≡ ReadyState
+      by : (p : Prospect) → a.prospect ≡ p → IsProspect r.trouble a.was a.found p → state_of a.found ≡ ReadyState
       by SameDisk is x = ap state_of x.1.1
       by DiskLost is x = absurd (none (λ same. let z : DiskLost ≡ SameDisk = sym is ∙ same in cc))
       by Dead is x = absurd (none (λ same. let z : Dead ≡ SameDisk = sym is ∙ same in cc))

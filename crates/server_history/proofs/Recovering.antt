@@ -43,7 +43,8 @@ use Rattle.server_history.specs.Mended.{IsFoundAfter}
 use Rattle.server_history.proofs.Coming.{table_own}
 use Rattle.server_history.proofs.Resetting.{ResetsBy, early_resets, late_resets, ready_resets, resets_since}
 use Rattle.server_history.proofs.Silent.{silent_more, silent_none}
-use Rattle.port_look.specs.declared.Look.{Look}
+use Rattle.server_history.specs.declared.Trouble.{Trouble}
+use Rattle.server_history.specs.declared.Trouble.TheVariants.{Lost}
 use Rattle.server_history.proofs.Starting.{IsFoundAbsent, boots_or_absent}
 
 -- ---- kinds of accesses
@@ -107,15 +108,15 @@ pub record IsGivenUp (port : Port) (d : Device) : Type 0 where
 
 -- The accesses between recovery and the issues, and what they tell of a port that is dead after its boot: 64 readings in a row showed an engine that is
 -- stuck. Another boot has reset the link. Another port is sent no page by a command that its slot 0 hadn't.
-pub record AfterList (port : Port) (then : Next) (found : Found) (old new : Device) : Type 0 where
+pub record AfterList (port : Port) (trouble : Trouble) (then : Next) (found : Found) (old new : Device) : Type 0 where
   pub driven : IsDrivenBy (IsPart port) old new
   pub sticks : found ≡ Unready DeadState → then ≢ next.Dead → Sticks port driven.accesses
   pub stuck : found ≡ Unready DeadState → then ≢ next.Dead → (new.port port.0).notes.engine_count ≡ 64
-  pub resets : (token : Stopped) → then ≡ next.Restart token → found ≢ Unready DeadState → (found ≡ Unready shown.Absent) ⊎ ResetsLink port driven.accesses
+  pub resets : (token : Stopped) → then ≡ next.Restart token → found ≢ Unready DeadState → ((trouble ≡ Lost) × (found ≡ Unready shown.Absent)) ⊎ ResetsLink port driven.accesses
   pub unreset : ((token : Stopped) → then ≢ next.Restart token) → All (SparesRegister (Px port Sctl)) driven.accesses
   pub silent : (q : Port) (o : Operation) → q.0 ≢ port.0 → op_of o ≡ None → ((token : Stopped) → then ≡ next.Restart token → (g : IsGivenUp port old) × (g.uses q.0 0 ≡ Own o → ⊥)) → SendsNone q.0 o old new
 
-module _ (laws : LawsBelow) (port : Port) (low : port.0 < 4) (wanted : Wanted) where
+module _ (laws : LawsBelow) (port : Port) (low : port.0 < 4) (wanted : Wanted) (trouble : Trouble) where
   module _ (token : Stopped) (old asked new : Device) (asks : IsFollowed (IsOfStart port) (λ uses. AllFree uses port.0) old asked) (then : Uses → Uses) (boots : IsFollowedTo (IsOfBoot port) (λ uses. AllFree uses port.0) then asked new) where
     boot_silent : (q : Port) (o : Operation) → q.0 ≢ port.0 → op_of o ≡ None → (g : IsGivenUp port old) → (g.uses q.0 0 ≡ Own o → ⊥) → SendsNone q.0 o old new
     boot_silent q o other own g none =
@@ -126,7 +127,7 @@ module _ (laws : LawsBelow) (port : Port) (low : port.0 < 4) (wanted : Wanted) w
         (λ access is. laws.of_spares port q Ci other access (laws.booting_of port access is)) (λ access is. laws.of_spares port q Sact other access (laws.booting_of port access is)) none)
 
     boot_list : (found : Found) (by : IsDrivenBy (IsOfBoot port) asked new) → (found ≡ Unready DeadState → Sticks port by.accesses) → (found ≡ Unready DeadState → (new.port port.0).notes.engine_count ≡ 64)
-        → (found ≢ Unready DeadState → ResetsLink port by.accesses) → AfterList port (next.Restart token) found old new
+        → (found ≢ Unready DeadState → ResetsLink port by.accesses) → AfterList port trouble (next.Restart token) found old new
     boot_list found by sticks stuck resets = record {
       driven = record {
         accesses = asks.driven.accesses ++ by.accesses;
@@ -142,16 +143,16 @@ module _ (laws : LawsBelow) (port : Port) (low : port.0 < 4) (wanted : Wanted) w
     }
 
     -- one that isn't dead has its link reset
-    lives_list : (found : Found) → found ≢ Unready DeadState → ResetsBy port asked new → AfterList port (next.Restart token) found old new
+    lives_list : (found : Found) → found ≢ Unready DeadState → ResetsBy port asked new → AfterList port trouble (next.Restart token) found old new
     lives_list found lives by = boot_list found by.driven (λ dead. absurd (lives dead)) (λ dead. absurd (lives dead)) (λ _. by.resets)
 
   -- no device showed
-  absent_list : (token : Stopped) (found : Found) (old new : Device) → IsFoundAbsent wanted port found old new → AfterList port (next.Restart token) found old new
+  absent_list : (token : Stopped) (found : Found) (old new : Device) → IsFoundAbsent wanted port trouble found old new → AfterList port trouble (next.Restart token) found old new
   absent_list token found old new absent = record {
     driven = record { accesses = made.accesses; all = made.all; only = All-weaker (IsOfStart port) (IsPart port) (start_part laws port low) made.accesses made.only };
     sticks = λ dead _. absurd (lives dead);
     stuck = λ dead _. absurd (lives dead);
-    resets = λ _ _ _. inl absent.is;
+    resets = λ _ _ _. inl (absent.lost, absent.is);
     unreset = λ never. absurd (never token refl);
     silent = λ q o other own given.
         let g = given token refl in
@@ -165,13 +166,13 @@ module _ (laws : LawsBelow) (port : Port) (low : port.0 < 4) (wanted : Wanted) w
       lives : found ≡ Unready DeadState → ⊥
       lives dead = let z : Unready shown.Absent ≡ Unready DeadState = sym absent.is ∙ dead in cc
 
-  booted_list : (token : Stopped) (booted : Booted) (old new : Device) → BootsAgain wanted port booted old new → AfterList port (next.Restart token) booted.found old new
+  booted_list : (token : Stopped) (booted : Booted) (old new : Device) → BootsAgain wanted port booted old new → AfterList port trouble (next.Restart token) booted.found old new
   booted_list token booted old new b = by booted.found b.boots
     where
       lives : (state : Shown) → state ≢ DeadState → Unready state ≡ Unready DeadState → ⊥
       lives state other is = other (let z : Unready state ≡ Unready DeadState = is in cc)
 
-      unready : (state : Shown) → EndsUnready wanted port state b.asked new → AfterList port (next.Restart token) (Unready state) old new
+      unready : (state : Shown) → EndsUnready wanted port state b.asked new → AfterList port trouble (next.Restart token) (Unready state) old new
       unready shown.Dead x = ⊎_elim
           (λ (told : IsBoot (Sticks port) port b.asked new). boot_list token old b.asked new b.asks (λ uses. uses) told.followed (Unready DeadState) told.followed.driven (λ _. told.tells) (λ _. x.ended.1) (λ lives. absurd (lives refl)))
           (λ (told : IsToldTo (Sticks port) (IsOfBoot port) (λ uses. AllFree uses port.0) (λ uses. put uses port.0 0 (Own Identify)) b.asked new).
@@ -190,17 +191,17 @@ module _ (laws : LawsBelow) (port : Port) (low : port.0 < 4) (wanted : Wanted) w
           (cases_eq n 7))
       unready shown.Ready x = absurd x.ended
 
-      by : (found : Found) → BootsStopped wanted port found b.asked new → AfterList port (next.Restart token) found old new
+      by : (found : Found) → BootsStopped wanted port found b.asked new → AfterList port trouble (next.Restart token) found old new
       by Unserved x = absurd x
       by (Ready info) x =
           let no : Ready info ≡ Unready DeadState → ⊥ = λ e. let z : Ready info ≡ Unready DeadState = e in cc in
           lives_list token old b.asked new b.asks (λ uses. uses) x.boots.followed (Ready info) no (ready_resets laws port b.asked new x.way)
       by (Unready state) x = unready state x
 
-  pub after_list : (told : Look) (was : DiskInfo) (then : Next) (old new : Device) (found : Found) → IsFoundAfter wanted port told was then old new found → AfterList port then found old new
-  after_list told was (next.Running token) old new found is =
+  pub after_list : (was : DiskInfo) (then : Next) (old new : Device) (found : Found) → IsFoundAfter wanted port trouble was then old new found → AfterList port trouble then found old new
+  after_list was (next.Running token) old new found is =
       let none : found ≡ Unready DeadState → ⊥ = λ dead. let z : Ready was ≡ Unready DeadState = sym is.0 ∙ dead in cc in
-      subst (λ (d : Device). AfterList port (next.Running token) found old d) (sym is.1) (record {
+      subst (λ (d : Device). AfterList port trouble (next.Running token) found old d) (sym is.1) (record {
         driven = record { accesses = []; all = refl; only = All-nil (IsPart port) };
         sticks = λ dead _. absurd (none dead);
         stuck = λ dead _. absurd (none dead);
@@ -208,11 +209,11 @@ module _ (laws : LawsBelow) (port : Port) (low : port.0 < 4) (wanted : Wanted) w
         unreset = λ _. All-nil (SparesRegister (Px port Sctl));
         silent = λ q o other own given. silent_none q.0 o old;
       })
-  after_list told was (next.Restart token) old new found is = subst (λ (f : Found). AfterList port (next.Restart token) f old new) is.1 (⊎_elim
+  after_list was (next.Restart token) old new found is = subst (λ (f : Found). AfterList port trouble (next.Restart token) f old new) is.1 (⊎_elim
       (λ (b : BootsAgain wanted port is.0 old new). booted_list token is.0 old new b)
-      (λ (absent : IsFoundAbsent wanted port is.0.found old new). absent_list token is.0.found old new absent)
-      (boots_or_absent told wanted port is.0 old new is.2))
-  after_list told was next.Dead old new found is = subst (λ (d : Device). AfterList port next.Dead found old d) (sym is.1) (record {
+      (λ (absent : IsFoundAbsent wanted port trouble is.0.found old new). absent_list token is.0.found old new absent)
+      (boots_or_absent trouble wanted port is.0 old new is.2))
+  after_list was next.Dead old new found is = subst (λ (d : Device). AfterList port trouble next.Dead found old d) (sym is.1) (record {
     driven = record { accesses = []; all = refl; only = All-nil (IsPart port) };
     sticks = λ _ lives. absurd (lives refl);
     stuck = λ _ lives. absurd (lives refl);

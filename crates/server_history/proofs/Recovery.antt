@@ -13,8 +13,6 @@ use Rattle.block_machine.specs.State.{Machine, Pending}
 use Rattle.block_machine.specs.Steps.{Step, Again, Answer}
 use Rattle.error_recovery.specs.declared.Next.{Next}
 use Rattle.error_recovery.specs.declared.Next.TheVariants as next
-use Rattle.port_look.specs.declared.Look.{Look}
-use Rattle.port_look.specs.declared.Look.TheVariants.{Broken, Lost}
 use Rattle.request_queue.specs.Entries.{Held}
 use Rattle.request_queue.specs.Fates.{fate_of}
 use Rattle.request_queue.specs.Machine.{IsEntry}
@@ -26,7 +24,9 @@ use Rattle.server_history.specs.Fates.{DecidesOn}
 use Rattle.server_history.specs.Mended.{IsMended, HasMetFates, requests_of}
 use Rattle.server_history.specs.Served.{HasEnded, answers_in}
 use Rattle.server_history.specs.Server.{Server, IsMachineOf}
-use Rattle.server_history.proofs.Told.{shows_failure, shows_fatal}
+use Rattle.server_history.specs.declared.Trouble.{Trouble}
+use Rattle.server_history.specs.declared.Trouble.TheVariants.{Broken, Hung, Lost}
+use Rattle.server_history.proofs.Told.{shows_failure, shows_fatal, shows_loss}
 use Rattle.std.proofs.lemmas.Bool.{false≢true}
 use Rattle.server_history.proofs.Lists.{first_here, nowhere}
 
@@ -63,39 +63,42 @@ pub named_if_is : (is : Bool) (port : Port) → Contains (named_if is port) port
 named_if_is true port here = refl
 named_if_is false port here = absurd (nowhere port here)
 
--- The look told a loss: then the port's errors are those that it showed when the turn began.
-abbrev pub gone_of : Port → Look → List Port
-gone_of port Lost = port ∷ []
-gone_of port _ = []
+-- Its disk was lost. Where a request is hung, nobody looked: what is told is what the port showed when the turn began.
+abbrev pub gone_of : Port → Trouble → PortState → List Port
+gone_of port Lost p = port ∷ []
+gone_of port Hung p = named_if (shows_loss p) port
+gone_of port _ p = []
 
-abbrev pub failed_of : Port → Look → PortState → List Port
+-- A command had failed, or there was a fatal error. Where its disk was lost, or a request is hung, the port's errors are those that it showed when the turn began.
+abbrev pub failed_of : Port → Trouble → PortState → List Port
 failed_of port Lost p = named_if (shows_failure p) port
+failed_of port Hung p = named_if (shows_failure p) port
 failed_of port _ p = port ∷ []
 
--- the look told of a fatal error
-abbrev pub fatal_of : Port → Look → PortState → List Port
+abbrev pub fatal_of : Port → Trouble → PortState → List Port
 fatal_of port Broken p = port ∷ []
 fatal_of port Lost p = named_if (shows_fatal p) port
+fatal_of port Hung p = named_if (shows_fatal p) port
 fatal_of port _ p = []
 
-abbrev pub evidence_of : Port → Look → PortState → Option Failed → Prospect → Next → Evidence
-evidence_of port look p failed prospect next = record {
+abbrev pub evidence_of : Port → Trouble → PortState → Option Failed → Prospect → Next → Evidence
+evidence_of port trouble p failed prospect next = record {
   faults = faults_of failed;
   lost = lost_of port prospect;
-  gone = gone_of port look;
-  failed = failed_of port look p;
-  fatal = fatal_of port look p;
+  gone = gone_of port trouble p;
+  failed = failed_of port trouble p;
+  fatal = fatal_of port trouble p;
   stopped = stopped_of port next;
   stuck = stuck_of port prospect;
 }
 
 -- that of such a turn
 abbrev pub evidence_by : {port : Port} {later : List Reply} {old new : Server} → HasMetFates port later old new → Evidence
-evidence_by {port} {later} {old} a = evidence_of port a.mended.look (old.device.port port.0) a.failed a.prospect a.mended.result.next
+evidence_by {port} {later} {old} a = evidence_of port a.mended.trouble (old.device.port port.0) a.failed a.prospect a.mended.result.next
 
 -- ---- its steps, but for those that issue
 
--- The device's steps until the masks were read: those while the port was looked at, and then the others.
+-- The device's steps until the masks were read: those while the port was looked at, if it was, and then the others.
 pub record AddsFirst (port : Port) (old mid : Server) (new : Device) (r : IsMended port old mid new) (m : Machine) (first : List Step) : Type 0 where
   pub looked : List Step
   pub later : List Step

@@ -54,7 +54,7 @@ resets_since port early part r =
 
 -- ---- accesses of a boot's way but those that reset the link
 
-abbrev IsBeside : Port → Access → Type 0
+abbrev pub IsBeside : Port → Access → Type 0
 IsBeside port access = IsOfBoot port access × SparesRegister (Px port Sctl) access
 
 apart : (port at : Port) (r other : PortReg) → r ≢ other → Px at r ≢ Px port other
@@ -104,10 +104,10 @@ module _ (laws : LawsBelow) (port : Port) where
   write_one : (r : PortReg) (v : ℕ) (old new : Device) → IsBooting r → r ≢ Sctl → Writes (Px port r) v old new → IsDrivenBy (IsBeside port) old new
   write_one r v old new is other writes = one (Writing (Px port r) v) old new (inl (refl, is), apart port port r Sctl other) writes
 
-  without : (r : PortReg) (Sees : ℕ → Type 0) (count : ℕ) (old new : Device) → ReadsWithout port r Sees count old new → IsDrivenBy (IsBeside port) old new
+  pub without : (r : PortReg) (Sees : ℕ → Type 0) (count : ℕ) (old new : Device) → ReadsWithout port r Sees count old new → IsDrivenBy (IsBeside port) old new
   without r Sees count old new w = driven_as (ReadsNot port r Sees) (IsBeside port) old new (unread r Sees) w.reads
 
-  until : (r : PortReg) (Sees : ℕ → Type 0) (old new : Device) → ReadsUntil port r Sees old new → IsDrivenBy (IsBeside port) old new
+  pub until : (r : PortReg) (Sees : ℕ → Type 0) (old new : Device) → ReadsUntil port r Sees old new → IsDrivenBy (IsBeside port) old new
   until r Sees old new u = by_then (without r Sees u.count old u.waited u.waits) (read_one r u.value u.waited new u.reads)
 
   clearing : (old new : Device) → ClearsErrors port old new → IsDrivenBy (IsBeside port) old new
@@ -115,11 +115,19 @@ module _ (laws : LawsBelow) (port : Port) where
       (write_one Serr 0xffffffff old c.between (inr (inl (inr (inl refl)))) (λ e. let z : Serr ≡ Sctl = e in cc) c.errors)
       (write_one Is 0xffffffff c.between new (inr (inl (inr (inr refl)))) (λ e. let z : Is ≡ Sctl = e in cc) c.causes)
 
+  -- where a device was seen, errors are cleared, and this comes then
+  pub cleared_then : (old mid new : Device) → ClearsErrors port old mid → IsDrivenBy (IsBeside port) mid new → IsDrivenBy (IsBeside port) old new
+  cleared_then old mid new c rest = by_then (clearing old mid c) rest
+
   linking : (old new : Device) → FindsLink port old new → IsDrivenBy (IsBeside port) old new
   linking old new l = by_then (until Ssts _ old l.seen l.sees) (clearing l.seen new l.clears)
 
+  -- what comes once the link was found, and the errors were cleared
+  pub linked_then : (signature : ℕ) (old new : Device) → (f : FindsSignature port signature old new) → IsDrivenBy (IsBeside port) f.linked new
+  linked_then signature old new f = by_then (until Tfd _ f.linked f.idle f.waits) (read_one Sig signature f.idle new f.reads)
+
   signing : (signature : ℕ) (old new : Device) → FindsSignature port signature old new → IsDrivenBy (IsBeside port) old new
-  signing signature old new f = by_then (linking old f.linked f.links) (by_then (until Tfd _ f.linked f.idle f.waits) (read_one Sig signature f.idle new f.reads))
+  signing signature old new f = by_then (linking old f.linked f.links) (linked_then signature old new f)
 
   looking : (fault : PortFault) (old new : Device) → Looks port fault old new → IsDrivenBy (IsBeside port) old new
   looking NoDevice old new l = without Ssts _ 64 old new l
@@ -133,9 +141,20 @@ module _ (laws : LawsBelow) (port : Port) where
   asking : (old new : Device) → IsDrivenBy (IsAsking port) old new → IsDrivenBy (IsBeside port) old new
   asking old new driven = driven_as (IsAsking port) (IsBeside port) old new asking_beside driven
 
+  -- what comes once the link was found of a port that is started, and then
+  pub started_then : (old up new : Device) (g : GetsUp port old up) → IsDrivenBy (IsBeside port) up new → IsDrivenBy (IsBeside port) g.resets.rest.linked new
+  started_then old up new g rest = by_then (linked_then 0x101 g.resets.ended g.found g.resets.rest) (by_then (commanding g.found up g.starts) rest)
+
+  -- what comes once a port was started that is ready then, or stopped
+  pub ready_then : (old new : Device) (g : GetsReady port old new) → IsDrivenBy (IsBeside port) g.up new
+  ready_then old new g = by_then (asking g.up g.then.asked g.then.asks) (write_one Ie told_causes g.then.asked new (inr (inr refl)) (λ e. let z : Ie ≡ Sctl = e in cc) g.then.tells)
+
+  pub late_then : (old new : Device) (g : EndsLate port old new) → IsDrivenBy (IsBeside port) g.up new
+  late_then old new g = by_then (asking g.up g.then.asked g.then.asks) (commanding g.then.asked new g.then.stops)
+
   -- ---- the whole
 
-  resetting : (old placed sent ended new : Device) → IsDrivenBy (IsControl IsPlacing port) old placed → Writes (Px port Sctl) 1 placed sent → Writes (Px port Sctl) 0 sent ended → IsDrivenBy (IsBeside port) ended new → ResetsBy port old new
+  pub resetting : (old placed sent ended new : Device) → IsDrivenBy (IsControl IsPlacing port) old placed → Writes (Px port Sctl) 1 placed sent → Writes (Px port Sctl) 0 sent ended → IsDrivenBy (IsBeside port) ended new → ResetsBy port old new
   resetting old placed sent ended new places sends ends rest = record {
     driven = record {
       accesses = places.accesses ++ list;
@@ -163,17 +182,16 @@ module _ (laws : LawsBelow) (port : Port) where
       list = Writing (Px port Sctl) 1 ∷ Writing (Px port Sctl) 0 ∷ rest.accesses
 
   getting_up : (old up new : Device) → GetsUp port old up → IsDrivenBy (IsBeside port) up new → ResetsBy port old new
-  getting_up old up new g rest = resetting old g.placed g.resets.sent g.resets.ended new g.places g.resets.sends g.resets.ends (by_then (signing 0x101 g.resets.ended g.found g.resets.rest) (by_then (commanding g.found up g.starts) rest))
+  getting_up old up new g rest = resetting old g.placed g.resets.sent g.resets.ended new g.places g.resets.sends g.resets.ends (by_then (linking g.resets.ended g.resets.rest.linked g.resets.rest.links) (started_then old up new g rest))
 
   pub ready_resets : (old new : Device) → GetsReady port old new → ResetsBy port old new
-  ready_resets old new g = getting_up old g.up new g.first
-      (by_then (asking g.up g.then.asked g.then.asks) (write_one Ie told_causes g.then.asked new (inr (inr refl)) (λ e. let z : Ie ≡ Sctl = e in cc) g.then.tells))
+  ready_resets old new g = getting_up old g.up new g.first (ready_then old new g)
 
   pub early_resets : (state : Shown) (old new : Device) → EndsEarly port state old new → ResetsBy port old new
   early_resets state old new g = resetting old g.placed g.resets.sent g.resets.ended new g.places g.resets.sends g.resets.ends (looking g.fault g.resets.ended new g.resets.rest)
 
   pub late_resets : (old new : Device) → EndsLate port old new → ResetsBy port old new
-  late_resets old new g = getting_up old g.up new g.first (by_then (asking g.up g.then.asked g.then.asks) (commanding g.then.asked new g.then.stops))
+  late_resets old new g = getting_up old g.up new g.first (late_then old new g)
 
   pub up_driven : (old up : Device) → GetsUp port old up → IsDrivenBy (IsOfBoot port) old up
   up_driven old up g = (getting_up old up up g (by_none (IsBeside port) up)).driven

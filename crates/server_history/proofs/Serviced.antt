@@ -1,6 +1,6 @@
 -- A service adds an event to a history.
-use Rattle.std.proofs.Common.{ℕ, ◌≡◌, ◌≢◌, ◌+◌, List, [], ◌∷◌, refl, sym, ap, ◌∙◌, subst, ⊎_elim, arith}
-use Rattle.std.specs.List.{All, Contains}
+use Rattle.std.proofs.Common.{ℕ, ◌≡◌, ◌≢◌, List, [], ◌∷◌, refl, sym, ap, ◌∙◌, ⊎_elim, arith}
+use Rattle.std.specs.List.{Contains}
 use Rattle.std.proofs.lemmas.Bool.{cases_lt}
 use Rattle.ata_types.specs.declared.Port.{Port}
 use Rattle.ata_types.specs.declared.PortState.TheVariants.{Dead, Ready as ReadyState}
@@ -15,24 +15,22 @@ use Rattle.block_machine.specs.Ports.{Ports}
 use Rattle.block_machine.specs.State.{Pending}
 use Rattle.block_machine.specs.Steps.{Answer}
 use Rattle.host_boot.specs.Taken.{found_of}
-use Rattle.host_boot.specs.declared.Found.{Found}
-use Rattle.host_boot.specs.declared.Found.TheVariants.{Unserved, Ready, Unready}
 use Rattle.driver_history.specs.Evidence.{IsEvidenced}
 use Rattle.driver_history.specs.Guard.{IsAskedOf}
-use Rattle.driver_history.specs.Histories.{TendsPort, TiesPort}
+use Rattle.driver_history.specs.Histories.{TiesPort}
 use Rattle.request_queue.specs.Machine.{IsEntry}
-use Rattle.driver_history.specs.Trace.{IsServing}
 use Rattle.server_history.specs.Histories.{Adds, Leads}
 use Rattle.server_history.specs.Below.{LawsBelow}
-use Rattle.server_history.specs.Turns.{ServePorts}
+use Rattle.server_history.specs.Turns.{ServePorts, ServesPort}
 use Rattle.server_history.specs.Server.{Server, IsKept, IsMachineOf, IsSettled, mode_in, ports_of, state_of}
 use Rattle.server_history.proofs.Asks.{none_due}
 use Rattle.server_history.proofs.Beginning.{kept_fit}
 use Rattle.server_history.proofs.Going.{happening_with, lead_with, with_device}
 use Rattle.server_history.proofs.Slots.{of_ready}
 use Rattle.server_history.proofs.Zips.{at_right}
+use Rattle.server_history.proofs.Plans.{AService}
 use Rattle.server_history.proofs.Progress.{IsDone, Progress, answered_was, begun, idle_done}
-use Rattle.server_history.proofs.Services.{Whole, go}
+use Rattle.server_history.proofs.Services.{Whole, go, turns_kept}
 
 module _ (laws : LawsBelow) (s new : Server) (replies : List Reply) (start : IsSettled s) (serves : ServePorts 0 s.ports replies s new) (first : Instant Device) (past : List (Happening Device DeviceStep)) (leads : Leads first past s) where
   abbrev old : Moment
@@ -47,10 +45,10 @@ module _ (laws : LawsBelow) (s new : Server) (replies : List Reply) (start : IsS
   reached : IsReached old.machine
   reached = laws.basic.history_reached s.wanted first past leads.history
 
-  ends : Whole laws s start old reached at same new replies
-  ends = go laws s start old reached at same s.ports 0 (λ i. ap (λ (k : ℕ). found_of s.ports k) (omega arith)) s new [] replies (begun laws s start old reached at same) serves
+  ends : Whole AService laws s start old reached at same new replies
+  ends = go AService laws s start old reached at same ServesPort (λ n c mid before its ready p serves. serves.part) s.ports 0 (λ i. ap (λ (k : ℕ). found_of s.ports k) (omega arith)) s new [] replies (begun AService laws s start old reached at same) serves
 
-  p : Progress laws s start old reached at same ends.count new replies
+  p : Progress AService laws s start old reached at same ends.count new replies
   p = ends.progress
 
   abbrev holds : IsKept new
@@ -66,10 +64,10 @@ module _ (laws : LawsBelow) (s new : Server) (replies : List Reply) (start : IsS
   is_ready port = ap (λ (ports : Ports). ports.state port) same
 
   -- what is so of each port at the end
-  done : (port : Port) → IsDone laws s start old reached at same new p.accesses p.steps p.evidence port
+  done : (port : Port) → IsDone AService laws s start old reached at same new p.accesses p.steps p.evidence port
   done port = ⊎_elim
       (λ less. p.done port less)
-      (λ most. idle_done laws s start old reached at same ends.count new replies p port (ends.past port.0 most))
+      (λ most. idle_done AService laws s start old reached at same ends.count new replies p port (ends.past port.0 most))
       (cases_lt port.0 ends.count)
 
   none_waits : (port : Port) → state_of (found_of new.ports port.0) ≢ ReadyState → (e : Pending) → Contains (after old.machine p.steps).book e → e.request.port ≢ port
@@ -79,13 +77,13 @@ module _ (laws : LawsBelow) (s new : Server) (replies : List Reply) (start : IsS
 
   -- who is answered is of a port that was ready
   answered_ready : (e : Pending) (o : Outcome) → Contains p.steps (Answer e o) → old.ports.state e.request.port ≡ ReadyState
-  answered_ready e o here = is_ready e.request.port ∙ answered_was laws s start old reached at same ends.count new replies p e o here
+  answered_ready e o here = is_ready e.request.port ∙ answered_was AService laws s start old reached at same ends.count new replies p e o here
 
   all_answered : AnswersService old p.evidence p.steps replies end
   all_answered = record {
     tells = record { answers = p.answers; same = p.permuted; ordered = p.ordered; told = p.told };
     dead = λ e o h dead. let z : Dead ≡ ReadyState = sym dead ∙ answered_ready e o h in absurd cc;
-    grounded = p.grounded;
+    grounded = p.owes;
     unplugs = p.unplugs;
     issues = λ port ready. none_due new (after old.machine p.steps) p.stands (mode_in new port) port (p.settled.issued port);
     emptied = none_waits;
@@ -126,18 +124,11 @@ module _ (laws : LawsBelow) (s new : Server) (replies : List Reply) (start : IsS
       lead_with laws first past s new Service (Served replies) p.evidence p.steps p.wanted leads holds (kept_fit new holds)
       p.turns.may p.belong p.turns.last p.lawful keeps all_answered
       p.accesses
-      (p.does, subst (λ (ports : Ports). All (IsServing (TendsPort ports)) p.accesses) (sym same) p.serving)
+      (p.does, p.serving)
       evidenced
       (λ port ready. p.due port ready)
       port_part
       p.backed p.stands
 
--- a server that served ports keeps what it keeps
-served_kept : (found : List Found) (n : ℕ) (s new : Server) (replies : List Reply) → IsSettled s → ServePorts n found replies s new → IsSettled new
-served_kept [] n s new replies kept serves = subst IsSettled (sym serves.1) kept
-served_kept (Ready info ∷ found) n s new replies kept (mid, its, later, is, next, serves, more) = served_kept found (n + 1) mid new later next more
-served_kept (Unserved ∷ found) n s new replies kept serves = served_kept found (n + 1) s new replies kept serves
-served_kept (Unready state ∷ found) n s new replies kept serves = served_kept found (n + 1) s new replies kept serves
-
 pub services_add : LawsBelow → (s new : Server) (replies : List Reply) → IsSettled s → ServePorts 0 s.ports replies s new → Adds s new Service (Served replies)
-services_add laws s new replies start serves = record { settled = served_kept s.ports 0 s new replies start serves; adds = λ first past leads. service_event laws s new replies start serves first past leads }
+services_add laws s new replies start serves = record { settled = turns_kept ServesPort s.ports 0 s new replies start serves; adds = λ first past leads. service_event laws s new replies start serves first past leads }

@@ -1,10 +1,10 @@
--- Ready ports that are served one after another add an event.
+-- Ready ports have their turns one after another, and each leads on what was done so far.
 use Rattle.std.proofs.Common.{ℕ, suc, ◌≡◌, ◌≢◌, ◌≤◌, ◌<◌, ◌+◌, ◌-◌, ◌||◌, Bool, true, false, List, [], ◌∷◌, ◌++◌, map, Some, None, refl, sym, ap, ◌∙◌, subst, inl, inr, ⊎_elim, arith, append_assoc, append-nil}
 use Rattle.std.specs.List.{All, AllPairs, Contains, list_any}
 use Rattle.std.specs.List.Sorted.{IsPermutation}
 use Rattle.std.proofs.lemmas.Bool.{cases_Bool, cases_eq, cases_lt, or_left, or_right}
 use Rattle.std.proofs.lemmas.List.{map-append}
-use Rattle.std.proofs.lemmas.List.Elements.{All-nil, All-append, All-cons, All-contains, All-contains_itself, All-head, All-tail, All-weaker, Contains-append_cases, Contains-append_left, Contains-append_right}
+use Rattle.std.proofs.lemmas.List.Elements.{All-nil, All-append, All-contains, All-contains_itself, All-weaker, Contains-append_cases, Contains-append_left, Contains-append_right}
 use Rattle.std.proofs.lemmas.List.Sorted.{Contains-permutation, IsPermutation-append, IsPermutation-append_comm, IsPermutation-trans}
 use Rattle.ata_types.specs.declared.Port.{Port}
 use Rattle.ata_types.specs.declared.PortState.{PortState}
@@ -12,18 +12,17 @@ use Rattle.ata_types.specs.declared.PortState.TheVariants.{Absent, Dead, Ready a
 use Rattle.ata_types.specs.declared.request.Outcome.{Outcome}
 use Rattle.ata_types.specs.declared.request.Reply.{Reply}
 use Rattle.ata_types.specs.declared.request.RequestId.{RequestId}
-use Rattle.hba_regs.specs.declared.reg.Reg.TheVariants.{Px}
 use Rattle.adapter.specs.Access.{Access}
-use Rattle.adapter.specs.Access.Access.{Loading, Reading, Storing, Writing}
 use Rattle.adapter.specs.Commands.{Meaning, is_queued}
 use Rattle.adapter.specs.declared.command.Operation.TheVariants.{ReadLog}
 use Rattle.adapter.specs.declared.tape.Fault as tape_fault
 use Rattle.adapter.specs.Device.{Device}
+use Rattle.adapter.specs.declared.access.DeviceStep.{DeviceStep}
 use Rattle.adapter.specs.Rules.{IsOn}
 use Rattle.agreement.specs.Agrees.{port_at}
 use Rattle.agreement.specs.Driven.{IsDrivenBy, IsOf}
 use Rattle.agreement.specs.Slots.{IsMove, ServesRequest}
-use Rattle.block_machine.specs.Events.{AllGrounded, AllLawful, IsIssuedIn, IsToldBefore, Moment, Served, ShowsDisk, Service, WasIssued, answers_of, changes_disk, issues_it, reply_of}
+use Rattle.block_machine.specs.Events.{Ask, AllLawful, Belong, IsIssuedIn, IsToldBefore, Moment, Served, ShowsDisk, WasIssued, answers_of, changes_disk, issues_it, reply_of}
 use Rattle.block_machine.specs.Histories.{Instant, IsReached}
 use Rattle.block_machine.specs.Left.{after}
 use Rattle.block_machine.specs.Ports.{Evidence, Fault, Ports, SameDisk, SamePort}
@@ -38,11 +37,11 @@ use Rattle.host_boot.specs.declared.Found.TheVariants.{Unserved, Ready, Unready}
 use Rattle.identify.specs.declared.DiskInfo.{DiskInfo}
 use Rattle.driver_history.specs.Evidence.{FailsPlain, FailsQueued, IsEvidencedOf}
 use Rattle.error_recovery.specs.Evidence.{BringsLog, HasFailed}
-use Rattle.driver_history.specs.Histories.{IssuesDue, TendsPort}
+use Rattle.driver_history.specs.Histories.{IssuesDue}
 use Rattle.driver_history.specs.Parts.{HasTurnIn, IsOfOther, NamesAlike}
-use Rattle.driver_history.specs.Trace.{IsDriversOwn, IsServing}
+use Rattle.driver_history.specs.Trace.{IsServing}
 use Rattle.server_history.specs.Below.{LawsBelow}
-use Rattle.server_history.specs.Turns.{HasPart, IsOfCommand, IsStepOf, MakesTurn, ServePorts, TellsFault, moment_of}
+use Rattle.server_history.specs.Turns.{HasPart, IsOfCommand, IsStepOf, MakesTurn, TakeTurns, TellsFault, moment_of}
 use Rattle.server_history.specs.Server.{Server, IsKept, IsMachineOf, IsSettled, is_served, mode_in, ports_of, state_of, used_for}
 use Rattle.server_history.proofs.Asks.{same_book}
 use Rattle.server_history.proofs.Origins.{answered_own, issued_before, stood}
@@ -51,9 +50,9 @@ use Rattle.server_history.proofs.Slots.{IsServedBy, issued_has, ready_found, ser
 use Rattle.slots.specs.declared.Use.{Use as SlotUse}
 use Rattle.slots.specs.Uses.{Uses as PortSlots, use_at}
 use Rattle.block_machine.specs.declared.due.Mode.{Mode}
-use Rattle.server_history.proofs.Turns.{AreTurns, all_of_ports, answered_of, belong_join, belong_on, grounded_join, grounded_on, lawful_join, lawful_on, present_before, turn_on, unplugs_join}
-use Rattle.server_history.proofs.Carrying.{ties_still}
-use Rattle.server_history.proofs.Lifting.{ties_whole}
+use Rattle.server_history.proofs.Turns.{AreTurns, all_of_ports, answered_of, belong_join, lawful_join, lawful_on, present_before, turn_on, unplugs_join}
+use Rattle.server_history.proofs.Plans.{Plan, Uses, any_said, asks_for, asks_so, belong_on, owes_join, turn_at}
+use Rattle.server_history.proofs.Ties.{serving, ties_carried, ties_turned}
 use Rattle.server_history.proofs.Progress.{none_evidenced, skipped}
 use Rattle.server_history.proofs.Progress as progress
 use Rattle.server_history.proofs.Joined.{NamesSome, alike_first, alike_then, all_pairs_append, answers_append, answers_there, joined, lawful_lift, names_joined, names_more, names_only, ready_or_not, same_at, same_disk, same_then, serviced_lift}
@@ -61,7 +60,7 @@ use Rattle.server_history.proofs.Joined.{NamesSome, alike_first, alike_then, all
 same_some : {X : Type 0} {a b : X} → Some a ≡ Some b → a ≡ b
 same_some is = cc
 
-module _ (laws : LawsBelow) (s : Server) (start : IsSettled s) (old : Moment) (reached : IsReached old.machine) (at : IsMachineOf s old.machine) (ports_are : old.ports ≡ ports_of s) where
+module _ (plan : Plan) (laws : LawsBelow) (s : Server) (start : IsSettled s) (old : Moment) (reached : IsReached old.machine) (at : IsMachineOf s old.machine) (ports_are : old.ports ≡ ports_of s) where
   abbrev kept : IsKept s
   kept = start.kept
 
@@ -75,24 +74,24 @@ module _ (laws : LawsBelow) (s : Server) (start : IsSettled s) (old : Moment) (r
   HadTurn n q = (q.0 < n) × (state_at q.0 ≡ ReadyState)
 
   abbrev IsDone : Server → List Access → List Step → Evidence → Port → Type 0
-  IsDone c accesses steps evidence q = progress.IsDone laws s start old reached at ports_are c accesses steps evidence q
+  IsDone c accesses steps evidence q = progress.IsDone plan laws s start old reached at ports_are c accesses steps evidence q
 
   abbrev HasTold : ℕ → Server → List Access → Fault → Type 0
-  HasTold n c accesses told = progress.HasTold laws s start old reached at ports_are n c accesses told
+  HasTold n c accesses told = progress.HasTold plan laws s start old reached at ports_are n c accesses told
 
   abbrev Progress : ℕ → Server → List Reply → Type 0
-  Progress n c replies = progress.Progress laws s start old reached at ports_are n c replies
+  Progress n c replies = progress.Progress plan laws s start old reached at ports_are n c replies
 
   -- ---- a turn
 
-  module _ (n : ℕ) (c mid : Server) (before its : List Reply) (info : DiskInfo) (found_is : found_of s.ports n ≡ Ready info) (p : Progress n c before) (next : IsSettled mid) (part : HasPart (port_at n) its c mid) where
+  module _ (n : ℕ) (c mid : Server) (before its : List Reply) (info : DiskInfo) (found_is : found_of s.ports n ≡ Ready info) (p : Progress n c before) (next : IsSettled mid) (part : HasPart (turn_at plan n) (port_at n) its c mid) where
     abbrev m : Machine
     m = after old.machine p.steps
 
     m_reached : IsReached m
     m_reached = laws.basic.reached old.machine p.steps reached p.turns.may
 
-    abbrev x : MakesTurn (port_at n) its part.accesses c mid m
+    abbrev x : MakesTurn (turn_at plan n) (port_at n) its part.accesses c mid m
     x = part.makes m m_reached p.stands
 
     abbrev all : List Step
@@ -118,9 +117,6 @@ module _ (laws : LawsBelow) (s : Server) (start : IsSettled s) (old : Moment) (r
 
     was_ready : old.ports.state (port_at n) ≡ ReadyState
     was_ready = ap (λ (ports : Ports). ports.state (port_at n)) ports_are ∙ ready
-
-    its_served : TendsPort (ports_of s) (port_at n)
-    its_served = (ap is_served found_is, λ dead. let z : ReadyState ≡ Dead = sym ready ∙ dead in absurd cc)
 
     its_driven : IsDrivenBy (IsOf (port_at n)) c.device mid.device
     its_driven = record { accesses = part.accesses; all = part.does; only = part.of }
@@ -192,36 +188,24 @@ module _ (laws : LawsBelow) (s : Server) (start : IsSettled s) (old : Moment) (r
       others_later = of_other q ne;
     }
 
-    -- of what a service says, evidence asks nothing
-    any_said : (one other : List Reply) (made : List Access) (i : Instant Device) (ports : Ports) (d : Device) (e : Evidence) (q : Port) → IsEvidencedOf Service (Served one) made i ports d e q → IsEvidencedOf Service (Served other) made i ports d e q
-    any_said one other made i ports d e q v = record {
-      lost = v.lost;
-      gone_all = v.gone_all;
-      gone_only = v.gone_only;
-      failed_all = v.failed_all;
-      failed_only = v.failed_only;
-      fatal_all = v.fatal_all;
-      fatal_only = v.fatal_only;
-      stopped_all = v.stopped_all;
-      stopped_only = v.stopped_only;
-      stuck_only = v.stuck_only;
-    }
-
     undue : (q : Port) → state_at q.0 ≡ ReadyState → (s.device.port q.0).link_due ≡ false
     undue q is = ((kept.behind q.0 (ready_found s q.0 kept is).0).runs is).recorded.linked
 
-    evidenced_n : IsEvidencedOf Service (Served []) accesses began (ports_of mid) mid.device evidence (port_at n)
-    unfolding turn_of
-    evidenced_n = subst (λ (list : List Access). IsEvidencedOf Service (Served []) (p.accesses ++ list) began (ports_of mid) mid.device evidence (port_at n)) (append-nil part.accesses)
-        (laws.calls.evidence (port_at n) began (moment_of c m) (ports_of mid) (ports_of mid) mid.device x.evidence evidence Service (Served []) kept.on (λ _. undue (port_at n) ready) turn_of on_mid same_n
-        (same_self (ports_of mid) (port_at n)) alike_n
-        (any_said its [] part.accesses (record { device = c.device; moment = moment_of c m }) (ports_of mid) mid.device x.evidence (port_at n) x.evidenced))
+    its_evidenced : IsEvidencedOf (asks_for plan) (Served its) part.accesses (record { device = c.device; moment = moment_of c m }) (ports_of mid) mid.device x.evidence (port_at n)
+    its_evidenced = subst (λ (ask : Ask DeviceStep). IsEvidencedOf ask (Served its) part.accesses (record { device = c.device; moment = moment_of c m }) (ports_of mid) mid.device x.evidence (port_at n)) (asks_so plan n) x.evidenced
 
-    evidenced_before : (q : Port) → q.0 < n → state_at q.0 ≡ ReadyState → IsEvidencedOf Service (Served []) p.accesses began (ports_of c) c.device p.evidence q
-        → IsEvidencedOf Service (Served []) accesses began (ports_of mid) mid.device evidence q
+    evidenced_n : IsEvidencedOf (asks_for plan) (Served []) accesses began (ports_of mid) mid.device evidence (port_at n)
+    unfolding turn_of
+    evidenced_n = subst (λ (list : List Access). IsEvidencedOf (asks_for plan) (Served []) (p.accesses ++ list) began (ports_of mid) mid.device evidence (port_at n)) (append-nil part.accesses)
+        (laws.calls.evidence (port_at n) began (moment_of c m) (ports_of mid) (ports_of mid) mid.device x.evidence evidence (asks_for plan) (Served []) kept.on (λ _. undue (port_at n) ready) turn_of on_mid same_n
+        (same_self (ports_of mid) (port_at n)) alike_n
+        (any_said plan its [] part.accesses (record { device = c.device; moment = moment_of c m }) (ports_of mid) mid.device x.evidence (port_at n) its_evidenced))
+
+    evidenced_before : (q : Port) → q.0 < n → state_at q.0 ≡ ReadyState → IsEvidencedOf (asks_for plan) (Served []) p.accesses began (ports_of c) c.device p.evidence q
+        → IsEvidencedOf (asks_for plan) (Served []) accesses began (ports_of mid) mid.device evidence q
     unfolding turn_before
     evidenced_before q lt is v =
-        laws.calls.evidence q began old (ports_of c) (ports_of mid) mid.device p.evidence evidence Service (Served []) kept.on (λ _. undue q is) (turn_before q (λ same. omega (arith, lt, same))) p.on
+        laws.calls.evidence q began old (ports_of c) (ports_of mid) mid.device p.evidence evidence (asks_for plan) (Served []) kept.on (λ _. undue q is) (turn_before q (λ same. omega (arith, lt, same))) p.on
         (same_self old.ports q) (same_other q (λ same. omega (arith, lt, same))) (alike_other q (earlier q lt)) v
 
     -- ---- requests
@@ -310,11 +294,6 @@ module _ (laws : LawsBelow) (s : Server) (start : IsSettled s) (old : Moment) (r
         (λ e here there. Contains-append_left p.evidence.stopped x.evidence.stopped e.request.port there)
         p.lawful)
 
-    joined_grounded : AllGrounded evidence all
-    joined_grounded = grounded_join evidence x.steps p.steps
-        (grounded_on x.evidence evidence (λ q there. Contains-append_right p.evidence.failed x.evidence.failed q there) x.steps x.grounded)
-        (grounded_on p.evidence evidence (λ q there. Contains-append_left p.evidence.failed x.evidence.failed q there) p.steps p.grounded)
-
     -- ---- answers
 
     answered_port : (a : Pending × Outcome) → Contains x.tells.answers a → a.0.request.port ≡ port_at n
@@ -350,7 +329,7 @@ module _ (laws : LawsBelow) (s : Server) (start : IsSettled s) (old : Moment) (r
           (λ none. inr (λ e here. none e (subst (λ (k : Machine). Contains k.book e) whole_is here)))
           x.keeps;
       evidenced = evidenced_n;
-      ties = λ asked. ties_whole laws s start old reached at ports_are n c mid before its ready p next part m_reached on_mid evidence alike_n same_n asked;
+      ties = ties_turned plan laws s start old reached at ports_are n c mid before its ready p next part m_reached on_mid evidence alike_n same_n;
     }
 
     done_before : (q : Port) → q.0 < n → IsDone c p.accesses p.steps p.evidence q → IsDone mid accesses all evidence q
@@ -373,7 +352,7 @@ module _ (laws : LawsBelow) (s : Server) (start : IsSettled s) (old : Moment) (r
           (λ is_ready. evidenced_before q lt is_ready d.evidenced)
           (λ unready. idle q unready)
           (ready_or_not (state_at q.0));
-      ties = λ asked. ties_still laws s start old reached at ports_are n c mid before its p part m_reached q (earlier q lt) d evidence alike same asked;
+      ties = ties_carried plan laws s start old reached at ports_are n c mid before its p part m_reached q (earlier q lt) d evidence alike same;
     }
       where
         same : SamePort (ports_of c) (ports_of mid) q
@@ -387,8 +366,8 @@ module _ (laws : LawsBelow) (s : Server) (start : IsSettled s) (old : Moment) (r
             (names_more (HadTurn n) (λ r. state_at r.0 ≡ ReadyState) (λ r served. served.1) p.evidence p.names)
             (names_more (λ r. r ≡ port_at n) (λ r. state_at r.0 ≡ ReadyState) (λ r is. ap (λ (t : Port). state_at t.0) is ∙ ready) x.evidence mine)
 
-        idle : (q : Port) → state_at q.0 ≢ ReadyState → IsEvidencedOf Service (Served []) accesses began (ports_of mid) mid.device evidence q
-        idle q unready = none_evidenced laws s start old reached at ports_are accesses mid.device (ports_of mid) evidence q unready more_names
+        idle : (q : Port) → state_at q.0 ≢ ReadyState → IsEvidencedOf (asks_for plan) (Served []) accesses began (ports_of mid) mid.device evidence q
+        idle q unready = none_evidenced plan laws s start old reached at ports_are accesses mid.device (ports_of mid) evidence q unready more_names
             (All-append (IsOfOther q) p.accesses part.accesses (p.others q (λ served. unready served.1)) (of_other q (λ is. unready (ap state_at is ∙ ready))))
 
     -- ---- faults
@@ -519,8 +498,8 @@ module _ (laws : LawsBelow) (s : Server) (start : IsSettled s) (old : Moment) (r
       on = on_mid;
       accesses = accesses;
       does = laws.basic.does_append p.accesses part.accesses s.device c.device mid.device p.does part.does;
-      serving = All-append (IsServing (TendsPort (ports_of s))) p.accesses part.accesses p.serving
-          (serving_of part.accesses part.of part.own);
+      serving = All-append (IsServing (Uses plan old.ports)) p.accesses part.accesses p.serving
+          (serving plan laws old.ports n low was_ready (ap (λ (ports : Ports). ports.served (port_at n)) ports_are ∙ ap is_served found_is) its c mid m part x);
       others = λ q none. All-append (IsOfOther q) p.accesses part.accesses
           (p.others q (λ served. let lt = served.0 in none (omega (arith, lt), served.1)))
           (of_other q (λ is. none (omega (arith, is), ap state_at is ∙ ready)));
@@ -528,14 +507,14 @@ module _ (laws : LawsBelow) (s : Server) (start : IsSettled s) (old : Moment) (r
       turns = its_turns;
       stands = subst (IsMachineOf mid) (sym whole_is) x.stands;
       backed = laws.backed_parts s.device c.device mid.device old.machine p.steps x.steps p.backed x.backed;
-      belong = belong_join (ports_of mid) x.steps p.steps x.belong
-          (belong_on (λ q. q.0 < n) (ports_of c) (ports_of mid) (λ q lt. let same = same_other q (λ is. omega (arith, lt, is)) in (same.1, same.5)) p.steps p.turns.below p.belong);
+      belong = belong_join (asks_for plan) (ports_of mid) x.steps p.steps (subst (λ (ask : Ask DeviceStep). Belong ask (ports_of mid) x.steps) (asks_so plan n) x.belong)
+          (belong_on plan (λ q. q.0 < n) (ports_of c) (ports_of mid) (λ q lt. let same = same_other q (λ is. omega (arith, lt, is)) in (same.1, same.5)) p.steps p.turns.below p.belong);
       evidence = evidence;
       names = names_joined (HadTurn (n + 1)) p.evidence x.evidence
           (names_more (HadTurn n) (HadTurn (n + 1)) (λ q served. let lt = served.0 in (omega (arith, lt), served.1)) p.evidence p.names)
           (names_more (λ q. q ≡ port_at n) (HadTurn (n + 1)) (λ q is. subst (HadTurn (n + 1)) (sym is) (omega arith, ready)) x.evidence mine);
       lawful = joined_lawful;
-      grounded = joined_grounded;
+      owes = owes_join plan n (port_at n) part.accesses c mid m p.evidence x.evidence p.steps x.steps p.owes x.owes;
       unplugs = unplugs_join laws old reached n p.steps x.steps p.turns x.own x.may x.last p.unplugs x.unplugs;
       answers = p.answers ++ x.tells.answers;
       permuted = permuted_all;
@@ -566,20 +545,6 @@ module _ (laws : LawsBelow) (s : Server) (start : IsSettled s) (old : Moment) (r
         still_none : (q : Port) → (HadTurn (n + 1) q → ⊥) → HadTurn n q → ⊥
         still_none q none served = let lt = served.0 in none (omega (arith, lt), served.1)
 
-        one_serving : (access : Access) → IsOf (port_at n) access → IsDriversOwn access → IsServing (TendsPort (ports_of s)) access
-        one_serving (Reading (Px at r) v) of own = (own, tt, subst (TendsPort (ports_of s)) (sym of) its_served)
-        one_serving (Reading r v) of own = (own, tt, tt)
-        one_serving (Writing (Px at r) v) of own = (own, laws.of_host (port_at n) (Writing (Px at r) v) of, subst (TendsPort (ports_of s)) (sym of) its_served)
-        one_serving (Writing r v) of own = (own, laws.of_host (port_at n) (Writing r v) of, tt)
-        one_serving (Loading at bytes) of own = (own, tt, tt)
-        one_serving (Storing at bytes) of own = (own, tt, tt)
-
-        serving_of : (list : List Access) → All (IsOf (port_at n)) list → All IsDriversOwn list → All (IsServing (TendsPort (ports_of s))) list
-        serving_of [] of own = All-nil (IsServing (TendsPort (ports_of s)))
-        serving_of (access ∷ list) of own = All-cons (IsServing (TendsPort (ports_of s))) access list
-            (one_serving access (All-head (IsOf (port_at n)) access list of) (All-head IsDriversOwn access list own))
-            (serving_of list (All-tail (IsOf (port_at n)) access list of) (All-tail IsDriversOwn access list own))
-
   -- ---- all ports
 
   -- how far all got, where no port from there on is ready
@@ -598,21 +563,32 @@ module _ (laws : LawsBelow) (s : Server) (start : IsSettled s) (old : Moment) (r
   unready : (state : PortState) (n : ℕ) → found_of s.ports n ≡ Unready state → state_of (found_of s.ports n) ≢ ReadyState
   unready state n is is_ready = let z : Unready state ≡ Ready _ = sym is ∙ (ready_found s n kept is_ready).1.1 in absurd cc
 
-  pub go : (found : List Found) (n : ℕ) → ((i : ℕ) → found_of s.ports (n + i) ≡ found_of found i) → (c new : Server) (before replies : List Reply) → Progress n c before → ServePorts n found replies c new
-      → Whole new (before ++ replies)
-  go [] n here c new before replies p serves = record {
-    count = n;
-    past = λ q most is_ready.
-        let none : found_of s.ports q ≡ Unserved = ap (λ (k : ℕ). found_of s.ports k) (omega (arith, most)) ∙ here (q - n) in
-        let z : Absent ≡ ReadyState = sym (ap state_of none) ∙ is_ready in absurd cc;
-    progress = subst (λ (x : Server). Progress n x (before ++ replies)) (sym serves.1) (subst (Progress n c) (sym (append-nil before) ∙ ap (λ (r : List Reply). before ++ r) (sym serves.0)) p);
-  }
-  go (Ready info ∷ found) n here c new before replies p (mid, its, later, is, next, serves, more) =
-      subst (Whole new) (append_assoc before its later ∙ ap (λ (r : List Reply). before ++ r) (sym is))
-      (go found (n + 1) (on (Ready info) found n here) mid new (before ++ its) later
-      (had_turn n c mid before its info (head_is (Ready info) found n here) p next serves.part) more)
-  go (Unserved ∷ found) n here c new before replies p serves =
-      go found (n + 1) (on Unserved found n here) c new before replies
-      (skipped laws s start old reached at ports_are n c before (λ is_ready. let z : Absent ≡ ReadyState = sym (ap state_of (head_is Unserved found n here)) ∙ is_ready in cc) p) serves
-  go (Unready state ∷ found) n here c new before replies p serves =
-      go found (n + 1) (on (Unready state) found n here) c new before replies (skipped laws s start old reached at ports_are n c before (unready state n (head_is (Unready state) found n here)) p) serves
+  -- each port's turn is a part of the call
+  module _ (Such : Port → List Reply → Server → Server → Type 0)
+      (is_part : (n : ℕ) (c mid : Server) (before its : List Reply) → state_at n ≡ ReadyState → Progress n c before → Such (port_at n) its c mid → HasPart (turn_at plan n) (port_at n) its c mid) where
+    pub go : (found : List Found) (n : ℕ) → ((i : ℕ) → found_of s.ports (n + i) ≡ found_of found i) → (c new : Server) (before replies : List Reply) → Progress n c before → TakeTurns Such n found replies c new
+        → Whole new (before ++ replies)
+    go [] n here c new before replies p turns = record {
+      count = n;
+      past = λ q most is_ready.
+          let none : found_of s.ports q ≡ Unserved = ap (λ (k : ℕ). found_of s.ports k) (omega (arith, most)) ∙ here (q - n) in
+          let z : Absent ≡ ReadyState = sym (ap state_of none) ∙ is_ready in absurd cc;
+      progress = subst (λ (x : Server). Progress n x (before ++ replies)) (sym turns.1) (subst (Progress n c) (sym (append-nil before) ∙ ap (λ (r : List Reply). before ++ r) (sym turns.0)) p);
+    }
+    go (Ready info ∷ found) n here c new before replies p (mid, its, later, is, next, turn, more) =
+        let its_found = head_is (Ready info) found n here in
+        subst (Whole new) (append_assoc before its later ∙ ap (λ (r : List Reply). before ++ r) (sym is))
+        (go found (n + 1) (on (Ready info) found n here) mid new (before ++ its) later
+        (had_turn n c mid before its info its_found p next (is_part n c mid before its (ap state_of its_found) p turn)) more)
+    go (Unserved ∷ found) n here c new before replies p turns =
+        go found (n + 1) (on Unserved found n here) c new before replies
+        (skipped plan laws s start old reached at ports_are n c before (λ is_ready. let z : Absent ≡ ReadyState = sym (ap state_of (head_is Unserved found n here)) ∙ is_ready in cc) p) turns
+    go (Unready state ∷ found) n here c new before replies p turns =
+        go found (n + 1) (on (Unready state) found n here) c new before replies (skipped plan laws s start old reached at ports_are n c before (unready state n (head_is (Unready state) found n here)) p) turns
+
+-- a server whose ports had their turns keeps what it keeps
+pub turns_kept : (Such : Port → List Reply → Server → Server → Type 0) (found : List Found) (n : ℕ) (s new : Server) (replies : List Reply) → IsSettled s → TakeTurns Such n found replies s new → IsSettled new
+turns_kept Such [] n s new replies keeps turns = subst IsSettled (sym turns.1) keeps
+turns_kept Such (Ready info ∷ found) n s new replies keeps (mid, its, later, is, next, turn, more) = turns_kept Such found (n + 1) mid new later next more
+turns_kept Such (Unserved ∷ found) n s new replies keeps turns = turns_kept Such found (n + 1) s new replies keeps turns
+turns_kept Such (Unready state ∷ found) n s new replies keeps turns = turns_kept Such found (n + 1) s new replies keeps turns

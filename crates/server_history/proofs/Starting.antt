@@ -1,5 +1,5 @@
 -- A port that was given up is booted, or found absent.
-use Rattle.std.proofs.Common.{◌≡◌, ◌⊎◌, inl, inr, ⊎_elim}
+use Rattle.std.proofs.Common.{◌≡◌, ◌⊎◌, refl, inl, inr, ⊎_elim}
 use Rattle.ata_types.specs.declared.Port.{Port}
 use Rattle.ata_types.specs.declared.PortState.TheVariants.{Absent}
 use Rattle.adapter.specs.Device.{Device}
@@ -12,19 +12,20 @@ use Rattle.host_boot.specs.declared.Found.TheVariants.{Unready}
 use Rattle.identify.specs.Wanted.{serial_of}
 use Rattle.identify.specs.declared.wanted.Wanted.{Wanted}
 use Rattle.port_boot.specs.States.{EndsAs}
-use Rattle.port_look.specs.declared.Look.{Look}
-use Rattle.port_look.specs.declared.Look.TheVariants.{Broken, Failed, Lost, Undisturbed}
 use Rattle.server_history.specs.Mended.{BootsAfter}
+use Rattle.server_history.specs.declared.Trouble.{Trouble}
+use Rattle.server_history.specs.declared.Trouble.TheVariants.{Broken, Failed, Hung, Lost}
 
--- no device showed, and that was all
-pub record IsFoundAbsent (wanted : Wanted) (port : Port) (found : Found) (old new : Device) : Type 0 where
+-- its disk was lost, no device showed, and that was all
+pub record IsFoundAbsent (wanted : Wanted) (port : Port) (trouble : Trouble) (found : Found) (old new : Device) : Type 0 where
+  pub lost : trouble ≡ Lost
   pub is : found ≡ Unready Absent
   pub starts : IsFollowed (IsOfStart port) (λ uses. AllFree uses port.0) old new
   pub ended : EndsAs (serial_of wanted) Absent port.0 new
 
-pub boots_or_absent : (told : Look) (wanted : Wanted) (port : Port) (booted : Booted) (old new : Device) → BootsAfter told wanted port booted old new
-    → BootsAgain wanted port booted old new ⊎ IsFoundAbsent wanted port booted.found old new
-boots_or_absent Lost wanted port booted old new b = ⊎_elim (λ boots. inl boots.0) (λ absent. inr (record { is = absent.0; starts = absent.1; ended = absent.2 })) b
+pub boots_or_absent : (trouble : Trouble) (wanted : Wanted) (port : Port) (booted : Booted) (old new : Device) → BootsAfter trouble wanted port booted old new
+    → BootsAgain wanted port booted old new ⊎ IsFoundAbsent wanted port trouble booted.found old new
+boots_or_absent Lost wanted port booted old new b = ⊎_elim (λ boots. inl boots.0) (λ absent. inr (record { lost = refl; is = absent.0; starts = absent.1; ended = absent.2 })) b
 boots_or_absent Failed wanted port booted old new b = inl b
 boots_or_absent Broken wanted port booted old new b = inl b
-boots_or_absent Undisturbed wanted port booted old new b = inl b
+boots_or_absent Hung wanted port booted old new b = inl b

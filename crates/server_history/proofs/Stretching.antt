@@ -35,12 +35,16 @@ use Rattle.host_boot.specs.Taken.{found_of, wanted_of}
 use Rattle.host_boot.specs.declared.Found.TheVariants.{Unready, Unserved}
 use Rattle.port_control.specs.Engines.{Sticks}
 use Rattle.port_control.specs.declared.Stopped.{Stopped}
-use Rattle.port_look.specs.Looks.{IsLooking}
+use Rattle.port_look.specs.Looks.{IsLooking, LooksAt}
+use Rattle.port_look.specs.declared.Look.{Look}
+use Rattle.port_look.specs.declared.Look.TheVariants as look
 use Rattle.request_queue.specs.Entries.{Held, asks, asks_of, due_ids}
 use Rattle.server_history.specs.Below.{LawsBelow}
-use Rattle.server_history.specs.Mended.{IsMended, HasMetFates, MendsPort}
+use Rattle.server_history.specs.Mended.{IsFoundOut, IsMended, HasMetFates, MendsPort}
 use Rattle.server_history.specs.Served.{IssuesEach, IssuesIn}
 use Rattle.server_history.specs.Server.{Server, IsKept, mode_in, state_of, used_for}
+use Rattle.server_history.specs.declared.Trouble.{Trouble}
+use Rattle.server_history.specs.declared.Trouble.TheVariants.{Broken, Failed, Hung, Lost}
 use Rattle.server_history.proofs.Coming.{issuing_leaves, issuing_turns, look_does, look_list, look_turns, turn_leaves}
 use Rattle.server_history.proofs.Looking.{finding_kept, finding_silent, found_over, looking_kept, looking_silent}
 use Rattle.server_history.proofs.Plain.{both_read}
@@ -68,7 +72,8 @@ pub record TurnParts (port : Port) (replies : List Reply) (old new : Server) (r 
   pub late : IsDrivenBy (IsPart port) r.settled.device new.device
   pub sticks : r.settled.found ≡ Unready DeadState → r.settled.mended.result.next ≢ next.Dead → Sticks port late.accesses
   pub stuck : r.settled.found ≡ Unready DeadState → r.settled.mended.result.next ≢ next.Dead → (new.device.port port.0).notes.engine_count ≡ 64
-  pub resets : (token : Stopped) → r.settled.mended.result.next ≡ next.Restart token → r.settled.found ≢ Unready DeadState → (r.settled.found ≡ Unready AbsentState) ⊎ ResetsLink port late.accesses
+  pub resets : (token : Stopped) → r.settled.mended.result.next ≡ next.Restart token → r.settled.found ≢ Unready DeadState
+      → ((r.settled.mended.trouble ≡ Lost) × (r.settled.found ≡ Unready AbsentState)) ⊎ ResetsLink port late.accesses
   pub unreset : ((token : Stopped) → r.settled.mended.result.next ≢ next.Restart token) → All (SparesRegister (Px port Sctl)) (early.accesses ++ (r.settled.mended.mends.accesses ++ late.accesses))
   pub unissued : r.settled.found ≡ Unready DeadState → new ≡ r.mid
   pub silent : (q : ℕ) → q ≢ port.0 → state_of (found_of old.ports q) ≢ DeadState → SendsNone q ReadLog old.device new.device
@@ -122,12 +127,29 @@ module _ (laws : LawsBelow) (port : Port) (replies : List Reply) (old new : Serv
 
   -- ---- accesses
 
-  looking : IsDrivenBy (IsEarlyPart port) old.device x.seen
-  looking = record {
-    accesses = look_list port x.looks.causes x.looks.own x.looks.status;
-    all = look_does port _ old.device x.seen x.looks;
-    only = λ i d small. let t = look_turns port x.looks.causes x.looks.own x.looks.status x.looks.alone i d small in (t.1, (turn_leaves port port _ t).0);
-  }
+  -- one of those before recovery, and it doesn't write PxSCTL
+  abbrev IsLookingOn : Access → Type 0
+  IsLookingOn access = IsEarlyPart port access × SparesRegister (Px port Sctl) access
+
+  -- those of a look; where a request is hung there are none
+  looking : IsDrivenBy IsLookingOn old.device x.seen
+  looking = by x.trouble x.finds
+    where
+      looked : (told : Look) → LooksAt port told old.device x.seen → IsDrivenBy IsLookingOn old.device x.seen
+      looked told l = record {
+        accesses = look_list port l.causes l.own l.status;
+        all = look_does port told old.device x.seen l;
+        only = λ i d small. let t = look_turns port l.causes l.own l.status l.alone i d small in let leaves = turn_leaves port port _ t in ((t.1, leaves.0), leaves.1);
+      }
+
+      by : (trouble : Trouble) → IsFoundOut port trouble old.device x.seen → IsDrivenBy IsLookingOn old.device x.seen
+      by Failed l = looked look.Failed l
+      by Broken l = looked look.Broken l
+      by Lost l = looked look.Lost l
+      by Hung same = subst (IsDrivenBy IsLookingOn old.device) (sym same) (record { accesses = []; all = refl; only = All-nil IsLookingOn })
+
+  looking_early : All (IsEarlyPart port) looking.accesses
+  looking_early = All-weaker IsLookingOn (IsEarlyPart port) (λ access is. is.0) looking.accesses looking.only
 
   finding : IsDrivenBy (IsEarlyPart port) x.seen x.found
   finding =
@@ -144,13 +166,13 @@ module _ (laws : LawsBelow) (port : Port) (replies : List Reply) (old new : Serv
   early = record {
     accesses = looking.accesses ++ finding.accesses;
     all = subst (DoesAll (looking.accesses ++ finding.accesses) old.device) (sym mid_device) (laws.basic.does_append looking.accesses finding.accesses old.device x.seen x.found looking.all finding.all);
-    only = All-append (IsEarlyPart port) looking.accesses finding.accesses looking.only finding.only;
+    only = All-append (IsEarlyPart port) looking.accesses finding.accesses looking_early finding.only;
   }
 
   early_spares : All (SparesRegister (Px port Sctl)) early.accesses
-  unfolding early looking finding
+  unfolding early finding
   early_spares = All-append (SparesRegister (Px port Sctl)) looking.accesses finding.accesses
-      (λ i d small. (turn_leaves port port _ (look_turns port x.looks.causes x.looks.own x.looks.status x.looks.alone i d small)).1)
+      (All-weaker IsLookingOn (SparesRegister (Px port Sctl)) (λ access is. is.1) looking.accesses looking.only)
       (All-cons (SparesRegister (Px port Sctl)) (Reading (Px port Ci) x.reads.issued) (Reading (Px port Sact) x.reads.active ∷ []) tt
       (All-cons (SparesRegister (Px port Sctl)) (Reading (Px port Sact) x.reads.active) [] tt (All-nil (SparesRegister (Px port Sctl)))))
 
@@ -160,11 +182,11 @@ module _ (laws : LawsBelow) (port : Port) (replies : List Reply) (old new : Serv
     before = looking.accesses;
     later = [];
     here = refl;
-    running = All-weaker (IsEarlyPart port) (LeavesCommand port) (λ access is. is.1) looking.accesses looking.only;
+    running = All-weaker (IsEarlyPart port) (LeavesCommand port) (λ access is. is.1) looking.accesses looking_early;
   }
 
-  afterwards : AfterList port x.result.next a.found a.device r.mid.device
-  afterwards = after_list laws port low (wanted_of old.wanted port.0) x.look a.was x.result.next a.device r.mid.device a.found a.is
+  afterwards : AfterList port x.trouble x.result.next a.found a.device r.mid.device
+  afterwards = after_list laws port low (wanted_of old.wanted port.0) x.trouble a.was x.result.next a.device r.mid.device a.found a.is
 
   each : IsDrivenBy (IssuesIn port) r.mid.device new.device
   each = each_driven laws port (due_ids (mode_in r.mid port) port (asks_of r.mid.book)) r.mid new r.issued
@@ -263,7 +285,8 @@ module _ (laws : LawsBelow) (port : Port) (replies : List Reply) (old new : Serv
   unfolding late
   late_sticks dead lives = laws.sticks_then afterwards.driven.accesses issuing.accesses port (afterwards.sticks dead lives)
 
-  late_resets : (token : Stopped) → x.result.next ≡ next.Restart token → a.found ≢ Unready DeadState → (a.found ≡ Unready AbsentState) ⊎ ResetsLink port late.accesses
+  late_resets : (token : Stopped) → x.result.next ≡ next.Restart token → a.found ≢ Unready DeadState
+      → ((x.trouble ≡ Lost) × (a.found ≡ Unready AbsentState)) ⊎ ResetsLink port late.accesses
   unfolding late
   late_resets token is lives = ⊎_elim (λ absent. inl absent) (λ resets. inr (resets_more port [] afterwards.driven.accesses issuing.accesses resets issuing_spares)) (afterwards.resets token is lives)
 

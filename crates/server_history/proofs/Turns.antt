@@ -1,15 +1,15 @@
--- The steps of a service, in which ports have their turns one after another.
+-- The steps of a call in which ports have their turns one after another.
 use Rattle.std.proofs.Common.{Bool, eq-eqb, ◌||◌, if◌then◌else◌, ◌+◌, ◌⊎◌, ℕ, ◌≡◌, ◌≢◌, ◌≤◌, ◌<◌, ◌==◌, true, false, List, [], ◌∷◌, ◌++◌, refl, sym, ap, ◌∙◌, subst, inl, inr, ⊎_elim, arith}
 use Rattle.std.specs.List.{All, Contains, list_any}
 use Rattle.std.proofs.lemmas.Bool.{cases_eq, false≢true, ne_eqb, or_left, or_right}
-use Rattle.std.proofs.lemmas.List.Elements.{All-append, All-contains, All-head, All-nil, All-tail, All-weaker, Contains-append_cases, Contains-append_right, Contains-get_or}
+use Rattle.std.proofs.lemmas.List.Elements.{All-append, All-contains, All-nil, All-tail, All-weaker, Contains-append_cases, Contains-append_right, Contains-get_or}
 use Rattle.ata_types.specs.declared.Port.{Port}
 use Rattle.ata_types.specs.declared.request.Outcome.{Outcome}
 use Rattle.ata_types.specs.declared.request.Outcome.TheVariants.{Ok, DeviceError, Aborted, Unplugged, PortDead}
 use Rattle.ata_types.specs.declared.request.RequestId.{RequestId}
 use Rattle.adapter.specs.declared.access.DeviceStep.{DeviceStep}
 use Rattle.agreement.specs.Agrees.{port_at}
-use Rattle.block_machine.specs.Events.{Moment, Service, AllGrounded, AllLawful, AllMay, Belong, IsIssuedIn, IsLawful, IssuesLast, UnplugsAll, changes_disk}
+use Rattle.block_machine.specs.Events.{Ask, Moment, AllGrounded, AllLawful, AllMay, Belong, IsIssuedIn, IsLawful, IssuesLast, UnplugsAll, changes_disk}
 use Rattle.block_machine.specs.Histories.{IsReached}
 use Rattle.block_machine.specs.Left.{after}
 use Rattle.block_machine.specs.Ports.{Evidence, Ports}
@@ -36,26 +36,13 @@ all_of_ports One Other each steps all = All-weaker (IsStepOf One) (IsStepOf Othe
 pub answered_of : (Such : Port → Type 0) (steps : List Step) → All (IsStepOf Such) steps → (e : Pending) (o : Outcome) → Contains steps (Answer e o) → Such e.request.port
 answered_of Such steps all e o here = All-contains (IsStepOf Such) steps (Answer e o) all here
 
-pub belong_join : (ports : Ports) (late early : List Step) → Belong {D = DeviceStep} Service ports late → Belong {D = DeviceStep} Service ports early → Belong {D = DeviceStep} Service ports (late ++ early)
-belong_join ports [] early a b = b
-belong_join ports (step ∷ late) early a b = (belong_join ports late early a.0 b, a.1)
+-- and so is who waits again in them
+pub again_of : (Such : Port → Type 0) (steps : List Step) → All (IsStepOf Such) steps → (e : Pending) → Contains steps (Again e) → Such e.request.port
+again_of Such steps all e here = All-contains (IsStepOf Such) steps (Again e) all here
 
--- they belong to a call after which these ports are what they were
-pub belong_on : (Such : Port → Type 0) (old new : Ports) → ((q : Port) → Such q → (new.state q ≡ old.state q) × (new.mode q ≡ old.mode q)) → (steps : List Step) → All (IsStepOf Such) steps
-    → Belong {D = DeviceStep} Service old steps → Belong {D = DeviceStep} Service new steps
-belong_on Such old new same [] all a = tt
-belong_on Such old new same (Issue mode e ∷ steps) all a = (
-  belong_on Such old new same steps (All-tail (IsStepOf Such) (Issue mode e) steps all) a.0,
-  ⊎_elim (λ d. absurd d)
-      (λ is. let w = same e.request.port (All-head (IsStepOf Such) (Issue mode e) steps all) in inr (w.0 ∙ is.0, w.1 ∙ is.1))
-      a.1,
-)
-belong_on Such old new same (Again e ∷ steps) all a = (
-  belong_on Such old new same steps (All-tail (IsStepOf Such) (Again e) steps all) a.0,
-  ⊎_elim (λ d. absurd d) (λ is. let w = same e.request.port (All-head (IsStepOf Such) (Again e) steps all) in inr (w.0 ∙ is)) a.1,
-)
-belong_on Such old new same (Answer e o ∷ steps) all a = (belong_on Such old new same steps (All-tail (IsStepOf Such) (Answer e o) steps all) a.0, inr tt)
-belong_on Such old new same (step ∷ steps) all a = (belong_on Such old new same steps (All-tail (IsStepOf Such) step steps all) a.0, inl (All-head (IsStepOf Such) step steps all))
+pub belong_join : (ask : Ask DeviceStep) (ports : Ports) (late early : List Step) → Belong ask ports late → Belong ask ports early → Belong ask ports (late ++ early)
+belong_join ask ports [] early a b = b
+belong_join ask ports (step ∷ late) early a b = (belong_join ask ports late early a.0 b, a.1)
 
 pub lawful_join : (old : Moment) (evidence : Evidence) (ports : Ports) (late early : List Step) → AllLawful old evidence ports late → AllLawful old evidence ports early → AllLawful old evidence ports (late ++ early)
 lawful_join old evidence ports [] early a b = b
@@ -127,7 +114,7 @@ present_before m q (step ∷ steps) is = present_before m q steps is
 
 -- ---- ports that had their turns
 
--- Steps of a service in which ports below this number had their turns: the server's are of requests of those, so that each request of another port is as
+-- Steps of a call in which ports below this number had their turns: the server's are of requests of those, so that each request of another port is as
 -- it was when the call began; and each that is unanswered was so then.
 pub record AreTurns (old : Moment) (n : ℕ) (steps : List Step) : Type 0 where
   pub may : AllMay old.machine steps

@@ -38,7 +38,7 @@ use Rattle.slots.specs.declared.Use.{Use as SlotUse}
 use Rattle.server_history.specs.Below.{LawsBelow}
 use Rattle.server_history.specs.Served.{AnswersBy, Checks, HasEnded, HasTurn, IsAnsweredIn, IsMaskOf, answers_in, done_reply, is_used}
 use Rattle.server_history.proofs.Clear.{unused_clear}
-use Rattle.server_history.specs.Turns.{FindsTurn, TiesTurn, instant_of, moment_of}
+use Rattle.server_history.specs.Turns.{FindsTurn, InService, TiesTurn, instant_of, moment_of}
 use Rattle.server_history.specs.Server.{Server, IsKept, IsMachineOf, IsSettled, mode_in, ports_of, slots_at, state_of, used_for}
 use Rattle.server_history.proofs.Answered.{answered_in, ended_stood, in_answered, may_parts, no_answer, no_answer_issuing}
 use Rattle.server_history.proofs.Coming.{TurnList}
@@ -286,7 +286,7 @@ module _ (laws : LawsBelow) (port : Port) (replies : List Reply) (old new : Serv
   pub finds : IsAskedOf port (instant_of old m) new.device → (e : Pending) → IsIssuedOn port m e → FindsTurn port list.driven.accesses old m steps
   finds asked e own = found_by_masks (calm asked) e own
 
-  pub ties : TiesTurn port replies list.driven.accesses old new m its steps
+  pub ties : TiesTurn InService port replies list.driven.accesses old new m its steps
   ties asked = record {
     finds = λ is e own. finding (calm asked) e own;
     faults = λ alone. absurd (unfailing asked (inr alone.shows.fault));

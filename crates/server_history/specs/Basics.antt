@@ -1,5 +1,5 @@
 -- What laws of the crates below say of steps one after another, and of slots and the requests in them.
-use Rattle.std.specs.Prelude.{ℕ, true, false, ◌≡◌, ◌≢◌, ◌<◌, List, ◌++◌, All, Contains, length}
+use Rattle.std.specs.Prelude.{ℕ, Bool, true, false, ◌≡◌, ◌≢◌, ◌<◌, List, ◌++◌, All, Contains, length}
 use Rattle.ata_types.specs.declared.Port.{Port}
 use Rattle.ata_types.specs.declared.request.Outcome.{Outcome}
 use Rattle.ata_types.specs.declared.request.RequestId.{RequestId}
@@ -24,9 +24,13 @@ use Rattle.agreement.specs.GivingUp.{parking_all, served_ids}
 use Rattle.agreement.specs.Slots.{Armed, Free, Own, Serves, Use, Uses, put}
 use Rattle.block_machine.specs.Due.{is_plain}
 use Rattle.block_machine.specs.State.{Machine, Pending}
-use Rattle.block_machine.specs.Steps.{Step, Again, Issue, Answer, May, after_step, stays}
+use Rattle.block_machine.specs.Steps.{Step, Age, Again, Issue, Answer, May, after_step, stays}
 use Rattle.block_machine.specs.declared.due.Mode.{Mode}
 use Rattle.agreement.specs.Facts.{ShowsFault}
+use Rattle.ata_types.specs.declared.grant.GrantRow.{GrantRow}
+use Rattle.dma_frames.specs.Table.{Table}
+use Rattle.request_queue.specs.Entries.{Held, IsAccepted, IsInOrder, aged, asks_of}
+use Rattle.request_queue.specs.Machine.{IsBook}
 use Rattle.block_machine.specs.Left.{after}
 use Rattle.block_machine.specs.Histories.{Instant, IsReached, Happening, now}
 use Rattle.block_machine.specs.Events.{AllDevices, AllMay}
@@ -84,3 +88,11 @@ pub record SlotLaws : Type 0 where
   -- a fault that is shown is of the slot that alone is used
   pub fault_sole : (uses : Uses) (m : Machine) (d : Device) (port slot : ℕ) (entries : List TapeEntry) → Agrees uses m d → (s : ShowsFault entries (d.port port) port)
       → ((other : ℕ) → other ≢ slot → uses port other ≡ Free) → s.fault.slot.0 ≡ slot
+
+-- requests that get older
+pub record AgeLaws : Type 0 where
+  pub agrees : (k : Known) (m : Machine) (ready : Port → Bool) → Knows m k → Knows (after_step m (Age ready)) k
+  pub book : (entries : List Held) (m : Machine) (ready : Port → Bool) → IsBook entries m.book → IsBook (aged ready entries) (after_step m (Age ready)).book
+  pub ordered : (entries : List Held) (ready : Port → Bool) → IsInOrder entries → IsInOrder (aged ready entries)
+  pub accepted : (rows : List GrantRow) (table : Table) (entries : List Held) (ready : Port → Bool) → All (IsAccepted rows table) entries → All (IsAccepted rows table) (aged ready entries)
+  pub asks : (entries : List Held) (ready : Port → Bool) → asks_of (aged ready entries) ≡ asks_of entries

@@ -50,7 +50,7 @@ use Rattle.request_queue.specs.Entries.{Held, IsAccepted, IsEarlier, IsFresh, Is
 use Rattle.request_queue.specs.declared.Entry.{Entry}
 use Rattle.request_queue.specs.Machine.{IsBook, IsEntry}
 use Rattle.server_history.specs.After.{RecoveryLaws, TroubleLaws}
-use Rattle.server_history.specs.Basics.{BasicLaws, SlotLaws}
+use Rattle.server_history.specs.Basics.{AgeLaws, BasicLaws, SlotLaws}
 use Rattle.server_history.specs.Calls.{CallLaws, LookLaws}
 
 pub record LawsBelow : Type 0 where
@@ -81,6 +81,8 @@ pub record LawsBelow : Type 0 where
   pub still_requeued : (rows : List GrantRow) (table : Table) (entries : List Held) (id : RequestId) → All (IsAccepted rows table) entries → All (IsAccepted rows table) (map (at id requeued_entry) entries)
   -- what becomes of slots, and of the requests in them
   pub slots : SlotLaws
+  -- requests that get older
+  pub ages : AgeLaws
   -- what the device backs
   pub backed_none : (d : Device) (m : Machine) → IsBacked d d m []
   pub backed_own : (d : Device) (m : Machine) (step : Step) → (IsDevices step → ⊥) → IsBacked d d m (step ∷ [])

@@ -106,12 +106,13 @@ pub record HeedsTrouble (port : Port) (accesses : List Access) (old : Instant De
   pub trouble : LosesNoTrouble evidence old ports new port
   pub well : RunsWellAnew evidence accesses old ports new port
 
--- As such a call it has done of its port, if that is asked, what a service does of a port; in a tick, what a call does of trouble.
+-- As such a call it has done of its port, if that is asked, what a service does of a port; where it restarts the port, what a call does of trouble.
 abbrev pub TiesTurn : Turn → Port → List Reply → List Access → Server → Server → Machine → Evidence → List Step → Type 0
 TiesTurn InService port replies accesses old new m evidence steps =
     IsAskedOf port (instant_of old m) new.device → TiesPort (instant_of old m) (turn_of InService replies new evidence steps) accesses port
-TiesTurn turn port replies accesses old new m evidence steps =
+TiesTurn InRestart port replies accesses old new m evidence steps =
     IsAskedOf port (instant_of old m) new.device → HeedsTrouble port accesses (instant_of old m) evidence (ports_of new) new.device
+TiesTurn AtRest port replies accesses old new m evidence steps = Unit {0}
 
 -- What was done was found by a reading of the masks, in which the bits of each slot that wasn't used when the turn began were clear. (The bytes of such a slot may say
 -- still the command of a request that has ended.)
@@ -199,13 +200,17 @@ pub record ServesPort (port : Port) (replies : List Reply) (old new : Server) : 
   pub does : DoesTurn port replies old new
   pub part : HasPart InService port replies old new
 
--- so it was with each of these ports that was found ready, one after another, of which the first has this number
-abbrev pub ServePorts : ℕ → List Found → List Reply → Server → Server → Type 0
-ServePorts port [] replies old new = (replies ≡ []) × (new ≡ old)
-ServePorts port (Ready info ∷ rest) replies old new =
+-- Ports that were found ready have such turns, one after another; the first of these ports has this number.
+abbrev pub TakeTurns : (Port → List Reply → Server → Server → Type 0) → ℕ → List Found → List Reply → Server → Server → Type 0
+TakeTurns Such port [] replies old new = (replies ≡ []) × (new ≡ old)
+TakeTurns Such port (Ready info ∷ rest) replies old new =
     (mid : Server) × (its later : List Reply) × (replies ≡ its ++ later)
-    × IsSettled mid × ServesPort (port_at port) its old mid × ServePorts (port + 1) rest later mid new
-ServePorts port (found ∷ rest) replies old new = ServePorts (port + 1) rest replies old new
+    × IsSettled mid × Such (port_at port) its old mid × TakeTurns Such (port + 1) rest later mid new
+TakeTurns Such port (found ∷ rest) replies old new = TakeTurns Such (port + 1) rest replies old new
+
+-- so they are served
+abbrev pub ServePorts : ℕ → List Found → List Reply → Server → Server → Type 0
+ServePorts port found replies old new = TakeTurns ServesPort port found replies old new
 
 -- ---- a tick
 
@@ -224,14 +229,6 @@ TicksPort book port replies old new =
     (IsOverdue port book × (mends : MendsPort port replies old new) × (mends.settled.mended.trouble ≡ Hung) × HasPart InRestart port replies old new)
     ⊎ ((IsOverdue port book → ⊥) × (replies ≡ []) × (new ≡ old))
 
--- so it was with each of these ports that was found ready, one after another, of which the first has this number
-abbrev pub TickPorts : List Held → ℕ → List Found → List Reply → Server → Server → Type 0
-TickPorts book port [] replies old new = (replies ≡ []) × (new ≡ old)
-TickPorts book port (Ready info ∷ rest) replies old new =
-    (mid : Server) × (its later : List Reply) × (replies ≡ its ++ later)
-    × IsSettled mid × TicksPort book (port_at port) its old mid × TickPorts book (port + 1) rest later mid new
-TickPorts book port (found ∷ rest) replies old new = TickPorts book (port + 1) rest replies old new
-
 -- What a tick does: requests get older, and then each ready port has its turn, in rising number.
 abbrev pub Ticks : List Reply → Server → Server → Type 0
-Ticks replies old new = TickPorts (a_tick_older old).book 0 old.ports replies (a_tick_older old) new
+Ticks replies old new = TakeTurns (TicksPort (a_tick_older old).book) 0 old.ports replies (a_tick_older old) new

@@ -1,6 +1,6 @@
 // What laws of the crates below say, for this crate's proofs. Nothing comes of calling these functions.
 ghost use Rattle.server_history.specs.After.{RecoveryLaws, TroubleLaws};
-ghost use Rattle.server_history.specs.Basics.{BasicLaws, SlotLaws};
+ghost use Rattle.server_history.specs.Basics.{AgeLaws, BasicLaws, SlotLaws};
 ghost use Rattle.server_history.specs.Below.{LawsBelow};
 ghost use Rattle.server_history.specs.Calls.{CallLaws, LookLaws};
 
@@ -15,7 +15,7 @@ use agreement::giving_up::{fault_is_outstanding, slots_are_given_up};
 use agreement::laws::{
     answering_agrees, backing_composes, disks_are_told, due_finds_free_slot, going_again_agrees,
     going_composes, keeping_agrees, own_steps_are_backed, putting_is_of_one_slot,
-    slots_are_counted, steps_spare_the_book, waiting_has_no_slot,
+    slots_are_counted, steps_spare_the_book, ticking_agrees, waiting_has_no_slot,
 };
 use agreement::readying::{readied_stays, stored_stays_over_acts};
 use agreement::recovering::halts_are_of_taken_commands;
@@ -76,6 +76,17 @@ fn slot_laws_hold()
     fault_is_outstanding();
 }
 
+/// What becomes of requests that get older.
+fn age_laws_hold()
+    ensures { AgeLaws }
+{
+    ticking_agrees();
+    steps_change_the_book();
+    the_book_stays_in_order();
+    accepted_requests_stay();
+    operations_change_what_is_due();
+}
+
 /// What looks at ports tell, and what they leave.
 fn look_laws_hold()
     ensures { LookLaws }
@@ -133,6 +144,7 @@ pub fn the_laws_below_hold()
 {
     basic_laws_hold();
     slot_laws_hold();
+    age_laws_hold();
     look_laws_hold();
     recovery_laws_hold();
     trouble_laws_hold();

@@ -185,7 +185,7 @@ pub fn a_finished_port_settles()
 }
 
 /// A server goes on while its port is looked at, and while what the port has issued is looked for. The commands of slots that were found done
-/// are over, where the used slots were asked for, and no other.
+/// are over, where the used slots were asked for, and no other. Where nobody looks, it is as though the port had been looked at without an access.
 pub fn looks_keep()
     ensures looking { (s : Server) (new : Device) (port : Port) → IsKept s → state_of (found_of s.ports port.0) ≡ ReadyState
         → IsFollowed (IsLooking port) AnyUse s.device new
@@ -195,6 +195,7 @@ pub fn looks_keep()
     ensures found { (s : Server) (new : Device) (port : Port) (mask done slot : ℕ) → IsKept s
         → state_of (found_of s.ports port.0) ≡ ReadyState → IsMaskOf (slots_at s.slots port.0) mask → slot < 32
         → ReadsDone port mask done s.device new → bit done slot ≡ true → IsOver (new.port port.0) slot }
+    ensures none { (port : Port) (device : Device) → IsFollowed (IsLooking port) AnyUse device device }
 {
     the_laws_below_hold();
 }

@@ -4,6 +4,7 @@ pub returns : goal.returns
 returns c = record {
   basic = c.basic_laws_hold.ensures;
   slots = c.slot_laws_hold.ensures;
+  ages = c.age_laws_hold.ensures;
   looking = c.look_laws_hold.ensures;
   recovery = c.recovery_laws_hold.ensures;
   trouble = c.trouble_laws_hold.ensures;

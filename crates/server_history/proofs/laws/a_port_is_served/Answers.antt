@@ -13,5 +13,5 @@ returns-clause-finished c s new seen found port mask done replies t ready l look
     finished s seen port t ready looks l c.the_laws_below_hold.ensures mask its some new found done replies reads sees was_done answers
 
 pub returns-clause-mended : goal.returns-clause-mended
-returns-clause-mended c s new port replies t ready r looks =
-    (recovered c.the_laws_below_hold.ensures port replies s new t ready r looks, settles c.the_laws_below_hold.ensures port replies s new t ready r looks)
+returns-clause-mended c s new port replies t ready r unhung looks =
+    (recovered c.the_laws_below_hold.ensures port replies s new t ready r looks unhung, settles c.the_laws_below_hold.ensures port replies s new t ready r looks)

@@ -1,4 +1,6 @@
+use Rattle.std.proofs.Common.{refl}
 use Rattle.server_history.proofs.Looking.{looking_kept, finding_kept, found_over}
+use Rattle.server_history.proofs.Mending.{unlooked}
 use Rattle.server_history.proofs.laws.looks_keep.Goals as goal
 
 pub returns-clause-looking : goal.returns-clause-looking
@@ -9,3 +11,6 @@ returns-clause-finding c s new port mask done k ready finds = finding_kept s new
 
 pub returns-clause-found : goal.returns-clause-found
 returns-clause-found c s new port mask done slot k ready its small finds found = found_over s new port k ready c.the_laws_below_hold.ensures mask done finds its slot small found
+
+pub returns-clause-none : goal.returns-clause-none
+returns-clause-none c port device = unlooked port device device refl

@@ -1,0 +1,83 @@
+-- A boot that finds a disk has seen a device on its way: PxSSTS was read, and its DET was 3 (AHCI 1.3.1, 3.3.10).
+use Rattle.std.proofs.Common.{◌≡◌, ◌≢◌, inl, inr, sym, ◌∙◌, ⊎_elim}
+use Rattle.std.proofs.lemmas.List.Elements.{All-weaker}
+use Rattle.std.proofs.lemmas.Bool.{cases_eq}
+use Rattle.ata_types.specs.declared.Port.{Port}
+use Rattle.ata_types.specs.declared.PortState.{PortState as Shown}
+use Rattle.ata_types.specs.declared.PortState.TheVariants.{Absent, Dead, Foreign, Ready as ReadyState, Unfit}
+use Rattle.hba_regs.specs.declared.reg.PortReg.TheVariants.{Sctl, Ssts, Tfd}
+use Rattle.hba_regs.specs.declared.reg.Reg.TheVariants.{Px}
+use Rattle.adapter.specs.Access.{Writes}
+use Rattle.adapter.specs.Device.{Device}
+use Rattle.adapter.specs.Rules.{IsOn}
+use Rattle.agreement.specs.Driven.{IsControl, IsDrivenBy, IsOf}
+use Rattle.block_machine.specs.Events.{ShowsDisk}
+use Rattle.host_boot.specs.Again.{BootsStopped, EndsUnready}
+use Rattle.host_boot.specs.declared.Found.{Found}
+use Rattle.host_boot.specs.declared.Found.TheVariants.{Ready, Unready, Unserved}
+use Rattle.identify.specs.declared.wanted.Wanted.{Wanted}
+use Rattle.port_boot.specs.States.{EndsEarly, GetsUp, IsOfBoot, TellsFault}
+use Rattle.port_control.specs.Ports.{FindsLink, IsPlacing, Looks}
+use Rattle.port_control.specs.declared.PortFault.{PortFault}
+use Rattle.port_control.specs.declared.PortFault.TheVariants.{NoDevice, Busy, EngineStuck, NotAta}
+use Rattle.server_history.specs.Below.{LawsBelow}
+use Rattle.server_history.specs.Server.{state_of}
+use Rattle.server_history.proofs.Resetting.{IsBeside, cleared_then, late_then, linked_then, ready_then, resetting, started_then, until, without}
+
+-- at this moment of the way a device shows
+pub record SeesDevice (port : Port) (old new : Device) : Type 0 where
+  pub seen : Device
+  pub early : IsDrivenBy (IsOfBoot port) old seen
+  pub shows : (seen.port port.0).ssts_det ≡ 3
+  pub late : IsDrivenBy (IsBeside port) seen new
+
+module _ (laws : LawsBelow) (port : Port) where
+  -- COMRESET was sent, and the link was found
+  found_then : (old placed sent ended linked new : Device) → IsOn old → IsDrivenBy (IsControl IsPlacing port) old placed → Writes (Px port Sctl) 1 placed sent → Writes (Px port Sctl) 0 sent ended
+      → FindsLink port ended linked → IsDrivenBy (IsBeside port) linked new → SeesDevice port old new
+  found_then old placed sent ended linked new on places sends ends found rest =
+      let waited = (resetting laws port old placed sent ended found.sees.waited places sends ends (without laws port Ssts _ found.sees.count ended found.sees.waited found.sees.waits)).driven in
+      let there = laws.of_on port old found.sees.waited on (record { accesses = waited.accesses; all = waited.all; only = All-weaker (IsOfBoot port) (IsOf port) (laws.booting_of port) waited.accesses waited.only }) in
+      record {
+        seen = found.seen;
+        early = (resetting laws port old placed sent ended found.seen places sends ends (until laws port Ssts _ ended found.seen found.sees)).driven;
+        shows = sym (laws.looks.shown_after port Ssts found.sees.value found.sees.waited found.seen there.no_reset found.sees.reads) ∙ found.sees.shown;
+        late = cleared_then laws port found.seen linked new found.clears rest;
+      }
+
+  -- the port was started, and what came then
+  started : (old up new : Device) → IsOn old → GetsUp port old up → IsDrivenBy (IsBeside port) up new → SeesDevice port old new
+  started old up new on g rest = found_then old g.placed g.resets.sent g.resets.ended g.resets.rest.linked new on g.places g.resets.sends g.resets.ends g.resets.rest.links
+      (started_then laws port old up new g rest)
+
+  -- it wasn't started, but looked at, with a fault that isn't a missing device
+  early : (state : Shown) (old new : Device) → IsOn old → state ≢ Absent → EndsEarly port state old new → SeesDevice port old new
+  early state old new on other g = by g.fault g.told g.resets.rest
+    where
+      by : (fault : PortFault) → TellsFault state fault → Looks port fault g.resets.ended new → SeesDevice port old new
+      by NoDevice told l = absurd (other told)
+      by Busy told l = found_then old g.placed g.resets.sent g.resets.ended l.linked new on g.places g.resets.sends g.resets.ends l.links (without laws port Tfd _ 64 l.linked new l.waits)
+      by (NotAta signature) told l = found_then old g.placed g.resets.sent g.resets.ended l.linked new on g.places g.resets.sends g.resets.ends l.links (linked_then laws port signature g.resets.ended new l)
+      by EngineStuck told l = absurd l
+
+  unready : (wanted : Wanted) (state : Shown) (old new : Device) → IsOn old → EndsUnready wanted port state old new → ShowsDisk state → SeesDevice port old new
+  unready wanted Absent old new on x shows = absurd shows
+  unready wanted Dead old new on x shows = absurd shows
+  unready wanted ReadyState old new on x shows = absurd x.ended
+  unready wanted Foreign old new on x shows = let g = x.late tt in started old g.up new on g.first (late_then laws port old new g)
+  unready wanted (Unfit n) old new on x shows = ⊎_elim
+      (λ (seven : n ≡ 7). early (Unfit n) old new on no (x.early (inl seven)))
+      (λ (not_seven : n ≢ 7). ⊎_elim
+      (λ (eight : n ≡ 8). early (Unfit n) old new on no (x.early (inr eight)))
+      (λ (not_eight : n ≢ 8). let g = x.late (not_seven, not_eight) in started old g.up new on g.first (late_then laws port old new g))
+      (cases_eq n 8))
+      (cases_eq n 7)
+    where
+      no : Unfit n ≢ Absent
+      no is = let z : Unfit n ≡ Absent = is in cc
+
+  -- each boot that finds a disk
+  pub boot_sees : (wanted : Wanted) (found : Found) (old new : Device) → IsOn old → BootsStopped wanted port found old new → ShowsDisk (state_of found) → SeesDevice port old new
+  boot_sees wanted Unserved old new on none shows = absurd none
+  boot_sees wanted (Ready info) old new on e shows = let g = e.way in started old g.up new on g.first (ready_then laws port old new g)
+  boot_sees wanted (Unready state) old new on e shows = unready wanted state old new on e shows

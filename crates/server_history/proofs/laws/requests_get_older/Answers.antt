@@ -1,0 +1,5 @@
+use Rattle.server_history.proofs.Ageing.{older_settled}
+use Rattle.server_history.proofs.laws.requests_get_older.Goals as goal
+
+pub returns : goal.returns
+returns c = older_settled c.the_laws_below_hold.ensures
