@@ -98,7 +98,7 @@ since_has {Is} {past} {later} none after since h is =
     let all = ap length is ∙ length-append after (h ∷ (since ++ past)) in
     let rest = length-append since past in
     absurd (omega (arith, all, rest))
-since_has {Is} {past} (one_more {before} {last} others here) [] since h is =
+since_has {Is} {past} (one_more {h = last} others here) [] since h is =
     subst (λ (x : Happening Device DeviceStep). Is (since ++ past) x) (ap (λ (l : List (Happening Device DeviceStep)). get_or l 0 h) is) (subst (λ (l : List (Happening Device DeviceStep)). Is l last) (ap (drop 1) is) here)
 since_has (one_more others here) (x ∷ after) since h is = since_has others after since h (ap (drop 1) is)
 

@@ -1,9 +1,8 @@
 -- The adapter has a ready port; what a look at it tells; and a mask has the slots that it uses.
-use Rattle.std.proofs.Common.{ℕ, true, false, ◌≡◌, ◌≢◌, ◌<◌, ◌==◌, ◌↔◌, [], Option, Some, None, get_or, refl, sym, ap, ◌∙◌, subst, arith, eq-eqb}
+use Rattle.std.proofs.Common.{ℕ, true, false, ◌≡◌, ◌≢◌, ◌<◌, ◌==◌, ◌↔◌, Option, Some, None, get_or, refl, sym, ap, ◌∙◌, subst, arith, eq-eqb}
 use Rattle.std.specs.Int.{bit_at}
 use Rattle.std.specs.Prelude.{IsSome}
 use Rattle.std.proofs.lemmas.Bool.{eqb-false, false≢true, ne_eqb}
-use Rattle.std.proofs.lemmas.List.Elements.{All-nil}
 use Rattle.std.proofs.lemmas.Nat.Bits.{bit_at-lt, bit_at-zero, same_from_bits_below}
 use Rattle.std.proofs.lemmas.Option.{same_Some}
 use Rattle.ata_types.specs.declared.Port.{Port}
@@ -11,10 +10,8 @@ use Rattle.ata_types.specs.declared.PortState.TheVariants.{Ready as ReadyState}
 use Rattle.hba_regs.specs.Bits.{bit}
 use Rattle.adapter.specs.Device.{Device}
 use Rattle.adapter.specs.Rules.{HasPort}
-use Rattle.agreement.specs.Acts.{Act}
-use Rattle.agreement.specs.Driven.{AnyUse, IsFollowed}
 use Rattle.host_boot.specs.Taken.{found_of}
-use Rattle.port_look.specs.Looks.{IsLooking, LooksAt}
+use Rattle.port_look.specs.Looks.{LooksAt}
 use Rattle.port_look.specs.declared.Look.{Look}
 use Rattle.port_look.specs.declared.Look.TheVariants as look
 use Rattle.server_history.specs.Mended.{IsFoundOut}
@@ -42,11 +39,12 @@ found_out look.Lost trouble port old seen is looks =
 found_out look.Undisturbed trouble port old seen is looks = let z : None ≡ Some trouble = is in absurd cc
 
 -- a look that tells no trouble tells that there is none
-pub undisturbed : (told : Look) (port : Port) (old seen : Device) → trouble_of told ≡ None → LooksAt port told old seen → LooksAt port look.Undisturbed old seen
-undisturbed look.Failed port old seen is looks = let z : Some Failed ≡ None = is in absurd cc
-undisturbed look.Broken port old seen is looks = let z : Some Broken ≡ None = is in absurd cc
-undisturbed look.Lost port old seen is looks = let z : Some Lost ≡ None = is in absurd cc
-undisturbed look.Undisturbed port old seen is looks = looks
+pub undisturbed : (told : Look) (result : Option Trouble) (port : Port) (old seen : Device) → result ≡ trouble_of told → ((trouble : Trouble) → result ≡ Some trouble → ⊥)
+    → LooksAt port told old seen → LooksAt port look.Undisturbed old seen
+undisturbed look.Failed result port old seen is none looks = absurd (none Failed is)
+undisturbed look.Broken result port old seen is none looks = absurd (none Broken is)
+undisturbed look.Lost result port old seen is none looks = absurd (none Lost is)
+undisturbed look.Undisturbed result port old seen is none looks = looks
 
 -- a mask that has the taken slots
 pub mask_of : (slots : PortSlots) (mask : ℕ) → ((slot : ℕ) → slot < 32 → (bit_at mask slot ≡ 1) ↔ IsTaken slots slot) → IsMaskOf slots mask
@@ -79,15 +77,3 @@ zero_of_none mask fits none = same_from_bits_below 32 mask 0 fits (omega arith)
   where
     clear : (slot : ℕ) → bit mask slot ≡ false → bit_at mask slot ≡ 0
     clear slot none = let low = bit_at-lt mask slot in let not_one = eqb-false (bit_at mask slot) 1 none in omega (arith, low, not_one)
-
--- where nothing is done, that is followed
-pub none_followed : (port : Port) (d : Device) → IsFollowed (IsLooking port) AnyUse d d
-none_followed port d = record {
-  driven = record { accesses = []; all = refl; only = All-nil (IsLooking port) };
-  comes = λ s m reached knows fits. record {
-    acts = [];
-    done = refl;
-    accesses_are = refl;
-    tells = record { only = tt; kept = λ q issues arms. All-nil (λ (act : Act). act.later.uses q.0 ≡ s.uses q.0) };
-  };
-}

@@ -1,40 +1,40 @@
--- A service and a tick take the ports in rising number.
+-- Ports take their turns in rising number.
 use Rattle.std.proofs.Common.{ℕ, ◌≡◌, ◌+◌, ◌<◌, ◌≤◌, ◌++◌, List, [], ◌∷◌, drop, length, refl, sym, ap, ◌∙◌, subst}
 use Rattle.std.proofs.lemmas.List.{append-nil, drop_all, drop_more}
+use Rattle.ata_types.specs.declared.Port.{Port}
 use Rattle.ata_types.specs.declared.request.Reply.{Reply}
 use Rattle.agreement.specs.Agrees.{port_at}
 use Rattle.host_boot.specs.Taken.{found_of}
 use Rattle.host_boot.specs.declared.Found.{Found}
-use Rattle.host_boot.specs.declared.Found.TheVariants.{Ready, Unserved}
+use Rattle.host_boot.specs.declared.Found.TheVariants.{Ready, Unready, Unserved}
 use Rattle.identify.specs.declared.DiskInfo.{DiskInfo}
-use Rattle.request_queue.specs.Entries.{Held}
-use Rattle.server_history.specs.Turns.{ServePorts, ServesPort, TickPorts, TicksPort}
+use Rattle.server_history.specs.Turns.{TakeTurns}
 use Rattle.server_history.specs.Server.{Server, IsSettled}
 
--- what is so of a port and of those after it is so of the ports from that number on
-from_it : (P : List Found → Type 0) (ports : List Found) (number : ℕ) (info : DiskInfo) → number < length ports → found_of ports number ≡ Ready info
-    → P (Ready info ∷ drop (number + 1) ports) → P (drop number ports)
-from_it P ports number info low found is = subst P (sym (drop_more ports number Unserved low ∙ ap (λ (f : Found). f ∷ drop (number + 1) ports) found)) is
+module _ (Such : Port → List Reply → Server → Server → Type 0) (ports : List Found) (number : ℕ) (low : number < length ports) where
+  from_it : (found : Found) → found_of ports number ≡ found → found ∷ drop (number + 1) ports ≡ drop number ports
+  from_it found is = sym (drop_more ports number Unserved low ∙ ap (λ (f : Found). f ∷ drop (number + 1) ports) is)
 
--- a ready port is served, and then those after it
-pub one_served : (ports : List Found) (number : ℕ) (info : DiskInfo) (s mid new : Server) (told later : List Reply) → number < length ports
-    → found_of ports number ≡ Ready info → IsSettled mid → ServesPort (port_at number) told s mid → ServePorts (number + 1) (drop (number + 1) ports) later mid new
-    → ServePorts number (drop number ports) (told ++ later) s new
-one_served ports number info s mid new told later low found kept serves rest =
-    from_it (λ (left : List Found). ServePorts number left (told ++ later) s new) ports number info low found (mid, told, later, refl, kept, serves, rest)
+  -- a ready port has its turn, and then those after it
+  pub one_turn : (info : DiskInfo) (s mid new : Server) (told later : List Reply) → found_of ports number ≡ Ready info → IsSettled mid → Such (port_at number) told s mid
+      → TakeTurns Such (number + 1) (drop (number + 1) ports) later mid new → TakeTurns Such number (drop number ports) (told ++ later) s new
+  one_turn info s mid new told later found kept takes rest =
+      subst (λ (left : List Found). TakeTurns Such number left (told ++ later) s new) (from_it (Ready info) found) (mid, told, later, refl, kept, takes, rest)
 
--- a ready port has its turn in a tick, and then those after it
-pub one_ticked : (book : List Held) (ports : List Found) (number : ℕ) (info : DiskInfo) (s mid new : Server) (told later : List Reply) → number < length ports
-    → found_of ports number ≡ Ready info → IsSettled mid → TicksPort book (port_at number) told s mid → TickPorts book (number + 1) (drop (number + 1) ports) later mid new
-    → TickPorts book number (drop number ports) (told ++ later) s new
-one_ticked book ports number info s mid new told later low found kept ticks rest =
-    from_it (λ (left : List Found). TickPorts book number left (told ++ later) s new) ports number info low found (mid, told, later, refl, kept, ticks, rest)
+  -- another has none
+  pub no_turn : (s new : Server) (later : List Reply) → ((info : DiskInfo) → found_of ports number ≡ Ready info → ⊥)
+      → TakeTurns Such (number + 1) (drop (number + 1) ports) later s new → TakeTurns Such number (drop number ports) later s new
+  no_turn s new later unready rest = by (found_of ports number) refl
+    where
+      by : (found : Found) → found_of ports number ≡ found → TakeTurns Such number (drop number ports) later s new
+      by (Ready info) is = absurd (unready info is)
+      by (Unready state) is = subst (λ (left : List Found). TakeTurns Such number left later s new) (from_it (Unready state) is) rest
+      by Unserved is = subst (λ (left : List Found). TakeTurns Such number left later s new) (from_it Unserved is) rest
 
--- After the last there is none: where none does nothing, what was done of the others is all.
-pub all_had : (Do : ℕ → List Found → List Reply → Server → Server → Type 0) → ((number : ℕ) (s : Server) → Do number [] [] s s)
-    → (All : List Reply → Server → Type 0) (ports : List Found) (number : ℕ) (replies : List Reply) (new : Server) → length ports ≤ number
-    → ((later : List Reply) (last : Server) → Do number (drop number ports) later new last → All (replies ++ later) last)
-    → All replies new
-all_had Do nothing All ports number replies new all rest =
-    subst (λ (told : List Reply). All told new) (append-nil replies)
-    (rest [] new (subst (λ (left : List Found). Do number left [] new new) (sym (drop_all number ports all)) (nothing number new)))
+-- after the last there is none, so the turns of the others are all
+pub all_turns : (Such : Port → List Reply → Server → Server → Type 0) (ports found : List Found) (number : ℕ) (replies : List Reply) (old new : Server) → length ports ≤ number
+    → ((later : List Reply) (last : Server) → TakeTurns Such number (drop number ports) later new last → TakeTurns Such 0 found (replies ++ later) old last)
+    → TakeTurns Such 0 found replies old new
+all_turns Such ports found number replies old new all rest =
+    subst (λ (told : List Reply). TakeTurns Such 0 found told old new) (append-nil replies)
+    (rest [] new (subst (λ (left : List Found). TakeTurns Such number left [] new new) (sym (drop_all number ports all)) (refl, refl)))

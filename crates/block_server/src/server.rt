@@ -440,6 +440,7 @@ impl<A: Adapter> Server<A> {
     /// Makes the issued requests of ready ports a tick older, and tells by port whether one is overdue then.
     fn grow_older(&mut self) -> [bool; PORTS]
         ensures older { server_of A.device self.new ≡ a_tick_older (server_of A.device self.old) }
+        ensures settled { IsSettled (server_of A.device self.new) }
         ensures overdue { (number : ℕ) → number < 4 → IsTrue (slice_index_or result number false) ↔ IsOverdue (port_at number) self.new.book }
     {
         requests_get_older();
@@ -453,8 +454,8 @@ impl<A: Adapter> Server<A> {
     }
 
     /// Restarts a ready port of which a request is overdue: the port isn't looked at, and is mended as one that is hung. Another rests.
-    fn tick_port(&mut self, port: Port, is_overdue: bool, replies: &mut Replies)
-        requires ready { state_of (found_of self.old.ports port.0) ≡ Ready }
+    fn tick_port(&mut self, port: Port, was: DiskInfo, is_overdue: bool, replies: &mut Replies)
+        requires ready { found_of self.old.ports port.0 ≡ Found.Ready was }
         requires room { length replies.old.items + length self.old.book ≤ 128 }
         ensures ticks { (book : List Held) → (IsTrue is_overdue ↔ IsOverdue port book) → (its : List Reply) × (replies.new.items ≡ replies.old.items ++ its)
             × TicksPort book port its (server_of A.device self.old) (server_of A.device self.new) }
@@ -462,10 +463,9 @@ impl<A: Adapter> Server<A> {
         ensures ports { (q : ℕ) → q ≢ port.0 → found_of self.new.ports q ≡ found_of self.old.ports q }
         ensures room { length replies.new.items + length self.new.book ≤ 128 }
     {
+        looks_keep();
         a_hung_port_is_restarted();
-        let Found::Ready(was) = self.found(port) else {
-            unreachable!()
-        };
+        let _ = &self.adapter;
         if is_overdue {
             self.mend_port(port, was, Trouble::Hung, replies);
         }
@@ -497,13 +497,13 @@ impl<A: Adapter> Server<A> {
         ticks_add();
         the_book_stays_in_order();
         replies.clear();
-        let overdue = self.grow_older();
         let ports = self.ports;
+        let overdue = self.grow_older();
         for place in 0..PORTS {
-            let Found::Ready(_) = ports[place] else {
+            let Found::Ready(was) = ports[place] else {
                 continue;
             };
-            self.tick_port(Port(place as u8), overdue[place], replies);
+            self.tick_port(Port(place as u8), was, overdue[place], replies);
         }
     }
 

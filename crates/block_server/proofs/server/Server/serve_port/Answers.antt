@@ -56,7 +56,7 @@ returns-then-used-eq0-clause-serves g c =
     let ready = finishing.ready_before device (seen c.self.inside) c.args.self.now c.self.view_is c.self.invariant c.args.port c.requires.ready in
     let seen_kept = c.looks_keep.ensures.looking s (device c.look_at-look.new.adapter) c.args.port c.self.invariant.kept ready c.look_at-look.ensures.followed in
     let its = serving.its_mask s c.args.port c.self.invariant.kept ready c.from.result c.from.ensures c.index-self-from.result c.taken-used.result c.taken-used.ensures in
-    let calm = serving.undisturbed c.look_at-look.result c.args.port s.device (device c.look_at-look.new.adapter) (sym c.trouble_of.ensures ∙ c.in-None.is) c.look_at-look.ensures.looks in
+    let calm = serving.undisturbed c.look_at-look.result c.trouble_of.result c.args.port s.device (device c.look_at-look.new.adapter) c.trouble_of.ensures c.in_default-trouble_of.not-Some c.look_at-look.ensures.looks in
     let P : ServerView g.row.A.Denot → Type 0 = λ v. ServesPort c.args.port [] (server_of device v) (record s { device = device c.look_at-look.new.adapter }) in (
       [],
       sym (append-nil c.args.replies.now.items),
@@ -117,7 +117,7 @@ returns-then-finished-ne0-clause-serves g c =
     let its = serving.its_mask s c.args.port c.self.invariant.kept ready c.from.result c.from.ensures c.index-self-from.result c.taken-used.result c.taken-used.ensures in
     let new = server_of device c.finish.new.self in
     let done = c.finish.ensures.finishes in
-    let calm = serving.undisturbed c.look_at-look.result c.args.port s.device (device c.look_at-look.new.adapter) (sym c.trouble_of.ensures ∙ c.in-None.is) c.look_at-look.ensures.looks in
+    let calm = serving.undisturbed c.look_at-look.result c.trouble_of.result c.args.port s.device (device c.look_at-look.new.adapter) c.trouble_of.ensures c.in_default-trouble_of.not-Some c.look_at-look.ensures.looks in
     let P : ServerView g.row.A.Denot → Type 0 = λ v. ServesPort c.args.port done.0 (server_of device v) new in (
       done.0,
       done.1,
@@ -133,7 +133,7 @@ returns-else-finished-ne0-clause-serves g c =
     let ready = finishing.ready_before device (seen c.self.inside) c.args.self.now c.self.view_is c.self.invariant c.args.port c.requires.ready in
     let seen_kept = c.looks_keep.ensures.looking s (device c.look_at-look.new.adapter) c.args.port c.self.invariant.kept ready c.look_at-look.ensures.followed in
     let its = serving.its_mask s c.args.port c.self.invariant.kept ready c.from.result c.from.ensures c.index-self-from.result c.taken-used.result c.taken-used.ensures in
-    let calm = serving.undisturbed c.look_at-look.result c.args.port s.device (device c.look_at-look.new.adapter) (sym c.trouble_of.ensures ∙ c.in-None.is) c.look_at-look.ensures.looks in
+    let calm = serving.undisturbed c.look_at-look.result c.trouble_of.result c.args.port s.device (device c.look_at-look.new.adapter) c.trouble_of.ensures c.in_default-trouble_of.not-Some c.look_at-look.ensures.looks in
     let P : ServerView g.row.A.Denot → Type 0 = λ v. ServesPort c.args.port [] (server_of device v) (record s { device = device c.done-finished.new.adapter }) in (
       [],
       sym (append-nil c.args.replies.now.items),
