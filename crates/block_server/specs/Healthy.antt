@@ -10,7 +10,7 @@ use Rattle.adapter.specs.Device.{Device}
 use Rattle.adapter.specs.declared.access.DeviceStep.{DeviceStep}
 use Rattle.agreement.specs.Facts.{RunsWell}
 use Rattle.agreement.specs.Slots.{ServesRequest}
-use Rattle.block_machine.specs.Events.{Event as Call, Moment, Service, AnswersEnded, EveryReadHolds, IsRun, WasIssued, moment_after, steps_of}
+use Rattle.block_machine.specs.Events.{Event as Call, Moment, Service, Tick, AnswersEnded, EveryReadHolds, IsHung, IsRun, WasIssued, moment_after, steps_of}
 use Rattle.block_machine.specs.Histories.{Happening, Instant, events_of, now}
 use Rattle.block_machine.specs.Ports.{SamePort}
 use Rattle.block_machine.specs.State.{Pending}
@@ -74,7 +74,8 @@ pub record IsSound (first : Instant Device) (past : List (Happening Device Devic
 -- said, and what is so longer leads to the server after it. All calls together are a run of the block machine (so replies stand in the
 -- order of port and id), each read that was answered Ok has what was left where the adapter's disks tell their sectors, and each call is
 -- sound. And a port that is ready and runs well before the list, and on which nothing goes wrong until its end (no fault, no fatal error, no
--- disk that goes or comes), is served well by each of its calls, and is ready and runs well after it.
+-- disk that goes or comes), is served well by each of its calls, and is ready and runs well after it, unless one of them is a tick that brings a request of the port to
+-- its age of three: that restarts the port, since nothing else tells that a request hangs.
 pub record ServesHealthyPorts {A : Type 0} (device : A → Device) (first : Instant Device) (past : List (Happening Device DeviceStep))
     (old new : ServerView A) (events : List Event) (said : List Said) : Type 0 where
   pub later : List (Happening Device DeviceStep)
@@ -84,5 +85,6 @@ pub record ServesHealthyPorts {A : Type 0} (device : A → Device) (first : Inst
   pub reads : first.device.telling ≡ true → EveryReadHolds first.moment (events_of later)
   pub sound : EachSince (IsSound first) [] later
   pub healthy : (port : Port) → state_of (found_of old.ports port.0) ≡ Ready → StaysHealthy port.0 (device old.adapter) (device new.adapter)
+      → EachSince (λ before h. h.event.ask ≡ Tick → IsHung (now first before).moment port → ⊥) past later
       → EachSince (λ before h. IsServedWell port (now first before) h) past later
       × (state_of (found_of new.ports port.0) ≡ Ready) × RunsWell ((device new.adapter).port port.0)
