@@ -83,3 +83,4 @@ pub mod Starting
 pub mod Seen
 pub mod Named
 pub mod Sighted
+pub mod Replaced
