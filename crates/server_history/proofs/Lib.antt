@@ -84,3 +84,4 @@ pub mod Seen
 pub mod Named
 pub mod Sighted
 pub mod Replaced
+pub mod Glanced

@@ -1,19 +1,25 @@
 -- A boot that finds a disk has seen a device on its way: PxSSTS was read, and its DET was 3 (AHCI 1.3.1, 3.3.10).
-use Rattle.std.proofs.Common.{◌≡◌, ◌≢◌, ◌∷◌, ◌++◌, [], inl, inr, refl, sym, ap, ◌∙◌, ⊎_elim, arith}
-use Rattle.std.proofs.lemmas.List.Elements.{All-weaker}
+use Rattle.std.specs.List.{All, list_any}
+use Rattle.std.specs.Prelude.{List}
+use Rattle.std.proofs.Common.{◌⊎◌, true, ◌≡◌, ◌≢◌, ◌∷◌, ◌++◌, [], inl, inr, refl, sym, ap, ◌∙◌, ⊎_elim, arith}
+use Rattle.std.proofs.lemmas.List.Elements.{All-append, All-weaker}
 use Rattle.std.proofs.lemmas.Bool.{cases_eq}
 use Rattle.ata_types.specs.declared.Port.{Port}
 use Rattle.ata_types.specs.declared.PortState.{PortState as Shown}
 use Rattle.ata_types.specs.declared.PortState.TheVariants.{Absent, Dead, Foreign, Ready as ReadyState, Unfit}
 use Rattle.hba_regs.specs.declared.reg.PortReg.TheVariants.{Sctl, Ssts, Tfd}
 use Rattle.hba_regs.specs.declared.reg.Reg.TheVariants.{Px}
-use Rattle.adapter.specs.Access.{Writes}
+use Rattle.adapter.specs.Access.{Access, DoesAll, Writes}
 use Rattle.adapter.specs.Access.Access.{Reading, Writing}
 use Rattle.adapter.specs.Device.{Device, PortState}
 use Rattle.adapter.specs.Rules.{IsOn}
-use Rattle.agreement.specs.Driven.{IsControl, IsDrivenBy, IsOf}
-use Rattle.block_machine.specs.Events.{ShowsDisk}
-use Rattle.host_boot.specs.Again.{BootsStopped, EndsUnready}
+use Rattle.agreement.specs.Driven.{Grows, IsControl, IsDrivenBy, IsOf}
+use Rattle.agreement.specs.Driver.{IsBacked}
+use Rattle.block_machine.specs.Events.{ShowsDisk, changes_disk}
+use Rattle.block_machine.specs.State.{Machine}
+use Rattle.block_machine.specs.Steps.{Step}
+use Rattle.host_boot.specs.Again.{BootsAgain, BootsStopped, EndsUnready, IsOfStart}
+use Rattle.host_boot.specs.declared.Booted.{Booted}
 use Rattle.host_boot.specs.declared.Found.{Found}
 use Rattle.host_boot.specs.declared.Found.TheVariants.{Ready, Unready, Unserved}
 use Rattle.identify.specs.declared.wanted.Wanted.{Wanted}
@@ -23,7 +29,8 @@ use Rattle.port_control.specs.declared.PortFault.{PortFault}
 use Rattle.port_control.specs.declared.PortFault.TheVariants.{NoDevice, Busy, EngineStuck, NotAta}
 use Rattle.agreement.proofs.Driven.{driven_as}
 use Rattle.server_history.specs.Below.{LawsBelow}
-use Rattle.server_history.specs.Server.{state_of}
+use Rattle.server_history.specs.Server.{IsMachineOf, Server, state_of}
+use Rattle.server_history.proofs.Shown.{grown, had_disk}
 use Rattle.server_history.proofs.Resetting.{IsBeside, cleared_then, late_then, linked_then, placing_boots, ready_then, resetting, started_then, until, without}
 
 -- At this moment of the way a device shows; and a disk is in then, since COMRESET has the port show no device until its link comes up.
@@ -96,3 +103,25 @@ module _ (laws : LawsBelow) (port : Port) where
   boot_sees wanted Unserved old new on none shows = absurd none
   boot_sees wanted (Ready info) old new on e shows = let g = e.way in started old g.up new on g.first (ready_then laws port old new g)
   boot_sees wanted (Unready state) old new on e shows = unready wanted state old new on e shows
+
+-- So the machine had a disk in the port, or one went or came: where these accesses of the port led to the boot, and the device went on after it.
+pub booted_had : (laws : LawsBelow) (port : Port) (s : Server) (wanted : Wanted) (booted : Booted) (accesses : List Access) (d new end : Device) → IsOn s.device → DoesAll accesses s.device d → All (IsOf port) accesses
+    → (b : BootsAgain wanted port booted d new) → ShowsDisk (state_of booted.found) → Grows new end → (m : Machine) → IsMachineOf s m → (steps : List Step) → IsBacked s.device end m steps
+    → (m.present port ≡ true) ⊎ (list_any (changes_disk port) steps ≡ true)
+booted_had laws port s wanted booted accesses d new end on does of b shows later m stands steps backed =
+    had_disk laws port s sees.seen end m (until ++ sees.early.accesses) (laws.basic.does_append until sees.early.accesses s.device b.asked sees.seen asked sees.early.all) (sees.own sees.shows) stands
+    (laws.looks.grows_more sees.seen new end (grown laws sees.late.accesses sees.seen new sees.late.all) later) steps backed
+  where
+    made : IsDrivenBy (IsOfStart port) d b.asked
+    made = b.asks.driven
+
+    until : List Access
+    until = accesses ++ made.accesses
+
+    asked : DoesAll until s.device b.asked
+    asked = laws.basic.does_append accesses made.accesses s.device d b.asked does made.all
+
+    sees : SeesDevice port b.asked new
+    sees = boot_sees laws port wanted booted.found b.asked new
+        (laws.of_on port s.device b.asked on (record { accesses = until; all = asked; only = All-append (IsOf port) accesses made.accesses of (All-weaker (IsOfStart port) (IsOf port) (laws.recovery.start_of port) made.accesses made.only) }))
+        b.boots shows
