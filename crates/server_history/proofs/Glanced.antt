@@ -34,16 +34,15 @@ abbrev pub ShowsAsBefore : Shown → ℕ → Type 0
 ShowsAsBefore Absent v = v % 16 ≢ 3
 ShowsAsBefore state v = v % 16 ≡ 3
 
-right : (a b : Bool) → (a || b) ≡ false → b ≡ false
-right true b is = absurd (false≢true (sym is))
-right false b is = is
+-- nothing is told of a change, and a device shows
+unchanged : (one other there : Bool) → (one || other || not there) ≡ false → there ≡ true
+unchanged true other there is = absurd (false≢true (sym is))
+unchanged false true there is = absurd (false≢true (sym is))
+unchanged false false true is = refl
+unchanged false false false is = absurd (false≢true (sym is))
 
 unequal : (m n : ℕ) → (m == n) ≡ false → m ≢ n
 unequal m n is same = false≢true (sym is ∙ eq-eqb m n same)
-
-not_unequal : (b : Bool) → not b ≡ false → b ≡ true
-not_unequal true is = refl
-not_unequal false is = absurd (false≢true (sym is))
 
 -- ---- a reading of PxSSTS
 
@@ -139,14 +138,14 @@ pub looked_stands : (laws : LawsBelow) (wanted : Wanted) (port : Port) (state : 
     → SendsNone port.0 Identify old new → StillStandsBehind wanted (Unready state) port.0 old → StillStandsBehind wanted (Unready state) port.0 new
 looked_stands laws wanted port state result old new on lives looks none same silent s = by state lives looks s
   where
-    change : (shown : Shown) → shown ≢ Dead → (ShowsAsBefore shown ≡ (λ v. v % 16 ≡ 3)) → FindsChange port result old new → StillStandsBehind wanted (Unready shown) port.0 old → StillStandsBehind wanted (Unready shown) port.0 new
-    change shown alive kind f behind =
+    change : (its : Shown) → its ≢ Dead → (ShowsAsBefore its ≡ (λ v. v % 16 ≡ 3)) → FindsChange port result old new → StillStandsBehind wanted (Unready its) port.0 old → StillStandsBehind wanted (Unready its) port.0 new
+    change its alive kind f behind =
         let first = laws.looking.seen port Is f.causes old f.seen f.reads on.no_reset in
         let there = laws.looks.access_on (Reading (Px port Is) f.causes) old f.seen on (λ v e. absurd cc) f.reads in
-        let link : (f.status % 16) ≡ 3 = eqb-true (f.status % 16) 3 (not_unequal _ (right _ _ (right _ _ (sym f.tells ∙ none)))) in
-        stands laws wanted port old f.seen new f.status there same (record { keeps = first.keeps.port port.0; controls = first.keeps.on.controls port.0; notes = first.notes }) f.shows silent shown alive (subst (λ (P : ℕ → Type 0). P f.status) (sym kind) link) behind
+        let link : (f.status % 16) ≡ 3 = eqb-true (f.status % 16) 3 (unchanged (bit f.causes 6) (bit f.causes 22) (f.status % 16 == 3) (sym f.tells ∙ none)) in
+        stands laws wanted port old f.seen new f.status there same (record { keeps = first.keeps.port port.0; controls = first.keeps.on.controls port.0; notes = first.notes }) f.shows silent its alive (subst (λ (P : ℕ → Type 0). P f.status) (sym kind) link) behind
 
-    by : (shown : Shown) → shown ≢ Dead → IsLookedAt shown port result old new → StillStandsBehind wanted (Unready shown) port.0 old → StillStandsBehind wanted (Unready shown) port.0 new
+    by : (its : Shown) → its ≢ Dead → IsLookedAt its port result old new → StillStandsBehind wanted (Unready its) port.0 old → StillStandsBehind wanted (Unready its) port.0 new
     by Absent alive f behind = stands laws wanted port old old new f.status on same (laws.looking.leaves_none (old.port port.0)) f.reads silent Absent alive (unequal (f.status % 16) 3 (sym f.tells ∙ none)) behind
     by Foreign alive f behind = change Foreign alive refl f behind
     by (Unfit cause) alive f behind = change (Unfit cause) alive refl f behind

@@ -85,3 +85,5 @@ pub mod Named
 pub mod Sighted
 pub mod Replaced
 pub mod Glanced
+pub mod Trying
+pub mod Anew

@@ -1,0 +1,153 @@
+-- A port that isn't ready is looked at, given up, and booted: what that leaves of the server, and what it tells.
+use Rattle.std.proofs.Common.{ℕ, ◌≡◌, ◌≢◌, ◌<◌, ◌≤◌, ◌++◌, Bool, true, false, List, [], ◌∷◌, None, Some, Option, length, refl, sym, ap, ap₂, ◌∙◌, subst, inl, inr, arith, ⊎_elim, ◌⊎◌}
+use Rattle.std.specs.Prelude.{slice_set}
+use Rattle.std.specs.List.{All, Contains, list_any}
+use Rattle.std.proofs.lemmas.Bool.{cases_eq, false≢true}
+use Rattle.std.proofs.lemmas.List.{get_or-set_other, get_or-set_same}
+use Rattle.std.proofs.lemmas.List.Elements.{All-append, All-cons, All-nil, All-weaker}
+use Rattle.ata_types.specs.declared.Port.{Port}
+use Rattle.ata_types.specs.declared.PortState.{PortState}
+use Rattle.ata_types.specs.declared.PortState.TheVariants.{Dead as DeadState, Ready as ReadyState}
+use Rattle.adapter.specs.Access.{Access, DoesAll}
+use Rattle.adapter.specs.Access.Access.{Loading, Reading, Storing, Writing}
+use Rattle.adapter.specs.Device.{Device}
+use Rattle.adapter.specs.Rules.{HasPort, IsOn}
+use Rattle.adapter.specs.declared.command.Operation.TheVariants.{ReadLog}
+use Rattle.agreement.specs.Acts.{InSlots}
+use Rattle.agreement.specs.Driven.{AgreesWith, AnyUse, IsDrivenBy, IsFollowed, IsOf, SendsNone}
+use Rattle.agreement.proofs.Driven.{driven_as}
+use Rattle.block_machine.specs.Due.{NoneDue}
+use Rattle.block_machine.specs.Ports.{IsInterrupted, IsServiced}
+use Rattle.block_machine.specs.declared.due.Mode.{Mode}
+use Rattle.block_machine.proofs.Members.{map_in}
+use Rattle.driver_history.specs.Trace.{IsDriversOwn}
+use Rattle.error_recovery.specs.Recovery.{EndsIn, GivesUp, IsRecovering}
+use Rattle.error_recovery.specs.declared.Next.{Next}
+use Rattle.error_recovery.specs.declared.Next.TheVariants as next
+use Rattle.error_recovery.specs.declared.Recovered.{Recovered}
+use Rattle.host_boot.specs.Taken.{IsServed, StillStandsBehind, found_of, wanted_of}
+use Rattle.host_boot.specs.declared.Found.{Found}
+use Rattle.host_boot.specs.declared.Found.TheVariants.{Ready, Unready, Unserved}
+use Rattle.identify.specs.declared.DiskInfo.{DiskInfo}
+use Rattle.identify.specs.declared.wanted.Wanted.{Wanted}
+use Rattle.port_boot.specs.States.{IsBootable}
+use Rattle.port_control.specs.Engines.{Sticks, Stops}
+use Rattle.port_control.specs.Ports.{IsStopped}
+use Rattle.port_control.specs.declared.Stopped.{Stopped}
+use Rattle.port_look.specs.Looks.{IsLooking}
+use Rattle.request_queue.specs.Entries.{Held, asks, asks_of}
+use Rattle.slots.specs.Uses.{Uses as PortSlots}
+use Rattle.server_history.specs.Below.{LawsBelow}
+use Rattle.server_history.specs.Mended.{AreUnused, IsFoundAfter}
+use Rattle.server_history.specs.Server.{IsKept, IsMachineOf, IsSettled, Server, disk_in, is_served, mode_at, mode_found, mode_in, plain_mode, ports_of, remembered_at, state_of}
+use Rattle.server_history.specs.Tried.{BootsOnce, IsFoundAnew}
+use Rattle.server_history.specs.Turns.{LeavesOthers}
+use Rattle.server_history.specs.declared.Trouble.TheVariants.{Hung}
+use Rattle.server_history.proofs.Becoming.{dead_is, disk_is, found_served}
+use Rattle.server_history.proofs.Beside.{Passes, PassesTo, after_passes, look_passes, passes_none, recovery_passes, slots_of}
+use Rattle.server_history.proofs.Evident.{engine_sticks, engine_stops}
+use Rattle.server_history.proofs.Lists.{first_here, nowhere}
+use Rattle.server_history.proofs.Recovering.{AfterList, IsPart, after_list, recovering_part}
+use Rattle.server_history.proofs.Recovery.{stopped_of}
+use Rattle.server_history.proofs.Replaced.{StandsAt, replaced_kept, same_over, stands_after, still_there, with_found}
+use Rattle.server_history.proofs.Slots.{of_ready}
+use Rattle.server_history.proofs.Stretching.{recovery_does}
+use Rattle.server_history.proofs.Trying.{TellsTried, evidence_tried, none_held}
+
+-- ---- a port that isn't ready
+
+-- where it isn't dead, it is no ready one either
+pub never_ready : (s : Server) (port : Port) (state : PortState) → IsKept s → found_of s.ports port.0 ≡ Unready state → state ≢ ReadyState
+never_ready s port state k is ready =
+    absurd (subst (λ (f : Found). StillStandsBehind (wanted_of s.wanted port.0) f port.0 s.device) (is ∙ ap Unready ready) (k.behind port.0 (k.there port.0 (ap is_served is)).0).behind).1
+
+-- it is served
+pub its_service : (s : Server) (port : Port) (state : PortState) → IsKept s → found_of s.ports port.0 ≡ Unready state → IsServed (wanted_of s.wanted port.0) port.0 s.device
+its_service s port state k is = (subst (λ (f : Found). StillStandsBehind (wanted_of s.wanted port.0) f port.0 s.device) is (k.behind port.0 (k.there port.0 (ap is_served is)).0).behind).0
+
+-- the accesses of a look
+looking_part : LawsBelow → (port : Port) (access : Access) → IsLooking port access → IsPart port access
+looking_part laws port access is = (own access is, laws.looking.looking_of port access is)
+  where
+    own : (access : Access) → IsLooking port access → IsDriversOwn access
+    own (Reading r v) is = tt
+    own (Writing r v) is = tt
+    own (Loading at bytes) is = absurd is
+    own (Storing at bytes) is = absurd is
+
+module _ (laws : LawsBelow) (s : Server) (seen : Device) (port : Port) (state : PortState) (k : IsKept s) (is : found_of s.ports port.0 ≡ Unready state) (lives : state ≢ DeadState)
+    (looks : IsFollowed (IsLooking port) AnyUse s.device seen) where
+  low : port.0 < 4
+  low = (k.there port.0 (ap is_served is)).0
+
+  -- the look leaves the other ports
+  passed : Passes s port (slots_of s k) seen
+  passed = look_passes laws s port k low (slots_of s k) s.device seen (passes_none s port k) looks
+
+  -- once it was looked at, the port may be given up
+  pub may_give_up : IsOn seen × HasPort seen port.0 × AgreesWith AnyUse seen
+  may_give_up = (
+    passed.on,
+    still_there port.0 s.device seen (same_over laws port s.device seen passed.driven) (k.there port.0 (ap is_served is)),
+    ((slots_of s k).uses, tt, record { machine = passed.machine; parked = (slots_of s k).parked; reached = passed.reached; knows = passed.knows }),
+  )
+
+  module _ (stopped : Device) (result : Recovered) (g : GivesUp port 0 true result seen stopped) where
+    done : PassesTo laws s port k low result.next stopped
+    done = recovery_passes laws s port k low (slots_of s k) seen passed 0 true result stopped g.mends
+
+    -- and where it has stopped then, it may be booted
+    pub may_boot : (token : Stopped) → result.next ≡ next.Restart token → (token.port ≡ port) × IsBootable port stopped × IsStopped (stopped.port port.0)
+    may_boot token so =
+        let ends : EndsIn true port (next.Restart token) seen stopped = subst (λ (n : Next). EndsIn true port n seen stopped) so g.mends.leaves.ends in
+        let same = same_over laws port s.device stopped done.1.driven in (
+          ends.0,
+          record {
+            on = done.1.on;
+            there = still_there port.0 s.device stopped same (k.there port.0 (ap is_served is));
+            room = let room = k.room in let size = same.size in omega (arith, room, size);
+            agreed = (done.0.uses, done.2 (λ dead. let z : next.Restart token ≡ next.Dead = sym so ∙ dead in absurd cc), record { machine = done.1.machine; parked = done.0.parked; reached = done.1.reached; knows = done.1.knows });
+          },
+          ends.1,
+        )
+
+-- ---- it is booted
+
+-- Which disk it was ready with doesn't matter, since it doesn't run again as it did.
+no_disk : DiskInfo
+no_disk = record { serial = []; depth = 0; ncq = false; sectors = 0; trim = false }
+
+found_after : (wanted : Wanted) (port : Port) (then : Next) (old new : Device) (found : Found) → IsFoundAnew wanted port then old new found → IsFoundAfter wanted port Hung no_disk then old new found
+found_after wanted port (next.Running token) old new found none = absurd none
+found_after wanted port (next.Restart token) old new found is = is
+found_after wanted port next.Dead old new found is = is
+
+-- the port, where it is found dead
+abbrev pub stuck_if : Port → Found → List Port
+stuck_if port (Unready DeadState) = port ∷ []
+stuck_if port found = []
+
+stuck_only : (port : Port) (found : Found) → Contains (stuck_if port found) port → found ≡ Unready DeadState
+stuck_only port (Unready DeadState) here = refl
+stuck_only port Unserved here = absurd (nowhere port here)
+stuck_only port (Ready info) here = absurd (nowhere port here)
+stuck_only port (Unready state) here = absurd (nowhere port here)
+
+stuck_all : (port : Port) (found : Found) → found ≡ Unready DeadState → Contains (stuck_if port found) port
+stuck_all port found dead = subst (λ (f : Found). Contains (stuck_if port f) port) (sym dead) (first_here port [])
+
+stuck_its : (port : Port) (found : Found) → All (λ q. q ≡ port) (stuck_if port found)
+stuck_its port (Unready DeadState) = All-cons (λ q. q ≡ port) port [] refl (All-nil (λ q. q ≡ port))
+stuck_its port Unserved = All-nil (λ q. q ≡ port)
+stuck_its port (Ready info) = All-nil (λ q. q ≡ port)
+stuck_its port (Unready state) = All-nil (λ q. q ≡ port)
+
+stopped_its : (port : Port) (then : Next) → All (λ q. q ≡ port) (stopped_of port then)
+stopped_its port (next.Running token) = All-cons (λ q. q ≡ port) port [] refl (All-nil (λ q. q ≡ port))
+stopped_its port (next.Restart token) = All-cons (λ q. q ≡ port) port [] refl (All-nil (λ q. q ≡ port))
+stopped_its port next.Dead = All-nil (λ q. q ≡ port)
+
+interrupted : (wanted : Wanted) (port : Port) (then : Next) (old new : Device) (found : Found) → IsFoundAnew wanted port then old new found → IsInterrupted (evidence_tried (stopped_of port then) (stuck_if port found)) port
+interrupted wanted port (next.Running token) old new found none = absurd none
+interrupted wanted port (next.Restart token) old new found is = inl (first_here port [])
+interrupted wanted port next.Dead old new found is = inr (stuck_all port found is.0)
