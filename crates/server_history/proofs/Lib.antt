@@ -87,3 +87,4 @@ pub mod Replaced
 pub mod Glanced
 pub mod Trying
 pub mod Anew
+pub mod Tries

@@ -181,6 +181,13 @@ module _ (laws : LawsBelow) (wanted : Wanted) (port : Port) (d new : Device) (on
 
 -- ---- the server
 
+-- a port that is served is in the list
+pub is_listed : (ports : List Found) (port : ℕ) → is_served (found_of ports port) ≡ true → port < length ports
+is_listed ports port served = ⊎_elim
+    (λ (less : port < length ports). less)
+    (λ (high : length ports ≤ port). absurd (false≢true (sym (ap is_served (get_or_past ports port Unserved high)) ∙ served)))
+    (cases_lt port (length ports))
+
 -- the server, with this device and book, and with the port found so, which takes commands so and uses these slots
 abbrev pub with_found : Port → Device → Table → Found → List (Option DiskInfo) → Mode → PortSlots → List (List Lending) → List Held → Server → Server
 with_found port device table found remembered mode its kept book s = record s {
@@ -212,14 +219,8 @@ module _ (laws : LawsBelow) (port : Port) (s : Server) (k : IsKept s) (low : por
   alike : SameAdapter s.device device
   alike = same_over laws port s.device device whole.driven
 
-  in_ports : port.0 < length s.ports
-  in_ports = ⊎_elim
-      (λ (less : port.0 < length s.ports). less)
-      (λ (high : length s.ports ≤ port.0). absurd (false≢true (sym (ap is_served (get_or_past s.ports port.0 Unserved high)) ∙ served)))
-      (cases_lt port.0 (length s.ports))
-
   found_here : found_of then_is.ports port.0 ≡ found
-  found_here = get_or-set_same s.ports port.0 found Unserved in_ports
+  found_here = get_or-set_same s.ports port.0 found Unserved (is_listed s.ports port.0 served)
 
   found_other : (q : ℕ) → q ≢ port.0 → found_of then_is.ports q ≡ found_of s.ports q
   found_other q other = get_or-set_other s.ports port.0 q found Unserved other
