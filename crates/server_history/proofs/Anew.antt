@@ -1,8 +1,6 @@
 -- A port that isn't ready is looked at, given up, and booted: what that leaves of the server, and what it tells.
-use Rattle.std.proofs.Common.{ℕ, ◌≡◌, ◌≢◌, ◌<◌, ◌≤◌, ◌++◌, Bool, true, false, List, [], ◌∷◌, None, Some, Option, length, refl, sym, ap, ap₂, ◌∙◌, subst, inl, inr, arith, ⊎_elim, ◌⊎◌}
-use Rattle.std.specs.Prelude.{slice_set}
-use Rattle.std.specs.List.{All, Contains, list_any}
-use Rattle.std.proofs.lemmas.Bool.{cases_eq, false≢true}
+use Rattle.std.proofs.Common.{ℕ, ◌≡◌, ◌≢◌, ◌<◌, ◌++◌, true, false, List, [], ◌∷◌, Option, length, refl, sym, ap, ◌∙◌, subst, inl, inr, arith}
+use Rattle.std.specs.List.{All, Contains}
 use Rattle.std.proofs.lemmas.List.{get_or-set_other, get_or-set_same}
 use Rattle.std.proofs.lemmas.List.Elements.{All-append, All-cons, All-nil, All-weaker}
 use Rattle.ata_types.specs.declared.Port.{Port}
@@ -14,12 +12,8 @@ use Rattle.adapter.specs.Device.{Device}
 use Rattle.adapter.specs.Rules.{HasPort, IsOn}
 use Rattle.adapter.specs.declared.command.Operation.TheVariants.{ReadLog}
 use Rattle.agreement.specs.Acts.{InSlots}
-use Rattle.agreement.specs.Driven.{AgreesWith, AnyUse, IsDrivenBy, IsFollowed, IsOf, SendsNone}
-use Rattle.agreement.proofs.Driven.{driven_as}
-use Rattle.block_machine.specs.Due.{NoneDue}
+use Rattle.agreement.specs.Driven.{AgreesWith, AnyUse, IsFollowed, IsOf, SendsNone}
 use Rattle.block_machine.specs.Ports.{IsInterrupted, IsServiced}
-use Rattle.block_machine.specs.declared.due.Mode.{Mode}
-use Rattle.block_machine.proofs.Members.{map_in}
 use Rattle.driver_history.specs.Trace.{IsDriversOwn}
 use Rattle.error_recovery.specs.Recovery.{EndsIn, GivesUp, IsRecovering}
 use Rattle.error_recovery.specs.declared.Next.{Next}
@@ -32,15 +26,12 @@ use Rattle.host_boot.specs.declared.Found.TheVariants.{Ready, Unready, Unserved}
 use Rattle.identify.specs.declared.DiskInfo.{DiskInfo}
 use Rattle.identify.specs.declared.wanted.Wanted.{Wanted}
 use Rattle.port_boot.specs.States.{IsBootable}
-use Rattle.port_control.specs.Engines.{Sticks, Stops}
 use Rattle.port_control.specs.Ports.{IsStopped}
 use Rattle.port_control.specs.declared.Stopped.{Stopped}
 use Rattle.port_look.specs.Looks.{IsLooking}
-use Rattle.request_queue.specs.Entries.{Held, asks, asks_of}
-use Rattle.slots.specs.Uses.{Uses as PortSlots}
 use Rattle.server_history.specs.Below.{LawsBelow}
-use Rattle.server_history.specs.Mended.{AreUnused, IsFoundAfter}
-use Rattle.server_history.specs.Server.{IsKept, IsMachineOf, IsSettled, Server, disk_in, disk_of, is_served, mode_at, mode_found, mode_in, no_slots, plain_mode, ports_of, remembered_at, sectors_of, serial_of, state_of}
+use Rattle.server_history.specs.Mended.{IsFoundAfter}
+use Rattle.server_history.specs.Server.{IsKept, Server, disk_in, disk_of, is_served, no_slots, plain_mode, ports_of, remembered_at, sectors_of, serial_of, state_of}
 use Rattle.server_history.specs.Tried.{BootsOnce, IsFoundAnew}
 use Rattle.server_history.specs.Turns.{LeavesOthers}
 use Rattle.server_history.specs.declared.Trouble.TheVariants.{Hung}
@@ -50,10 +41,10 @@ use Rattle.server_history.proofs.Evident.{engine_sticks, engine_stops}
 use Rattle.server_history.proofs.Lists.{first_here, nowhere}
 use Rattle.server_history.proofs.Recovering.{AfterList, IsPart, after_list, recovering_part}
 use Rattle.server_history.proofs.Recovery.{stopped_of}
-use Rattle.server_history.proofs.Replaced.{IsBookLeft, StandsAt, is_listed, replaced_kept, same_over, stands_after, still_there, with_found}
+use Rattle.server_history.proofs.Replaced.{IsBookLeft, StandsAt, is_listed, same_over, stands_after, still_there, with_found}
 use Rattle.server_history.proofs.Slots.{of_ready}
 use Rattle.server_history.proofs.Stretching.{recovery_does}
-use Rattle.server_history.proofs.Trying.{TellsTried, evidence_tried, none_held}
+use Rattle.server_history.proofs.Trying.{TellsTried, evidence_tried}
 
 -- ---- a port that isn't ready
 

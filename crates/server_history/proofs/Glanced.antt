@@ -1,5 +1,5 @@
 -- What stands behind a port that isn't ready goes on over a look that found nothing: but for what was read of PxSSTS, the port is left to the device.
-use Rattle.std.proofs.Common.{ℕ, ◌≡◌, ◌≢◌, ◌≤◌, ◌%◌, ◌==◌, ◌||◌, Bool, true, false, not, Option, List, length, inl, inr, refl, sym, ap, ◌∙◌, subst, eq-eqb, eqb-true}
+use Rattle.std.proofs.Common.{ℕ, ◌≡◌, ◌≢◌, ◌≤◌, ◌%◌, ◌==◌, ◌||◌, Bool, true, false, not, List, length, inl, inr, refl, sym, ap, ◌∙◌, subst, eq-eqb, eqb-true}
 use Rattle.std.proofs.lemmas.Bool.{false≢true}
 use Rattle.ata_types.specs.declared.Port.{Port}
 use Rattle.ata_types.specs.declared.PortState.{PortState as Shown}
@@ -9,7 +9,7 @@ use Rattle.hba_regs.specs.declared.reg.PortReg.TheVariants.{Is, Ssts}
 use Rattle.hba_regs.specs.declared.reg.Reg.TheVariants.{Px}
 use Rattle.adapter.specs.Access.{Reads}
 use Rattle.adapter.specs.Access.Access.{Reading}
-use Rattle.adapter.specs.Device.{Device, Notes, PortState}
+use Rattle.adapter.specs.Device.{Device, Notes}
 use Rattle.adapter.specs.Rules.{IsOn}
 use Rattle.adapter.specs.Seen.{SeenAt}
 use Rattle.adapter.specs.declared.command.Operation.TheVariants.{Identify}
@@ -21,7 +21,7 @@ use Rattle.identify.specs.Wanted.{serial_of}
 use Rattle.identify.specs.declared.wanted.Wanted.{Wanted}
 use Rattle.port_boot.specs.States.{EndsAs, HasPage, IsUnfit}
 use Rattle.port_control.specs.Ports.{IsStopped, SawDevice}
-use Rattle.port_look.specs.Glances.{FindsChange, FindsDevice}
+use Rattle.port_look.specs.Glances.{FindsChange}
 use Rattle.server_history.specs.Below.{LawsBelow}
 use Rattle.server_history.specs.Tried.{IsLookedAt}
 use Rattle.server_history.proofs.Behind.{left_on}

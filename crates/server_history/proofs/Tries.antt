@@ -1,7 +1,7 @@
 -- The turn of a port that isn't ready, in a service: it is looked at, and that is all; or it is booted then.
 use Rattle.std.proofs.Common.{ℕ, ◌≡◌, ◌≢◌, ◌<◌, ◌≤◌, ◌++◌, Bool, true, false, List, [], refl, sym, ap, ◌∙◌, subst, inl, inr, arith, ⊎_elim, ◌⊎◌}
-use Rattle.std.specs.List.{All, Contains, list_any}
-use Rattle.std.proofs.lemmas.Bool.{cases_Bool, cases_eq, false≢true}
+use Rattle.std.specs.List.{Contains, list_any}
+use Rattle.std.proofs.lemmas.Bool.{cases_Bool, cases_eq}
 use Rattle.std.proofs.lemmas.List.{get_or-set_other}
 use Rattle.std.proofs.lemmas.List.Elements.{All-nil, All-weaker, Contains-append_cases}
 use Rattle.ata_types.specs.declared.Port.{Port}
@@ -33,7 +33,7 @@ use Rattle.block_machine.proofs.Members.{map_in}
 use Rattle.driver_history.specs.Trace.{IsDriversOwn, LeavesEngine}
 use Rattle.error_recovery.specs.declared.Next.{Next}
 use Rattle.error_recovery.specs.declared.Next.TheVariants as next
-use Rattle.host_boot.specs.Taken.{FoundBadDisk, StillStandsBehind, found_of, wanted_of}
+use Rattle.host_boot.specs.Taken.{StillStandsBehind, found_of, wanted_of}
 use Rattle.host_boot.specs.declared.Found.{Found}
 use Rattle.host_boot.specs.declared.Found.TheVariants.{Unready, Unserved}
 use Rattle.port_look.specs.Looks.{IsLooking}
@@ -43,21 +43,23 @@ use Rattle.server_history.specs.Server.{AreKept, IsKept, IsMachineOf, IsPortOf, 
 use Rattle.server_history.specs.Tried.{BootsOnce, IsFoundAnew, IsLookedAt, TriesPort}
 use Rattle.server_history.specs.Turns.{HasPart, InTry, TriesOther, moment_of}
 use Rattle.server_history.specs.declared.Trouble.TheVariants.{Hung}
-use Rattle.server_history.proofs.Anew.{accesses, after_it, afterwards, book_left, does, found_then, its_service, its_stand, listed, looking_part, low, never_ready, no_disk, only, others, silent, stuck_if, tells, then_is, unready, until, until_of, whole}
+use Rattle.server_history.proofs.Anew.{accesses, after_it, book_left, does, found_then, its_stand, listed, looking_part, low, never_ready, no_disk, only, others, silent, stuck_if, tells, then_is, unready, until, until_of, whole}
 use Rattle.server_history.proofs.Glanced.{looked_stands}
 use Rattle.server_history.proofs.Going.{book_on, still_kept}
 use Rattle.server_history.proofs.Leading.{IsPassed, devices_both, passed, uses_then}
 use Rattle.server_history.proofs.Lists.{nowhere}
 use Rattle.server_history.proofs.Looking.{looked_kept, looking_silent}
 use Rattle.server_history.proofs.Meeting.{nobody}
+use Rattle.server_history.proofs.Halting.{followed_halts}
 use Rattle.server_history.proofs.Mending.{unlooked}
+use Rattle.server_history.proofs.Ports.{port_on}
 use Rattle.server_history.proofs.Recovering.{IsPart}
 use Rattle.server_history.proofs.Recovery.{stopped_of}
 use Rattle.server_history.proofs.Replaced.{replaced_kept}
+use Rattle.port_look.specs.Services.{IsService}
+use Rattle.server_history.proofs.Running.{shown_on}
 use Rattle.server_history.proofs.Serving.{followed_steps, looks_serve}
-use Rattle.server_history.proofs.Shown.{grown}
 use Rattle.server_history.proofs.Sighted.{booted_had}
-use Rattle.server_history.proofs.Slots.{of_ready}
 use Rattle.server_history.proofs.Trying.{AddsTried, TellsTried, makes_try, none_held}
 
 -- ---- it was booted
@@ -214,3 +216,116 @@ module _ (laws : LawsBelow) (s new : Server) (seen : Device) (port : Port) (stat
 
   pub booted_turn : HasPart InTry port [] s new × IsSettled new
   booted_turn = subst (λ (x : Server). HasPart InTry port [] s x × IsSettled x) (sym b.server) (part_then, settled_then)
+
+-- ---- it was looked at, and that is all
+
+-- a look leaves the engine of each port
+leaving : (port q : Port) (access : Access) → IsLooking port access → LeavesEngine q access
+leaving port q (Reading r v) is = (tt, tt)
+leaving port q (Writing r v) (inl e) = (λ x. (let z : Px port Is ≡ Px q Cmd = sym e ∙ x in absurd cc), λ x. (let z : Px port Is ≡ Px q Sctl = sym e ∙ x in absurd cc))
+leaving port q (Writing r v) (inr e) = (λ x. (let z : registers.Is ≡ Px q Cmd = sym e.0 ∙ x in absurd cc), λ x. (let z : registers.Is ≡ Px q Sctl = sym e.0 ∙ x in absurd cc))
+leaving port q (Loading place bytes) is = absurd is
+leaving port q (Storing place bytes) is = absurd is
+
+module _ (laws : LawsBelow) (s : Server) (seen : Device) (port : Port) (state : PortState) (t : IsSettled s) (is : found_of s.ports port.0 ≡ Unready state) (looks : IsFollowed (IsLooking port) AnyUse s.device seen) where
+  abbrev rest : Server
+  rest = record s { device = seen }
+
+  never : state_of (found_of s.ports port.0) ≢ ReadyState
+  never ready = never_ready s port state t.kept is (sym (ap state_of is) ∙ ready)
+
+  rests_told : TellsTried port [] [] looks.driven.accesses s rest
+  rests_told = record {
+    its_stopped = All-nil (λ q. q ≡ port);
+    its_stuck = All-nil (λ q. q ≡ port);
+    becomes = (
+      λ dead. (refl, refl, refl, refl, refl, refl),
+      λ alive. (record { served = refl; stuck = λ dead. absurd (alive dead); dies = λ here. absurd (nowhere port here); keeps = λ other. (refl, refl) }, inl (refl, refl, refl, refl, refl, refl)),
+    );
+    engine = inl (All-weaker (IsLooking port) (LeavesEngine port) (leaving port port) looks.driven.accesses looks.driven.only);
+    stops = λ here. absurd (nowhere port here);
+    sticks = λ here. absurd (nowhere port here);
+  }
+
+  -- ---- the server
+
+  serves : IsDrivenBy IsService s.device seen
+  serves = driven_as (IsLooking port) IsService s.device seen (laws.looking.looking_service port) looks.driven
+
+  module _ (lives : state ≢ DeadState) (result : Bool) (l : IsLookedAt state port result s.device seen) (none : result ≡ false) where
+    its_port : IsPortOf s.wanted s.ports port.0 seen
+    its_port =
+        let was = t.kept.behind port.0 (low laws s seen port state t.kept is lives looks) in
+        record {
+          behind = subst (λ (f : Found). StillStandsBehind (wanted_of s.wanted port.0) f port.0 seen) (sym is)
+              (looked_stands laws (wanted_of s.wanted port.0) port state result s.device seen t.kept.on lives l none (laws.looking.services_same s.device seen serves)
+              (looking_silent s seen port t.kept looks port.0 Identify refl (λ dead. lives (let z : Unready state ≡ Unready DeadState = sym is ∙ dead in cc)))
+              (subst (λ (f : Found). StillStandsBehind (wanted_of s.wanted port.0) f port.0 s.device) is was.behind));
+          runs = λ ready. absurd (never ready);
+          shown = λ bad. shown_on laws.looks port s.device seen t.kept.on serves (was.shown bad);
+          own = λ ready. absurd (never ready);
+          halts = λ ready. absurd (never ready);
+        }
+
+    other_port : (q : ℕ) → q < 4 → q ≢ port.0 → IsPortOf s.wanted s.ports q seen
+    other_port q small other =
+        port_on laws s.wanted s.ports q s.device seen (laws.looking.services_same s.device seen serves) t.kept.on serves
+        (λ _. laws.looks.other_left port q s.device seen other t.kept.on (driven_as (IsLooking port) (IsOf port) s.device seen (laws.looking.looking_of port) looks.driven))
+        (looking_silent s seen port t.kept looks q Identify refl)
+        (followed_halts laws (port_at q) (IsLooking port) s t.kept seen looks (λ access its. (leaving port (port_at q) access its).0))
+        (t.kept.behind q small)
+
+    pub rests_kept : IsKept rest
+    rests_kept = looked_kept s seen port t.kept laws looks (λ q small. ⊎_elim
+        (λ (same : q ≡ port.0). subst (λ (x : ℕ). IsPortOf s.wanted s.ports x seen) (sym same) its_port)
+        (λ (other : q ≢ port.0). other_port q small other)
+        (cases_eq q port.0))
+
+  module _ (kept : IsKept rest) where
+    rests_settled : IsSettled rest
+    rests_settled = record { kept = kept; issued = t.issued }
+
+    pub rests : HasPart InTry port [] s rest × IsSettled rest
+    rests = (
+      record {
+        accesses = looks.driven.accesses;
+        does = looks.driven.all;
+        of = All-weaker (IsLooking port) (IsOf port) (laws.looking.looking_of port) looks.driven.accesses looks.driven.only;
+        own = All-weaker (IsLooking port) IsDriversOwn (λ access its. (looking_part laws port access its).0) looks.driven.accesses looks.driven.only;
+        others = record { grants = refl; wanted = refl; last = refl; found = λ q ne. refl; remembered = λ q ne. refl; modes = λ q ne. refl; slots = λ q ne. refl; book = λ q ne. refl };
+        silent = λ q other alive. looking_silent s seen port t.kept looks q ReadLog refl (λ dead. alive (ap state_of dead));
+        makes = λ m reached stood.
+            let x = followed_steps laws s seen (looks_serve laws port s.device seen looks) m reached stood in
+            makes_try laws port s t.kept never rest rests_settled [] [] looks.driven.accesses rests_told m stood
+            (record { steps = x.0; only = x.4; may = x.1; stands = x.2; backed = x.3; disk = inl (refl, refl, refl, refl, refl, refl) });
+      },
+      rests_settled,
+    )
+
+-- ---- the whole
+
+dead_or_not : (state : PortState) → (state ≡ DeadState) ⊎ (state ≢ DeadState)
+dead_or_not Absent = inr (λ is. let z : Absent ≡ DeadState = is in cc)
+dead_or_not ReadyState = inr (λ is. let z : ReadyState ≡ DeadState = is in cc)
+dead_or_not Foreign = inr (λ is. let z : Foreign ≡ DeadState = is in cc)
+dead_or_not (Unfit n) = inr (λ is. let z : Unfit n ≡ DeadState = is in cc)
+dead_or_not DeadState = inl refl
+
+-- A dead port isn't looked at. Another one is, and booted where what it was looked at for was found.
+turns : LawsBelow → (s new : Server) (port : Port) → IsSettled s → (tries : TriesPort port s new) → (tries.state ≢ DeadState → IsFollowed (IsLooking port) AnyUse s.device tries.seen)
+    → HasPart InTry port [] s new × IsSettled new
+turns laws s new port t tries looks = ⊎_elim
+    (λ (dead : tries.state ≡ DeadState).
+    let l = subst (λ (state : PortState). IsLookedAt state port tries.result s.device tries.seen) dead tries.looks in
+    whole_rest l.0 (rests laws s tries.seen port tries.state t tries.is (unlooked port s.device tries.seen l.1) (subst (λ (d : Device). IsKept (record s { device = d })) (sym l.1) t.kept)))
+    (λ (lives : tries.state ≢ DeadState). ⊎_elim
+    (λ (found : tries.result ≡ true). booted_turn laws s new tries.seen port tries.state t tries.is lives (looks lives) (tries.boots found))
+    (λ (none : tries.result ≡ false). whole_rest none (rests laws s tries.seen port tries.state t tries.is (looks lives) (rests_kept laws s tries.seen port tries.state t tries.is (looks lives) lives tries.result tries.looks none)))
+    (cases_Bool tries.result))
+    (dead_or_not tries.state)
+  where
+    whole_rest : tries.result ≡ false → HasPart InTry port [] s (record s { device = tries.seen }) × IsSettled (record s { device = tries.seen }) → HasPart InTry port [] s new × IsSettled new
+    whole_rest none x = subst (λ (n : Server). HasPart InTry port [] s n × IsSettled n) (sym (tries.left none)) x
+
+pub tried : LawsBelow → (s new : Server) (port : Port) → IsSettled s → (tries : TriesPort port s new) → (tries.state ≢ DeadState → IsFollowed (IsLooking port) AnyUse s.device tries.seen) → TriesOther port s new × IsSettled new
+tried laws s new port t tries looks = let x = turns laws s new port t tries looks in (record { does = tries; part = x.0 }, x.1)
