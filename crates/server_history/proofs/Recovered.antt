@@ -120,6 +120,7 @@ module _ (laws : LawsBelow) (port : Port) (old mid : Server) (device : Device) (
     (subst (λ (n : Next). EndsIn r.queued port n mid.device device) is r.mends.leaves.ends).1,
     saw_still laws port r.mends.accesses mid.device device r.mends.does.only (recovery_does port.0 r.result.next r.mends.accesses mid.device device r.mends.does.slots) mid_kept.on ((mid_kept.behind port.0 low).runs mid_ready).saw,
   )
+
 -- ---- what it is then
 
 module _ (laws : LawsBelow) (port : Port) (later : List Reply) (old new : Server) (k : IsKept old) (ready : state_of (found_of old.ports port.0) ≡ ReadyState) (a : HasMetFates port later old new)
