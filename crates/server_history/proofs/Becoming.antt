@@ -40,15 +40,15 @@ use Rattle.server_history.proofs.Told.{shows_failure, shows_fatal, shows_loss}
 
 -- ---- states and prospects
 
-dead_is : (f : Found) → state_of f ≡ DeadState → f ≡ Unready DeadState
+pub dead_is : (f : Found) → state_of f ≡ DeadState → f ≡ Unready DeadState
 dead_is Unserved is = let z : shown.Absent ≡ DeadState = is in absurd cc
 dead_is (Ready info) is = let z : ReadyState ≡ DeadState = is in absurd cc
 dead_is (Unready state) is = ap Unready is
 
-disk_is : (f : Found) (was : DiskInfo) → state_of f ≢ ReadyState → disk_of f (Some was) ≡ Some was
-disk_is Unserved was other = refl
-disk_is (Ready info) was other = absurd (other refl)
-disk_is (Unready state) was other = refl
+pub disk_is : (f : Found) (remembered : Option DiskInfo) → state_of f ≢ ReadyState → disk_of f remembered ≡ remembered
+disk_is Unserved remembered other = refl
+disk_is (Ready info) remembered other = absurd (other refl)
+disk_is (Unready state) remembered other = refl
 
 -- a dead port's requests may expect nothing else
 prospect_is : (trouble : Trouble) (was : DiskInfo) (found : Found) (prospect : Prospect) → IsProspect trouble was found prospect → found ≡ Unready DeadState → prospect ≡ Dead
@@ -61,7 +61,7 @@ found_dead wanted port trouble was (next.Running token) old new found is same = 
 found_dead wanted port trouble was (next.Restart token) old new found is same = let z : next.Restart token ≡ next.Dead = same in absurd cc
 found_dead wanted port trouble was next.Dead old new found is same = is.0
 
-found_served : (wanted : Wanted) (port : Port) (trouble : Trouble) (was : DiskInfo) (then : Next) (old new : Device) (found : Found) → IsFoundAfter wanted port trouble was then old new found → is_served found ≡ true
+pub found_served : (wanted : Wanted) (port : Port) (trouble : Trouble) (was : DiskInfo) (then : Next) (old new : Device) (found : Found) → IsFoundAfter wanted port trouble was then old new found → is_served found ≡ true
 found_served wanted port trouble was (next.Running token) old new found is = ap is_served is.0
 found_served wanted port trouble was (next.Restart token) old new found is = ap is_served (sym is.1) ∙ ⊎_elim
     (λ (b : BootsAgain wanted port is.0 old new). by b is.0.found b.boots)
@@ -222,7 +222,7 @@ module _ (laws : LawsBelow) (port : Port) (replies : List Reply) (old new : Serv
         served = ap is_served found_new ∙ found_served (wanted_of old.wanted port.0) port x.trouble a.was x.result.next a.device r.mid.device a.found a.is ∙ sym (ap is_served a.ready);
         stuck = λ dead. subst (λ (p : Prospect). Contains (stuck_of port p) port) (sym (found_prospect (dead_found dead))) ((0, omega arith, refl));
         dies = λ stuck. state_new ∙ ap state_of (dead_prospect (stuck_is port a.prospect stuck));
-        keeps = λ other. same_disk (disk_is a.found a.was (λ is. other (state_new ∙ is)));
+        keeps = λ other. same_disk (disk_is a.found (Some a.was) (λ is. other (state_new ∙ is)));
       },
       inr interrupted,
     ),

@@ -17,7 +17,7 @@ use Rattle.adapter.specs.declared.command.Operation.TheVariants.{Identify, ReadL
 use Rattle.adapter.proofs.Changed.{changed_other, changed_same}
 use Rattle.agreement.specs.Acts.{Act, Comes, InSlots, steps_of, at as at_slots}
 use Rattle.agreement.specs.Agrees.{port_at}
-use Rattle.agreement.specs.Driven.{IsControl, IsDrivenBy, IsFollowed, IsFollowedTo, IsOf, SendsNone}
+use Rattle.agreement.specs.Driven.{AnyUse, IsControl, IsDrivenBy, IsFollowed, IsFollowedTo, IsOf, SendsNone}
 use Rattle.agreement.specs.Driver.{AllFree, Goes, Knows}
 use Rattle.agreement.specs.GivingUp.{given_up}
 use Rattle.agreement.specs.Halting.{IsHaltedAsTaken}
@@ -39,13 +39,18 @@ use Rattle.host_boot.specs.Taken.{IsSurvey, found_of}
 use Rattle.host_boot.specs.declared.Booted.{Booted}
 use Rattle.host_boot.specs.declared.Found.{Found}
 use Rattle.host_boot.specs.declared.Found.TheVariants.{Unserved, Ready, Unready}
+use Rattle.identify.specs.declared.DiskInfo.{DiskInfo}
 use Rattle.identify.specs.declared.wanted.Wanted.{Wanted}
 use Rattle.port_boot.specs.States.{IsBootTo, IsBooting, IsOfBoot, StopsOnWay}
+use Rattle.port_look.specs.Looks.{IsLooking}
 use Rattle.slots.specs.declared.Use.{Use as SlotUse}
 use Rattle.server_history.specs.Below.{LawsBelow}
+use Rattle.server_history.specs.Mended.{IsFoundAfter}
+use Rattle.server_history.specs.declared.Trouble.{Trouble}
 use Rattle.server_history.specs.Server.{HasCommand, Server, IsKept, used_for}
 use Rattle.server_history.proofs.Silent.{silent_more, silent_none}
 use Rattle.server_history.proofs.Slots.{not_own, used_there}
+use Rattle.server_history.proofs.Starting.{boots_or_absent}
 use Rattle.server_history.proofs.Stored.{never_both, of_store, of_table}
 
 -- ---- the accesses
@@ -68,6 +73,9 @@ survey_mild port access is = (by access is, λ at bytes e. absurd (subst IsSurve
     by (Writing r v) its = absurd its
     by (Loading at bytes) its = absurd its
     by (Storing at bytes) its = absurd its
+
+looking_stores : (port : Port) (access : Access) → IsLooking port access → (at : ℕ) (bytes : List ℕ) → access ≡ Storing at bytes → IsTableStore port.0 0 (Storing at bytes)
+looking_stores port access is at bytes e = absurd (subst (IsLooking port) e is)
 
 module _ (laws : LawsBelow) where
   recovering_mild : (port : Port) (access : Access) → IsRecovering port access → IsMild port access
@@ -177,19 +185,13 @@ module _ (laws : LawsBelow) (s : Server) (port : Port) (k : IsKept s) (low : por
   abbrev pub PassesTo : Next → Device → Type 0
   PassesTo after_it new = (then : InSlots) × Passes s port then new × (after_it ≢ next.Dead → AllFree then.uses port.0)
 
-  module _ (outstanding : ℕ) (queued : Bool) (result : Recovered) (new : Device) (r : Mends port outstanding queued result s.device new) where
-    abbrev slots : InSlots
-    slots = slots_of s k
-
-    first : Passes s port slots s.device
-    first = passes_none s port k
-
+  module _ (slots : InSlots) (d : Device) (first : Passes s port slots d) (outstanding : ℕ) (queued : Bool) (result : Recovered) (new : Device) (r : Mends port outstanding queued result d new) where
     mild : All (IsMild port) r.accesses
     mild = All-weaker (IsRecovering port) (IsMild port) (recovering_mild laws port) r.accesses r.does.only
 
-    silent : (q : ℕ) (o : Operation) → op_of o ≡ None → q ≢ port.0 → found_of s.ports q ≢ Unready DeadState → SendsNone q o s.device new
+    silent : (q : ℕ) (o : Operation) → op_of o ≡ None → q ≢ port.0 → found_of s.ports q ≢ Unready DeadState → SendsNone q o d new
     silent q o own other alive =
-        r.leaves.others (port_at q) o other own (slots.uses, first.clients q o other alive, record { machine = k.machine; parked = slots.parked; reached = k.reached; knows = k.stands.knows })
+        r.leaves.others (port_at q) o other own (slots.uses, first.clients q o other alive, record { machine = first.machine; parked = slots.parked; reached = first.reached; knows = first.knows })
 
     given_others : (q : ℕ) → q ≢ port.0 → (given_up port.0 slots).uses q ≡ slots.uses q
     given_others q other = changed_other slots.uses port.0 (λ slot. Free) q other
@@ -197,19 +199,19 @@ module _ (laws : LawsBelow) (s : Server) (port : Port) (k : IsKept s) (low : por
     given_free : AllFree (given_up port.0 slots).uses port.0
     given_free slot = ap (λ (f : ℕ → Use). f slot) (changed_same slots.uses port.0 (λ slot. Free))
 
-    given : (Tells : List Act → Type 0) → DoesAll r.accesses s.device new → Comes r.accesses (at_slots slots s.device) first.machine (at_slots (given_up port.0 slots) new) Tells → Passes s port (given_up port.0 slots) new
+    given : (Tells : List Act → Type 0) → DoesAll r.accesses d new → Comes r.accesses (at_slots slots d) first.machine (at_slots (given_up port.0 slots) new) Tells → Passes s port (given_up port.0 slots) new
     given Tells does c =
-        passes_on slots (given_up port.0 slots) s.device new first r.accesses does mild Tells c
+        passes_on slots (given_up port.0 slots) d new first r.accesses does mild Tells c
         (λ q o other alive is. first.clients q o other alive (ap (λ (f : ℕ → Use). f 0) (sym (given_others q other)) ∙ is)) silent
 
-    by_next : (after_it : Next) → LeavesSlots port.0 after_it r.accesses s.device new → PassesTo after_it new
+    by_next : (after_it : Next) → LeavesSlots port.0 after_it r.accesses d new → PassesTo after_it new
     by_next (next.Running token) p = (given_up port.0 slots, given _ p.does (p.comes slots first.machine first.reached first.knows tt), λ alive. given_free)
     by_next (next.Restart token) p = (given_up port.0 slots, given _ p.does (p.comes slots first.machine first.reached first.knows tt), λ alive. given_free)
-    by_next next.Dead (inl p) = (slots, passes_on slots slots s.device new first r.accesses p.does mild _ (p.comes slots first.machine first.reached first.knows tt) first.clients silent, λ alive. absurd (alive refl))
+    by_next next.Dead (inl p) = (slots, passes_on slots slots d new first r.accesses p.does mild _ (p.comes slots first.machine first.reached first.knows tt) first.clients silent, λ alive. absurd (alive refl))
     by_next next.Dead (inr (inl p)) = (given_up port.0 slots, given _ p.does (p.comes slots first.machine first.reached first.knows tt), λ alive. given_free)
     by_next next.Dead (inr (inr p)) = (
       with_own port.0 ReadLog (given_up port.0 slots),
-      passes_on slots (with_own port.0 ReadLog (given_up port.0 slots)) s.device new first r.accesses p.does mild _ (p.comes slots first.machine first.reached first.knows tt)
+      passes_on slots (with_own port.0 ReadLog (given_up port.0 slots)) d new first r.accesses p.does mild _ (p.comes slots first.machine first.reached first.knows tt)
           (λ q o other alive is. first.clients q o other alive (ap (λ (f : ℕ → Use). f 0) (sym (given_others q other)) ∙ sym (laws.recovery.put_other (given_up port.0 slots).uses port.0 0 (Own ReadLog) q 0 (λ same _. other same)) ∙ is)) silent,
       λ alive. absurd (alive refl),
     )
@@ -247,3 +249,20 @@ module _ (laws : LawsBelow) (s : Server) (port : Port) (k : IsKept s) (low : por
   again_passes slots d new p free wanted booted b =
       let asked : Passes s port slots b.asked = start_passes slots d b.asked p free b.asks in
       stopped_passes slots b.asked new asked free wanted booted.found b.boots
+
+  -- ---- what a port is then
+
+  -- a look leaves the other ports, and the slots
+  pub look_passes : (slots : InSlots) (d new : Device) → Passes s port slots d → IsFollowed (IsLooking port) AnyUse d new → Passes s port slots new
+  look_passes slots d new p looks = passes_followed slots d new p (IsLooking port) AnyUse (λ uses. uses) (λ access is. (laws.looking.looking_of port access is, looking_stores port access is)) tt (λ q other. refl) looks
+
+  -- it was found so once it was stopped
+  pub after_passes : (wanted : Wanted) (trouble : Trouble) (was : DiskInfo) (after_it : Next) (d new : Device) (found : Found) → IsFoundAfter wanted port trouble was after_it d new found → PassesTo after_it d
+      → (then : InSlots) × Passes s port then new
+  after_passes wanted trouble was (next.Running token) d new found (is, same) (slots, p, free) = (slots, subst (Passes s port slots) (sym same) p)
+  after_passes wanted trouble was (next.Restart token) d new found (booted, is, b) (slots, p, free) =
+      let free_then = free (λ dead. let z : next.Restart token ≡ next.Dead = dead in absurd cc) in ⊎_elim
+      (λ (boots : BootsAgain wanted port booted d new). again_passes slots d new p free_then wanted booted boots)
+      (λ absent. (slots, start_passes slots d new p free_then absent.starts))
+      (boots_or_absent trouble wanted port booted d new b)
+  after_passes wanted trouble was next.Dead d new found (is, same) (slots, p, free) = (slots, subst (Passes s port slots) (sym same) p)

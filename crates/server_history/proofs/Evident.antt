@@ -12,10 +12,9 @@ use Rattle.adapter.specs.Access.{Access, DoesAll}
 use Rattle.adapter.specs.Device.{Device}
 use Rattle.adapter.specs.declared.command.Operation.TheVariants.{ReadLog}
 use Rattle.adapter.specs.declared.tape.Fault as tape_fault
-use Rattle.agreement.specs.Driven.{AnyAccess, AnyUse, Grows, IsFollowed, IsOf, SendsNone}
+use Rattle.agreement.specs.Driven.{AnyUse, Grows, IsFollowed, IsOf, SendsNone}
 use Rattle.agreement.specs.Driver.{IsBacked}
 use Rattle.agreement.specs.Links.{SparesRegister}
-use Rattle.agreement.proofs.Driven.{along}
 use Rattle.block_machine.specs.Events.{Ask, HadDisk, Served, ShowsDisk, changes_disk}
 use Rattle.adapter.specs.declared.access.DeviceStep.{DeviceStep}
 use Rattle.block_machine.specs.Left.{after}
@@ -50,13 +49,13 @@ use Rattle.server_history.proofs.Apart.{leaves_others}
 use Rattle.server_history.proofs.Becoming.{becomes, dead_found, dead_prospect, disk_same, interrupted, its, lost_is, names, ready_info, state_new, stuck_is, next_dead}
 use Rattle.server_history.proofs.Faulted.{given_up}
 use Rattle.server_history.proofs.Named.{failed_all, failed_only, fatal_all, fatal_only, gone_all, gone_only, loss}
-use Rattle.server_history.proofs.Sighted.{boot_sees}
+use Rattle.server_history.proofs.Sighted.{booted_had}
 use Rattle.server_history.proofs.Starting.{boots_or_absent}
 use Rattle.server_history.proofs.Placing.{freed_was}
 use Rattle.server_history.proofs.Recovering.{IsEarlyPart, IsPart}
 use Rattle.server_history.proofs.Recovery.{evidence_by, faults_of, stopped_of}
 use Rattle.server_history.proofs.Settling.{over_on, ready_on}
-use Rattle.server_history.proofs.Shown.{had_disk, shows_device}
+use Rattle.server_history.proofs.Shown.{grown, had_disk, shows_device}
 use Rattle.server_history.proofs.Slots.{AreOver, ready_found}
 use Rattle.server_history.proofs.Stretching.{TurnParts, accesses_in, done_over, found_is, found_kept, mid_device, turn_parts}
 use Rattle.server_history.proofs.Lists.{nowhere}
@@ -64,7 +63,7 @@ use Rattle.port_look.specs.declared.Look.TheVariants as look
 use Rattle.server_history.specs.declared.Trouble.{Trouble}
 use Rattle.server_history.specs.declared.Trouble.TheVariants.{Broken, Failed, Hung, Lost}
 use Rattle.server_history.proofs.Coming.{look_list, look_does}
-use Rattle.host_boot.specs.Again.{BootsAgain, IsOfStart}
+use Rattle.host_boot.specs.Again.{BootsAgain}
 use Rattle.host_boot.specs.declared.Booted.{Booted}
 use Rattle.host_boot.specs.declared.Found.{Found}
 use Rattle.server_history.proofs.Rounds.{each_driven}
@@ -72,13 +71,13 @@ use Rattle.server_history.proofs.Rounds.{each_driven}
 -- ---- what recovery tells of the port's engine
 
 module _ (laws : LawsBelow) (port : Port) (early part late : List Access) where
-  engine_stops : (then : Next) → TellsEngine port then part → Contains (stopped_of port then) port → Stops port (early ++ (part ++ late))
+  pub engine_stops : (then : Next) → TellsEngine port then part → Contains (stopped_of port then) port → Stops port (early ++ (part ++ late))
   engine_stops (next.Running token) engine here = laws.falls_since early (part ++ late) 0 15 port (laws.falls_then part late 0 15 port engine)
   engine_stops (next.Restart token) engine here = laws.falls_since early (part ++ late) 0 15 port (laws.falls_then part late 0 15 port engine)
   engine_stops next.Dead engine here = absurd (nowhere port here)
 
   -- one that is stuck is so in recovery, or later
-  engine_sticks : (then : Next) → TellsEngine port then part → (then ≢ next.Dead → Sticks port late) → Sticks port (early ++ (part ++ late))
+  pub engine_sticks : (then : Next) → TellsEngine port then part → (then ≢ next.Dead → Sticks port late) → Sticks port (early ++ (part ++ late))
   engine_sticks (next.Running token) engine later = laws.sticks_since early (part ++ late) port (laws.sticks_since part late port (later (λ e. let z : next.Running token ≡ next.Dead = e in cc)))
   engine_sticks (next.Restart token) engine later = laws.sticks_since early (part ++ late) port (laws.sticks_since part late port (later (λ e. let z : next.Restart token ≡ next.Dead = e in cc)))
   engine_sticks next.Dead engine later = laws.sticks_since early (part ++ late) port (laws.sticks_then part late port engine)
@@ -139,15 +138,12 @@ module _ (laws : LawsBelow) (port : Port) (replies : List Reply) (old new : Serv
 
   -- ---- the tape grows
 
-  pub grown : (accesses : List Access) (one two : Device) → DoesAll accesses one two → Grows one two
-  grown accesses one two does = along Grows laws.looks.grows_none laws.looks.grows_more AnyAccess (λ access d e may is. laws.looks.access_grows access d e is) accesses one two (λ i d small. tt) does
-
   grown_late : Grows a.mid.device new.device
-  grown_late = laws.looks.grows_more a.mid.device a.device new.device (grown part a.mid.device a.device t.does) (grown t.late.accesses a.device new.device t.late.all)
+  grown_late = laws.looks.grows_more a.mid.device a.device new.device (grown laws part a.mid.device a.device t.does) (grown laws t.late.accesses a.device new.device t.late.all)
 
   grown_seen : Grows x.seen new.device
   grown_seen =
-      laws.looks.grows_more x.seen x.found new.device (grown x.reads.driven.accesses x.seen x.found x.reads.driven.all)
+      laws.looks.grows_more x.seen x.found new.device (grown laws x.reads.driven.accesses x.seen x.found x.reads.driven.all)
       (subst (λ (d : Device). Grows d new.device) (mid_device laws port replies old new k ready r looks kept) grown_late)
 
   -- ---- ports
@@ -227,7 +223,7 @@ module _ (laws : LawsBelow) (port : Port) (replies : List Reply) (old new : Serv
     told_so false is rests id = (rests.fault, stays_failed rests.fault rests.has_failed, rests.at ∙ sym rests.slot_is, rests.status_is, rests.error_is)
     told_so true is rests id = (
       (rests.fault, stays_failed rests.fault rests.has_failed),
-      (rests.page, laws.log_stays port old.device a.mid.device a.device new.device rests.page (grown t.early.accesses old.device a.mid.device t.early.all) (quiet_then is) rests.brings, rests.tells),
+      (rests.page, laws.log_stays port old.device a.mid.device a.device new.device rests.page (grown laws t.early.accesses old.device a.mid.device t.early.all) (quiet_then is) rests.brings, rests.tells),
     )
 
     tells_named : (used : SlotUse) → use_at (slots_at a.mid.slots port.0) its_failure.slot.0 ≡ Some used → TellsFault port (accesses_in t) old new (record { id = used.id; status = its_failure.status; error = its_failure.error })
@@ -271,7 +267,7 @@ module _ (laws : LawsBelow) (port : Port) (replies : List Reply) (old new : Serv
   had_at accesses d does shows grows m is steps backed = had_disk laws port old d new.device m accesses does (own_at accesses d does shows) is grows steps backed
 
   grown_issuing : Grows r.mid.device new.device
-  grown_issuing = let issued = each_driven laws port (due_ids (mode_in r.mid port) port (asks_of r.mid.book)) r.mid new r.issued in grown issued.accesses r.mid.device new.device issued.all
+  grown_issuing = let issued = each_driven laws port (due_ids (mode_in r.mid port) port (asks_of r.mid.book)) r.mid new r.issued in grown laws issued.accesses r.mid.device new.device issued.all
 
   -- a boot that finds a disk sees a device; so did the look that told of an error
   module _ (m : Machine) (stands : IsMachineOf old m) (steps : List Step) (backed : IsBacked old.device new.device m steps) where
@@ -284,19 +280,9 @@ module _ (laws : LawsBelow) (port : Port) (replies : List Reply) (old new : Serv
 
     had_booted : (booted : Booted) → BootsAgain (wanted_of old.wanted port.0) port booted a.device r.mid.device → ShowsDisk (state_of booted.found) → Had
     had_booted booted b shows =
-        let asks = b.asks.driven in
-        let until = t.early.accesses ++ (part ++ asks.accesses) in
-        let does = laws.basic.does_append t.early.accesses (part ++ asks.accesses) old.device a.mid.device b.asked t.early.all (laws.basic.does_append part asks.accesses a.mid.device a.device b.asked t.does asks.all) in
-        let on = laws.of_on port old.device b.asked k.on (record {
-          accesses = until;
-          all = does;
-          only = All-append (IsOf port) t.early.accesses (part ++ asks.accesses) (All-weaker (IsEarlyPart port) (IsOf port) (λ access is. is.0.1) t.early.accesses t.early.only)
-              (All-append (IsOf port) part asks.accesses (All-weaker (IsPart port) (IsOf port) (λ access is. is.1) part t.kinds) (All-weaker (IsOfStart port) (IsOf port) (laws.recovery.start_of port) asks.accesses asks.only));
-        }) in
-        let sees = boot_sees laws port (wanted_of old.wanted port.0) booted.found b.asked r.mid.device on b.boots shows in
-        had_at (until ++ sees.early.accesses) sees.seen (laws.basic.does_append until sees.early.accesses old.device b.asked sees.seen does sees.early.all) sees.shows
-        (laws.looks.grows_more sees.seen r.mid.device new.device (grown sees.late.accesses sees.seen r.mid.device sees.late.all) grown_issuing)
-        m stands steps backed
+        booted_had laws port old (wanted_of old.wanted port.0) booted (t.early.accesses ++ part) a.device r.mid.device new.device k.on (laws.basic.does_append t.early.accesses part old.device a.mid.device a.device t.early.all t.does)
+        (All-append (IsOf port) t.early.accesses part (All-weaker (IsEarlyPart port) (IsOf port) (λ access is. is.0.1) t.early.accesses t.early.only) (All-weaker (IsPart port) (IsOf port) (λ access is. is.1) part t.kinds))
+        b shows grown_issuing m stands steps backed
 
     -- where no command had failed, the port was booted
     had_stopped : x.trouble ≢ Failed → ShowsDisk (state_of a.found) → Had

@@ -16,7 +16,7 @@ use Rattle.adapter.specs.Device.{Device}
 use Rattle.agreement.specs.Acts.{InSlots, at as at_slots}
 use Rattle.agreement.specs.Driven.{AnyUse, IsFollowed}
 use Rattle.agreement.specs.Driver.{HasNoSlot, IsBacked}
-use Rattle.agreement.specs.Slots.{Serves, Use}
+use Rattle.agreement.specs.Slots.{Serves}
 use Rattle.agreement.specs.Spares.{SparesBook}
 use Rattle.block_machine.specs.Events.{AllDevices, AllMay}
 use Rattle.block_machine.specs.Histories.{IsReached}
@@ -41,18 +41,18 @@ use Rattle.request_queue.specs.declared.fate.Fate.{Fate}
 use Rattle.request_queue.specs.declared.fate.Fate.TheVariants.{Ends, GoesAgain, Waits}
 use Rattle.request_queue.specs.declared.fate.Prospect.{Prospect}
 use Rattle.request_queue.specs.declared.fate.Prospect.TheVariants.{SameDisk, DiskLost, Dead as NoEnd}
-use Rattle.slots.specs.Uses.{Uses as PortSlots, use_at}
+use Rattle.slots.specs.Uses.{Uses as PortSlots}
 use Rattle.server_history.specs.Below.{LawsBelow}
 use Rattle.server_history.specs.Fates.{DecidesOn, MayMeet, MeetsInMachine, keeps_fate, loan_of, loans_of}
 use Rattle.server_history.specs.Mended.{AreUnused, IsFailed, IsFoundAfter, IsProspect, HasMetFates, holdings_of, requests_of, with_port}
 use Rattle.server_history.specs.Served.{answers_in}
-use Rattle.server_history.specs.Server.{AreKept, AreOfTwo, AreUsesOf, IsKept, IsMachineOf, IsUsedAs, Server, kept_at, no_slots, slots_at, state_of, use_of, used_for}
+use Rattle.server_history.specs.Server.{AreKept, AreOfTwo, AreUsesOf, IsKept, IsMachineOf, Server, kept_at, no_slots, slots_at, state_of}
 use Rattle.server_history.proofs.Going.{book_on, still_kept}
 use Rattle.server_history.proofs.Joined.{first_or_later}
 use Rattle.server_history.proofs.Keeping.{none_alive}
 use Rattle.server_history.proofs.Looking.{finding_kept, found_over, looking_kept}
 use Rattle.server_history.proofs.Meeting.{in_loans, loans_in, meet, tame}
-use Rattle.server_history.proofs.Leading.{IsPassed, devices_both, passed}
+use Rattle.server_history.proofs.Leading.{IsPassed, devices_both, passed, uses_then}
 use Rattle.server_history.proofs.Recovery.{AddsFates}
 use Rattle.server_history.proofs.Serving.{finds_serve, followed_steps, looks_serve}
 use Rattle.server_history.proofs.Settling.{AreAnswered, answers_kept, answers_settings, each_answered}
@@ -255,13 +255,8 @@ module _ (laws : LawsBelow) (port : Port) (mid : Server) (k : IsKept mid) (ready
       slots_other q ne = get_or-set_other mid.slots port.0 q slots no_slots ne
 
       used : AreUsesOf new t.uses
-      used q slot = ⊎_elim
-          (λ (same : q ≡ port.0).
-          subst (λ (p : ℕ). IsUsedAs (found_of new.ports p) (used_for new.slots p slot) (t.uses p slot)) (sym same)
-          (λ lives. passed.left.free (λ dead. lives (found_same ∙ dead)) slot ∙ ap use_of (sym (ap (λ (x : PortSlots). use_at x slot) slots_same ∙ unused.free slot))))
-          (λ (ne : q ≢ port.0) lives.
-          ap (λ (u : ℕ → Use). u slot) (passed.left.uses q ne) ∙ is.used q slot (λ dead. lives (found_other q ne ∙ dead)) ∙ ap (λ (x : PortSlots). use_of (use_at x slot)) (sym (slots_other q ne)))
-          (cases_eq q port.0)
+      used = uses_then port.0 way found mid.ports mid.slots slots (record { uses = is.uses; parked = is.parked }) t (let f = (ready_found mid port.0 k ready).1 in in_ports mid.ports port.0 f.0 f.1)
+          (let f = k.four in let l = low in omega (arith, f, l)) unused.free passed.left is.used
 
       unparked : (q : ℕ) → found_of new.ports q ≢ Unready Dead → met.parked q ≡ []
       unparked q lives = ⊎_elim

@@ -35,7 +35,7 @@ use Rattle.server_history.specs.Served.{IssuesIn}
 use Rattle.server_history.specs.Server.{Server, IsKept, mode_in, ports_of, state_of}
 use Rattle.server_history.specs.Turns.{instant_of}
 use Rattle.server_history.proofs.Becoming.{interrupted, next_dead, ready_info, state_new}
-use Rattle.server_history.proofs.Evident.{grown}
+use Rattle.server_history.proofs.Shown.{grown}
 use Rattle.server_history.proofs.Recovering.{IsEarlyPart, IsPart, start_part}
 use Rattle.server_history.proofs.Recovery.{evidence_by}
 use Rattle.server_history.proofs.Resetting.{up_driven}
@@ -126,7 +126,7 @@ module _ (laws : LawsBelow) (port : Port) (replies : List Reply) (old new : Serv
     then_issuing = subst (λ (d : Device). IsDrivenBy (LeavesTrouble port) d new.device) again_is.1 issuing
 
     runs_shows : ShowsTrouble port.0 old.device new.device
-    runs_shows = shown_more port.0 old.device a.mid.device a.device new.device again.shows (grown laws port replies old new k ready r looks kept x.mends.accesses a.mid.device a.device t.does) again.since
+    runs_shows = shown_more port.0 old.device a.mid.device a.device new.device again.shows (grown laws x.mends.accesses a.mid.device a.device t.does) again.since
         (shows_over laws port then_issuing.accesses a.device new.device recovered_on then_issuing.only then_issuing.all)
 
   -- one that was booted

@@ -1,5 +1,8 @@
 -- What the device's steps lead to while a port is recovered, and booted where it has to be.
-use Rattle.std.proofs.Common.{ℕ, ◌≡◌, ◌≢◌, ◌++◌, List, [], ◌∷◌, inl, inr, refl, sym, ap, ◌∙◌, subst, ⊎_elim}
+use Rattle.std.specs.Prelude.{slice_set}
+use Rattle.std.proofs.lemmas.Bool.{cases_eq}
+use Rattle.std.proofs.lemmas.List.{get_or-set_other, get_or-set_same}
+use Rattle.std.proofs.Common.{None, length, ◌<◌, ℕ, ◌≡◌, ◌≢◌, ◌++◌, List, [], ◌∷◌, inl, inr, refl, sym, ap, ◌∙◌, subst, ⊎_elim}
 use Rattle.std.specs.List.{Contains}
 use Rattle.std.proofs.lemmas.List.Elements.{Contains-append_right}
 use Rattle.ata_types.specs.declared.Port.{Port}
@@ -35,6 +38,9 @@ use Rattle.identify.specs.declared.wanted.Wanted.{Wanted}
 use Rattle.port_boot.specs.States.{IsBoot, IsBootTo, IsOfBoot, StopsOnWay}
 use Rattle.port_control.specs.Engines.{Sticks}
 use Rattle.server_history.specs.Below.{LawsBelow}
+use Rattle.host_boot.specs.Taken.{found_of}
+use Rattle.slots.specs.Uses.{Uses as PortSlots, use_at}
+use Rattle.server_history.specs.Server.{IsUsedAs, no_slots, use_of, used_for}
 use Rattle.server_history.specs.Mended.{IsFoundAfter}
 use Rattle.server_history.specs.declared.Trouble.{Trouble}
 use Rattle.server_history.proofs.Starting.{IsFoundAbsent, boots_or_absent}
@@ -87,6 +93,19 @@ pub record LeavesIn (port : ℕ) (way : Next) (found : Found) (s t : InSlots) : 
   pub its : (id : RequestId) → Contains (t.parked port) id → Contains (served_ids s.uses port 32 ++ s.parked port) id
   pub unserved : way ≢ Stuck → AreApart s.uses → (slot : ℕ) (id : RequestId) → s.uses port slot ≡ Serves id → HasNoSlot t.uses id
   pub free : found ≢ Unready Dead → AllFree t.uses port
+
+-- The slots of a server whose port was found so then, and uses none, are used so.
+pub uses_then : (port : ℕ) (way : Next) (found : Found) (ports : List Found) (slots : List PortSlots) (its : PortSlots) (s t : InSlots) → port < length ports → port < length slots
+    → ((slot : ℕ) → use_at its slot ≡ None) → LeavesIn port way found s t → ((q slot : ℕ) → IsUsedAs (found_of ports q) (used_for slots q slot) (s.uses q slot))
+    → (q slot : ℕ) → IsUsedAs (found_of (slice_set ports port found) q) (used_for (slice_set slots port its) q slot) (t.uses q slot)
+uses_then port way found ports slots its s t listed within unused left used q slot = ⊎_elim
+    (λ (same : q ≡ port).
+    subst (λ (p : ℕ). IsUsedAs (found_of (slice_set ports port found) p) (used_for (slice_set slots port its) p slot) (t.uses p slot)) (sym same)
+    (λ lives. left.free (λ dead. lives (get_or-set_same ports port found Unserved listed ∙ dead)) slot ∙ ap use_of (sym (ap (λ (x : PortSlots). use_at x slot) (get_or-set_same slots port its no_slots within) ∙ unused slot))))
+    (λ (other : q ≢ port) lives.
+    ap (λ (u : ℕ → Use). u slot) (left.uses q other) ∙ used q slot (λ dead. lives (get_or-set_other ports port q found Unserved other ∙ dead))
+    ∙ ap (λ (x : PortSlots). use_of (use_at x slot)) (sym (get_or-set_other slots port q its no_slots other)))
+    (cases_eq q port)
 
 -- the steps lead to that
 pub record IsPassed (port : ℕ) (way : Next) (found : Found) (old new : Device) (s : InSlots) (m : Machine) : Type 0 where

@@ -83,3 +83,8 @@ pub mod Starting
 pub mod Seen
 pub mod Named
 pub mod Sighted
+pub mod Replaced
+pub mod Glanced
+pub mod Trying
+pub mod Anew
+pub mod Tries

@@ -48,7 +48,7 @@ behind_served laws s new port k ready driven left silent halts q low =
 
 -- ---- the server
 
-module _ (s : Server) (new : Device) (port : Port) (k : IsKept s) (ready : state_of (found_of s.ports port.0) ≡ ReadyState) where
+module _ (s : Server) (new : Device) (port : Port) (k : IsKept s) where
   -- in followed accesses that write neither PxCI nor PxSACT, no data comes for a command of the driver's own but on dead ports
   silent_over : (May : Access → Type 0) → ((q : Port) → NoneWrites May (Px q Ci) × NoneWrites May (Px q Sact)) → IsFollowed May AnyUse s.device new
       → (q : ℕ) (o : Operation) → op_of o ≡ None → found_of s.ports q ≢ Unready Dead → SendsNone q o s.device new
@@ -56,17 +56,15 @@ module _ (s : Server) (new : Device) (port : Port) (k : IsKept s) (ready : state
       followed_silent followed k.stands.uses k.stands.parked k.machine tt k.reached k.stands.knows (port_at q) o own (none (port_at q)).0 (none (port_at q)).1
       (not_own (found_of s.ports q) (used_for s.slots q 0) (k.stands.uses q 0) o other (k.stands.used q 0))
 
-  -- followed accesses that serve the port, and write no PxCI
-  kept_over : LawsBelow → (May : Access → Type 0) → ((access : Access) → May access → IsService access) → ((access : Access) (at : ℕ) (bytes : List ℕ) → May access → access ≡ Storing at bytes → ⊥) → ((q : Port) → NoneWrites May (Px q Ci) × NoneWrites May (Px q Sact)) → ((q : Port) → NoneWrites May (Px q Cmd))
-      → ((q : ℕ) → q < 4 → q ≢ port.0 → LeavesPort (s.device.port q) (new.port q)) → IsFollowed May AnyUse s.device new → IsKept (record s { device = new })
-  kept_over below May service storeless none commandless left followed =
+  -- followed accesses that serve the port, and write no PxCI, where what stands behind each port goes on
+  kept_by : LawsBelow → (May : Access → Type 0) → ((access : Access) → May access → IsService access) → ((access : Access) (at : ℕ) (bytes : List ℕ) → May access → access ≡ Storing at bytes → ⊥) → ((q : Port) → NoneWrites May (Px q Ci) × NoneWrites May (Px q Sact)) → ((q : Port) → NoneWrites May (Px q Cmd))
+      → ((q : ℕ) → q < 4 → IsPortOf s.wanted s.ports q new) → IsFollowed May AnyUse s.device new → IsKept (record s { device = new })
+  kept_by below May service storeless none commandless behind followed =
       let uses : Uses = k.stands.uses in
       let driven : IsDrivenBy IsService s.device new = driven_as May IsService s.device new service followed.driven in
       let x = (followed_adds followed uses k.stands.parked tt).adds k.machine k.reached k.stands.knows in
       kept_on below s new k (below.looking.services_on s.device new k.on driven) (below.looking.services_same s.device new driven)
-      (behind_served below s new port k ready driven left
-      (λ q other. silent_over May none followed q Identify refl other)
-      (λ q. followed_halts below (port_at q) May s k new followed (commandless (port_at q))))
+      behind
       (λ q n used is.
       let t = used_there s q n used k is in
       let h = k.commands q n used is in
@@ -105,19 +103,34 @@ module _ (s : Server) (new : Device) (port : Port) (k : IsKept s) (ready : state
   pub looking_silent : IsFollowed (IsLooking port) AnyUse s.device new → (q : ℕ) (o : Operation) → op_of o ≡ None → found_of s.ports q ≢ Unready Dead → SendsNone q o s.device new
   looking_silent followed = silent_over (IsLooking port) (λ q. (looking_spares q Ci (λ e. absurd cc), looking_spares q Sact (λ e. absurd cc))) followed
 
+  -- a look, whatever the port is, where what stands behind each port goes on
+  pub looked_kept : LawsBelow → IsFollowed (IsLooking port) AnyUse s.device new → ((q : ℕ) → q < 4 → IsPortOf s.wanted s.ports q new) → IsKept (record s { device = new })
+  looked_kept laws followed behind =
+      kept_by laws (IsLooking port) (laws.looking.looking_service port) looking_stores (λ q. (looking_spares q Ci (λ e. absurd cc), looking_spares q Sact (λ e. absurd cc))) (λ q. looking_spares q Cmd (λ e. absurd cc)) behind followed
+
+module _ (s : Server) (new : Device) (port : Port) (k : IsKept s) (ready : state_of (found_of s.ports port.0) ≡ ReadyState) where
+  kept_over : LawsBelow → (May : Access → Type 0) → ((access : Access) → May access → IsService access) → ((access : Access) (at : ℕ) (bytes : List ℕ) → May access → access ≡ Storing at bytes → ⊥) → ((q : Port) → NoneWrites May (Px q Ci) × NoneWrites May (Px q Sact)) → ((q : Port) → NoneWrites May (Px q Cmd))
+      → ((q : ℕ) → q < 4 → q ≢ port.0 → LeavesPort (s.device.port q) (new.port q)) → IsFollowed May AnyUse s.device new → IsKept (record s { device = new })
+  kept_over below May service storeless none commandless left followed =
+      kept_by s new port k below May service storeless none commandless
+      (behind_served below s new port k ready (driven_as May IsService s.device new service followed.driven) left
+      (λ q other. silent_over s new port k May none followed q Identify refl other)
+      (λ q. followed_halts below (port_at q) May s k new followed (commandless (port_at q))))
+      followed
+
   pub looking_kept : LawsBelow → IsFollowed (IsLooking port) AnyUse s.device new → IsKept (record s { device = new })
   looking_kept laws followed =
-      kept_over laws (IsLooking port) (laws.looking.looking_service port) looking_stores (λ q. (looking_spares q Ci (λ e. absurd cc), looking_spares q Sact (λ e. absurd cc))) (λ q. looking_spares q Cmd (λ e. absurd cc)) (λ q low other. laws.looks.other_left port q s.device new other k.on (driven_as (IsLooking port) (IsOf port) s.device new (laws.looking.looking_of port) followed.driven)) followed
+      kept_over laws (IsLooking port) (laws.looking.looking_service port) (looking_stores s new port k) (λ q. (looking_spares s new port k q Ci (λ e. absurd cc), looking_spares s new port k q Sact (λ e. absurd cc))) (λ q. looking_spares s new port k q Cmd (λ e. absurd cc)) (λ q low other. laws.looks.other_left port q s.device new other k.on (driven_as (IsLooking port) (IsOf port) s.device new (laws.looking.looking_of port) followed.driven)) followed
 
   module _ (laws : LawsBelow) (mask done : ℕ) (finds : ReadsDone port mask done s.device new) where
     pub finding_kept : IsKept (record s { device = new })
     finding_kept =
         let followed = laws.finding_followed port mask done s.device new finds in
-        kept_over laws (IsFinding port) (finding_serves port) finding_stores (λ q. (finding_spares q Ci, finding_spares q Sact)) (λ q. finding_spares q Cmd)
+        kept_over laws (IsFinding port) (finding_serves port) (finding_stores s new port k) (λ q. (finding_spares s new port k q Ci, finding_spares s new port k q Sact)) (λ q. finding_spares s new port k q Cmd)
         (λ q low other. laws.looks.other_left port q s.device new other k.on (driven_as (IsFinding port) (IsOf port) s.device new (laws.finding_of port) followed.driven)) followed
 
     pub finding_silent : (q : ℕ) (o : Operation) → op_of o ≡ None → found_of s.ports q ≢ Unready Dead → SendsNone q o s.device new
-    finding_silent = silent_over (IsFinding port) (λ q. (finding_spares q Ci, finding_spares q Sact)) (laws.finding_followed port mask done s.device new finds)
+    finding_silent = silent_over s new port k (IsFinding port) (λ q. (finding_spares s new port k q Ci, finding_spares s new port k q Sact)) (laws.finding_followed port mask done s.device new finds)
 
     -- the command of a slot that was found done is over, where only used slots were asked for
     pub found_over : IsMaskOf (slots_at s.slots port.0) mask → AreOver port done new

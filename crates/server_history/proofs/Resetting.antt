@@ -82,6 +82,9 @@ module _ (laws : LawsBelow) (port : Port) where
       no (inr (inr (inr (inl x)))) same = let z : Fb ≡ Sctl = sym x ∙ same in absurd cc
       no (inr (inr (inr (inr x)))) same = let z : Fbu ≡ Sctl = sym x ∙ same in absurd cc
 
+  pub placing_boots : (access : Access) → IsControl IsPlacing port access → IsOfBoot port access
+  placing_boots access is = (control_beside IsPlacing placing_beside access is).0
+
   asking_beside : (access : Access) → IsAsking port access → IsBeside port access
   asking_beside (Reading r v) is = (inr is, tt)
   asking_beside (Writing r v) is = (inr is, λ same. let z : Px port Ci ≡ Px port Sctl = sym is.0 ∙ same in absurd cc)
@@ -160,7 +163,7 @@ module _ (laws : LawsBelow) (port : Port) where
       accesses = places.accesses ++ list;
       all = laws.basic.does_append places.accesses list old placed new places.all (sent, sends, (ended, ends, rest.all));
       only = All-append (IsOfBoot port) places.accesses list
-          (All-weaker (IsControl IsPlacing port) (IsOfBoot port) (λ access is. (control_beside IsPlacing placing_beside access is).0) places.accesses places.only)
+          (All-weaker (IsControl IsPlacing port) (IsOfBoot port) placing_boots places.accesses places.only)
           (All-cons (IsOfBoot port) (Writing (Px port Sctl) 1) (Writing (Px port Sctl) 0 ∷ rest.accesses) (inl (refl, inr (inl (inl refl))))
           (All-cons (IsOfBoot port) (Writing (Px port Sctl) 0) rest.accesses (inl (refl, inr (inl (inl refl)))) (All-weaker (IsBeside port) (IsOfBoot port) (λ access is. is.0) rest.accesses rest.only)));
     };

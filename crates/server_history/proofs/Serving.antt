@@ -202,7 +202,7 @@ module _ (s : Server) (seen : Device) (port : Port) (t : IsSettled s) (ready : s
 
   -- a look brings no page of the log but on dead ports
   seen_silent : (q : ℕ) → state_of (found_of s.ports q) ≢ Dead → SendsNone q ReadLog s.device seen
-  seen_silent q lives = looking_silent s seen port k ready looks q ReadLog refl (λ dead. lives (ap state_of dead))
+  seen_silent q lives = looking_silent s seen port k looks q ReadLog refl (λ dead. lives (ap state_of dead))
 
   module _ (l : LooksAt port Calm s.device seen) where
     -- no slot is used

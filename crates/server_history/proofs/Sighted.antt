@@ -1,37 +1,58 @@
 -- A boot that finds a disk has seen a device on its way: PxSSTS was read, and its DET was 3 (AHCI 1.3.1, 3.3.10).
-use Rattle.std.proofs.Common.{◌≡◌, ◌≢◌, inl, inr, sym, ◌∙◌, ⊎_elim}
-use Rattle.std.proofs.lemmas.List.Elements.{All-weaker}
+use Rattle.std.specs.List.{All, list_any}
+use Rattle.std.specs.Prelude.{List}
+use Rattle.std.proofs.Common.{◌⊎◌, true, ◌≡◌, ◌≢◌, ◌∷◌, ◌++◌, [], inl, inr, refl, sym, ap, ◌∙◌, ⊎_elim, arith}
+use Rattle.std.proofs.lemmas.List.Elements.{All-append, All-weaker}
 use Rattle.std.proofs.lemmas.Bool.{cases_eq}
 use Rattle.ata_types.specs.declared.Port.{Port}
 use Rattle.ata_types.specs.declared.PortState.{PortState as Shown}
 use Rattle.ata_types.specs.declared.PortState.TheVariants.{Absent, Dead, Foreign, Ready as ReadyState, Unfit}
 use Rattle.hba_regs.specs.declared.reg.PortReg.TheVariants.{Sctl, Ssts, Tfd}
 use Rattle.hba_regs.specs.declared.reg.Reg.TheVariants.{Px}
-use Rattle.adapter.specs.Access.{Writes}
-use Rattle.adapter.specs.Device.{Device}
+use Rattle.adapter.specs.Access.{Access, DoesAll, Writes}
+use Rattle.adapter.specs.Access.Access.{Reading, Writing}
+use Rattle.adapter.specs.Device.{Device, PortState}
 use Rattle.adapter.specs.Rules.{IsOn}
-use Rattle.agreement.specs.Driven.{IsControl, IsDrivenBy, IsOf}
-use Rattle.block_machine.specs.Events.{ShowsDisk}
-use Rattle.host_boot.specs.Again.{BootsStopped, EndsUnready}
+use Rattle.agreement.specs.Driven.{Grows, IsControl, IsDrivenBy, IsOf}
+use Rattle.agreement.specs.Driver.{IsBacked}
+use Rattle.block_machine.specs.Events.{ShowsDisk, changes_disk}
+use Rattle.block_machine.specs.State.{Machine}
+use Rattle.block_machine.specs.Steps.{Step}
+use Rattle.host_boot.specs.Again.{BootsAgain, BootsStopped, EndsUnready, IsOfStart}
+use Rattle.host_boot.specs.declared.Booted.{Booted}
 use Rattle.host_boot.specs.declared.Found.{Found}
 use Rattle.host_boot.specs.declared.Found.TheVariants.{Ready, Unready, Unserved}
 use Rattle.identify.specs.declared.wanted.Wanted.{Wanted}
-use Rattle.port_boot.specs.States.{EndsEarly, GetsUp, IsOfBoot, TellsFault}
-use Rattle.port_control.specs.Ports.{FindsLink, IsPlacing, Looks}
+use Rattle.port_boot.specs.States.{EndsEarly, GetsUp, IsOfBoot, ShowsOwnDisk, TellsFault}
+use Rattle.port_control.specs.Ports.{FindsLink, HasLink, IsPlacing, Looks, ReadsUntil}
 use Rattle.port_control.specs.declared.PortFault.{PortFault}
 use Rattle.port_control.specs.declared.PortFault.TheVariants.{NoDevice, Busy, EngineStuck, NotAta}
+use Rattle.agreement.proofs.Driven.{driven_as}
 use Rattle.server_history.specs.Below.{LawsBelow}
-use Rattle.server_history.specs.Server.{state_of}
-use Rattle.server_history.proofs.Resetting.{IsBeside, cleared_then, late_then, linked_then, ready_then, resetting, started_then, until, without}
+use Rattle.server_history.specs.Server.{IsMachineOf, Server, state_of}
+use Rattle.server_history.proofs.Shown.{grown, had_disk}
+use Rattle.server_history.proofs.Resetting.{IsBeside, cleared_then, late_then, linked_then, placing_boots, ready_then, resetting, started_then, until, without}
 
--- at this moment of the way a device shows
+-- At this moment of the way a device shows; and a disk is in then, since COMRESET has the port show no device until its link comes up.
 pub record SeesDevice (port : Port) (old new : Device) : Type 0 where
   pub seen : Device
   pub early : IsDrivenBy (IsOfBoot port) old seen
   pub shows : (seen.port port.0).ssts_det ≡ 3
+  pub own : ShowsOwnDisk (seen.port port.0)
   pub late : IsDrivenBy (IsBeside port) seen new
 
 module _ (laws : LawsBelow) (port : Port) where
+  -- once COMRESET was sent, a disk is in where a device shows
+  own_then : (placed sent ended seen : Device) → IsOn placed → Writes (Px port Sctl) 1 placed sent → Writes (Px port Sctl) 0 sent ended → ReadsUntil port Ssts HasLink ended seen → ShowsOwnDisk (seen.port port.0)
+  own_then placed sent ended seen on sends ends sees =
+      let waits = sees.waits.reads in
+      laws.recovery.own_on port.0 (Writing (Px port Sctl) 0 ∷ (waits.accesses ++ Reading (Px port Ssts) sees.value ∷ [])) sent seen
+      (ended, ends, laws.basic.does_append waits.accesses (Reading (Px port Ssts) sees.value ∷ []) ended sees.waited seen waits.all (seen, sees.reads, refl))
+      (λ shows. let z : 0 ≡ 3 = sym none ∙ shows in absurd (omega (arith, z)))
+    where
+      none : (sent.port port.0).ssts_det ≡ 0
+      none = ap (λ (p : PortState). p.ssts_det) (laws.looks.put port Sctl 1 placed sent sends on.no_reset).here
+
   -- COMRESET was sent, and the link was found
   found_then : (old placed sent ended linked new : Device) → IsOn old → IsDrivenBy (IsControl IsPlacing port) old placed → Writes (Px port Sctl) 1 placed sent → Writes (Px port Sctl) 0 sent ended
       → FindsLink port ended linked → IsDrivenBy (IsBeside port) linked new → SeesDevice port old new
@@ -42,6 +63,7 @@ module _ (laws : LawsBelow) (port : Port) where
         seen = found.seen;
         early = (resetting laws port old placed sent ended found.seen places sends ends (until laws port Ssts _ ended found.seen found.sees)).driven;
         shows = sym (laws.looks.shown_after port Ssts found.sees.value found.sees.waited found.seen there.no_reset found.sees.reads) ∙ found.sees.shown;
+        own = own_then placed sent ended found.seen (laws.of_on port old placed on (driven_as (IsControl IsPlacing port) (IsOf port) old placed (λ access is. laws.booting_of port access (placing_boots laws port access is)) places)) sends ends found.sees;
         late = cleared_then laws port found.seen linked new found.clears rest;
       }
 
@@ -81,3 +103,25 @@ module _ (laws : LawsBelow) (port : Port) where
   boot_sees wanted Unserved old new on none shows = absurd none
   boot_sees wanted (Ready info) old new on e shows = let g = e.way in started old g.up new on g.first (ready_then laws port old new g)
   boot_sees wanted (Unready state) old new on e shows = unready wanted state old new on e shows
+
+-- So the machine had a disk in the port, or one went or came: where these accesses of the port led to the boot, and the device went on after it.
+pub booted_had : (laws : LawsBelow) (port : Port) (s : Server) (wanted : Wanted) (booted : Booted) (accesses : List Access) (d new end : Device) → IsOn s.device → DoesAll accesses s.device d → All (IsOf port) accesses
+    → (b : BootsAgain wanted port booted d new) → ShowsDisk (state_of booted.found) → Grows new end → (m : Machine) → IsMachineOf s m → (steps : List Step) → IsBacked s.device end m steps
+    → (m.present port ≡ true) ⊎ (list_any (changes_disk port) steps ≡ true)
+booted_had laws port s wanted booted accesses d new end on does of b shows later m stands steps backed =
+    had_disk laws port s sees.seen end m (until ++ sees.early.accesses) (laws.basic.does_append until sees.early.accesses s.device b.asked sees.seen asked sees.early.all) (sees.own sees.shows) stands
+    (laws.looks.grows_more sees.seen new end (grown laws sees.late.accesses sees.seen new sees.late.all) later) steps backed
+  where
+    made : IsDrivenBy (IsOfStart port) d b.asked
+    made = b.asks.driven
+
+    until : List Access
+    until = accesses ++ made.accesses
+
+    asked : DoesAll until s.device b.asked
+    asked = laws.basic.does_append accesses made.accesses s.device d b.asked does made.all
+
+    sees : SeesDevice port b.asked new
+    sees = boot_sees laws port wanted booted.found b.asked new
+        (laws.of_on port s.device b.asked on (record { accesses = until; all = asked; only = All-append (IsOf port) accesses made.accesses of (All-weaker (IsOfStart port) (IsOf port) (laws.recovery.start_of port) made.accesses made.only) }))
+        b.boots shows

@@ -252,7 +252,7 @@ module _ (laws : LawsBelow) (port : Port) (replies : List Reply) (old new : Serv
 
     early_silent : SendsNone q ReadLog old.device a.mid.device
     early_silent = subst (SendsNone q ReadLog old.device) (sym mid_device)
-        (silent_more q ReadLog old.device x.seen x.found (looking_silent old x.seen port k ready looks q ReadLog refl (λ dead. lives (ap state_of dead)))
+        (silent_more q ReadLog old.device x.seen x.found (looking_silent old x.seen port k looks q ReadLog refl (λ dead. lives (ap state_of dead)))
         (finding_silent (record old { device = x.seen }) x.found port seen_kept ready laws x.mask x.done x.reads q ReadLog refl (λ dead. lives (ap state_of dead))))
 
     recovery_silent : SendsNone q ReadLog a.mid.device a.device

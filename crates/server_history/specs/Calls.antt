@@ -2,7 +2,8 @@
 use Rattle.std.specs.Prelude.{ℕ, true, false, ◌≡◌, ◌≢◌, ◌⊎◌, ◌≤◌, ◌%◌, List, All, Contains, length}
 use Rattle.ata_types.specs.declared.Port.{Port}
 use Rattle.ata_types.specs.declared.PortState.TheVariants.{Ready}
-use Rattle.adapter.specs.Device.{Device}
+use Rattle.adapter.specs.Device.{Device, PortState}
+use Rattle.adapter.specs.Seen.{SeenAt}
 use Rattle.adapter.specs.declared.access.DeviceStep.{DeviceStep}
 use Rattle.adapter.specs.declared.command.Operation.TheVariants.{ReadLog}
 use Rattle.adapter.specs.declared.tape.Fault.{Fault}
@@ -14,7 +15,7 @@ use Rattle.hba_regs.specs.Bits.{bit}
 use Rattle.hba_regs.specs.declared.reg.PortReg.{PortReg}
 use Rattle.hba_regs.specs.declared.reg.PortReg.TheVariants.{Ssts}
 use Rattle.hba_regs.specs.declared.reg.Reg.TheVariants.{Ghc, Px}
-use Rattle.agreement.specs.Driven.{IsDrivenBy, IsOf, SendsNone, Grows}
+use Rattle.agreement.specs.Driven.{IsDrivenBy, IsOf, LeavesPort, SendsNone, Grows}
 use Rattle.agreement.specs.Errors.{NoneComes, IsFatalOf}
 use Rattle.agreement.specs.Facts.{IsFaulted, IsRecorded, RunsWell, ShowsNoTrouble, TellsNoTrouble, Undisturbed, IsFaultOf}
 use Rattle.block_machine.specs.Events.{Ask, Moment, Said, Service}
@@ -32,6 +33,10 @@ use Rattle.port_look.specs.declared.Look.{Look}
 use Rattle.port_look.specs.declared.Look.TheVariants.{Broken, Failed, Lost, Undisturbed as Calm}
 
 pub record LookLaws : Type 0 where
+  -- a reading of a port's register
+  pub seen : (port : Port) (r : PortReg) (v : ℕ) (old new : Device) → Reads (Px port r) v old new → old.hr ≡ false → SeenAt port.0 r v old new
+  pub leaves_none : (p : PortState) → LeavesPort p p
+  pub leaves_more : (old mid new : PortState) → LeavesPort old mid → LeavesPort mid new → LeavesPort old new
   -- a command that failed
   pub fails_look : (port : Port) (old new : Device) → IsOn old → LooksAt port Failed old new → (old.port port.0).st ≡ true → IsRecorded old.tape (old.port port.0) port.0
       → IsFaulted (new.port port.0).halt × ((new.port port.0).notes.last_ssts % 16 ≡ 3)

@@ -1,5 +1,5 @@
 -- How a port that isn't ready is looked at, and booted again where its disk may have come, or may be another by now (this project's own).
-use Rattle.std.specs.Prelude.{ℕ, Bool, true, false, ◌≡◌, ◌≢◌, List, slice_set}
+use Rattle.std.specs.Prelude.{Bool, true, false, ◌≡◌, slice_set}
 use Rattle.ata_types.specs.declared.Port.{Port}
 use Rattle.ata_types.specs.declared.PortState.{PortState}
 use Rattle.ata_types.specs.declared.PortState.TheVariants.{Absent, Dead, Foreign, Unfit}

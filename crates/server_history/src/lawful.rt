@@ -4,7 +4,7 @@ ghost use Rattle.server_history.specs.Basics.{AgeLaws, BasicLaws, SlotLaws};
 ghost use Rattle.server_history.specs.Below.{LawsBelow};
 ghost use Rattle.server_history.specs.Calls.{CallLaws, LookLaws};
 
-use adapter::laws::{accesses_compose, saying_is_one};
+use adapter::laws::{accesses_compose, port_registers_are_accessed, saying_is_one};
 use agreement::acts::acts_give;
 use agreement::disks::none_comes_in;
 use agreement::facts::{
@@ -91,6 +91,8 @@ fn age_laws_hold()
 fn look_laws_hold()
     ensures { LookLaws }
 {
+    port_registers_are_accessed();
+    other_ports_are_left();
     failures_are_found();
     trouble_is_seen();
     answers_tell();

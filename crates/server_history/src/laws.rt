@@ -15,7 +15,7 @@ ghost use Rattle.adapter.specs.Access.{Loads, Stores};
 ghost use Rattle.adapter.specs.Asked.{Asked};
 ghost use Rattle.adapter.specs.Device.{Device};
 ghost use Rattle.adapter.specs.Idle.{IsIdle, TellsDisks};
-ghost use Rattle.adapter.specs.Rules.{IsFree, Stays};
+ghost use Rattle.adapter.specs.Rules.{HasPort, IsFree, IsOn, Stays};
 ghost use Rattle.adapter.specs.Steps.{Steps};
 ghost use Rattle.adapter.specs.declared.access.DeviceStep.{DeviceStep};
 ghost use Rattle.agreement.specs.Driven.{AgreesWith, AnyUse, IsFollowed};
@@ -294,13 +294,15 @@ pub fn services_add()
     the_laws_below_hold();
 }
 
-/// How a port that isn't ready has its turn in a service: it is looked at, and booted where it may have a disk by now. Where it is looked at, the server goes on; it may be given up
-/// and booted then, which is a part of a service.
+/// How a port that isn't ready has its turn in a service: it is looked at, and booted where it may have a disk by now. Once it was looked at, it may be given up, and booted then, where it has
+/// stopped. All this is a part of a service, after which the server goes on. (In between it needn't: a look at an absent port that finds a device has read a value of PxSSTS that no absent port
+/// was left with.)
 pub fn an_unready_port_is_tried()
-    ensures looking { (s : Server) (seen : Device) (port : Port) (state : PortState) → IsKept s → found_of s.ports port.0 ≡ Unready state → state ≢ Dead
-        → IsFollowed (IsLooking port) AnyUse s.device seen → IsKept (record s { device = seen }) }
-    ensures bootable { (s : Server) (stopped : Device) (port : Port) (state : PortState) (result : Recovered) (token : Stopped) → IsKept s
-        → found_of s.ports port.0 ≡ Unready state → state ≢ Dead → GivesUp port 0 true result s.device stopped → result.next ≡ Restart token
+    ensures looked { (s : Server) (seen : Device) (port : Port) (state : PortState) → IsKept s → found_of s.ports port.0 ≡ Unready state → state ≢ Dead
+        → IsFollowed (IsLooking port) AnyUse s.device seen → IsOn seen × HasPort seen port.0 × AgreesWith AnyUse seen }
+    ensures bootable { (s : Server) (seen stopped : Device) (port : Port) (state : PortState) (result : Recovered) (token : Stopped) → IsKept s
+        → found_of s.ports port.0 ≡ Unready state → state ≢ Dead → IsFollowed (IsLooking port) AnyUse s.device seen
+        → GivesUp port 0 true result seen stopped → result.next ≡ Restart token
         → (token.port ≡ port) × IsBootable port stopped × IsStopped (stopped.port port.0) }
     ensures tried { (s new : Server) (port : Port) → IsSettled s → (tries : TriesPort port s new)
         → (tries.state ≢ Dead → IsFollowed (IsLooking port) AnyUse s.device tries.seen) → TriesOther port s new × IsSettled new }

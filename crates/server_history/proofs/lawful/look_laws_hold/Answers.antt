@@ -2,6 +2,9 @@ use Rattle.server_history.proofs.lawful.look_laws_hold.Goals as goal
 
 pub returns : goal.returns
 returns c = record {
+  seen = c.port_registers_are_accessed.ensures.seen;
+  leaves_none = c.other_ports_are_left.ensures.none;
+  leaves_more = c.other_ports_are_left.ensures.more;
   fails_look = c.failures_are_found.ensures.look;
   fails_reads = c.failures_are_found.ensures.reads;
   looks_changed = c.trouble_is_seen.ensures.changed;

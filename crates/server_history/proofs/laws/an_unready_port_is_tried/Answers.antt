@@ -1,0 +1,12 @@
+use Rattle.server_history.proofs.Tries.{tried}
+use Rattle.server_history.proofs.Anew.{may_boot, may_give_up}
+use Rattle.server_history.proofs.laws.an_unready_port_is_tried.Goals as goal
+
+pub returns-clause-looked : goal.returns-clause-looked
+returns-clause-looked c = λ s seen port state k is lives looks. may_give_up c.the_laws_below_hold.ensures s seen port state k is lives looks
+
+pub returns-clause-bootable : goal.returns-clause-bootable
+returns-clause-bootable c = λ s seen stopped port state result token k is lives looks g so. may_boot c.the_laws_below_hold.ensures s seen port state k is lives looks stopped result g token so
+
+pub returns-clause-tried : goal.returns-clause-tried
+returns-clause-tried c = λ s new port t tries looks. tried c.the_laws_below_hold.ensures s new port t tries looks
