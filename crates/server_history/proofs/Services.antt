@@ -8,7 +8,7 @@ use Rattle.std.proofs.lemmas.List.Elements.{All-nil, All-append, All-contains, A
 use Rattle.std.proofs.lemmas.List.Sorted.{Contains-permutation, IsPermutation-append, IsPermutation-append_comm, IsPermutation-trans}
 use Rattle.ata_types.specs.declared.Port.{Port}
 use Rattle.ata_types.specs.declared.PortState.{PortState}
-use Rattle.ata_types.specs.declared.PortState.TheVariants.{Absent, Dead, Ready as ReadyState}
+use Rattle.ata_types.specs.declared.PortState.TheVariants.{Dead, Ready as ReadyState}
 use Rattle.ata_types.specs.declared.request.Outcome.{Outcome}
 use Rattle.ata_types.specs.declared.request.Reply.{Reply}
 use Rattle.ata_types.specs.declared.request.RequestId.{RequestId}
@@ -34,7 +34,6 @@ use Rattle.block_machine.proofs.Members.{map_in}
 use Rattle.host_boot.specs.Taken.{found_of}
 use Rattle.host_boot.specs.declared.Found.{Found}
 use Rattle.host_boot.specs.declared.Found.TheVariants.{Unserved, Ready, Unready}
-use Rattle.identify.specs.declared.DiskInfo.{DiskInfo}
 use Rattle.driver_history.specs.Evidence.{FailsPlain, FailsQueued, IsEvidencedOf}
 use Rattle.error_recovery.specs.Evidence.{BringsLog, HasFailed}
 use Rattle.driver_history.specs.Histories.{IssuesDue}
@@ -56,7 +55,7 @@ use Rattle.server_history.proofs.Ties.{serving, ties_carried, ties_turned}
 use Rattle.server_history.proofs.Progress.{skipped}
 use Rattle.server_history.proofs.Lists.{nowhere}
 use Rattle.server_history.proofs.Progress as progress
-use Rattle.server_history.proofs.Joined.{NamesSome, alike_first, alike_then, all_pairs_append, answers_append, answers_there, joined, lawful_lift, names_joined, names_more, names_only, ready_or_not, same_at, same_disk, same_then, serviced_lift}
+use Rattle.server_history.proofs.Joined.{NamesSome, alike_first, alike_then, all_pairs_append, answers_append, answers_there, joined, lawful_lift, names_joined, names_more, names_only, same_at, same_disk, same_then, serviced_lift}
 
 same_some : {X : Type 0} {a b : X} → Some a ≡ Some b → a ≡ b
 same_some is = cc
