@@ -88,3 +88,4 @@ pub mod Glanced
 pub mod Trying
 pub mod Anew
 pub mod Tries
+pub mod Driving

@@ -18,7 +18,7 @@ use Rattle.agreement.specs.Acts.{InSlots}
 use Rattle.agreement.specs.Halting.{HaltsAsTaken, IsHaltedAsTaken}
 use Rattle.agreement.specs.Links.{HasDeviceOrNone, SameAdapter}
 use Rattle.agreement.specs.Agrees.{port_at}
-use Rattle.agreement.proofs.Driven.{driven_as}
+use Rattle.server_history.proofs.Driving.{driven_as}
 use Rattle.block_machine.specs.Due.{is_plain}
 use Rattle.block_machine.specs.Histories.{IsReached}
 use Rattle.block_machine.specs.State.{Machine}

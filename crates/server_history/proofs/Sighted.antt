@@ -27,7 +27,7 @@ use Rattle.port_boot.specs.States.{EndsEarly, GetsUp, IsOfBoot, ShowsOwnDisk, Te
 use Rattle.port_control.specs.Ports.{FindsLink, HasLink, IsPlacing, Looks, ReadsUntil}
 use Rattle.port_control.specs.declared.PortFault.{PortFault}
 use Rattle.port_control.specs.declared.PortFault.TheVariants.{NoDevice, Busy, EngineStuck, NotAta}
-use Rattle.agreement.proofs.Driven.{driven_as}
+use Rattle.server_history.proofs.Driving.{driven_as}
 use Rattle.server_history.specs.Below.{LawsBelow}
 use Rattle.server_history.specs.Server.{IsMachineOf, Server, state_of}
 use Rattle.server_history.proofs.Shown.{grown, had_disk}

@@ -20,7 +20,7 @@ use Rattle.agreement.specs.Driven.{AnyUse, IsDrivenBy, IsFollowed, IsOf}
 use Rattle.agreement.specs.Driver.{IsBacked}
 use Rattle.agreement.specs.Slots.{Free, Serves}
 use Rattle.agreement.specs.Spares.{SparesBook}
-use Rattle.agreement.proofs.Driven.{driven_as}
+use Rattle.server_history.proofs.Driving.{driven_as}
 use Rattle.block_machine.specs.Due.{NoneDue}
 use Rattle.block_machine.specs.Events.{AllDevices, AllMay, HadDisk, ShowsDisk, changes_disk}
 use Rattle.block_machine.specs.Histories.{IsReached}
