@@ -15,21 +15,19 @@ use Rattle.block_machine.specs.Ports.{IsInterrupted, IsServiced, SamePort}
 use Rattle.block_machine.specs.State.{Pending}
 use Rattle.block_machine.specs.Steps.{Step, Answer}
 use Rattle.identify.specs.declared.wanted.Wanted.TheVariants.{Any}
-use Rattle.driver_history.specs.Evidence.{ShowsFailure, ShowsLoss}
 use Rattle.driver_history.specs.Histories.{BootsAnew, FindsDone, IsAnsweredOk, IsIssuedOn, TendsPort, Ties, TiesPort}
 use Rattle.driver_history.specs.Trace.{LeavesCommand}
 use Rattle.history_witnesses.specs.Fatal.{FatalErrorIsAHistory, fatal_accesses, fatal_evidence, looking}
 use Rattle.history_witnesses.proofs.Accepting.{asked, both, first, issuing, submit, submit_happens, submit_parts, submit_ties, waiting, bits_set, leaves_other, none_there, not_ended, the_answer}
 use Rattle.history_witnesses.proofs.Breaking.{allowed, broken, dev, does, outset}
 use Rattle.history_witnesses.proofs.Devices.{AreServing, serving}
-use Rattle.history_witnesses.proofs.Holding.{named, named_is, no_slots, tries_ready, unfailing, unlost}
+use Rattle.history_witnesses.proofs.Holding.{named, named_is, no_slots, tries_ready}
 use Rattle.history_witnesses.proofs.Meeting.{broken_at, meeting, meeting_happens, meeting_part, meeting_ties, no_fault, shows_fatal, unpaged}
 use Rattle.history_witnesses.proofs.Members.{nowhere}
 use Rattle.history_witnesses.proofs.Pages.{plain_disks}
 use Rattle.history_witnesses.proofs.Ready.{begins, fit_ready, not_dead, served_ready, starts}
-use Rattle.history_witnesses.proofs.Rebooted.{IsRestart, Restart, booted_at, evidenced, fit_one, finds, holds_booted, may_become, not_dead_then, not_ready_then, of_first, of_served, one, others_same, replies, resets, trouble, unnamed, well}
+use Rattle.history_witnesses.proofs.Rebooted.{IsRestart, Restart, booted_at, evidenced, fit_one, finds, holds_booted, may_become, not_dead_then, not_ready_then, of_first, of_served, one, others_same, quiet, replies, resets, there, trouble, unnamed, well}
 use Rattle.history_witnesses.proofs.Rebooted as rebooted
-use Rattle.history_witnesses.proofs.Submitting.{second}
 
 -- ---- the restart
 
@@ -55,20 +53,10 @@ booted = rebooted.booted outset
 none_ok : (e : Pending) → IsAnsweredOk e (answer ∷ []) → ⊥
 none_ok e a = let same : outcome.Ok ≡ outcome.Unplugged = (the_answer outcome.Unplugged a.0 outcome.Ok a.2).1 in cc
 
-there : (n : ℕ) → both.state (port_at n) ≡ Ready → ShowsLoss (port_at n) (dev broken) booted → ⊥
-there zero is = unlost (port_at 0) (dev broken) booted refl refl refl
-there (suc zero) is = unlost (port_at 1) (dev broken) booted refl refl refl
-there (suc (suc n)) is = absurd (let x : Absent ≡ Ready = is in cc)
-
--- another port shows no failure
-quiet : (n : ℕ) → both.state (port_at (suc n)) ≡ Ready → ShowsFailure ((dev broken).port (suc n)) → ⊥
-quiet zero is = unfailing second (λ place from. refl)
-quiet (suc n) is = absurd (let x : Absent ≡ Ready = is in cc)
-
 is_restart : IsRestart restart
 is_restart = record {
-  there = there;
-  quiet = quiet;
+  no_change = (refl, refl);
+  device = refl;
   failed_all = λ f. named 0;
   failed_only = λ n h. (named_is 0 n h, shows_fatal);
   writes = (inl refl, (inr refl, of_first));
@@ -159,7 +147,7 @@ heeds (suc (suc n)) is = absurd (let x : Absent ≡ Ready = is in cc)
 
 boots : (n : ℕ) → BootsAnew Service (Served replies) fatal_accesses broken_at one booted (port_at n)
 boots zero = (λ is f. inr (inr (resets looking)), inr (inr (inr (resets looking))))
-boots (suc zero) = (λ is f. absurd (⊎_elim (λ fatal. quiet 0 is (inl fatal)) (there 1 is) f), inl (refl, refl, refl, refl, refl, refl))
+boots (suc zero) = (λ is f. absurd (⊎_elim (λ fatal. quiet restart is_restart 0 is (inl fatal)) (there restart is_restart 1 is) f), inl (refl, refl, refl, refl, refl, refl))
 boots (suc (suc n)) = (λ is. absurd (let x : Absent ≡ Ready = is in cc), inl (refl, refl, refl, refl, refl, refl))
 
 service_finds : (n : ℕ) (e : Pending) → IsIssuedOn (port_at n) issuing e → FindsDone (port_at n) fatal_accesses broken_at (answer ∷ [])

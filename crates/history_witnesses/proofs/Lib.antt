@@ -25,3 +25,5 @@ mod Breaking
 mod Meeting
 mod Rebooted
 mod Broken
+mod Aging
+mod Hung

@@ -42,7 +42,7 @@ use Rattle.history_witnesses.specs.Scene.{having, page_entry, plain, showing}
 use Rattle.history_witnesses.proofs.Accepting.{asked, both, issuing, waiting}
 use Rattle.history_witnesses.proofs.Command.{read_memory}
 use Rattle.history_witnesses.proofs.Devices.{AreServing, IsOf, WritesOf, leaves}
-use Rattle.history_witnesses.proofs.Holding.{IsCalm, IsUnnamed, fit_disk, named, named_is, no_slots, no_trouble, requests_none, runs_on, unnamed_evidenced, unserved_at}
+use Rattle.history_witnesses.proofs.Holding.{IsCalm, IsUnnamed, fit_disk, named, named_is, no_slots, no_trouble, requests_none, runs_on, unfailing, unlost, unnamed_evidenced, unserved_at}
 use Rattle.history_witnesses.proofs.Members.{nowhere}
 use Rattle.history_witnesses.proofs.Memory.{past_driver}
 use Rattle.history_witnesses.proofs.Pages.{plain_disks}
@@ -245,10 +245,10 @@ module _ (c : Restart) where
   abbrev after_it : Device
   after_it = booted c.outset
 
-  -- No port shows that it lost its disk, port 0 alone shows a failure, and that exactly if it is named; and the masks are those of the read, which is answered nothing but Unplugged.
+  -- Port 0 shows its device, and no change; a failure it shows exactly if it is named; and the masks are those of the read, which isn't answered Ok.
   pub record IsRestart : Type 0 where
-    pub there : (n : ℕ) → both.state (port_at n) ≡ Ready → ShowsLoss (port_at n) old_device after_it → ⊥
-    pub quiet : (n : ℕ) → both.state (port_at (suc n)) ≡ Ready → ShowsFailure (old_device.port (suc n)) → ⊥
+    pub no_change : (c.port.serr_n ≡ false) × (c.port.serr_x ≡ false)
+    pub device : c.port.ssts_det ≡ 3
     pub failed_all : ShowsFailure c.port → Contains c.failed (port_at 0)
     pub failed_only : (n : ℕ) → Contains c.failed (port_at n) → (n ≡ 0) × ShowsFatal c.port
     pub writes : WritesOf IsWritten accesses
@@ -257,6 +257,16 @@ module _ (c : Restart) where
     pub untold : (e : Pending) → IsAnsweredOk e c.steps → ⊥
 
   module _ (is : IsRestart) where
+    pub there : (n : ℕ) → both.state (port_at n) ≡ Ready → ShowsLoss (port_at n) old_device after_it → ⊥
+    there zero ready = unlost (port_at 0) old_device after_it is.no_change.0 is.no_change.1 is.device
+    there (suc zero) ready = unlost (port_at 1) old_device after_it refl refl refl
+    there (suc (suc n)) ready = absurd (let x : Absent ≡ Ready = ready in cc)
+
+    -- another port shows no failure
+    pub quiet : (n : ℕ) → both.state (port_at (suc n)) ≡ Ready → ShowsFailure (old_device.port (suc n)) → ⊥
+    quiet zero ready = unfailing second (λ place from. refl)
+    quiet (suc n) ready = absurd (let x : Absent ≡ Ready = ready in cc)
+
     pub unnamed : (n : ℕ) → IsUnnamed evidence (port_at (suc n))
     unnamed n = record {
       lost = other;
@@ -273,7 +283,7 @@ module _ (c : Restart) where
     pub evidenced : (n : ℕ) → IsEvidencedOf c.ask c.said accesses old one after_it evidence (port_at n)
     evidenced zero = record {
       lost = λ h. inr (inr (inr (not_dead_then 0, λ ready. absurd (not_ready_then ready))));
-      gone_all = λ ready loss. absurd (is.there 0 ready loss);
+      gone_all = λ ready loss. absurd (there 0 ready loss);
       gone_only = λ h. absurd (nowhere (port_at 0) h);
       failed_all = λ ready f. is.failed_all f;
       failed_only = λ h. (refl, inl (inl (is.failed_only 0 h).1));
@@ -283,7 +293,7 @@ module _ (c : Restart) where
       stopped_only = λ h. inl (stops c.looked);
       stuck_only = λ h. absurd (nowhere (port_at 0) h);
     }
-    evidenced (suc n) = unnamed_evidenced c.ask c.said accesses old one after_it evidence (port_at (suc n)) (unnamed n) (λ ready. (is.there (suc n) ready, is.quiet n ready))
+    evidenced (suc n) = unnamed_evidenced c.ask c.said accesses old one after_it evidence (port_at (suc n)) (unnamed n) (λ ready. (there (suc n) ready, quiet n ready))
         (leaves IsWritten (port_at (suc n)) (⊎_elim (λ is. apart (ap (λ (p : Port). p.0) is)) (λ is. cc)) (⊎_elim (λ is. apart (ap (λ (p : Port). p.0) is)) (λ is. cc)) accesses is.writes)
       where
         apart : suc n ≡ 0 → ⊥
@@ -305,7 +315,7 @@ module _ (c : Restart) where
       fatal = λ ready g. absurd (not_ready_then ready);
       disk = λ ready g. absurd (not_ready_then ready);
     }
-    trouble (suc n) = no_trouble evidence old one after_it (port_at (suc n)) [] (sym (append-nil _)) (All-nil (IsCalm (suc n))) (served_ready (suc n)) (λ ready. (is.there (suc n) ready, is.quiet n ready))
+    trouble (suc n) = no_trouble evidence old one after_it (port_at (suc n)) [] (sym (append-nil _)) (All-nil (IsCalm (suc n))) (served_ready (suc n)) (λ ready. (there (suc n) ready, quiet n ready))
 
     pub well : (n : ℕ) → RunsWellAnew evidence accesses old one after_it (port_at n)
     well zero = λ why ready. absurd (not_ready_then ready)
