@@ -1,5 +1,5 @@
 -- The service that restarts the port of the fatal error, and finds no ATA disk: it meets all that is asked of it.
-use Rattle.std.proofs.Common.{ℕ, zero, suc, ◌≡◌, ◌∙◌, ◌++◌, [], ◌∷◌, inl, inr, ⊎_elim, refl, sym, arith, ◌⊎◌}
+use Rattle.std.proofs.Common.{ℕ, zero, suc, ◌≡◌, ◌∙◌, [], ◌∷◌, inl, inr, ⊎_elim, refl, sym, arith, ◌⊎◌}
 use Rattle.std.proofs.lemmas.Bool.{true≢false}
 use Rattle.std.proofs.lemmas.List.Elements.{All-from_recursion}
 use Rattle.std.proofs.lemmas.List.Sorted.{IsPermutation-refl}
@@ -8,25 +8,24 @@ use Rattle.ata_types.specs.declared.request.Outcome.TheVariants as outcome
 use Rattle.adapter.specs.Device.{Device}
 use Rattle.adapter.specs.declared.access.DeviceStep.{DeviceStep}
 use Rattle.agreement.specs.Agrees.{port_at}
-use Rattle.agreement.specs.Driver.{IsBacked}
 use Rattle.block_machine.specs.Events.{HadDisk, Happens, Served, ServesReady, Service}
 use Rattle.block_machine.specs.Histories.{Happening}
 use Rattle.block_machine.specs.Ports.{IsInterrupted, IsServiced, SamePort}
 use Rattle.block_machine.specs.State.{Pending}
 use Rattle.block_machine.specs.Steps.{Step, Answer}
 use Rattle.identify.specs.declared.wanted.Wanted.TheVariants.{Any}
-use Rattle.driver_history.specs.Histories.{BootsAnew, FindsDone, IsAnsweredOk, IsIssuedOn, TendsPort, Ties, TiesPort}
+use Rattle.driver_history.specs.Histories.{BootsAnew, FindsDone, IsIssuedOn, TendsPort, Ties, TiesPort}
 use Rattle.driver_history.specs.Trace.{LeavesCommand}
 use Rattle.history_witnesses.specs.Fatal.{FatalErrorIsAHistory, fatal_accesses, fatal_evidence, looking}
 use Rattle.history_witnesses.proofs.Accepting.{asked, both, first, issuing, submit, submit_happens, submit_parts, submit_ties, waiting, bits_set, leaves_other, none_there, not_ended, the_answer}
-use Rattle.history_witnesses.proofs.Breaking.{allowed, broken, dev, does, outset}
+use Rattle.history_witnesses.proofs.Breaking.{allowed, broken, does, outset}
 use Rattle.history_witnesses.proofs.Devices.{AreServing, serving}
 use Rattle.history_witnesses.proofs.Holding.{named, named_is, no_slots, tries_ready}
 use Rattle.history_witnesses.proofs.Meeting.{broken_at, meeting, meeting_happens, meeting_part, meeting_ties, no_fault, shows_fatal, unpaged}
 use Rattle.history_witnesses.proofs.Members.{nowhere}
 use Rattle.history_witnesses.proofs.Pages.{plain_disks}
 use Rattle.history_witnesses.proofs.Ready.{begins, fit_ready, not_dead, served_ready, starts}
-use Rattle.history_witnesses.proofs.Rebooted.{IsRestart, Restart, booted_at, evidenced, fit_one, finds, holds_booted, may_become, not_dead_then, not_ready_then, of_first, of_served, one, others_same, quiet, replies, resets, there, trouble, unnamed, well}
+use Rattle.history_witnesses.proofs.Rebooted.{IsRestart, Restart, backed, booted_at, evidenced, fit_one, finds, holds_booted, may_become, not_dead_then, not_ready_then, of_first, of_served, one, others_same, quiet, replies, resets, there, trouble, unnamed, unplugs, well}
 use Rattle.history_witnesses.proofs.Rebooted as rebooted
 
 -- ---- the restart
@@ -49,10 +48,6 @@ restart = record {
 abbrev booted : Device
 booted = rebooted.booted outset
 
--- no answer is Ok
-none_ok : (e : Pending) → IsAnsweredOk e (answer ∷ []) → ⊥
-none_ok e a = let same : outcome.Ok ≡ outcome.Unplugged = (the_answer outcome.Unplugged a.0 outcome.Ok a.2).1 in cc
-
 is_restart : IsRestart restart
 is_restart = record {
   no_change = (refl, refl);
@@ -62,7 +57,9 @@ is_restart = record {
   writes = (inl refl, (inr refl, of_first));
   running = All-from_recursion (LeavesCommand (port_at 0)) looking (tt, (λ is. cc, (λ is. cc, (tt, tt))));
   unfound = λ e slot s clear. bits_set 0 broken refl (λ k. refl) (λ k. refl) e slot s clear;
-  untold = none_ok;
+  told = λ e o here. (the_answer outcome.Unplugged e o here).1;
+  own = ((tt, λ d. d), (tt, tt), λ n. refl);
+  plugged = refl;
 }
 
 -- ---- the call
@@ -96,31 +93,13 @@ happens = record {
     tells = record { answers = (waiting, outcome.Unplugged) ∷ []; same = IsPermutation-refl _; ordered = λ i j d less low. absurd (omega (arith, less, low)); told = refl };
     dead = λ e o here is. absurd (not_dead e.request.port.0 is);
     grounded = tt;
-    unplugs = record {
-      emptied = λ e other here there. absurd (nowhere other there);
-      alike = λ e other here there. absurd (let x : outcome.PortDead ≡ outcome.Unplugged = (the_answer outcome.Unplugged other outcome.PortDead there).1 in cc);
-    };
+    unplugs = unplugs restart is_restart;
     issues = λ port is r at_port due. absurd (nowhere r due.here);
     emptied = λ port other e here. absurd (nowhere e here);
     becomes = λ port. becomes port.0;
     disk = λ port. had_disk port.0;
   };
 }
-
-backed : IsBacked (dev broken) booted issuing (answer ∷ [])
-backed = record {
-  telling = refl;
-  gained = [];
-  tape = refl;
-  tells = (tt, λ d. d);
-  told = λ _. (tt, tt);
-  plugged = λ port. ([], plugs port, refl);
-}
-  where
-    plugs : (n : ℕ) → (booted.port n).plugged ≡ ((dev broken).port n).plugged ++ []
-    plugs zero = refl
-    plugs (suc zero) = refl
-    plugs (suc (suc n)) = refl
 
 of_tended : AreServing (TendsPort both) fatal_accesses
 of_tended = (tended, ((λ is. cc, tended), ((λ is. cc, tt), (tended, of_served (TendsPort both) tended))))
@@ -169,7 +148,7 @@ ties : Ties (Any ∷ Any ∷ []) broken_at service
 ties = record {
   accesses = fatal_accesses;
   came = (does, serving (TendsPort both) fatal_accesses of_tended);
-  backed = backed;
+  backed = backed restart is_restart;
   evidenced = record { faults = λ f here. absurd (nowhere f here); port = λ port. evidenced restart is_restart port.0 };
   issues = λ port is r here. absurd (nowhere r here);
   port = λ port healthy. part_of port.0;

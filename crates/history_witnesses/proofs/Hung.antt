@@ -1,5 +1,5 @@
 -- The third tick finds the port of the read hung, and restarts it, which finds no ATA disk: it meets all that is asked of it.
-use Rattle.std.proofs.Common.{ℕ, zero, suc, ◌≡◌, ◌++◌, ◌⊎◌, true, List, [], ◌∷◌, inl, inr, ⊎_elim, refl, sym, ap, subst, arith}
+use Rattle.std.proofs.Common.{ℕ, zero, suc, ◌≡◌, ◌⊎◌, true, List, [], ◌∷◌, inl, inr, ⊎_elim, refl, sym, ap, subst, arith}
 use Rattle.std.specs.List.{Contains}
 use Rattle.std.proofs.lemmas.Bool.{true≢false}
 use Rattle.std.proofs.lemmas.List.Elements.{All-nil}
@@ -11,7 +11,6 @@ use Rattle.ata_types.specs.declared.request.Outcome.TheVariants as outcome
 use Rattle.adapter.specs.Device.{Device}
 use Rattle.adapter.specs.declared.access.DeviceStep.{DeviceStep}
 use Rattle.agreement.specs.Agrees.{port_at}
-use Rattle.agreement.specs.Driver.{IsBacked}
 use Rattle.agreement.specs.Facts.{RunsWell}
 use Rattle.block_machine.specs.Events.{Happens, IsHung, RestartsHung, Served, Tick}
 use Rattle.block_machine.specs.Histories.{Happening}
@@ -19,7 +18,7 @@ use Rattle.block_machine.specs.Ports.{IsInterrupted, MayBecome, SamePort}
 use Rattle.block_machine.specs.State.{Pending}
 use Rattle.block_machine.specs.Steps.{Again, Answer, Step}
 use Rattle.identify.specs.declared.wanted.Wanted.TheVariants.{Any}
-use Rattle.driver_history.specs.Histories.{BootsAnew, FindsDone, IsAnsweredOk, Ties, TiesPort}
+use Rattle.driver_history.specs.Histories.{BootsAnew, FindsDone, Ties, TiesPort}
 use Rattle.driver_history.specs.Trace.{LeavesCommand}
 use Rattle.history_witnesses.specs.Hung.{HungPortIsAHistory}
 use Rattle.history_witnesses.specs.Restart.{restart_evidence, restarting}
@@ -30,7 +29,7 @@ use Rattle.history_witnesses.proofs.Holding.{named, named_is, no_slots, unfailin
 use Rattle.history_witnesses.proofs.Members.{either, nowhere}
 use Rattle.history_witnesses.proofs.Pages.{plain_disks}
 use Rattle.history_witnesses.proofs.Ready.{begins, fit_ready, no_page, starts}
-use Rattle.history_witnesses.proofs.Rebooted.{IsRestart, Restart, booted_at, evidenced, finds, fit_one, holds_booted, may_become, not_dead_then, not_ready_then, of_first, of_served, one, others_same, replies, resets, trouble, well}
+use Rattle.history_witnesses.proofs.Rebooted.{IsRestart, Restart, backed, booted_at, evidenced, finds, fit_one, holds_booted, may_become, not_dead_then, not_ready_then, of_first, of_served, one, others_same, replies, resets, trouble, unplugs, well}
 use Rattle.history_witnesses.proofs.Rebooted as rebooted
 use Rattle.history_witnesses.proofs.Restarting.{Outset, restart_allowed, restarts}
 use Rattle.history_witnesses.proofs.Submitting.{issued, submitted}
@@ -73,11 +72,7 @@ the_answer e o here = ⊎_elim
 unrepeated : (e : Pending) → Contains steps (Again e) → ⊥
 unrepeated e here = ⊎_elim (λ (same : Again e ≡ answer). cc) (λ (same : Again e ≡ ages). cc) (either answer ages (Again e) here)
 
--- no answer is Ok
-none_ok : (e : Pending) → IsAnsweredOk e steps → ⊥
-none_ok e a = let same : outcome.Ok ≡ outcome.Unplugged = (the_answer a.0 outcome.Ok a.2).1 in cc
-
--- and it is port 0's
+-- it is port 0's
 answers_first : (e : Pending) (o : Outcome) → Contains steps (Answer e o) → e.request.port ≡ port_at 0
 answers_first e o here = ap (λ (x : Pending). x.request.port) (the_answer e o here).0
 
@@ -90,7 +85,9 @@ is_restart = record {
   writes = of_first;
   running = All-nil (LeavesCommand (port_at 0));
   unfound = λ e slot s clear. bits_set 2 issued refl (λ k. refl) (λ k. refl) e slot s clear;
-  untold = none_ok;
+  told = λ e o here. (the_answer e o here).1;
+  own = (((tt, λ d. d), λ d. d), ((tt, tt), tt), λ n. refl);
+  plugged = refl;
 }
 
 -- ---- the call
@@ -149,29 +146,11 @@ happens = record {
     tells = record { answers = (waiting_for 3, outcome.Unplugged) ∷ []; same = IsPermutation-refl _; ordered = λ i j d less low. absurd (omega (arith, less, low)); told = refl };
     ages = ages_once (answer ∷ []) refl;
     restarts = restarts_hung;
-    unplugs = record {
-      emptied = λ e other here there. absurd (nowhere other there);
-      alike = λ e other here there. absurd (let x : outcome.PortDead ≡ outcome.Unplugged = (the_answer other outcome.PortDead there).1 in cc);
-    };
+    unplugs = unplugs restart is_restart;
     issues = λ port is r at_port due. absurd (nowhere r due.here);
     emptied = λ port is not_ready e here. absurd (nowhere e here);
   };
 }
-
-backed : IsBacked submitted booted (issued_for 2) steps
-backed = record {
-  telling = refl;
-  gained = [];
-  tape = refl;
-  tells = ((tt, λ d. d), λ d. d);
-  told = λ _. ((tt, tt), tt);
-  plugged = λ port. ([], plugs port, refl);
-}
-  where
-    plugs : (n : ℕ) → (booted.port n).plugged ≡ (submitted.port n).plugged ++ []
-    plugs zero = refl
-    plugs (suc zero) = refl
-    plugs (suc (suc n)) = refl
 
 -- ---- what it owes each port
 
@@ -198,7 +177,7 @@ ties : Ties (Any ∷ Any ∷ []) (issued_at 2) restarting_tick
 ties = record {
   accesses = restarting;
   came = (restarts outset, serving (IsHung (issued_at 2).moment) restarting (of_served (IsHung (issued_at 2).moment) hung));
-  backed = backed;
+  backed = backed restart is_restart;
   evidenced = record { faults = λ f here. absurd (nowhere f here); port = λ port. evidenced restart is_restart port.0 };
   issues = λ port is r here. absurd (nowhere r here);
   port = λ port asked. part_of port.0;
@@ -207,7 +186,7 @@ ties = record {
 
 -- ---- the history
 
--- when the third tick begins, the port would run well
+-- when the third tick begins, the port runs well
 runs_well : RunsWell (submitted.port 0)
 runs_well = record {
   st = refl;

@@ -5,6 +5,7 @@ use Rattle.std.proofs.lemmas.Bool.{true≢false}
 use Rattle.std.proofs.lemmas.List.Elements.{All-nil, All-from_recursion}
 use Rattle.ata_types.specs.declared.Port.{Port}
 use Rattle.ata_types.specs.declared.PortState.TheVariants.{Absent, Dead, Ready, Unfit}
+use Rattle.ata_types.specs.declared.request.Outcome.{Outcome}
 use Rattle.ata_types.specs.declared.request.Outcome.TheVariants as outcome
 use Rattle.ata_types.specs.declared.request.Reply.{Reply}
 use Rattle.hba_regs.specs.Bits.{bit}
@@ -19,13 +20,14 @@ use Rattle.adapter.specs.declared.access.DeviceStep.{DeviceStep}
 use Rattle.adapter.specs.declared.command.Operation.TheVariants.{Identify}
 use Rattle.agreement.specs.Acts.{at}
 use Rattle.agreement.specs.Agrees.{port_at}
-use Rattle.agreement.specs.Driver.{Knows}
+use Rattle.agreement.specs.Driver.{IsBacked, Knows}
 use Rattle.agreement.specs.Links.{SparesRegister}
 use Rattle.agreement.specs.Slots.{IsFree, IsMove, ServesRequest}
+use Rattle.agreement.specs.Tape.{AllOwn, PutsIn}
 use Rattle.agreement.specs.Witness.{first_id}
-use Rattle.block_machine.specs.Events.{Ask, Said}
+use Rattle.block_machine.specs.Events.{Ask, Said, UnplugsAll}
 use Rattle.block_machine.specs.Histories.{Instant}
-use Rattle.block_machine.specs.Left.{after}
+use Rattle.block_machine.specs.Left.{AllTold, after}
 use Rattle.block_machine.specs.Ports.{AreFit, Evidence, MayBecome, Ports, SamePort}
 use Rattle.block_machine.specs.State.{Machine, Pending}
 use Rattle.block_machine.specs.Steps.{Step, Answer}
@@ -48,7 +50,7 @@ use Rattle.history_witnesses.proofs.Memory.{past_driver}
 use Rattle.history_witnesses.proofs.Pages.{plain_disks}
 use Rattle.history_witnesses.proofs.Ready.{agreeing, fit_ready, free_apart, served_of, served_ready}
 use Rattle.history_witnesses.proofs.Restarting.{Outset, dev, tape, unfit}
-use Rattle.history_witnesses.proofs.Submitting.{second}
+use Rattle.history_witnesses.proofs.Submitting.{issued, second}
 
 -- ---- the ports
 
@@ -245,7 +247,7 @@ module _ (c : Restart) where
   abbrev after_it : Device
   after_it = booted c.outset
 
-  -- Port 0 shows its device, and no change; a failure it shows exactly if it is named; and the masks are those of the read, which isn't answered Ok.
+  -- Port 0 shows its device, and no change; a failure it shows exactly if it is named; the masks are those of the read; the steps are the driver's own, and answer nothing but Unplugged.
   pub record IsRestart : Type 0 where
     pub no_change : (c.port.serr_n ≡ false) × (c.port.serr_x ≡ false)
     pub device : c.port.ssts_det ≡ 3
@@ -254,7 +256,9 @@ module _ (c : Restart) where
     pub writes : WritesOf IsWritten accesses
     pub running : All (LeavesCommand (port_at 0)) c.looked
     pub unfound : (e : Pending) (slot : ℕ) → ServesRequest c.machine read_memory c.port 0 slot e.request.id → bit 1 slot ≡ false → ⊥
-    pub untold : (e : Pending) → IsAnsweredOk e c.steps → ⊥
+    pub told : (e : Pending) (o : Outcome) → Contains c.steps (Answer e o) → o ≡ outcome.Unplugged
+    pub own : AllOwn c.steps × AllTold c.machine c.steps × ((n : ℕ) → PutsIn n [] c.steps)
+    pub plugged : issued.plugged ≡ c.port.plugged ++ []
 
   module _ (is : IsRestart) where
     pub there : (n : ℕ) → both.state (port_at n) ≡ Ready → ShowsLoss (port_at n) old_device after_it → ⊥
@@ -299,12 +303,38 @@ module _ (c : Restart) where
         apart : suc n ≡ 0 → ⊥
         apart e = omega (arith, e)
 
+    -- no answer is Ok
+    none_ok : (e : Pending) → IsAnsweredOk e c.steps → ⊥
+    none_ok e a = let same : outcome.Ok ≡ outcome.Unplugged = is.told a.0 outcome.Ok a.2 in cc
+
+    -- and no request is left
+    pub unplugs : UnplugsAll c.steps answered
+    unplugs = record {
+      emptied = λ e other here there. absurd (nowhere other there);
+      alike = λ e other here there. absurd (let x : outcome.PortDead ≡ outcome.Unplugged = is.told other outcome.PortDead there in cc);
+    }
+
+    pub backed : IsBacked old_device after_it c.machine c.steps
+    backed = record {
+      telling = refl;
+      gained = [];
+      tape = sym (append-nil _);
+      tells = is.own.0;
+      told = λ _. is.own.1;
+      plugged = λ port. ([], plugs port, is.own.2 port);
+    }
+      where
+        plugs : (n : ℕ) → (after_it.port n).plugged ≡ (old_device.port n).plugged ++ []
+        plugs zero = is.plugged
+        plugs (suc zero) = refl
+        plugs (suc (suc n)) = refl
+
     pub finds : FindsDone (port_at 0) accesses old c.steps
     finds = record {
       ci = 1;
       sact = 0;
       reads = record { before = c.looked; later = stopping ++ (placing ++ resetting); here = refl; running = is.running };
-      exact = λ e slot on s. (λ ok. absurd (is.untold e ok), λ clear. absurd (is.unfound e slot s clear.0));
+      exact = λ e slot on s. (λ ok. absurd (none_ok e ok), λ clear. absurd (is.unfound e slot s clear.0));
     }
 
     pub trouble : (n : ℕ) → LosesNoTrouble evidence old one after_it (port_at n)
