@@ -13,7 +13,8 @@ use Rattle.adapter.specs.Device.{Device}
 use Rattle.adapter.specs.declared.access.DeviceStep.{DeviceStep}
 use Rattle.agreement.specs.Agrees.{port_at}
 use Rattle.agreement.specs.Driver.{IsBacked}
-use Rattle.block_machine.specs.Events.{AgesOnce, AllIssued, Happens, IsHung, RestartsHung, Served, Tick, is_age}
+use Rattle.block_machine.specs.Due.{NoneDue}
+use Rattle.block_machine.specs.Events.{AgesOnce, Happens, IsHung, RestartsHung, Served, Tick, is_age}
 use Rattle.block_machine.specs.Histories.{Happening}
 use Rattle.block_machine.specs.State.{Pending, unanswered}
 use Rattle.block_machine.specs.Steps.{Step, Again, Age, Answer}
@@ -64,8 +65,8 @@ pub ages_once : (later : List Step) → count_by is_age later ≡ 0 → AgesOnce
 ages_once later once = record { ready = two_served; is_ready = λ port. ready_is port.0; later = later; first = refl; once = once }
 
 -- no request is due
-pub all_issued : (age : ℕ) → AllIssued (issued_at age).moment
-all_issued age port is = none_due plain (unanswered (waiting_for age) ∷ []) (λ r here. ap (λ (x : Unanswered). x.issued) (only (unanswered (waiting_for age)) r here)) port
+pub not_due : (age : ℕ) (port : Port) → NoneDue plain (unanswered (waiting_for age) ∷ []) port
+not_due age = none_due plain (unanswered (waiting_for age) ∷ []) (λ r here. ap (λ (x : Unanswered). x.issued) (only (unanswered (waiting_for age)) r here))
 
 -- ---- a tick that restarts nothing
 
@@ -102,7 +103,7 @@ module _ (age : ℕ) where
   pub issues : (port : Port) → IssuesDue (both.mode port) (ages ∷ []) (issued_for (suc age)) port
   issues port r here at_port = (
     λ f. absurd (true≢false (sym f)),
-    λ due. absurd (none_due plain (unanswered (waiting_for (suc age)) ∷ []) (λ r here. ap (λ (x : Unanswered). x.issued) (only (unanswered (waiting_for (suc age))) r here)) port r at_port due),
+    λ due. absurd (not_due (suc age) port r at_port due),
   )
 
   module _ (young : age < 2) where
@@ -135,7 +136,7 @@ module _ (age : ℕ) where
           emptied = λ e other here. absurd (unanswered_then e outcome.Unplugged here);
           alike = λ e other here. absurd (unanswered_then e outcome.Unplugged here);
         };
-        issues = all_issued (suc age);
+        issues = λ port is. not_due (suc age) port;
         emptied = λ port is not_ready. absurd (not_ready is);
       };
     }
