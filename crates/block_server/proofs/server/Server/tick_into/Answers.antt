@@ -3,9 +3,9 @@ use Rattle.ata_types.specs.declared.request.Reply.{Reply}
 use Rattle.agreement.specs.Agrees.{port_at}
 use Rattle.host_boot.specs.Taken.{found_of}
 use Rattle.host_boot.specs.declared.Found.{Found}
-use Rattle.request_queue.specs.Entries.{Held, IsOverdue}
+use Rattle.request_queue.specs.Entries.{IsOverdue}
 use Rattle.server_history.specs.Server.{Server, IsSettled}
-use Rattle.server_history.specs.Turns.{TakeTurns, Ticks, TicksPort, a_tick_older}
+use Rattle.server_history.specs.Turns.{TakeTurns, TicksPort, a_tick_older}
 use Rattle.block_server.specs.View.{ServerView, server_of}
 use Rattle.block_server.proofs.Turns.{all_turns, no_turn, one_turn}
 use Rattle.block_server.proofs.server.Server.tick_into.Goals as goal
