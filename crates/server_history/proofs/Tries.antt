@@ -39,9 +39,12 @@ use Rattle.host_boot.specs.declared.Found.TheVariants.{Unready, Unserved}
 use Rattle.port_look.specs.Looks.{IsLooking}
 use Rattle.request_queue.specs.Entries.{Held, asks, asks_of}
 use Rattle.server_history.specs.Below.{LawsBelow}
-use Rattle.server_history.specs.Server.{AreKept, IsKept, IsMachineOf, IsPortOf, IsSettled, Server, is_served, mode_at, mode_in, plain_mode, state_of, usable_of, use_of}
+use Rattle.server_history.specs.Server.{AreKept, IsKept, IsMachineOf, IsPortOf, IsSettled, Server, is_served, mode_at, mode_in, plain_mode, ports_of, state_of, usable_of, use_of}
 use Rattle.server_history.specs.Tried.{BootsOnce, IsFoundAnew, IsLookedAt, TriesPort}
-use Rattle.server_history.specs.Turns.{HasPart, InTry, TriesOther, moment_of}
+use Rattle.agreement.specs.Errors.{NoneComes}
+use Rattle.driver_history.specs.Histories.{TriesDisk}
+use Rattle.server_history.proofs.Tended.{boot_tries, rests_tries}
+use Rattle.server_history.specs.Turns.{HasPart, InTry, TriesOther, instant_of, moment_of}
 use Rattle.server_history.specs.declared.Trouble.TheVariants.{Hung}
 use Rattle.server_history.proofs.Anew.{accesses, after_it, book_left, does, found_then, its_stand, listed, looking_part, low, never_ready, no_disk, only, others, silent, stuck_if, tells, then_is, unready, until, until_of, whole}
 use Rattle.server_history.proofs.Glanced.{looked_stands}
@@ -61,6 +64,12 @@ use Rattle.server_history.proofs.Running.{shown_on}
 use Rattle.server_history.proofs.Serving.{followed_steps, looks_serve}
 use Rattle.server_history.proofs.Sighted.{booted_had}
 use Rattle.server_history.proofs.Trying.{AddsTried, TellsTried, makes_try, none_held}
+
+-- What the turn is: a part of a service, after which the server goes on. Where no disk of the port came, what is there was tried.
+pub record TakesTry (port : Port) (old new : Server) : Type 0 where
+  pub part : HasPart InTry port [] old new
+  pub settled : IsSettled new
+  pub tries : (m : Machine) → NoneComes port.0 old.device new.device → TriesDisk part.accesses (instant_of old m) (ports_of new) new.device port
 
 -- ---- it was booted
 
@@ -214,8 +223,9 @@ module _ (laws : LawsBelow) (s new : Server) (seen : Device) (port : Port) (stat
             (adds m reached stood);
       }
 
-  pub booted_turn : HasPart InTry port [] s new × IsSettled new
-  booted_turn = subst (λ (x : Server). HasPart InTry port [] s x × IsSettled x) (sym b.server) (part_then, settled_then)
+  pub booted_turn : TakesTry port s new
+  unfolding part_then
+  booted_turn = subst (TakesTry port s) (sym b.server) (record { part = part_then; settled = settled_then; tries = λ m comes. boot_tries laws s new seen port state k is lives looks b comes m })
 
 -- ---- it was looked at, and that is all
 
@@ -312,20 +322,25 @@ dead_or_not (Unfit n) = inr (λ is. let z : Unfit n ≡ DeadState = is in cc)
 dead_or_not DeadState = inl refl
 
 -- A dead port isn't looked at. Another one is, and booted where what it was looked at for was found.
-turns : LawsBelow → (s new : Server) (port : Port) → IsSettled s → (tries : TriesPort port s new) → (tries.state ≢ DeadState → IsFollowed (IsLooking port) AnyUse s.device tries.seen)
-    → HasPart InTry port [] s new × IsSettled new
+pub turns : LawsBelow → (s new : Server) (port : Port) → IsSettled s → (tries : TriesPort port s new) → (tries.state ≢ DeadState → IsFollowed (IsLooking port) AnyUse s.device tries.seen)
+    → TakesTry port s new
+unfolding rests
 turns laws s new port t tries looks = ⊎_elim
     (λ (dead : tries.state ≡ DeadState).
     let l = subst (λ (state : PortState). IsLookedAt state port tries.result s.device tries.seen) dead tries.looks in
-    whole_rest l.0 (rests laws s tries.seen port tries.state t tries.is (unlooked port s.device tries.seen l.1) (subst (λ (d : Device). IsKept (record s { device = d })) (sym l.1) t.kept)))
+    whole_rest l.0 (unlooked port s.device tries.seen l.1) (subst (λ (d : Device). IsKept (record s { device = d })) (sym l.1) t.kept))
     (λ (lives : tries.state ≢ DeadState). ⊎_elim
     (λ (found : tries.result ≡ true). booted_turn laws s new tries.seen port tries.state t tries.is lives (looks lives) (tries.boots found))
-    (λ (none : tries.result ≡ false). whole_rest none (rests laws s tries.seen port tries.state t tries.is (looks lives) (rests_kept laws s tries.seen port tries.state t tries.is (looks lives) lives tries.result tries.looks none)))
+    (λ (none : tries.result ≡ false). whole_rest none (looks lives) (rests_kept laws s tries.seen port tries.state t tries.is (looks lives) lives tries.result tries.looks none))
     (cases_Bool tries.result))
     (dead_or_not tries.state)
   where
-    whole_rest : tries.result ≡ false → HasPart InTry port [] s (record s { device = tries.seen }) × IsSettled (record s { device = tries.seen }) → HasPart InTry port [] s new × IsSettled new
-    whole_rest none x = subst (λ (n : Server). HasPart InTry port [] s n × IsSettled n) (sym (tries.left none)) x
+    whole_rest : tries.result ≡ false → IsFollowed (IsLooking port) AnyUse s.device tries.seen → IsKept (record s { device = tries.seen }) → TakesTry port s new
+    whole_rest none its kept = subst (TakesTry port s) (sym (tries.left none)) (record {
+      part = (rests laws s tries.seen port tries.state t tries.is its kept).0;
+      settled = (rests laws s tries.seen port tries.state t tries.is its kept).1;
+      tries = λ m comes. rests_tries s port tries.state t.kept tries.is laws tries.seen tries.result tries.looks none comes its.driven.accesses m;
+    })
 
 pub tried : LawsBelow → (s new : Server) (port : Port) → IsSettled s → (tries : TriesPort port s new) → (tries.state ≢ DeadState → IsFollowed (IsLooking port) AnyUse s.device tries.seen) → TriesOther port s new × IsSettled new
-tried laws s new port t tries looks = let x = turns laws s new port t tries looks in (record { does = tries; part = x.0 }, x.1)
+tried laws s new port t tries looks = let x = turns laws s new port t tries looks in (record { does = tries; part = x.part }, x.settled)
