@@ -1,6 +1,6 @@
 -- Lists of calls serve ports on which nothing goes wrong.
-use Rattle.std.proofs.Common.{ℕ, true, false, ◌≡◌, ◌≢◌, ◌<◌, ◌∙◌, List, [], ◌∷◌, ◌++◌, refl, sym, ap, subst}
-use Rattle.std.proofs.lemmas.List.{append_assoc, append_cancel_left, append-nil}
+use Rattle.std.proofs.Common.{ℕ, true, false, ◌≡◌, ◌≢◌, ◌<◌, ◌∙◌, List, [], ◌∷◌, ◌++◌, arith, drop, get_or, length, refl, sym, ap, subst}
+use Rattle.std.proofs.lemmas.List.{append_assoc, append_cancel_left, append-nil, length-append}
 use Rattle.std.proofs.lemmas.List.Elements.{All-cons, All-head, All-nil, All-tail}
 use Rattle.std.specs.List.{All, Contains}
 use Rattle.ata_types.specs.declared.Port.{Port}
@@ -15,7 +15,7 @@ use Rattle.adapter.specs.declared.access.DeviceStep.{DeviceStep}
 use Rattle.adapter.specs.declared.tape.Entry.{Entry}
 use Rattle.agreement.specs.Facts.{IsDisturbance, RunsWell, Undisturbed}
 use Rattle.agreement.specs.Slots.{ServesRequest}
-use Rattle.block_machine.specs.Events.{Ask, Submit as AskSubmit, StoreAt, Service as AskService, State as AskState, Device as AskDevice, Tick, Reset, EveryReadHolds, HeedsAt, IsRun, moment_after, steps_of}
+use Rattle.block_machine.specs.Events.{Ask, Submit as AskSubmit, StoreAt, Service as AskService, State as AskState, Device as AskDevice, Tick, Reset, EveryReadHolds, HeedsAt, IsHung, IsRun, moment_after, steps_of}
 use Rattle.block_machine.specs.Histories.{Happening, Instant, events_of, now}
 use Rattle.block_machine.specs.Ports.{AreFit, Ports}
 use Rattle.block_machine.specs.State.{Pending}
@@ -45,15 +45,13 @@ use Rattle.block_server.proofs.Running.{run_adds}
 
 -- What the laws of histories say, each of every history.
 pub record HistoryLaws : Type 0 where
-  pub asked : (port : Port) (old : Instant Device) (new : Device) → old.moment.ports.state port ≡ Ready → StaysHealthy port.0 old.device new
-      → IsAskedOf port old new
   pub seen : (wanted : List Wanted) (first : Instant Device) (past : List (Happening Device DeviceStep)) (h : Happening Device DeviceStep) (port : Port) (slot : ℕ) (id : RequestId)
-      → IsHistory wanted first (h ∷ past) → h.event.ask ≡ AskService → IsAskedOf port (now first past) h.device
+      → IsHistory wanted first (h ∷ past) → h.event.ask ≡ AskService → IsAskedOf port (now first past)
       → ServesRequest (now first past).moment.machine (now first past).device.memory ((now first past).device.port port.0) port.0 slot id
       → ((now first past).device.port port.0).ci slot ≡ false → ((now first past).device.port port.0).sact slot ≡ false
       → (done : Pending) × (done.request.id ≡ id) × Contains h.event.steps (Answer done Ok)
   pub heeded : (wanted : List Wanted) (first : Instant Device) (past : List (Happening Device DeviceStep)) (h : Happening Device DeviceStep) (port : Port)
-      → IsHistory wanted first (h ∷ past) → h.event.ask ≡ AskService → IsAskedOf port (now first past) h.device
+      → IsHistory wanted first (h ∷ past) → h.event.ask ≡ AskService → IsAskedOf port (now first past)
       → ShowsFailure ((now first past).device.port port.0) → HeedsFailure port (now first past) h
   pub well : (wanted : List Wanted) (first : Instant Device) (past : List (Happening Device DeviceStep)) (h : Happening Device DeviceStep) (port : Port)
       → IsHistory wanted first (h ∷ past) → IsHealthyFor (now first past) h port → GoesWellFor (now first past) h port
@@ -73,23 +71,16 @@ abbrev pub ReadyRunWell : Type 0
 ReadyRunWell = (wanted : List Wanted) (host : Host) (port : ℕ) (info : DiskInfo) (old new : Device) → IsIdle old → TakesOver wanted host old new
     → found_of host.ports port ≡ IsFound info → Undisturbed port old new → RunsWell (new.port port)
 
--- ---- lists of calls are neither ticks nor resets
+-- ---- lists of calls are no resets
 
 no_reset : (event : Event) → ask_of event ≢ Reset
 no_reset (calls.Submit r) e = let z : AskSubmit r ≡ Reset = e in absurd cc
 no_reset (calls.ClientStore client frame offset bytes) e = let z : StoreAt client frame offset bytes.items ≡ Reset = e in absurd cc
 no_reset (calls.ClientLoad client frame offset n) e = let z : ask_of (calls.ClientLoad client frame offset n) ≡ Reset = e in absurd cc
 no_reset calls.Service e = let z : AskService ≡ Reset = e in absurd cc
+no_reset calls.Tick e = let z : Tick ≡ Reset = e in absurd cc
 no_reset (calls.State port) e = let z : AskState port ≡ Reset = e in absurd cc
 no_reset (calls.Device step) e = let z : AskDevice step ≡ Reset = e in absurd cc
-
-no_tick : (event : Event) → ask_of event ≢ Tick
-no_tick (calls.Submit r) e = let z : AskSubmit r ≡ Tick = e in absurd cc
-no_tick (calls.ClientStore client frame offset bytes) e = let z : StoreAt client frame offset bytes.items ≡ Tick = e in absurd cc
-no_tick (calls.ClientLoad client frame offset n) e = let z : ask_of (calls.ClientLoad client frame offset n) ≡ Tick = e in absurd cc
-no_tick calls.Service e = let z : AskService ≡ Tick = e in absurd cc
-no_tick (calls.State port) e = let z : AskState port ≡ Tick = e in absurd cc
-no_tick (calls.Device step) e = let z : AskDevice step ≡ Tick = e in absurd cc
 
 -- ---- calls since an earlier part
 
@@ -97,6 +88,17 @@ since_before : {Is : List (Happening Device DeviceStep) → Happening Device Dev
     (h : Happening Device DeviceStep) {later : List (Happening Device DeviceStep)} → EachSince Is (h ∷ earlier) later → Is earlier h → EachSince Is earlier later
 since_before h none is = one_more none is
 since_before h (one_more others last) is = one_more (since_before h others is) last
+
+-- a call with calls after it, and calls since that part before it
+since_has : {Is : List (Happening Device DeviceStep) → Happening Device DeviceStep → Type 0} {past later : List (Happening Device DeviceStep)} → EachSince Is past later
+    → (after since : List (Happening Device DeviceStep)) (h : Happening Device DeviceStep) → later ≡ after ++ h ∷ (since ++ past) → Is (since ++ past) h
+since_has {Is} {past} {later} none after since h is =
+    let all = ap length is ∙ length-append after (h ∷ (since ++ past)) in
+    let rest = length-append since past in
+    absurd (omega (arith, all, rest))
+since_has {Is} {past} (one_more {h = last} others here) [] since h is =
+    subst (λ (x : Happening Device DeviceStep). Is (since ++ past) x) (ap (λ (l : List (Happening Device DeviceStep)). get_or l 0 h) is) (subst (λ (l : List (Happening Device DeviceStep)). Is l last) (ap (drop 1) is) here)
+since_has (one_more others here) (x ∷ after) since h is = since_has others after since h (ap (drop 1) is)
 
 -- ---- what a stretch of the tape lacks, each part of it lacks
 
@@ -128,7 +130,7 @@ module _ (laws : HistoryLaws) where
   served_well wanted first past h port history healthy =
       let goes = laws.well wanted first past h port history healthy in
       let old = now first past in
-      let heeds = (history.2.port port (laws.asked port old h.device healthy.ready healthy.healthy)).heeds in (
+      let heeds = (history.2.port port healthy.ready).heeds in (
         goes,
         record {
           same = goes.spared.same;
@@ -175,20 +177,35 @@ module _ (laws : HistoryLaws) where
         let further = grows (h ∷ past) later mid new events more rest here in
         (tape.0 ++ further.0, further.1 ∙ ap (λ (t : List Entry). t ++ further.0) tape.1 ∙ append_assoc (device old.adapter).tape tape.0 further.0)
 
+    -- the history after calls is the history before with more
+    goes_further : (past later : List (Happening Device DeviceStep)) (old new : ServerView A) (events : List Event) (said : List Said)
+        → AddEach device first past old events said later new → (after : List (Happening Device DeviceStep)) × (later ≡ after ++ past)
+    goes_further past later old new [] [] adds = ([], adds.0)
+    goes_further past later old new [] (one ∷ more) adds = absurd adds
+    goes_further past later old new (event ∷ events) [] adds = absurd adds
+    goes_further past later old new (event ∷ events) (one ∷ more) (mid, h, its, ask_is, said_is, here, rest) =
+        let further = goes_further (h ∷ past) later mid new events more rest in
+        (further.0 ++ h ∷ [], further.1 ∙ sym (append_assoc further.0 (h ∷ []) past))
+
     module _ (port : Port) where
+      -- no call since an earlier part is a tick that finds a request of the port so old that it is restarted
+      abbrev Young : List (Happening Device DeviceStep) → List (Happening Device DeviceStep) → Type 0
+      Young past later = (after since : List (Happening Device DeviceStep)) (h : Happening Device DeviceStep) → later ≡ after ++ h ∷ (since ++ past)
+          → h.event.ask ≡ Tick → IsHung (now first (since ++ past)).moment port → ⊥
+
       abbrev Served : List (Happening Device DeviceStep) → List (Happening Device DeviceStep) → ServerView A → Type 0
       Served past later new = EachSince (λ before h. IsServedWell port (now first before) h) past later
           × (state_of (found_of new.ports port.0) ≡ Ready) × RunsWell ((device new.adapter).port port.0)
 
       healthy : (past later : List (Happening Device DeviceStep)) (old new : ServerView A) (events : List Event) (said : List Said)
           → AddEach device first past old events said later new → Leads first past (server_of device old)
-          → state_of (found_of old.ports port.0) ≡ Ready → StaysHealthy port.0 (device old.adapter) (device new.adapter) → Served past later new
-      healthy past later old new [] [] adds leads ready stays =
+          → state_of (found_of old.ports port.0) ≡ Ready → StaysHealthy port.0 (device old.adapter) (device new.adapter) → Young past later → Served past later new
+      healthy past later old new [] [] adds leads ready stays young =
           subst (λ (l : List (Happening Device DeviceStep)). Served past l new) (sym adds.0)
           (subst (Served past past) (sym adds.1) (none, ready, stays.well))
-      healthy past later old new [] (one ∷ more) adds leads ready stays = absurd adds
-      healthy past later old new (event ∷ events) [] adds leads ready stays = absurd adds
-      healthy past later old new (event ∷ events) (one ∷ more) (mid, h, its, ask_is, said_is, here, rest) leads ready stays =
+      healthy past later old new [] (one ∷ more) adds leads ready stays young = absurd adds
+      healthy past later old new (event ∷ events) [] adds leads ready stays young = absurd adds
+      healthy past later old new (event ∷ events) (one ∷ more) (mid, h, its, ask_is, said_is, here, rest) leads ready stays young =
           let tape = call_grows past old mid h leads here in
           let further = grows (h ∷ past) later mid new events more rest here in
           let u = parts port.0 (device old.adapter) (device mid.adapter) (device new.adapter) tape.0 further.0 tape.1 further.1 stays.undisturbed in
@@ -200,12 +217,14 @@ module _ (laws : HistoryLaws) where
             ready = is_ready;
             healthy = stays_in;
             no_reset = λ e. no_reset event (sym ask_is ∙ e);
-            young = λ e hung. no_tick event (sym ask_is ∙ e);
+            young = (let more = goes_further (h ∷ past) later mid new events more rest in young more.0 [] h more.1);
           }) in
           let runs_on : RunsWell ((device mid.adapter).port port.0) = subst (λ (d : Device). RunsWell (d.port port.0)) here.stands.device_is served.0.well in
           let stays_ready : state_of (found_of mid.ports port.0) ≡ Ready =
           ap (λ (p : Ports). p.state port) (sym here.stands.ports_are) ∙ served.1.same.1 ∙ is_ready in
-          let others = healthy (h ∷ past) later mid new events more rest here stays_ready (record { well = runs_on; undisturbed = u.after }) in
+          let others = healthy (h ∷ past) later mid new events more rest here stays_ready (record { well = runs_on; undisturbed = u.after })
+          (λ after since k. subst (λ (l : List (Happening Device DeviceStep)). later ≡ after ++ k ∷ l → k.event.ask ≡ Tick → IsHung (now first l).moment port → ⊥)
+          (append_assoc since (h ∷ []) past) (young after (since ++ h ∷ []) k)) in
           (since_before h others.0 served, others.1, others.2)
 
     pub serves_healthy : (past : List (Happening Device DeviceStep)) (old new : ServerView A) (events : List Event) (said : List Said)
@@ -219,7 +238,7 @@ module _ (laws : HistoryLaws) where
           run = laws.run new.wanted first x.0 x.2.history;
           reads = laws.reads new.wanted first x.0 x.2.history;
           sound = all_sound new.wanted first x.0 x.2.history;
-          healthy = λ port ready stays. healthy port past x.0 old new events said x.1 leads ready stays;
+          healthy = λ port ready stays young. healthy port past x.0 old new events said x.1 leads ready stays (λ after since h. since_has young after since h);
         }
 
 -- ---- a server as it is made

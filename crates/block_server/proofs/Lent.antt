@@ -1,4 +1,4 @@
--- What is done on a port of which a look told an error is answered, and the port is mended: what is asked of the calls, and what came of them.
+-- What is done on a port in trouble is answered, and the port is mended: what is asked of the calls, and what came of them.
 use Rattle.std.proofs.Common.{ℕ, Bool, true, false, ◌≡◌, ◌<◌, ◌↔◌, List, length, Option, Some, None, refl, sym, ap, ◌∙◌, subst, arith}
 use Rattle.std.specs.Int.{bit_at}
 use Rattle.std.proofs.lemmas.Bool.{false≢true}
@@ -18,13 +18,14 @@ use Rattle.error_recovery.specs.declared.Recovered.{Recovered}
 use Rattle.host_boot.specs.Taken.{found_of}
 use Rattle.ncq.specs.Masks.{ReadsDone}
 use Rattle.port_look.specs.Looks.{IsLooking, LooksAt}
-use Rattle.port_look.specs.declared.Look.{Look}
-use Rattle.port_look.specs.declared.Look.TheVariants.{Failed as Fails}
+use Rattle.port_look.specs.declared.Look.TheVariants.{Failed as TellsFailed}
 use Rattle.request_queue.specs.Entries.{Held}
 use Rattle.request_queue.specs.declared.fate.Failed.{Failed}
-use Rattle.server_history.specs.Mended.{AreQueued, IsFailed, TellsMending}
+use Rattle.server_history.specs.Mended.{AreQueued, IsFailed, IsFoundOut, TellsMending}
 use Rattle.server_history.specs.Served.{IsMaskOf, is_used}
 use Rattle.server_history.specs.Server.{Server, IsKept, slots_at, state_of, used_for}
+use Rattle.server_history.specs.declared.Trouble.{Trouble}
+use Rattle.server_history.specs.declared.Trouble.TheVariants.{Failed as Fails}
 use Rattle.slots.specs.Uses.{Uses as PortSlots, IsTaken, use_at}
 use Rattle.slots.specs.declared.Use.{Use as SlotUse}
 use Rattle.block_server.specs.Ports.{AnswersAll, LendsDone, with_answers}
@@ -37,7 +38,7 @@ pub record FailureLaws : Type 0 where
   pub finding : (s : Server) (new : Device) (port : Port) (mask done : ℕ) → IsKept s → state_of (found_of s.ports port.0) ≡ ReadyState → ReadsDone port mask done s.device new → IsKept (record s { device = new })
   pub over : (s : Server) (new : Device) (port : Port) (mask done slot : ℕ) → IsKept s → state_of (found_of s.ports port.0) ≡ ReadyState → IsMaskOf (slots_at s.slots port.0) mask → slot < 32
       → ReadsDone port mask done s.device new → bit done slot ≡ true → IsOver (new.port port.0) slot
-  pub may : (s : Server) (seen found : Device) (port : Port) (mask done : ℕ) → IsKept s → state_of (found_of s.ports port.0) ≡ ReadyState → LooksAt port Fails s.device seen
+  pub may : (s : Server) (seen found : Device) (port : Port) (mask done : ℕ) → IsKept s → state_of (found_of s.ports port.0) ≡ ReadyState → LooksAt port TellsFailed s.device seen
       → IsFollowed (IsLooking port) AnyUse s.device seen → ReadsDone port mask done seen found → MayRecover port.0 found
   pub agreed : (s : Server) (port : Port) (queued : Bool) → IsKept s → state_of (found_of s.ports port.0) ≡ ReadyState → AreQueued queued (slots_at s.slots port.0) → AgreesWith (FitsFor queued port.0) s.device
   pub alike : (s : Server) (port : Port) (slot : ℕ) (used : SlotUse) → IsKept s → used_for s.slots port.0 slot ≡ Some used → AreQueued used.queued (slots_at s.slots port.0)
@@ -55,7 +56,7 @@ named_among false port outstanding accesses old new its rests =
     (subst (λ (n : ℕ). n < 32) (sym rests.slot_is) (omega arith), subst (λ (n : ℕ). bit outstanding n ≡ true) (sym rests.slot_is) rests.among)
 named_among true port outstanding accesses old new its rests = (rests.small, rests.among)
 
-module _ (laws : FailureLaws) (s : Server) (device : Device) (table : Table) (book : List Held) (slots : PortSlots) (port : Port) (look : Look) (l : LendsTroubled s device table book slots port look) where
+module _ (laws : FailureLaws) (s : Server) (device : Device) (table : Table) (book : List Held) (slots : PortSlots) (port : Port) (trouble : Trouble) (l : LendsTroubled s device table book slots port trouble) where
   abbrev seen : Server
   seen = record s { device = device }
 
@@ -82,8 +83,8 @@ module _ (laws : FailureLaws) (s : Server) (device : Device) (table : Table) (bo
       over = λ slot small its. laws.over seen found port mask done slot seen_kept l.sees.ready its_mask small finds its;
     }
 
-    pub may : look ≡ Fails → MayRecover port.0 found
-    may fails = laws.may s device found port mask done l.sees.kept l.sees.ready (subst (λ (told : Look). LooksAt port told s.device device) fails l.sees.looks) l.sees.followed finds
+    pub may : trouble ≡ Fails → MayRecover port.0 found
+    may fails = laws.may s device found port mask done l.sees.kept l.sees.ready (subst (λ (its : Trouble). IsFoundOut port its s.device device) fails l.sees.finds) l.sees.followed finds
 
     module _ (before after : List Reply) (t : Table) (b : List Held) (u : PortSlots) (answers : AnswersAll port done before after from (with_answers from t b u port))
         (lent : LendsDone (with_answers from t b u port) t b u port done) where
@@ -115,7 +116,7 @@ module _ (laws : FailureLaws) (s : Server) (device : Device) (table : Table) (bo
         pub alone : IsAloneIn queued outstanding
         alone = laws.alone mid port queued outstanding lent.kept mid_mask mid_kinds
 
-        module _ (result : Recovered) (new : Device) (its_end : (m : Mends port outstanding queued result found new) × TellsMending look port outstanding queued result m.accesses found new) where
+        module _ (result : Recovered) (new : Device) (its_end : (m : Mends port outstanding queued result found new) × TellsMending trouble port outstanding queued result m.accesses found new) where
           abbrev mends : Mends port outstanding queued result found new
           mends = its_end.0
 
@@ -124,14 +125,14 @@ module _ (laws : FailureLaws) (s : Server) (device : Device) (table : Table) (bo
               let among = named_among queued port outstanding mends.accesses found new its (subst (Rests queued port outstanding mends.accesses found new) is mends.tells.rests) in
               its_use (use_at u its.slot.0) (sym (mask_of u outstanding left its.slot.0 among.0) ∙ among.1)
 
-          pub mends_rest : (failed : Option Failed) → IsFailed u result.failed failed → MendsRest port look before after failed result.next s t b u new
+          pub mends_rest : (failed : Option Failed) → IsFailed u result.failed failed → MendsRest port trouble before after failed result.next s t b u new
           mends_rest failed names = record {
             mid = mid;
             kept = lent.kept;
             mended = record {
-              look = look;
+              trouble = trouble;
               seen = device;
-              looks = l.sees.looks;
+              finds = l.sees.finds;
               mask = mask;
               its = its_mask;
               done = done;
@@ -149,7 +150,7 @@ module _ (laws : FailureLaws) (s : Server) (device : Device) (table : Table) (bo
               mends = its_end.0;
               tells = its_end.1;
             };
-            look_is = refl;
+            trouble_is = refl;
             followed = l.sees.followed;
             mid_is = refl;
             next_is = refl;

@@ -28,8 +28,6 @@ use Rattle.port_boot.specs.States.{IsBootable}
 use Rattle.port_control.specs.Ports.{IsStopped}
 use Rattle.port_control.specs.declared.Stopped.{Stopped}
 use Rattle.port_look.specs.Looks.{IsLooking}
-use Rattle.port_look.specs.declared.Look.{Look}
-use Rattle.port_look.specs.declared.Look.TheVariants.{Broken, Failed as Fails, Lost, Undisturbed}
 use Rattle.request_queue.specs.Entries.{Held, is_of}
 use Rattle.request_queue.specs.Fates.{Holdings, MeetFates, fate_of}
 use Rattle.request_queue.specs.declared.fate.Failed.{Failed}
@@ -37,11 +35,13 @@ use Rattle.request_queue.specs.declared.fate.Prospect.{Prospect}
 use Rattle.server_history.specs.Mended.{BootsAfter, IsFailed, IsFoundAfter, IsProspect, IsMended, HasMetFates, MendsPort, requests_of}
 use Rattle.server_history.specs.Served.{IssuesAll, done_reply}
 use Rattle.server_history.specs.Server.{Server, IsKept, IsSettled, kept_at, mode_at, mode_found, mode_in, no_slots, plain_mode, slots_at, state_of}
-use Rattle.server_history.specs.Turns.{ServesPort}
+use Rattle.server_history.specs.Turns.{HasPart, InRestart, ServesPort}
+use Rattle.server_history.specs.declared.Trouble.{Trouble}
+use Rattle.server_history.specs.declared.Trouble.TheVariants.{Broken, Failed as Fails, Hung, Lost}
 use Rattle.slots.specs.Uses.{Uses as PortSlots, use_at}
 use Rattle.block_server.specs.Fates.{HavePlaces, IsSound, holding}
 use Rattle.block_server.specs.Ports.{LendsFound, with_answers, with_part}
-use Rattle.block_server.specs.Recovery.{LendsTroubled, MendsRest, SeesTrouble}
+use Rattle.block_server.specs.Recovery.{LendsTroubled, MendsOf, MendsRest, SeesTrouble}
 use Rattle.block_server.proofs.Sending.{served_ready, slots_said}
 
 -- what laws say of what comes after a recovery
@@ -55,26 +55,28 @@ pub record RestoringLaws : Type 0 where
   pub settled : (s new : Server) (port : Port) (later : List Reply) → IsKept s → state_of (found_of s.ports port.0) ≡ ReadyState → (a : HasMetFates port later s new)
       → IsFollowed (IsLooking port) AnyUse s.device a.mended.seen → IsKept new
   pub mended : (s new : Server) (port : Port) (replies : List Reply) → IsSettled s → state_of (found_of s.ports port.0) ≡ ReadyState → (r : MendsPort port replies s new)
-      → IsFollowed (IsLooking port) AnyUse s.device r.settled.mended.seen → ServesPort port replies s new × IsSettled new
+      → r.settled.mended.trouble ≢ Hung → IsFollowed (IsLooking port) AnyUse s.device r.settled.mended.seen → ServesPort port replies s new × IsSettled new
+  pub restarted : (s new : Server) (port : Port) (replies : List Reply) → IsSettled s → state_of (found_of s.ports port.0) ≡ ReadyState → (r : MendsPort port replies s new)
+      → r.settled.mended.trouble ≡ Hung → HasPart InRestart port replies s new × IsSettled new
 
 -- a port whose disk wasn't lost is booted anew, whatever shows
-pub boots_other : (told : Look) (wanted : Wanted) (port : Port) (booted : Booted) (old new : Device) → told ≢ Lost → BootsAgain wanted port booted old new → BootsAfter told wanted port booted old new
+pub boots_other : (trouble : Trouble) (wanted : Wanted) (port : Port) (booted : Booted) (old new : Device) → trouble ≢ Lost → BootsAgain wanted port booted old new → BootsAfter trouble wanted port booted old new
 boots_other Lost wanted port booted old new other boots = absurd (other refl)
 boots_other Broken wanted port booted old new other boots = boots
 boots_other Fails wanted port booted old new other boots = boots
-boots_other Undisturbed wanted port booted old new other boots = boots
+boots_other Hung wanted port booted old new other boots = boots
 
 -- it is booted, or absent
-pub boots_or_absent : (told : Look) (wanted : Wanted) (port : Port) (booted : Booted) (old new : Device) → BootsAfter told wanted port booted old new → BootsAgain wanted port booted old new ⊎ (booted.found ≡ Unready Absent)
+pub boots_or_absent : (trouble : Trouble) (wanted : Wanted) (port : Port) (booted : Booted) (old new : Device) → BootsAfter trouble wanted port booted old new → BootsAgain wanted port booted old new ⊎ (booted.found ≡ Unready Absent)
 boots_or_absent Lost wanted port booted old new b = ⊎_elim (λ boots. inl boots.0) (λ absent. inr absent.0) b
 boots_or_absent Broken wanted port booted old new b = inl b
 boots_or_absent Fails wanted port booted old new b = inl b
-boots_or_absent Undisturbed wanted port booted old new b = inl b
+boots_or_absent Hung wanted port booted old new b = inl b
 
--- what is lent of a server whose port was seen to have failed
-pub lends_troubled : (s : Server) (port : Port) (look : Look) (device : Device) → SeesTrouble s port look device → (table : Table) → table ≡ s.table → (number : ℕ) → number ≡ port.0 → (default : PortSlots)
-    → LendsTroubled s device table s.book (get_or s.slots number default) port look
-lends_troubled s port look device sees table same number is default = record {
+-- what is lent of a server whose port is in trouble
+pub lends_troubled : (s : Server) (port : Port) (trouble : Trouble) (device : Device) → SeesTrouble s port trouble device → (table : Table) → table ≡ s.table → (number : ℕ) → number ≡ port.0 → (default : PortSlots)
+    → LendsTroubled s device table s.book (get_or s.slots number default) port trouble
+lends_troubled s port trouble device sees table same number is default = record {
   sees = sees;
   table_is = sym same;
   book_is = refl;
@@ -94,8 +96,8 @@ restored s port was device found mode slots now = record s {
   book = now.book;
 }
 
-module _ (laws : RestoringLaws) (s : Server) (port : Port) (look : Look) (first : Device) (sees : SeesTrouble s port look first) (was : DiskInfo) (is_ready : found_of s.ports port.0 ≡ Ready was)
-    (before told : List Reply) (failed : Option Failed) (next : Next) (t : Table) (b : List Held) (u : PortSlots) (one : Device) (r : MendsRest port look before told failed next s t b u one) where
+module _ (laws : RestoringLaws) (s : Server) (port : Port) (trouble : Trouble) (first : Device) (sees : SeesTrouble s port trouble first) (was : DiskInfo) (is_ready : found_of s.ports port.0 ≡ Ready was)
+    (before told : List Reply) (failed : Option Failed) (next : Next) (t : Table) (b : List Held) (u : PortSlots) (one : Device) (r : MendsRest port trouble before told failed next s t b u one) where
   low : port.0 < 4
   low = (sees.kept.there port.0 (served_ready (found_of s.ports port.0) sees.ready)).0
 
@@ -132,8 +134,8 @@ module _ (laws : RestoringLaws) (s : Server) (port : Port) (look : Look) (first 
       let none = ap length (sym (kept_said number is default) ∙ places.0) in
       omega (arith, few, none)
 
-  module _ (two : Device) (found : Found) (is_found : IsFoundAfter (wanted_of s.wanted port.0) port look was next one two found) (mode : Mode) (mode_is : mode ≡ mode_found two.cap found)
-      (fresh : PortSlots) (usable : fresh.usable ≡ mode.usable) (as_many : length fresh.places ≡ 32) (free : (slot : ℕ) → use_at fresh slot ≡ None) (prospect : Prospect) (expects : IsProspect look was found prospect)
+  module _ (two : Device) (found : Found) (is_found : IsFoundAfter (wanted_of s.wanted port.0) port trouble was next one two found) (mode : Mode) (mode_is : mode ≡ mode_found two.cap found)
+      (fresh : PortSlots) (usable : fresh.usable ≡ mode.usable) (as_many : length fresh.places ≡ 32) (free : (slot : ℕ) → use_at fresh slot ≡ None) (prospect : Prospect) (expects : IsProspect trouble was found prospect)
       (now : Holdings) (later : List Reply) (meets : MeetFates (fate_of failed prospect) (requests_of port b) later (holding b t (kept_at s.kept port.0)) now) where
     abbrev then : Server
     then = restored s port was two found mode fresh now
@@ -146,8 +148,8 @@ module _ (laws : RestoringLaws) (s : Server) (port : Port) (look : Look) (first 
       device = one;
       mended = r.mended;
       found = found;
-      is = subst (λ (told : Look). IsFoundAfter (wanted_of s.wanted port.0) port told was r.mended.result.next one two found) (sym r.look_is)
-          (subst (λ (way : Next). IsFoundAfter (wanted_of s.wanted port.0) port look was way one two found) (sym r.next_is) is_found);
+      is = subst (λ (its : Trouble). IsFoundAfter (wanted_of s.wanted port.0) port its was r.mended.result.next one two found) (sym r.trouble_is)
+          (subst (λ (way : Next). IsFoundAfter (wanted_of s.wanted port.0) port trouble was way one two found) (sym r.next_is) is_found);
       mode = mode;
       mode_is = mode_is;
       slots = fresh;
@@ -155,7 +157,7 @@ module _ (laws : RestoringLaws) (s : Server) (port : Port) (look : Look) (first 
       failed = failed;
       names = subst (λ (n : PortSlots). IsFailed n r.mended.result.failed failed) (sym slots_mid) r.names;
       prospect = prospect;
-      expects = subst (λ (told : Look). IsProspect told was found prospect) (sym r.look_is) expects;
+      expects = subst (λ (its : Trouble). IsProspect its was found prospect) (sym r.trouble_is) expects;
       now = now;
       meets = subst (λ (n : Server). MeetFates (fate_of failed prospect) (requests_of port n.book) later (holding n.book n.table (kept_at n.kept port.0)) now) (sym r.mid_is) meets;
       server = (λ i. record then { slots = sym (set-set s.slots port.0 u fresh) i }) ∙ (λ i. put (sym r.mid_is i));
@@ -231,9 +233,17 @@ module _ (laws : RestoringLaws) (s : Server) (port : Port) (look : Look) (first 
         ordered = ordered;
       }
 
-      pub served : ServesPort port its s (with_part then three book slots port) × IsSettled (with_part then three book slots port)
+      -- it goes on, whatever the trouble was
+      goes_on : (its_trouble : Trouble) → r.mended.trouble ≡ its_trouble → IsSettled (with_part then three book slots port)
       unfolding settled_after recovers_port
-      served = laws.mended s (with_part then three book slots port) port its settled sees.ready recovers_port r.followed
+      goes_on Fails is = (laws.mended s (with_part then three book slots port) port its settled sees.ready recovers_port (λ hung. let z : Fails ≡ Hung = sym is ∙ hung in cc) r.followed).1
+      goes_on Broken is = (laws.mended s (with_part then three book slots port) port its settled sees.ready recovers_port (λ hung. let z : Broken ≡ Hung = sym is ∙ hung in cc) r.followed).1
+      goes_on Lost is = (laws.mended s (with_part then three book slots port) port its settled sees.ready recovers_port (λ hung. let z : Lost ≡ Hung = sym is ∙ hung in cc) r.followed).1
+      goes_on Hung is = (laws.restarted s (with_part then three book slots port) port its settled sees.ready recovers_port is).1
+
+      pub mended : MendsOf port trouble its s (with_part then three book slots port) × IsSettled (with_part then three book slots port)
+      unfolding settled_after recovers_port
+      mended = (record { mends = recovers_port; trouble_is = r.trouble_is; followed = r.followed }, goes_on trouble r.trouble_is)
 
     -- so it is with its lists at that place
     pub placed : (three : Device) (book : List Held) (slots : PortSlots) (number : ℕ) → number ≡ port.0 → record s {

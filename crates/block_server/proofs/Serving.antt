@@ -1,22 +1,50 @@
--- The adapter has a ready port, and a mask has the slots that it uses.
-use Rattle.std.proofs.Common.{ℕ, true, false, ◌≡◌, ◌<◌, ◌==◌, ◌↔◌, Option, Some, None, get_or, refl, sym, ap, ◌∙◌, subst, arith, eq-eqb}
+-- The adapter has a ready port; what a look at it tells; and a mask has the slots that it uses.
+use Rattle.std.proofs.Common.{ℕ, true, false, ◌≡◌, ◌≢◌, ◌<◌, ◌==◌, ◌↔◌, Option, Some, None, get_or, refl, sym, ap, ◌∙◌, subst, arith, eq-eqb}
 use Rattle.std.specs.Int.{bit_at}
 use Rattle.std.specs.Prelude.{IsSome}
 use Rattle.std.proofs.lemmas.Bool.{eqb-false, false≢true, ne_eqb}
 use Rattle.std.proofs.lemmas.Nat.Bits.{bit_at-lt, bit_at-zero, same_from_bits_below}
+use Rattle.std.proofs.lemmas.Option.{same_Some}
 use Rattle.ata_types.specs.declared.Port.{Port}
 use Rattle.ata_types.specs.declared.PortState.TheVariants.{Ready as ReadyState}
 use Rattle.hba_regs.specs.Bits.{bit}
+use Rattle.adapter.specs.Device.{Device}
 use Rattle.adapter.specs.Rules.{HasPort}
 use Rattle.host_boot.specs.Taken.{found_of}
+use Rattle.port_look.specs.Looks.{LooksAt}
+use Rattle.port_look.specs.declared.Look.{Look}
+use Rattle.port_look.specs.declared.Look.TheVariants as look
+use Rattle.server_history.specs.Mended.{IsFoundOut}
 use Rattle.server_history.specs.Served.{HasNone, IsMaskOf, is_used}
 use Rattle.server_history.specs.Server.{Server, IsKept, slots_at, state_of}
+use Rattle.server_history.specs.declared.Trouble.{Trouble}
+use Rattle.server_history.specs.declared.Trouble.TheVariants.{Broken, Failed, Hung, Lost}
 use Rattle.slots.specs.Uses.{Uses as PortSlots, IsTaken, use_at}
 use Rattle.slots.specs.declared.Use.{Use as SlotUse}
+use Rattle.block_server.specs.Recovery.{trouble_of}
 use Rattle.block_server.proofs.Sending.{served_ready, slots_said}
 
 pub ready_there : (s : Server) (port : Port) → IsKept s → state_of (found_of s.ports port.0) ≡ ReadyState → HasPort s.device port.0
 ready_there s port k ready = k.there port.0 (served_ready (found_of s.ports port.0) ready)
+
+-- what a look tells is found out by it, and isn't that a request is hung
+pub found_out : (told : Look) (trouble : Trouble) (port : Port) (old seen : Device) → trouble_of told ≡ Some trouble → LooksAt port told old seen
+    → IsFoundOut port trouble old seen × (trouble ≢ Hung)
+found_out look.Failed trouble port old seen is looks =
+    subst (λ (its : Trouble). IsFoundOut port its old seen × (its ≢ Hung)) (same_Some Failed trouble is) (looks, λ hung. let z : Failed ≡ Hung = hung in cc)
+found_out look.Broken trouble port old seen is looks =
+    subst (λ (its : Trouble). IsFoundOut port its old seen × (its ≢ Hung)) (same_Some Broken trouble is) (looks, λ hung. let z : Broken ≡ Hung = hung in cc)
+found_out look.Lost trouble port old seen is looks =
+    subst (λ (its : Trouble). IsFoundOut port its old seen × (its ≢ Hung)) (same_Some Lost trouble is) (looks, λ hung. let z : Lost ≡ Hung = hung in cc)
+found_out look.Undisturbed trouble port old seen is looks = let z : None ≡ Some trouble = is in absurd cc
+
+-- a look that tells no trouble tells that there is none
+pub undisturbed : (told : Look) (result : Option Trouble) (port : Port) (old seen : Device) → result ≡ trouble_of told → ((trouble : Trouble) → result ≡ Some trouble → ⊥)
+    → LooksAt port told old seen → LooksAt port look.Undisturbed old seen
+undisturbed look.Failed result port old seen is none looks = absurd (none Failed is)
+undisturbed look.Broken result port old seen is none looks = absurd (none Broken is)
+undisturbed look.Lost result port old seen is none looks = absurd (none Lost is)
+undisturbed look.Undisturbed result port old seen is none looks = looks
 
 -- a mask that has the taken slots
 pub mask_of : (slots : PortSlots) (mask : ℕ) → ((slot : ℕ) → slot < 32 → (bit_at mask slot ≡ 1) ↔ IsTaken slots slot) → IsMaskOf slots mask

@@ -10,7 +10,7 @@ use Rattle.adapter.specs.Device.{Device}
 use Rattle.adapter.specs.declared.access.DeviceStep.{DeviceStep}
 use Rattle.agreement.specs.Facts.{RunsWell}
 use Rattle.agreement.specs.Slots.{ServesRequest}
-use Rattle.block_machine.specs.Events.{Event as Call, Moment, Service, AnswersEnded, EveryReadHolds, IsRun, WasIssued, moment_after, steps_of}
+use Rattle.block_machine.specs.Events.{Event as Call, Moment, Service, Tick, AnswersEnded, EveryReadHolds, IsHung, IsRun, WasIssued, moment_after, steps_of}
 use Rattle.block_machine.specs.Histories.{Happening, Instant, events_of, now}
 use Rattle.block_machine.specs.Ports.{SamePort}
 use Rattle.block_machine.specs.State.{Pending}
@@ -56,24 +56,26 @@ DoesItsPart port old h =
     (accesses : List Access) × CameBy old.moment h.event.ask h.event.said accesses old.device h.device × TiesPort old h accesses port
 
 -- In a call after these ones, moves and clears keep to their places; and each port is served well that the call is healthy for. On each port that is ready when the
--- call begins, and keeps its disk in it (IsAskedOf), the call does its part, whether or not commands fail or fatal errors come; and a service answers each request of such a
--- port of which the bits of PxCI and PxSACT were clear when it began, and heeds the failure that the port showed then, a fault or a fatal error.
+-- call begins (IsAskedOf), the call does its part, whether or not commands fail, fatal errors come, or its disk is lost; and a service answers each request of such a
+-- port of which the bits of PxCI and PxSACT were clear when it began, and heeds the failure that the port showed then, a fault or a fatal error. (That it heeds the loss
+-- of a disk that the port showed then is in its part.)
 pub record IsSound (first : Instant Device) (past : List (Happening Device DeviceStep)) (h : Happening Device DeviceStep) : Type 0 where
   pub moves : KeepsMoves first.moment.machine (steps_of (events_of past)) h.event.steps (now first past).device h.device
   pub served : (port : Port) → IsHealthyFor (now first past) h port → IsServedWell port (now first past) h
-  pub part : (port : Port) → IsAskedOf port (now first past) h.device → DoesItsPart port (now first past) h
-  pub seen : (port : Port) (slot : ℕ) (id : RequestId) → h.event.ask ≡ Service → IsAskedOf port (now first past) h.device
+  pub part : (port : Port) → IsAskedOf port (now first past) → DoesItsPart port (now first past) h
+  pub seen : (port : Port) (slot : ℕ) (id : RequestId) → h.event.ask ≡ Service → IsAskedOf port (now first past)
       → ServesRequest (now first past).moment.machine (now first past).device.memory ((now first past).device.port port.0) port.0 slot id
       → ((now first past).device.port port.0).ci slot ≡ false → ((now first past).device.port port.0).sact slot ≡ false
       → (done : Pending) × (done.request.id ≡ id) × Contains h.event.steps (Answer done outcome.Ok)
-  pub heeded : (port : Port) → h.event.ask ≡ Service → IsAskedOf port (now first past) h.device → ShowsFailure ((now first past).device.port port.0)
+  pub heeded : (port : Port) → h.event.ask ≡ Service → IsAskedOf port (now first past) → ShowsFailure ((now first past).device.port port.0)
       → HeedsFailure port (now first past) h
 
 -- What a list of calls is that said this, after a history that leads to the server before them. Each call adds an event with what was asked and
 -- said, and what is so longer leads to the server after it. All calls together are a run of the block machine (so replies stand in the
 -- order of port and id), each read that was answered Ok has what was left where the adapter's disks tell their sectors, and each call is
 -- sound. And a port that is ready and runs well before the list, and on which nothing goes wrong until its end (no fault, no fatal error, no
--- disk that goes or comes), is served well by each of its calls, and is ready and runs well after it.
+-- disk that goes or comes), is served well by each of its calls, and is ready and runs well after it, unless one of them is a tick that brings a request of the port to
+-- its age of three: that restarts the port, since nothing else tells that a request hangs.
 pub record ServesHealthyPorts {A : Type 0} (device : A → Device) (first : Instant Device) (past : List (Happening Device DeviceStep))
     (old new : ServerView A) (events : List Event) (said : List Said) : Type 0 where
   pub later : List (Happening Device DeviceStep)
@@ -83,5 +85,6 @@ pub record ServesHealthyPorts {A : Type 0} (device : A → Device) (first : Inst
   pub reads : first.device.telling ≡ true → EveryReadHolds first.moment (events_of later)
   pub sound : EachSince (IsSound first) [] later
   pub healthy : (port : Port) → state_of (found_of old.ports port.0) ≡ Ready → StaysHealthy port.0 (device old.adapter) (device new.adapter)
+      → EachSince (λ before h. h.event.ask ≡ Tick → IsHung (now first before).moment port → ⊥) past later
       → EachSince (λ before h. IsServedWell port (now first before) h) past later
       × (state_of (found_of new.ports port.0) ≡ Ready) × RunsWell ((device new.adapter).port port.0)

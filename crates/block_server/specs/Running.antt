@@ -10,16 +10,17 @@ use Rattle.adapter.specs.Device.{Device}
 use Rattle.block_machine.specs.Refusals.{IsOpen, IsFirstMemFault}
 use Rattle.dma_frames.specs.Table.{owner_of, lent_to}
 use Rattle.block_server.specs.Calls.{SameServer, Submits, Services, StoresFrame, StepsDevice}
-use Rattle.block_machine.specs.Events.{Ask, Submit as AskSubmit, StoreAt, LoadAt, Service as AskService, State as AskState, Device as AskDevice, Submitted, Loaded, Served, Shown, Stepped}
+use Rattle.block_machine.specs.Events.{Ask, Submit as AskSubmit, StoreAt, LoadAt, Service as AskService, Tick as AskTick, State as AskState, Device as AskDevice, Submitted, Loaded, Served, Shown, Stepped}
 use Rattle.block_machine.specs.Events as machine
 use Rattle.block_machine.specs.Histories.{Happening, Instant}
 use Rattle.adapter.specs.declared.access.DeviceStep.{DeviceStep}
 use Rattle.server_history.specs.Histories.{Adds, Leads, store_said}
 use Rattle.server_history.specs.Server.{state_of}
+use Rattle.server_history.specs.Turns.{Ticks}
 use Rattle.host_boot.specs.Taken.{found_of}
 use Rattle.block_server.specs.View.{ServerView, server_of}
 use Rattle.block_server.specs.declared.types.Event.{Event}
-use Rattle.block_server.specs.declared.types.Event.TheVariants.{Submit, ClientStore, ClientLoad, Service, State, Device as Step}
+use Rattle.block_server.specs.declared.types.Event.TheVariants.{Submit, ClientStore, ClientLoad, Service, Tick, State, Device as Step}
 use Rattle.block_server.specs.declared.types.Said.{Said}
 use Rattle.block_server.specs.declared.types.Said.TheVariants as said
 use Rattle.block_server.specs.declared.types.Told.{Told}
@@ -36,7 +37,7 @@ TellsBytes device old new client frame offset n bytes = (length bytes ≡ n)
 abbrev pub RefusesBytes : {A : Type 0} → ServerView A → ServerView A → ClientId → Frame → ℕ → ℕ → MemFault → Type 0
 RefusesBytes old new client frame offset n fault = IsFirstMemFault (owner_of old.table) (lent_to old.table) client frame offset n fault × (new ≡ old)
 
--- what a call said, where what a service answered stands in a list aside
+-- what a call said, where what a service or a tick answered stands in a list aside
 abbrev pub with_replies : Told → List Reply → Said
 with_replies (told.Submitted result) replies = said.Submitted result
 with_replies (told.Stored result) replies = said.Stored result
@@ -52,6 +53,7 @@ Answers device (ClientStore client frame offset bytes) (said.Stored result) old 
 Answers device (ClientLoad client frame offset n) (said.Loaded (Ok bytes)) old new = TellsBytes device old new client frame offset (min n 64) bytes.items
 Answers device (ClientLoad client frame offset n) (said.Loaded (Err fault)) old new = RefusesBytes old new client frame offset (min n 64) fault
 Answers device Service (said.Served replies) old new = Services device old new replies.items
+Answers device Tick (said.Served replies) old new = Ticks replies.items (server_of device old) (server_of device new)
 Answers device (State port) (said.State state) old new = (state ≡ state_of (found_of old.ports port.0)) × (new ≡ old)
 Answers device (Step step) (said.Stepped done) old new = StepsDevice device old new step done
 Answers device _ _ old new = ⊥
@@ -64,6 +66,7 @@ ask_of (Submit r) = AskSubmit r
 ask_of (ClientStore client frame offset bytes) = StoreAt client frame offset bytes.items
 ask_of (ClientLoad client frame offset count) = LoadAt client frame offset (min count 64)
 ask_of Service = AskService
+ask_of Tick = AskTick
 ask_of (State port) = AskState port
 ask_of (Step step) = AskDevice step
 

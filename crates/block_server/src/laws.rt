@@ -23,7 +23,7 @@ use driver_history::laws::{
     answers_rest, healthy_calls_go_well, histories_are_runs, moves_keep_to_their_places,
     reads_hold, seen_are_answered,
 };
-use driver_history::troubles::{healthy_ports_are_asked_of, shown_faults_are_heeded};
+use driver_history::troubles::shown_faults_are_heeded;
 use host_boot::laws::what_was_taken_over_may_be_served;
 
 /// Calls from a list add an event each to every history that leads to the server before them, and what is so longer leads to the server after
@@ -42,14 +42,14 @@ pub fn runs_are_histories<A: Stepped>()
 
 /// A list of calls serves the ports on which nothing goes wrong. To every history that leads to the server before them, they add theirs, one
 /// after another; and on a port that is ready and runs well, while it tells of no fault and no fatal error, and no disk of it goes or comes,
-/// each call issues exactly what is due, each service answers what has ended, with Ok, and nothing else, and the port stays as it is. And on each
-/// port that is ready when a call begins, and keeps its disk in it, the call does its part, what was seen done is answered, and commands that fail and fatal errors are heeded.
+/// each call issues exactly what is due, each service answers what has ended, with Ok, and nothing else, and the port stays as it is, unless a tick
+/// restarts it. And on each port that is ready when a call begins the call does its part, what was seen done is answered, and commands that fail, fatal errors and lost
+/// disks are heeded.
 pub fn runs_serve_healthy_ports<A: Stepped>()
     ensures { (old new : ServerView A) (events : List Event) (said : List Said) (first : Instant Device)
         (past : List (Happening Device DeviceStep)) → Ran A.device old new events said → Leads first past (server_of A.device old)
         → ServesHealthyPorts A.device first past old new events said }
 {
-    healthy_ports_are_asked_of();
     seen_are_answered();
     shown_faults_are_heeded();
     healthy_calls_go_well();

@@ -4,7 +4,10 @@ ghost use Rattle.hba_regs.specs.Bits.{bit};
 ghost use Rattle.host_boot.specs.Taken.{found_of};
 ghost use Rattle.host_boot.specs.declared.Found.TheVariants.{Ready};
 ghost use Rattle.identify.specs.declared.DiskInfo.{DiskInfo};
+ghost use Rattle.ata_types.specs.declared.Port.{Port};
+ghost use Rattle.request_queue.specs.Entries.{is_among};
 ghost use Rattle.server_history.specs.Server.{mode_at, mode_found, slots_at, used_for};
+ghost use Rattle.server_history.specs.Turns.{is_ready};
 
 use block_machine::Mode;
 use host_boot::{Found, Host, PORTS};
@@ -43,6 +46,28 @@ pub(crate) fn modes_of(host: &Host) -> [Mode; PORTS]
         mode_of(host.slots, host.queued, &host.ports[1]),
         mode_of(host.slots, host.queued, &host.ports[2]),
         mode_of(host.slots, host.queued, &host.ports[3]),
+    ]
+}
+
+/// Whether a port that was found so is ready.
+fn is_ready(found: &Found) -> bool
+    ensures { result ≡ is_ready found.now }
+{
+    match found {
+        Found::Ready(_) => true,
+        _ => false,
+    }
+}
+
+/// By port, whether it is ready.
+pub(crate) fn ready_ports(ports: &[Found; PORTS]) -> [bool; PORTS]
+    ensures { (port : Port) → is_among result port ≡ is_ready (found_of ports.now port.0) }
+{
+    [
+        is_ready(&ports[0]),
+        is_ready(&ports[1]),
+        is_ready(&ports[2]),
+        is_ready(&ports[3]),
     ]
 }
 

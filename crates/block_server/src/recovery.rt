@@ -1,7 +1,7 @@
-// A port of which a look told trouble is mended: recovered, where a command had failed, else given up; and booted anew where it has to be.
+// A port whose trouble was found out is mended: recovered, where a command had failed, else given up; and booted anew where it has to be.
 ghost use Rattle.std.specs.Prelude.{ℕ, ◌≡◌, ◌≤◌, ◌+◌, ◌++◌, IsTrue, ◌↔◌, Some, List, AllPairs, IsPermutation, drop, length, take};
 ghost use Rattle.ata_types.specs.declared.request.Reply.{Reply};
-ghost use Rattle.block_server.specs.Recovery.{LendsTroubled, MendsRest};
+ghost use Rattle.block_server.specs.Recovery.{LendsTroubled, MendsRest, trouble_of};
 ghost use Rattle.server_history.specs.Server.{Server};
 ghost use Rattle.ata_types.specs.declared.Port.{Port};
 ghost use Rattle.adapter.specs.Device.{Device};
@@ -13,7 +13,7 @@ ghost use Rattle.host_boot.specs.declared.Found.TheVariants.{Ready};
 ghost use Rattle.port_boot.specs.States.{IsBootable};
 ghost use Rattle.port_control.specs.Ports.{IsStopped};
 ghost use Rattle.port_control.specs.declared.Stopped as stopped_token;
-ghost use Rattle.server_history.specs.Mended.{AreQueued, BootsAfter, IsFailed, IsFoundAfter, IsProspect, IsSameDisk, LeadsToMending, TellsMending};
+ghost use Rattle.server_history.specs.Mended.{AreQueued, BootsAfter, IsFailed, IsFoundAfter, IsProspect, IsSameDisk, TellsMending};
 ghost use Rattle.server_history.specs.Server.{mode_found};
 ghost use Rattle.slots.specs.Uses.{use_at};
 ghost use Rattle.slots.specs.declared.Use.{Use as SlotUse};
@@ -31,15 +31,28 @@ use ncq::done;
 use port_control::Stopped;
 use port_look::Look;
 use request_queue::{Book, Failed, Prospect};
+use server_history::Trouble;
 use server_history::laws::{a_troubled_port_may_be_mended, looks_keep};
 use slots::Slots;
 
-/// Mends a port of which a look told trouble, and of which the masks were read: recovers it where a command had failed (AHCI 1.3.1, 6.2.2), and stops it to be
-/// booted where its link or the host's bus had, or its disk was lost.
+/// The trouble that a look tells, if it tells one. (That a request is hung no look tells.)
+pub(crate) fn trouble_of(look: Look) -> Option<Trouble>
+    ensures { result ≡ trouble_of look }
+{
+    match look {
+        Look::Failed => Some(Trouble::Failed),
+        Look::Broken => Some(Trouble::Broken),
+        Look::Lost => Some(Trouble::Lost),
+        Look::Undisturbed => None,
+    }
+}
+
+/// Mends a port in trouble, of which the masks were read: recovers it where a command had failed (AHCI 1.3.1, 6.2.2), and stops it to be
+/// booted where its link or the host's bus had, its disk was lost, or a request is hung.
 fn mend<A: Adapter>(
     adapter: &mut A,
     port: Port,
-    look: Look,
+    trouble: Trouble,
     outstanding: u32,
     queued: bool,
 ) -> Recovered
@@ -48,19 +61,18 @@ fn mend<A: Adapter>(
     requires room { DRIVER_BYTES ≤ (A.device adapter.old).size }
     requires agreed { AgreesWith (FitsFor queued port.0) (A.device adapter.old) }
     requires alone { IsAloneIn queued outstanding }
-    requires leads { LeadsToMending look }
-    requires may { look ≡ Look.Failed → MayRecover port.0 (A.device adapter.old) }
+    requires may { trouble ≡ Trouble.Failed → MayRecover port.0 (A.device adapter.old) }
     ensures on { IsOn (A.device adapter.new) }
     ensures mends { (m : Mends port outstanding queued result (A.device adapter.old) (A.device adapter.new))
-        × TellsMending look port outstanding queued result m.accesses (A.device adapter.old) (A.device adapter.new) }
+        × TellsMending trouble port outstanding queued result m.accesses (A.device adapter.old) (A.device adapter.new) }
 {
-    match look {
-        Look::Failed => recover(adapter, port, outstanding, queued),
+    match trouble {
+        Trouble::Failed => recover(adapter, port, outstanding, queued),
         _ => give_up(adapter, port, outstanding),
     }
 }
 
-/// Answers what is done on a ready port of which a look told trouble, in order of acceptance, and mends the port: the request whose
+/// Answers what is done on a ready port in trouble, in order of acceptance, and mends the port: the request whose
 /// command failed, where it is known, and what the port has to go through. The replies come after those that there are.
 pub(crate) fn mend_rest<A: Adapter>(
     adapter: &mut A,
@@ -68,14 +80,14 @@ pub(crate) fn mend_rest<A: Adapter>(
     table: &mut FrameTable,
     slots: &mut Slots,
     port: Port,
-    look: Look,
+    trouble: Trouble,
     replies: &mut Replies,
 ) -> (Option<Failed>, Next)
-    requires lends { (s : Server) × LendsTroubled s (A.device adapter.old) table.old book.old slots.old port look }
+    requires lends { (s : Server) × LendsTroubled s (A.device adapter.old) table.old book.old slots.old port trouble }
     requires room { length replies.old.items + length book.old ≤ 128 }
     ensures on { IsOn (A.device adapter.new) }
-    ensures mends { (s : Server) → LendsTroubled s (A.device adapter.old) table.old book.old slots.old port look
-        → MendsRest port look replies.old.items replies.new.items result.0 result.1 s table.new book.new slots.new (A.device adapter.new) }
+    ensures mends { (s : Server) → LendsTroubled s (A.device adapter.old) table.old book.old slots.old port trouble
+        → MendsRest port trouble replies.old.items replies.new.items result.0 result.1 s table.new book.new slots.new (A.device adapter.new) }
     ensures room { length replies.new.items + length book.new ≤ 128 }
 {
     looks_keep();
@@ -85,7 +97,7 @@ pub(crate) fn mend_rest<A: Adapter>(
     answer_done(book, table, slots, finished, replies);
     let outstanding = slots.taken();
     let queued = are_queued(slots);
-    let recovered = mend(adapter, port, look, outstanding, queued);
+    let recovered = mend(adapter, port, trouble, outstanding, queued);
     let failed = failed_in(slots, &recovered.failed);
     (failed, recovered.next)
 }
@@ -133,15 +145,20 @@ pub(crate) fn failed_in(slots: &Slots, named: &Option<Failure>) -> Option<Failed
 }
 
 /// Boots a port that was stopped; one whose disk was lost only where a device shows.
-fn boot_after<A: Adapter>(adapter: &mut A, look: Look, stopped: Stopped, wanted: &Wanted) -> Booted
+fn boot_after<A: Adapter>(
+    adapter: &mut A,
+    trouble: Trouble,
+    stopped: Stopped,
+    wanted: &Wanted,
+) -> Booted
     requires bootable { IsBootable stopped.port (A.device adapter.old) }
     requires stopped { IsStopped ((A.device adapter.old).port stopped.port.0) }
     requires saw { ((A.device adapter.old).port stopped.port.0).notes.link_count ≡ 64 }
     ensures on { IsOn (A.device adapter.new) }
-    ensures boots { BootsAfter look wanted.now stopped.port result (A.device adapter.old) (A.device adapter.new) }
+    ensures boots { BootsAfter trouble wanted.now stopped.port result (A.device adapter.old) (A.device adapter.new) }
 {
-    match look {
-        Look::Lost => boot_if_there(adapter, stopped, wanted),
+    match trouble {
+        Trouble::Lost => boot_if_there(adapter, stopped, wanted),
         _ => boot_again(adapter, stopped, wanted),
     }
 }
@@ -150,7 +167,7 @@ fn boot_after<A: Adapter>(adapter: &mut A, look: Look, stopped: Stopped, wanted:
 /// booted only where a device shows.
 pub(crate) fn find_after<A: Adapter>(
     adapter: &mut A,
-    look: Look,
+    trouble: Trouble,
     next: Next,
     was: &DiskInfo,
     mode: Mode,
@@ -162,13 +179,13 @@ pub(crate) fn find_after<A: Adapter>(
         × IsStopped ((A.device adapter.old).port stopped.port.0) × (((A.device adapter.old).port stopped.port.0).notes.link_count ≡ 64) }
     ensures on { IsOn (A.device adapter.new) }
     ensures found { (port : Port) → ((stopped : stopped_token.Stopped) → next ≡ Next.Restart stopped → stopped.port ≡ port)
-        → IsFoundAfter wanted.now port look was.now next (A.device adapter.old) (A.device adapter.new) result.0 }
+        → IsFoundAfter wanted.now port trouble was.now next (A.device adapter.old) (A.device adapter.new) result.0 }
     ensures mode { result.1 ≡ mode_found (A.device adapter.new).cap result.0 }
 {
     match next {
         Next::Running(_) => (Found::Ready(*was), mode),
         Next::Restart(stopped) => {
-            let booted = boot_after(adapter, look, stopped, wanted);
+            let booted = boot_after(adapter, trouble, stopped, wanted);
             let mode = mode_of(booted.slots, booted.queued, &booted.found);
             (booted.found, mode)
         }
@@ -185,12 +202,12 @@ fn is_same_disk(was: &DiskInfo, info: &DiskInfo) -> bool
 
 /// What the requests of a port that was ready with a disk may expect, now that it was found to be this. Where the disk was lost, it doesn't count that the same one is
 /// there again: what it keeps of writes that weren't flushed nobody knows.
-pub(crate) fn prospect_of(look: Look, was: &DiskInfo, found: &Found) -> Prospect
-    ensures { IsProspect look was.now found.now result }
+pub(crate) fn prospect_of(trouble: Trouble, was: &DiskInfo, found: &Found) -> Prospect
+    ensures { IsProspect trouble was.now found.now result }
 {
     match found {
         Found::Unready(PortState::Dead) => Prospect::Dead,
-        _ if look == Look::Lost => Prospect::DiskLost,
+        _ if trouble == Trouble::Lost => Prospect::DiskLost,
         Found::Ready(info) if is_same_disk(was, info) => Prospect::SameDisk,
         _ => Prospect::DiskLost,
     }

@@ -39,7 +39,7 @@ impl<A: Adapter> Server<A> {
     }
 }
 
-/// What a call said, with what a service answered.
+/// What a call said, with what a service or a tick answered.
 fn said_with(told: Told, replies: Replies) -> Said
     ensures { result ≡ with_replies told replies.items }
 {
@@ -56,7 +56,7 @@ fn said_with(told: Told, replies: Replies) -> Said
 impl<A: Stepped> Server<A> {
     ghost use Rattle.block_server.specs.Running.{Answered, RanInto};
 
-    /// Makes the call. What a service answered is all that `replies` has then; another call leaves it.
+    /// Makes the call. What a service or a tick answered is all that `replies` has then; another call leaves it.
     pub fn answer(&mut self, event: &Event, replies: &mut Replies) -> Told
         ensures { Answered A.device event.now (with_replies result replies.new.items) self.old self.new }
     {
@@ -76,6 +76,10 @@ impl<A: Stepped> Server<A> {
             } => Told::Loaded(self.load_few(*client, *frame, *offset, *length)),
             Event::Service => {
                 self.service_into(replies);
+                Told::Served
+            }
+            Event::Tick => {
+                self.tick_into(replies);
                 Told::Served
             }
             Event::State(port) => Told::State(self.state(*port)),

@@ -1,13 +1,13 @@
 // The server.
-ghost use Rattle.std.specs.Prelude.{◌≡◌, ◌≢◌, false, ◌<◌, ◌≤◌, ◌+◌, ◌↔◌, ◌*◌, ◌++◌, List, ℕ, IsTrue, IfOk, IfErr, OnOk, MatchOption, Ok, length, map, option_map, true};
+ghost use Rattle.std.specs.Prelude.{◌≡◌, ◌≢◌, false, ◌<◌, ◌≤◌, ◌+◌, ◌↔◌, ◌*◌, ◌++◌, List, ℕ, IsTrue, IfOk, IfErr, OnOk, MatchOption, Ok, length, map, option_map, slice_index_or, true};
 
 use crate::ServerError;
 use crate::answering::answer_done;
 use crate::fates::settle;
 use crate::kept::{KeptLoans, end_all, give_all_back, none_kept};
-use crate::modes::{PLAIN, modes_of, unused_slots};
+use crate::modes::{PLAIN, modes_of, ready_ports, unused_slots};
 use crate::port::{issue_due, issue_where_ready};
-use crate::recovery::{find_after, mend_rest, order_from, prospect_of};
+use crate::recovery::{find_after, mend_rest, order_from, prospect_of, trouble_of};
 use adapter::{Adapter, DeviceStep, Stepped};
 use ata_types::{
     ClientId, FRAME_BYTES, Frame, MemFault, Op, Port, PortState, Range, Refusal, Replies, Request,
@@ -21,13 +21,15 @@ use host_boot::{Found, PORTS, take_over};
 use identify::{DiskInfo, Wanted};
 use ncq::done;
 use plan::Plan;
-use port_look::{Look, look_at};
+use port_look::look_at;
 use request_queue::laws::the_book_stays_in_order;
 use request_queue::{Book, Entry};
+use server_history::Trouble;
 use server_history::laws::{
-    a_finished_port_settles, a_mended_port_goes_on, a_new_server_has_begun, a_port_is_served,
-    acceptances_add, client_bytes_add, device_steps_add, kept_loans_are_lent, looks_keep,
-    open_bytes_are_free, refusals_add, requests_keep, services_add,
+    a_finished_port_settles, a_hung_port_is_restarted, a_mended_port_goes_on,
+    a_new_server_has_begun, a_port_is_served, acceptances_add, client_bytes_add, device_steps_add,
+    kept_loans_are_lent, looks_keep, open_bytes_are_free, refusals_add, requests_get_older,
+    requests_keep, services_add, ticks_add,
 };
 use slots::Slots;
 use std::alloc::Global;
@@ -75,7 +77,7 @@ fn leaves_disk(r: &Request, sectors: u64) -> bool
 }
 
 impl<A: Adapter> Server<A> {
-    ghost use Rattle.block_machine.specs.Events.{Service, Served, Submit, Submitted, StoreAt, LoadAt, State, Shown};
+    ghost use Rattle.block_machine.specs.Events.{Service, Served, Submit, Submitted, StoreAt, LoadAt, State, Shown, Tick};
     ghost use Rattle.block_machine.specs.Refusals.{IsAcceptable, IsFirstRefusal, IsOpen, IsFirstMemFault};
     ghost use Rattle.block_server.specs.Calls.{AcceptsRequest, IsFor, Submits, Services, StoresFrame, LoadsFrame};
     ghost use Rattle.block_server.specs.Made.{IsReadyFor, IsNew, Refuses};
@@ -83,15 +85,16 @@ impl<A: Adapter> Server<A> {
     ghost use Rattle.configuration.specs.Rules.{IsSound};
     ghost use Rattle.dma_frames.specs.Table.{owner_of, lent_to};
     ghost use Rattle.host_boot.specs.Taken.{found_of};
-    ghost use Rattle.request_queue.specs.Entries.{Held};
+    ghost use Rattle.request_queue.specs.Entries.{Held, IsOverdue};
     ghost use Rattle.server_history.specs.Histories.{Adds, store_said, load_said};
     ghost use Rattle.ata_types.specs.declared.request.Reply.{Reply};
     ghost use Rattle.server_history.specs.Served.{AnswersDone};
-    ghost use Rattle.server_history.specs.Turns.{ServesPort};
-    ghost use Rattle.block_server.specs.Recovery.{SeesTrouble};
+    ghost use Rattle.server_history.specs.Turns.{ServesPort, Ticks, TicksPort, a_tick_older};
+    ghost use Rattle.block_server.specs.Recovery.{MendsOf, SeesTrouble};
     ghost use Rattle.adapter.specs.Device.{Device};
     ghost use Rattle.server_history.specs.Server.{IsSettled, disk_of, mode_at, remembered_at, situation_of, state_of, sectors_of, trims_of};
     ghost use Rattle.hba_regs.specs.Bits.{bit};
+    ghost use Rattle.agreement.specs.Agrees.{port_at};
     ghost use Rattle.agreement.specs.Slots.{IsOver};
     ghost use Rattle.ata_types.specs.declared.PortState.TheVariants.{Ready};
 
@@ -315,25 +318,26 @@ impl<A: Adapter> Server<A> {
         issue_due(&mut self.adapter, &mut self.book, slots, port, mode);
     }
 
-    /// Mends a ready port of which a look told trouble. What is done is answered. Where a command had failed, it is found out which one, and the port is had to
-    /// run again, by a boot where that is needed; where its link or the host's bus had, it is booted anew; where its disk was lost, if a device shows. The request whose command failed is told so. The
+    /// Mends a ready port in trouble. What is done is answered. Where a command had failed, it is found out which one, and the port is had to
+    /// run again, by a boot where that is needed; where its link or the host's bus had, or a request is hung, it is booted anew; where its disk was lost, if a device shows. The request whose command failed is told so. The
     /// others wait again where their disk is there still, and are `Aborted` after the fourth issue; where it isn't they are `Unplugged`, and where the port is
     /// dead `PortDead`. Then what is due is issued.
-    fn mend_port(&mut self, port: Port, was: DiskInfo, look: Look, replies: &mut Replies)
+    fn mend_port(&mut self, port: Port, was: DiskInfo, trouble: Trouble, replies: &mut Replies)
         requires ready { found_of self.old.ports port.0 ≡ Found.Ready was }
-        requires sees { (before : Device) × SeesTrouble (record (server_of A.device self.old) { device = before }) port look (A.device self.old.adapter)
+        requires sees { (before : Device) × SeesTrouble (record (server_of A.device self.old) { device = before }) port trouble (A.device self.old.adapter)
             × IsSettled (record (server_of A.device self.old) { device = before }) }
         requires room { length replies.old.items + length self.old.book ≤ 128 }
-        ensures serves { (before : Device) → SeesTrouble (record (server_of A.device self.old) { device = before }) port look (A.device self.old.adapter)
+        ensures mends { (before : Device) → SeesTrouble (record (server_of A.device self.old) { device = before }) port trouble (A.device self.old.adapter)
             → IsSettled (record (server_of A.device self.old) { device = before })
             → (its : List Reply) × (replies.new.items ≡ replies.old.items ++ its)
-            × ServesPort port its (record (server_of A.device self.old) { device = before }) (server_of A.device self.new) }
+            × MendsOf port trouble its (record (server_of A.device self.old) { device = before }) (server_of A.device self.new) }
         ensures settled { IsSettled (server_of A.device self.new) }
         ensures ports { (q : ℕ) → q ≢ port.0 → found_of self.new.ports q ≡ found_of self.old.ports q }
         ensures room { length replies.new.items + length self.new.book ≤ 128 }
     {
         a_mended_port_goes_on();
         a_port_is_served();
+        a_hung_port_is_restarted();
         let place = usize::from(port.0);
         let first = replies.len();
         let wanted = self.wanted[place];
@@ -345,15 +349,15 @@ impl<A: Adapter> Server<A> {
             &mut self.table,
             slots,
             port,
-            look,
+            trouble,
             replies,
         );
-        let (found, mode) = find_after(&mut self.adapter, look, next, &was, mode, &wanted);
+        let (found, mode) = find_after(&mut self.adapter, trouble, next, &was, mode, &wanted);
         self.ports[place] = found;
         self.remembered[place] = Some(was);
         self.modes[place] = mode;
         self.slots[place] = Slots::new(mode.usable);
-        let prospect = prospect_of(look, &was, &found);
+        let prospect = prospect_of(trouble, &was, &found);
         let kept = &mut self.kept[place];
         settle(
             &mut self.book,
@@ -386,11 +390,8 @@ impl<A: Adapter> Server<A> {
             unreachable!()
         };
         let look = look_at(&mut self.adapter, port);
-        match look {
-            Look::Undisturbed => {}
-            Look::Lost | Look::Broken | Look::Failed => {
-                return self.mend_port(port, was, look, replies);
-            }
+        if let Some(trouble) = trouble_of(look) {
+            return self.mend_port(port, was, trouble, replies);
         }
         let used = self.slots[usize::from(port.0)].taken();
         if used == 0 {
@@ -433,6 +434,76 @@ impl<A: Adapter> Server<A> {
                 continue;
             };
             self.serve_port(Port(number as u8), replies);
+        }
+    }
+
+    /// Makes the issued requests of ready ports a tick older, and tells by port whether one is overdue then.
+    fn grow_older(&mut self) -> [bool; PORTS]
+        ensures older { server_of A.device self.new ≡ a_tick_older (server_of A.device self.old) }
+        ensures settled { IsSettled (server_of A.device self.new) }
+        ensures overdue { (number : ℕ) → number < 4 → IsTrue (slice_index_or result number false) ↔ IsOverdue (port_at number) self.new.book }
+    {
+        requests_get_older();
+        self.book.tick(&ready_ports(&self.ports));
+        [
+            self.book.overdue(Port(0)),
+            self.book.overdue(Port(1)),
+            self.book.overdue(Port(2)),
+            self.book.overdue(Port(3)),
+        ]
+    }
+
+    /// Restarts a ready port of which a request is overdue: the port isn't looked at, and is mended as one that is hung. Another rests.
+    fn tick_port(&mut self, port: Port, was: DiskInfo, is_overdue: bool, replies: &mut Replies)
+        requires ready { found_of self.old.ports port.0 ≡ Found.Ready was }
+        requires room { length replies.old.items + length self.old.book ≤ 128 }
+        ensures ticks { (book : List Held) → (IsTrue is_overdue ↔ IsOverdue port book) → (its : List Reply) × (replies.new.items ≡ replies.old.items ++ its)
+            × TicksPort book port its (server_of A.device self.old) (server_of A.device self.new) }
+        ensures settled { IsSettled (server_of A.device self.new) }
+        ensures ports { (q : ℕ) → q ≢ port.0 → found_of self.new.ports q ≡ found_of self.old.ports q }
+        ensures room { length replies.new.items + length self.new.book ≤ 128 }
+    {
+        looks_keep();
+        a_hung_port_is_restarted();
+        let _ = &self.adapter;
+        if is_overdue {
+            self.mend_port(port, was, Trouble::Hung, replies);
+        }
+    }
+
+    /// Notes that a tick has gone by: each issued request of a ready port is a tick older. A port is restarted of which a request is three ticks old then: what
+    /// is done is answered; the port is stopped and booted anew; and where its disk is the same then, each request that had been issued goes again, or is `Aborted`
+    /// after the fourth issue. Where the disk isn't the same, or none shows, they are `Unplugged`, those too that wait, and where the port's engine gets stuck
+    /// `PortDead`. Then what is due is issued, of age 0. Which ports are overdue is found out before any is restarted. A port of which no request is
+    /// overdue isn't looked at, nor is one that isn't ready. The replies stand port by port, in rising number, each port's in order of acceptance.
+    ///
+    /// The server reads no clock: its caller calls this by one, at a pace of its choosing, beside `service`. A disk has between two and three ticks' time for a request,
+    /// counted from its issue. A restart waits for the port as its stop and its boot do, at most so often as these tell, and meanwhile for all ports; four ports may be restarted in a
+    /// call. A tick that restarts none makes no access.
+    pub fn tick(&mut self) -> Replies
+        ensures ticks { Ticks result.items (server_of A.device self.old) (server_of A.device self.new) }
+        ensures adds { Adds (server_of A.device self.old) (server_of A.device self.new) Tick (Served result.items) }
+    {
+        let mut replies = Replies::new();
+        self.tick_into(&mut replies);
+        replies
+    }
+
+    /// The same, where the replies stand in a list that the caller keeps, in place of what it had.
+    pub fn tick_into(&mut self, replies: &mut Replies)
+        ensures ticks { Ticks replies.new.items (server_of A.device self.old) (server_of A.device self.new) }
+        ensures adds { Adds (server_of A.device self.old) (server_of A.device self.new) Tick (Served replies.new.items) }
+    {
+        ticks_add();
+        the_book_stays_in_order();
+        replies.clear();
+        let ports = self.ports;
+        let overdue = self.grow_older();
+        for place in 0..PORTS {
+            let Found::Ready(was) = ports[place] else {
+                continue;
+            };
+            self.tick_port(Port(place as u8), was, overdue[place], replies);
         }
     }
 

@@ -32,6 +32,7 @@ pub enum Event {
         length: u32,
     },
     Service,
+    Tick,
     State(Port),
     Device(DeviceStep),
 }
@@ -42,12 +43,13 @@ pub enum Said {
     Submitted(Result<RequestId, Refusal>),
     Stored(Result<(), MemFault>),
     Loaded(Result<ArrayVec<u8, 64>, MemFault>),
+    /// What a service or a tick answered.
     Served(Replies),
     State(PortState),
     Stepped(bool),
 }
 
-/// What a call answered, where the replies of a service stand in a list aside.
+/// What a call answered, where the replies of a service or a tick stand in a list aside.
 #[derive(Debug, Drop)]
 pub enum Told {
     Submitted(Result<RequestId, Refusal>),

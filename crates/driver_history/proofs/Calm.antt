@@ -3,7 +3,7 @@ use Rattle.std.proofs.Common.{ℕ, ◌≡◌, ◌≢◌, true, List, refl, sym, 
 use Rattle.std.specs.List.{All, Contains, list_any}
 use Rattle.std.proofs.lemmas.Bool.{false≢true}
 use Rattle.std.proofs.lemmas.List.{append_cancel_left}
-use Rattle.std.proofs.lemmas.List.Elements.{All-contains, All-weaker, Contains-append_right}
+use Rattle.std.proofs.lemmas.List.Elements.{All-contains, Contains-append_right}
 use Rattle.ata_types.specs.declared.Port.{Port}
 use Rattle.ata_types.specs.declared.PortState.TheVariants.{Ready}
 use Rattle.adapter.specs.Device.{Device, PortState}
@@ -23,7 +23,6 @@ use Rattle.identify.specs.declared.wanted.Wanted.{Wanted}
 use Rattle.driver_history.specs.Claims.{IsSpared}
 use Rattle.driver_history.specs.Evidence.{Gains, HasErrors, HasFatalErrors, IsEvidencedOf, IsGone, ShowsFailure, StaysHealthy}
 use Rattle.error_recovery.specs.Evidence.{GainsRunning, ShowsFatal}
-use Rattle.driver_history.specs.Guard.{IsAskedOf}
 use Rattle.driver_history.specs.Histories.{LosesNoTrouble, Ties}
 use Rattle.driver_history.specs.Trace.{LeavesEngine}
 
@@ -102,18 +101,6 @@ untroubled evidence old ports new port healthy = record {
       trouble);
 }
 
-none_of : (port : ℕ) (Such : Entry → Type 0) (old new : Device) → ((e : Entry) → Such e → IsDisturbance port e) → (u : Undisturbed port old new) → All (λ e. Such e → ⊥) u.gained
-none_of port Such old new disturbs u = All-weaker (λ e. IsDisturbance port e → ⊥) (λ e. Such e → ⊥) (λ e calm is. calm (disturbs e is)) u.gained u.calm
-
--- a ready port that stays healthy is one of which the call's part is asked
-pub healthy_asked : (port : Port) (old : Instant Device) (new : Device) → old.moment.ports.state port ≡ Ready → StaysHealthy port.0 old.device new → IsAskedOf port old new
-healthy_asked port old new ready healthy = record {
-  ready = ready;
-  change = λ change. ⊎_elim (λ n. false≢true (sym healthy.well.quiet.serr_n ∙ n)) (λ x. false≢true (sym healthy.well.quiet.serr_x ∙ x)) change;
-  device = healthy.well.det;
-  plugged = record { gained = healthy.undisturbed.gained; tape = healthy.undisturbed.tape; none = none_of port.0 (IsPlugging port.0) old.device new (plugging_disturbs port.0) healthy.undisturbed };
-}
-
 -- nothing of what trouble is named for is so of it
 module _ (port : Port) (old : Instant Device) (new : Device) (healthy : StaysHealthy port.0 old.device new) where
   pub no_errors : HasErrors port old new → ⊥
@@ -162,7 +149,7 @@ module _ (told : EntryIsTold) (wanted : List Wanted) (old : Instant Device) (h :
     serves : ServesReady old.moment h.event.evidence h.event.steps (moment_after old.moment h.event) port
     serves =
         let Heeded : Ask DeviceStep → Type 0 = λ ask. HeedsAt port ask old.moment h.event.evidence h.event.steps (moment_after old.moment h.event) in
-        let its : Heeded Service = subst Heeded asks (t.port port (healthy_asked port old h.device ready healthy)).heeds in
+        let its : Heeded Service = subst Heeded asks (t.port port ready).heeds in
         its ready
 
     alone : IsLeftAlone old.moment.ports h.event.evidence h.event.steps h.event.ports port
@@ -188,7 +175,7 @@ module _ (told : EntryIsTold) (wanted : List Wanted) (old : Instant Device) (h :
   no_interrupt (Told step) heeds other spares ready i = heeds i
 
   pub engine_left : h.event.ask ≢ Reset → (h.event.ask ≡ Tick → IsInterrupted h.event.evidence port → ⊥) → old.moment.ports.state port ≡ Ready → All (LeavesEngine port) t.accesses
-  engine_left other spares ready = ⊎_elim (λ a. a) (λ i. absurd (no_interrupt h.event.ask (t.port port (healthy_asked port old h.device ready healthy)).heeds other spares ready i)) ev.stopped_all
+  engine_left other spares ready = ⊎_elim (λ a. a) (λ i. absurd (no_interrupt h.event.ask (t.port port ready).heeds other spares ready i)) ev.stopped_all
 
 tick_restarts : (said : Said) (old : Moment) (evidence : Evidence) (steps : List Step) (new : Moment) → IsAnswered {D = DeviceStep} Tick said old evidence steps new → RestartsHung old evidence steps new
 tick_restarts (Served replies) old evidence steps new a = a.restarts

@@ -1,12 +1,14 @@
--- Errors of a port are shown from when they come until their bits of PxIS are cleared: faults by TFES, and fatal errors by IFS, HBDS and HBFS.
-use Rattle.std.proofs.Common.{ℕ, ◌≡◌, ◌≤◌, ◌⊎◌, ◌++◌, true, false, List, sym, ap, ◌∙◌, subst, inl, inr, ⊎_elim, append_assoc, arith}
+-- Trouble of a port is shown from when it comes until its bits are cleared: faults by TFES of PxIS, fatal errors by its IFS, HBDS and HBFS, and disks that go or come by N of PxSERR.
+-- So is a change of the link that X of PxSERR tells of.
+use Rattle.std.proofs.Common.{ℕ, ◌≡◌, ◌≤◌, ◌⊎◌, ◌++◌, Bool, true, false, List, sym, ap, ◌∙◌, subst, inl, inr, ⊎_elim, append_assoc}
 use Rattle.std.specs.List.{All, Contains}
 use Rattle.std.proofs.lemmas.Bool.{cases_Bool, false≢true}
 use Rattle.std.proofs.lemmas.List.{append-nil, append_cancel_left}
 use Rattle.std.proofs.lemmas.List.Elements.{All-contains, All-nil, Contains-append_cases}
 use Rattle.ata_types.specs.declared.Port.{Port}
 use Rattle.hba_regs.specs.declared.reg.Reg.TheVariants.{Px}
-use Rattle.hba_regs.specs.declared.reg.PortReg.TheVariants.{Is}
+use Rattle.hba_regs.specs.declared.reg.PortReg.{PortReg}
+use Rattle.hba_regs.specs.declared.reg.PortReg.TheVariants.{Is, Serr}
 use Rattle.adapter.specs.Access.{Access, Does}
 use Rattle.adapter.specs.Device.{Device, PortState}
 use Rattle.adapter.specs.Steps.{Steps}
@@ -14,9 +16,9 @@ use Rattle.adapter.specs.declared.tape.Entry.{Entry}
 use Rattle.agreement.specs.Driven.{Grows}
 use Rattle.agreement.specs.Errors.{IsFatalOf, NoneFails, NoneFatal}
 use Rattle.agreement.specs.Facts.{IsFaultOf}
-use Rattle.agreement.specs.Links.{SparesRegister}
+use Rattle.agreement.specs.Links.{IsPlugging, PlugsNone, SparesRegister}
 use Rattle.error_recovery.specs.Evidence.{ShowsFatal}
-use Rattle.driver_history.specs.Evidence.{Gains, ShowsFailure}
+use Rattle.driver_history.specs.Evidence.{Gains, ShowsChange, ShowsFailure}
 use Rattle.driver_history.specs.Laws.{Laws}
 
 -- ---- what the tape gained
@@ -39,67 +41,107 @@ in_parts Such old mid new early late g =
 
 -- ---- the kinds
 
-pub data ErrorKind : Type 0 where
-  faults : ErrorKind
-  fatals : ErrorKind
+-- errors, disks that go or come, and a link that was told to have changed, of which the tape has no entry of its own
+pub data TroubleKind : Type 0 where
+  faults fatals disks links : TroubleKind
 
 -- the port shows one
-abbrev pub Shows : ErrorKind → PortState → Type 0
+abbrev pub Shows : TroubleKind → PortState → Type 0
 Shows faults p = p.is 30 ≡ true
 Shows fatals p = ShowsFatal p
+Shows disks p = p.serr_n ≡ true
+Shows links p = p.serr_x ≡ true
 
 -- the entry is one of the port
-abbrev pub IsOne : ErrorKind → ℕ → Entry → Type 0
+abbrev pub IsOne : TroubleKind → ℕ → Entry → Type 0
 IsOne faults port = IsFaultOf port
 IsOne fatals port = IsFatalOf port
+IsOne disks port = IsPlugging port
+IsOne links port = λ e. ⊥
 
--- where one is shown, a failure is
-pub failure : (kind : ErrorKind) (p : PortState) → Shows kind p → ShowsFailure p
-failure faults p set = inr set
-failure fatals p shown = inl shown
+-- the register with its bits
+abbrev pub register_of : TroubleKind → PortReg
+register_of faults = Is
+register_of fatals = Is
+register_of disks = Serr
+register_of links = Serr
 
--- where one came, one of them came
-pub one_came : (kind : ErrorKind) (port : ℕ) (old new : Device) → Gains (IsOne kind port) old new → Gains (IsFaultOf port) old new ⊎ Gains (IsFatalOf port) old new
-one_came faults port old new g = inl g
-one_came fatals port old new g = inr g
+-- the port shows a failure; or a change, where the kind is one of those
+abbrev pub Tells : TroubleKind → PortState → Type 0
+Tells faults p = ShowsFailure p
+Tells fatals p = ShowsFailure p
+Tells disks p = ShowsChange p
+Tells links p = ShowsChange p
 
--- one is shown still where each bit of them that was set is set
-pub still_set : (kind : ErrorKind) (p new : PortState) → ((place : ℕ) → 27 ≤ place → place ≤ 30 → p.is place ≡ true → new.is place ≡ true) → Shows kind p → Shows kind new
-still_set faults p new keeps set = keeps 30 (omega arith) (omega arith) set
-still_set fatals p new keeps shown =
-    let high = shown.to in
-    record { place = shown.place; from = shown.from; to = high; set = keeps shown.place shown.from (omega (arith, high)) shown.set }
+-- where one is shown, that is
+pub told : (kind : TroubleKind) (p : PortState) → Shows kind p → Tells kind p
+told faults p set = inr set
+told fatals p shown = inl shown
+told disks p set = inl set
+told links p set = inr set
+
+-- which is trouble
+pub is_trouble : (kind : TroubleKind) (p : PortState) → Tells kind p → ShowsFailure p ⊎ ShowsChange p
+is_trouble faults p tells = inl tells
+is_trouble fatals p tells = inl tells
+is_trouble disks p tells = inr tells
+is_trouble links p tells = inr tells
 
 -- ---- stretches that clear none
 
 -- What was shown is shown still, and what came is shown.
-pub record AreShown (kind : ErrorKind) (port : ℕ) (old new : Device) : Type 0 where
+pub record AreShown (kind : TroubleKind) (port : ℕ) (old new : Device) : Type 0 where
   pub still : Shows kind (old.port port) → Shows kind (new.port port)
   pub came : Gains (IsOne kind port) old new → Shows kind (new.port port)
 
-pub shown_none : (kind : ErrorKind) (port : ℕ) (d : Device) → AreShown kind port d d
+pub shown_none : (kind : TroubleKind) (port : ℕ) (d : Device) → AreShown kind port d d
 shown_none kind port d = record { still = λ shown. shown; came = λ g. absurd (denies (IsOne kind port) d d _ (sym (append-nil d.tape)) (All-nil (λ e. IsOne kind port e → ⊥)) g) }
 
-pub shown_more : (kind : ErrorKind) (port : ℕ) (old mid new : Device) → Grows old mid → Grows mid new → AreShown kind port old mid → AreShown kind port mid new → AreShown kind port old new
+pub shown_more : (kind : TroubleKind) (port : ℕ) (old mid new : Device) → Grows old mid → Grows mid new → AreShown kind port old mid → AreShown kind port mid new → AreShown kind port old new
 shown_more kind port old mid new first last early late = record {
   still = λ shown. late.still (early.still shown);
   came = λ g. ⊎_elim (λ before. late.still (early.came before)) late.came (in_parts (IsOne kind port) old mid new first last g);
 }
 
 -- a failure that was shown is shown still
-pub failure_still : (port : ℕ) (old new : Device) → ((kind : ErrorKind) → AreShown kind port old new) → ShowsFailure (old.port port) → ShowsFailure (new.port port)
+pub failure_still : (port : ℕ) (old new : Device) → ((kind : TroubleKind) → AreShown kind port old new) → ShowsFailure (old.port port) → ShowsFailure (new.port port)
 failure_still port old new shown f = ⊎_elim (λ fatal. inl ((shown fatals).still fatal)) (λ fault. inr ((shown faults).still fault)) f
+
+-- and so is a change
+pub change_still : (port : ℕ) (old new : Device) → ((kind : TroubleKind) → AreShown kind port old new) → ShowsChange (old.port port) → ShowsChange (new.port port)
+change_still port old new shown c = ⊎_elim (λ n. inl ((shown disks).still n)) (λ x. inr ((shown links).still x)) c
+
+pub tells_still : (kind : TroubleKind) (port : ℕ) (old new : Device) → ((kind : TroubleKind) → AreShown kind port old new) → Tells kind (old.port port) → Tells kind (new.port port)
+tells_still faults port old new shown f = failure_still port old new shown f
+tells_still fatals port old new shown f = failure_still port old new shown f
+tells_still disks port old new shown c = change_still port old new shown c
+tells_still links port old new shown c = change_still port old new shown c
+
+-- where a bit that is clear was, and tells that none came, those that came are shown
+pub by_bit : (Such : Entry → Type 0) (old new : Device) (was is : Bool) → (is ≡ false → (was ≡ false) × ((gained : List Entry) × (new.tape ≡ old.tape ++ gained) × All (λ e. Such e → ⊥) gained))
+    → (was ≡ true → is ≡ true) × (Gains Such old new → is ≡ true)
+by_bit Such old new was is tells = (
+  (λ set. unless (λ clear. false≢true (sym (tells clear).0 ∙ set))),
+  (λ g. unless (λ clear. let none = (tells clear).1 in denies Such old new none.0 none.1 none.2 g)),
+)
+  where
+    unless : (is ≡ false → ⊥) → is ≡ true
+    unless not = ⊎_elim (λ set. set) (λ clear. absurd (not clear)) (cases_Bool is)
 
 module _ (laws : Laws) where
   -- what isn't shown wasn't, and hasn't come
   of_faults : (port : ℕ) (old new : Device) → ((new.port port).is 30 ≡ false → ((old.port port).is 30 ≡ false) × NoneFails port old new) → AreShown faults port old new
-  of_faults port old new tells = record {
-    still = λ set. unless (λ clear. false≢true (sym (tells clear).0 ∙ set));
-    came = λ g. unless (λ clear. let none = (tells clear).1 in denies (IsFaultOf port) old new none.gained none.tape none.none g);
-  }
-    where
-      unless : ((new.port port).is 30 ≡ false → ⊥) → (new.port port).is 30 ≡ true
-      unless not = ⊎_elim (λ set. set) (λ clear. absurd (not clear)) (cases_Bool ((new.port port).is 30))
+  of_faults port old new tells =
+      let b = by_bit (IsFaultOf port) old new ((old.port port).is 30) ((new.port port).is 30) (λ clear. let t = tells clear in (t.0, (t.1.gained, t.1.tape, t.1.none))) in
+      record { still = b.0; came = b.1 }
+
+  of_disks : (port : ℕ) (old new : Device) → ((new.port port).serr_n ≡ false → ((old.port port).serr_n ≡ false) × PlugsNone port old new) → AreShown disks port old new
+  of_disks port old new tells =
+      let b = by_bit (IsPlugging port) old new (old.port port).serr_n (new.port port).serr_n (λ clear. let t = tells clear in (t.0, (t.1.gained, t.1.tape, t.1.none))) in
+      record { still = b.0; came = b.1 }
+
+  pub of_links : (port : ℕ) (old new : Device) → ((old.port port).serr_x ≡ true → (new.port port).serr_x ≡ true) → AreShown links port old new
+  of_links port old new keeps = record { still = keeps; came = λ g. absurd g.is }
 
   of_fatals : (port : ℕ) (old new : Device)
       → (((place : ℕ) → 27 ≤ place → place ≤ 29 → (new.port port).is place ≡ false) → ((place : ℕ) → 27 ≤ place → place ≤ 29 → (old.port port).is place ≡ false) × NoneFatal port old new)
@@ -110,11 +152,15 @@ module _ (laws : Laws) where
   }
 
   -- the device's own steps clear none
-  pub steps_show : (kind : ErrorKind) (port : ℕ) (old new : Device) → old.hr ≡ false → Steps old new → AreShown kind port old new
+  pub steps_show : (kind : TroubleKind) (port : ℕ) (old new : Device) → old.hr ≡ false → Steps old new → AreShown kind port old new
   steps_show faults port old new on steps = of_faults port old new (laws.faults_steps port old new on steps)
   steps_show fatals port old new on steps = of_fatals port old new (laws.fatals_steps port old new on steps)
+  steps_show disks port old new on steps = of_disks port old new (laws.disks_steps port old new on steps)
+  steps_show links port old new on steps = of_links port old new (laws.changes_steps port old new on steps).serr_x
 
-  -- nor does an access that isn't a write of PxIS
-  pub access_shows : (kind : ErrorKind) (port : Port) (access : Access) (old new : Device) → old.hr ≡ false → SparesRegister (Px port Is) access → Does access old new → AreShown kind port.0 old new
+  -- nor does an access that doesn't write their register
+  pub access_shows : (kind : TroubleKind) (port : Port) (access : Access) (old new : Device) → old.hr ≡ false → SparesRegister (Px port (register_of kind)) access → Does access old new → AreShown kind port.0 old new
   access_shows faults port access old new on spares does = of_faults port.0 old new (laws.faults_access port access old new on spares does)
   access_shows fatals port access old new on spares does = of_fatals port.0 old new (laws.fatals_access port access old new on spares does)
+  access_shows disks port access old new on spares does = of_disks port.0 old new (laws.disks_access port access old new on spares does)
+  access_shows links port access old new on spares does = of_links port.0 old new (laws.changes_access port access old new on spares does).1

@@ -14,7 +14,7 @@ use Rattle.identify.specs.declared.wanted.Wanted.{Wanted}
 use Rattle.driver_history.specs.Claims.{GoesWellFor, IsHealthyFor, IsSpared}
 use Rattle.driver_history.specs.Histories.{IsHistory, Ties}
 use Rattle.driver_history.specs.Trace.{LeavesEngine}
-use Rattle.driver_history.proofs.Calm.{EntryIsTold, engine_left, healthy_asked, restarts_of, spared, tick_spares}
+use Rattle.driver_history.proofs.Calm.{EntryIsTold, engine_left, restarts_of, spared, tick_spares}
 use Rattle.driver_history.proofs.Lasting.{KeepsWell}
 use Rattle.driver_history.proofs.Leaving.{left_well}
 use Rattle.driver_history.proofs.Resting.{belongs_of}
@@ -99,6 +99,6 @@ module _ (told : EntryIsTold) (steps : KeepsWell) (wanted : List Wanted) (first 
       came = t.came;
       spared = left_alone (kind_of h.event.ask);
       well = left_well told steps wanted first past h port history healthy.ready healthy.no_reset healthy.young healthy.healthy;
-      finds = (t.port port (healthy_asked port old h.device healthy.ready healthy.healthy)).finds;
+      finds = (t.port port healthy.ready).finds;
       issues = t.issues port;
     }

@@ -6,7 +6,6 @@ use Rattle.std.proofs.lemmas.List.Elements.{All-append, All-cons, All-head, All-
 use Rattle.ata_types.specs.declared.Port.{Port}
 use Rattle.ata_types.specs.declared.PortState.TheVariants.{Ready}
 use Rattle.hba_regs.specs.declared.reg.PortReg.TheVariants.{Cmd, Sctl}
-use Rattle.hba_regs.specs.declared.reg.PortReg.TheVariants as register
 use Rattle.adapter.specs.Access.{Access, Does, DoesAll}
 use Rattle.adapter.specs.Device.{Device}
 use Rattle.adapter.specs.Rules.{IsOn}
@@ -28,7 +27,7 @@ use Rattle.error_recovery.specs.Evidence.{BringsLog, HasFailed, ShowsFatal}
 use Rattle.driver_history.specs.Laws.{Laws}
 use Rattle.driver_history.specs.Parts.{HasTurnIn, IsOfOther, NamesAlike, all_of}
 use Rattle.driver_history.specs.Trace.{LeavesCommand, LeavesEngine}
-use Rattle.driver_history.proofs.Errors.{AreShown, ErrorKind, access_shows, failure_still, fatals, shown_more, shown_none}
+use Rattle.driver_history.proofs.Errors.{AreShown, TroubleKind, access_shows, change_still, failure_still, fatals, register_of, shown_more, shown_none}
 
 -- ---- entries of a kind, or none
 
@@ -94,7 +93,7 @@ gains_within Is old start end new first last g = record {
 -- ---- accesses of other ports
 
 module _ (laws : Laws) (port : Port) where
-  -- What is left of the port by accesses of others: the adapter is on; the port is left to its device; and its errors rise by errors alone, and are shown.
+  -- What is left of the port by accesses of others: the adapter is on; the port is left to its device; its errors rise by errors alone; and its trouble is shown.
   pub record IsLeft (old new : Device) : Type 0 where
     pub on : IsOn new
     pub leaves : LeavesPort (old.port port.0) (new.port port.0)
@@ -104,7 +103,7 @@ module _ (laws : Laws) (port : Port) where
     pub disks : (old.port port.0).link_due ≡ false → ChangesByDisks port.0 old new
     pub shows : (old.port port.0).link_due ≡ false → PlugsNone port.0 old new → (new.port port.0).ssts_det ≡ (old.port port.0).ssts_det
     pub fresh : (old.port port.0).link_due ≡ false → PlugsNone port.0 old new → (new.port port.0).fresh ≡ (old.port port.0).fresh
-    pub errors_shown : (kind : ErrorKind) → AreShown kind port.0 old new
+    pub trouble_shown : (kind : TroubleKind) → AreShown kind port.0 old new
 
   pub errors_none : (d : Device) → ChangesByErrors port.0 d d
   errors_none d = record { fatal = λ none place low high is. is; fault = λ none is. is }
@@ -137,7 +136,7 @@ module _ (laws : Laws) (port : Port) where
             (λ (same : SameLink (old.port port.0) (new.port port.0)). same.fresh)
             (λ (up : ComesUp (old.port port.0) (new.port port.0)). absurd (false≢true (sym undue ∙ up.due)))
             (laws.link port access old new on.no_reset (laws.spares other port Sctl apart access of) does none);
-        errors_shown = λ kind. access_shows laws kind port access old new on.no_reset (laws.spares other port register.Is apart access of) does;
+        trouble_shown = λ kind. access_shows laws kind port access old new on.no_reset (laws.spares other port (register_of kind) apart access of) does;
       }
 
   pub others_leave : (accesses : List Access) (old new : Device) → IsOn old → DoesAll accesses old new → All (IsOfOther port) accesses → IsLeft old new
@@ -150,7 +149,7 @@ module _ (laws : Laws) (port : Port) where
     disks = λ undue. laws.disks_none port.0 old;
     shows = λ undue none. refl;
     fresh = λ undue none. refl;
-    errors_shown = λ kind. shown_none kind port.0 old;
+    trouble_shown = λ kind. shown_none kind port.0 old;
   })
   others_leave (access ∷ accesses) old new on (mid, does, rest) of =
       let a = one_left access old mid on (All-head (IsOfOther port) access accesses of) does in
@@ -168,7 +167,7 @@ module _ (laws : Laws) (port : Port) where
         fresh = λ undue none.
             let parts = laws.plugs_parts port.0 old mid new a.grows.0 b.grows.0 a.grows.1 b.grows.1 none in
             b.fresh (a.undue undue) parts.1 ∙ a.fresh undue parts.0;
-        errors_shown = λ kind. shown_more kind port.0 old mid new a.grows b.grows (a.errors_shown kind) (b.errors_shown kind);
+        trouble_shown = λ kind. shown_more kind port.0 old mid new a.grows b.grows (a.trouble_shown kind) (b.trouble_shown kind);
       }
 
   -- they write neither PxCMD nor PxSCTL of it
@@ -182,6 +181,28 @@ module _ (laws : Laws) (port : Port) where
   grows_over (access ∷ accesses) old new (mid, does, rest) = laws.grows_more old mid new (laws.grows_access access old mid does) (grows_over accesses mid new rest)
 
   -- ---- a turn in a call
+
+  -- a loss that the port shows in the call it shows in its turn
+  pub loss_then : (old new : Device) → IsOn old → (old.port port.0).link_due ≡ false → (t : HasTurnIn port old new) → ShowsLoss port old new → ShowsLoss port t.start t.end
+  loss_then old new on undue t loss = ⊎_elim
+      (λ change. inl (change_still port.0 old t.start first.trouble_shown change))
+      (λ missing.
+      let a = laws.comes_parts port.0 old t.start new first.grows.0 since.0 first.grows.1 since.1 missing.1 in
+      let b = laws.comes_parts port.0 t.start t.end new middle.0 last.0 middle.1 last.1 a.1 in
+      inr ((λ there. missing.0 ((first.disks undue).det a.0 there).0), b.0))
+      loss
+    where
+      first : IsLeft old t.start
+      first = others_leave t.before old t.start on t.first t.others
+
+      middle : Grows t.start t.end
+      middle = grows_over t.turn t.start t.end t.then
+
+      last : Grows t.end new
+      last = grows_over t.later t.end new t.last
+
+      since : Grows t.start new
+      since = laws.grows_more t.start t.end new middle last
 
   module _ (old : Instant Device) (begun : Moment) (ended ports : Ports) (new : Device) (turn call : Evidence) (ask : Ask DeviceStep) (said : Said)
       (on : IsOn old.device) (linked : (old.moment.ports.state port ≡ Ready) ⊎ Contains turn.lost port → (old.device.port port.0).link_due ≡ false) (t : HasTurnIn port old.device new) (on_then : IsOn t.end)
@@ -248,10 +269,6 @@ module _ (laws : Laws) (port : Port) where
         (cases_Bool ((old.device.port port.0).is 30))))
         (gains_or_none (IsFaultOf port.0) (is_fault port.0) old.device t.start first.grows)
 
-    -- what it showed when the call began it shows when its turn begins
-    kept_change : ShowsChange (old.device.port port.0) → ShowsChange (t.start.port port.0)
-    kept_change shown = ⊎_elim (λ n. inl (first.leaves.controls.serr_n n)) (λ x. inr (first.leaves.controls.serr_x x)) shown
-
     -- ready then, ready now
     ready : old.moment.ports.state port ≡ Ready → begun.ports.state port ≡ Ready
     ready is = was.1 ∙ is
@@ -273,14 +290,6 @@ module _ (laws : Laws) (port : Port) where
     gone_only (is, inr (inl gone)) = (ready_then is, ⊎_elim (λ out. inr (inl out)) (λ g. inr (inr g)) (missing (linked (inl (ready_then is))) gone))
     gone_only (is, inr (inr g)) = (ready_then is, inr (inr (within (IsPlugging port.0) g)))
 
-    gone_all : old.moment.ports.state port ≡ Ready → ShowsLoss port old.device new → ShowsLoss port t.start t.end
-    gone_all is (inl change) = inl (kept_change change)
-    gone_all is (inr (out, none)) =
-        let a = laws.comes_parts port.0 old.device t.start new first.grows.0 since.0 first.grows.1 since.1 none in
-        let middle = grows_over t.turn t.start t.end t.then in
-        let b = laws.comes_parts port.0 t.start t.end new middle.0 last.grows.0 middle.1 last.grows.1 a.1 in
-        inr ((λ there. out ((first.disks (linked (inl is))).det a.0 there).0), b.0)
-
     errors : HasErrors port (record { device = t.start; moment = begun }) t.end → HasErrors port old new
     errors (is, inl (inl shown)) = (ready_then is, ⊎_elim (λ f. inl (inl f)) (λ g. inr (inr g)) (fatal shown))
     errors (is, inl (inr shown)) = (ready_then is, ⊎_elim (λ f. inl (inr f)) (λ g. inr (inl g)) (failed shown))
@@ -294,11 +303,11 @@ module _ (laws : Laws) (port : Port) where
     pub evidence_is_the_calls : IsEvidencedOf ask said (all_of t) old ports new call port
     evidence_is_the_calls = record {
       lost = λ named. lost (linked (inr (alike.lost.1 named))) (its.lost (alike.lost.1 named));
-      gone_all = λ is loss. alike.gone.0 (its.gone_all (ready is) (gone_all is loss));
+      gone_all = λ is loss. alike.gone.0 (its.gone_all (ready is) (loss_then old.device new on (linked (inl is)) t loss));
       gone_only = λ named. gone_only (its.gone_only (alike.gone.1 named));
-      failed_all = λ is failure. alike.failed.0 (its.failed_all (ready is) (failure_still port.0 old.device t.start first.errors_shown failure));
+      failed_all = λ is failure. alike.failed.0 (its.failed_all (ready is) (failure_still port.0 old.device t.start first.trouble_shown failure));
       failed_only = λ named. errors (its.failed_only (alike.failed.1 named));
-      fatal_all = λ is shown. alike.fatal.0 (its.fatal_all (ready is) ((first.errors_shown fatals).still shown));
+      fatal_all = λ is shown. alike.fatal.0 (its.fatal_all (ready is) ((first.trouble_shown fatals).still shown));
       fatal_only = λ named. fatal_errors (its.fatal_only (alike.fatal.1 named));
       stopped_all = ⊎_elim
           (λ left. inl (All-append (LeavesEngine port) t.before (t.turn ++ t.later) (others_leave_engine t.before t.others)

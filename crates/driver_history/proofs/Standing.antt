@@ -62,7 +62,7 @@ ended_of memory p port slot e c places (inr (inr (inl ended))) st ci sact = ende
 ended_of memory p port slot e c places (inr (inr (inr dropped))) st ci sact = absurd (false≢true (sym dropped.stopped ∙ st))
 
 pub seen_answered : (wanted : List Wanted) (first : Instant Device) (past : List (Happening Device DeviceStep)) (h : Happening Device DeviceStep) (port : Port) (slot : ℕ) (id : RequestId)
-    → IsHistory wanted first (h ∷ past) → h.event.ask ≡ Service → IsAskedOf port (now first past) h.device
+    → IsHistory wanted first (h ∷ past) → h.event.ask ≡ Service → IsAskedOf port (now first past)
     → ServesRequest (now first past).moment.machine (now first past).device.memory ((now first past).device.port port.0) port.0 slot id
     → ((now first past).device.port port.0).ci slot ≡ false → ((now first past).device.port port.0).sact slot ≡ false
     → (done : Pending) × (done.request.id ≡ id) × Contains h.event.steps (Answer done outcome.Ok)
@@ -70,13 +70,13 @@ seen_answered wanted first past h port slot id history asks asked serves ci sact
     let old : Instant Device = now first past in
     let t : Ties wanted old h = history.2 in
     let holds = holds_at wanted first past history.0 in
-    let at = ready_at wanted old port (fit_at wanted first past history.0) holds.0 holds.1 asked.ready in
+    let at = ready_at wanted old port (fit_at wanted first past history.0) holds.0 holds.1 asked in
     let same_port : serves.pending.request.port ≡ port = ap port_at serves.port_is in
     let booked : Contains old.moment.machine.book serves.pending = ⊎_elim (λ b. b.0) (λ k. absurd (at.kept serves.pending k same_port)) serves.moves in
     let ended : serves.pending.ended ≡ true = ended_of old.device.memory (old.device.port port.0) port.0 slot serves.pending serves.command serves.places serves.stage at.runs.st ci sact in
     let Heeded : Ask DeviceStep → Type 0 = λ ask. HeedsAt port ask old.moment h.event.evidence h.event.steps (moment_after old.moment h.event) in
     let served : Heeded Service = subst Heeded asks (t.port port asked).heeds in
-    let answer = (served asked.ready).ended serves.pending booked same_port ended in
+    let answer = (served asked).ended serves.pending booked same_port ended in
     (answer.0, ap (λ (r : Accepted). r.id) answer.1 ∙ serves.id_is, answer.2)
 
 -- ---- Unplugged

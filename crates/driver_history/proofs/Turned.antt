@@ -1,4 +1,4 @@
--- A port's turn in a call of which its part is asked: what is asked then, and what its trouble is in the whole.
+-- A ready port's turn in a call: what its trouble then is in the whole.
 use Rattle.std.proofs.Common.{◌≡◌, ◌⊎◌, ◌<◌, ◌≤◌, ◌+◌, ◌++◌, true, false, List, ◌∷◌, length, refl, sym, ap, ◌∙◌, inl, inr, ⊎_elim, append_assoc, length-append, arith}
 use Rattle.std.specs.List.{All}
 use Rattle.std.proofs.lemmas.Bool.{cases_Bool, false≢true}
@@ -15,22 +15,19 @@ use Rattle.adapter.specs.declared.tape.Entry.{Entry}
 use Rattle.agreement.specs.Driven.{Grows}
 use Rattle.agreement.specs.Errors.{ChangesByErrors, IsFatalOf, NoneFatal}
 use Rattle.agreement.specs.Facts.{IsFaultOf}
-use Rattle.agreement.specs.Links.{IsPlugging, PlugsNone, SparesRegister}
+use Rattle.agreement.specs.Links.{PlugsNone, SparesRegister}
 use Rattle.block_machine.specs.Events.{Moment, Said, Service}
 use Rattle.block_machine.specs.Histories.{Instant}
 use Rattle.block_machine.specs.Ports.{Evidence, IsInterrupted, Ports, SamePort}
 use Rattle.error_recovery.specs.Evidence.{GainsRunning, ShowsFatal}
-use Rattle.driver_history.specs.Evidence.{Gains, ShowsFailure}
-use Rattle.driver_history.specs.Guard.{IsAskedOf}
-use Rattle.driver_history.specs.Histories.{BootsAnew, HasFaultAlone, LosesNoTrouble, RunsWellAnew, StayedUp}
+use Rattle.driver_history.specs.Evidence.{Gains, ShowsChange, ShowsFailure}
+use Rattle.driver_history.specs.Histories.{BootsAnew, HasFaultAlone, LosesNoTrouble, RunsWellAnew}
 use Rattle.driver_history.specs.Laws.{Laws}
 use Rattle.driver_history.specs.Parts.{HasTurnIn, IsOfOther, NamesAlike, all_of}
 use Rattle.driver_history.specs.Trace.{ResetsLink}
-use Rattle.driver_history.proofs.Calm.{gains_of}
-use Rattle.driver_history.proofs.Parting.{IsLeft, grows_over, others_leave}
+use Rattle.driver_history.proofs.Parting.{IsLeft, grows_over, loss_then, others_leave}
 use Rattle.driver_history.proofs.Since.{calm_since, running_in_part}
-use Rattle.driver_history.proofs.Errors.{ErrorKind, IsOne, Shows, failure, failure_still, faults, fatals, in_parts, one_came}
-use Rattle.driver_history.proofs.Losing.{never_plugged}
+use Rattle.driver_history.proofs.Errors.{IsOne, Shows, Tells, TroubleKind, change_still, disks, failure_still, faults, fatals, in_parts, is_trouble, tells_still, told}
 use Rattle.driver_history.proofs.Within.{parts_at, reset_after, reset_before, reset_within}
 
 -- what the tape gained, as a list in two parts or three
@@ -54,8 +51,7 @@ module _ (laws : Laws) (port : Port) where
       (λ (off : (old.port port.0).is shown.place ≡ false). false≢true (sym (rises.fatal none shown.place low high off) ∙ shown.set))
       (cases_Bool ((old.port port.0).is shown.place))
 
-  module _ (old : Instant Device) (begun : Moment) (new : Device) (on : IsOn old.device) (undue : (old.device.port port.0).link_due ≡ false) (t : HasTurnIn port old.device new) (on_then : IsOn t.end)
-      (ready_then : begun.ports.state port ≡ Ready) (asked : IsAskedOf port old new) where
+  module _ (old : Instant Device) (begun : Moment) (new : Device) (on : IsOn old.device) (t : HasTurnIn port old.device new) (on_then : IsOn t.end) where
     first : IsLeft laws port old.device t.start
     first = others_leave laws port t.before old.device t.start on t.first t.others
 
@@ -71,32 +67,14 @@ module _ (laws : Laws) (port : Port) where
     abbrev began : Instant Device
     began = record { device = t.start; moment = begun }
 
-    -- ---- what is asked of the turn
+    -- ---- what didn't come in the call didn't in the turn
 
-    plug_parts : PlugsNone port.0 old.device t.start × PlugsNone port.0 t.start t.end
-    plug_parts =
-        let a = laws.plugs_parts port.0 old.device t.start new first.grows.0 since.0 first.grows.1 since.1 asked.plugged in
+    plug_parts : PlugsNone port.0 old.device new → PlugsNone port.0 old.device t.start × PlugsNone port.0 t.start t.end
+    plug_parts none =
+        let a = laws.plugs_parts port.0 old.device t.start new first.grows.0 since.0 first.grows.1 since.1 none in
         (a.0, (laws.plugs_parts port.0 t.start t.end new middle.0 last.grows.0 middle.1 last.grows.1 a.1).0)
 
-    pub asked_then : IsAskedOf port began t.end
-    asked_then = record {
-      ready = ready_then;
-      change = λ shown. asked.change (⊎_elim
-          (λ n. inl (⊎_elim (λ set. set) (λ clear. absurd (false≢true (sym ((first.disks undue).serr_n plug_parts.0 clear) ∙ n))) (cases_Bool (old.device.port port.0).serr_n)))
-          (λ x. inr (⊎_elim (λ set. set) (λ clear. absurd (false≢true (sym ((first.disks undue).serr_x (laws.plugs_come port.0 old.device t.start plug_parts.0) clear) ∙ x)))
-          (cases_Bool (old.device.port port.0).serr_x)))
-          shown);
-      device = first.shows undue plug_parts.0 ∙ asked.device;
-      plugged = plug_parts.1;
-    }
-
-    -- no fatal error of the call came in the turn
-    within_turn : NoneFatal port.0 old.device new → NoneFatal port.0 t.start t.end
-    within_turn none =
-        let a = laws.fatal_parts port.0 old.device t.start new first.grows.0 since.0 first.grows.1 since.1 none in
-        (laws.fatal_parts port.0 t.start t.end new middle.0 last.grows.0 middle.1 last.grows.1 a.1).0
-
-    -- ---- and of what was done then in the whole
+    -- ---- and what was done then was done in the whole
 
     module _ (ended ports : Ports) (stays : SamePort ended ports port) where
       -- boots
@@ -110,12 +88,13 @@ module _ (laws : Laws) (port : Port) where
       reset_in_turn : ResetsLink port (all_of t) → ResetsLink port t.turn
       reset_in_turn r = reset_before port t.turn t.later (spares_other t.later t.others_later) (reset_after port t.before (t.turn ++ t.later) (spares_other t.before t.others) r)
 
-      pub boots_are_the_calls : (one other : Said) → SamePort old.moment.ports begun.ports port → BootsAnew Service one t.turn began ended t.end port → BootsAnew Service other (all_of t) old ports new port
-      boots_are_the_calls one other was its = (
-        λ ready trouble. ⊎_elim
-            (λ fatal. booted (its.0 ready_then (inl ((first.errors_shown fatals).still fatal))))
-            (λ loss. absurd (⊎_elim asked.change (λ (out : _ × _). out.0 asked.device) loss))
-            trouble,
+      pub boots_are_the_calls : (one other : Said) → (old.device.port port.0).link_due ≡ false → SamePort old.moment.ports begun.ports port → BootsAnew Service one t.turn began ended t.end port
+          → BootsAnew Service other (all_of t) old ports new port
+      boots_are_the_calls one other undue was its = (
+        λ ready trouble. booted (its.0 (was.1 ∙ ready) (⊎_elim
+            (λ fatal. inl ((first.trouble_shown fatals).still fatal))
+            (λ loss. inr (loss_then laws port old.device new on undue t loss))
+            trouble)),
         ⊎_elim
             (λ (same : SamePort begun.ports ended port). inl (
               stays.0 ∙ same.0 ∙ was.0,
@@ -167,24 +146,25 @@ module _ (laws : Laws) (port : Port) where
               (parts_at middle.0 last.grows.0 o.0 later e o.2))
               (parts_at first.grows.0 (middle.0 ++ last.grows.0) before later e (append_cancel_left old.device.tape (first.grows.0 ++ (middle.0 ++ last.grows.0)) (before ++ e ∷ later) (sym whole_tape ∙ tape)))
 
-        module _ (set_since : ended.state port ≡ Ready → IsInterrupted turn port → length t.start.tape ≤ (t.end.port port.0).notes.st_set_at)
-            (stops : ShowsFailure (t.start.port port.0) → IsInterrupted turn port) (its : LosesNoTrouble turn began ended t.end port) where
-          -- an error that came before the turn stopped the port in it
-          stopped : (kind : ErrorKind) → Gains (IsOne kind port.0) old.device t.start → IsInterrupted turn port
-          stopped kind early = stops (failure kind (t.start.port port.0) ((first.errors_shown kind).came early))
+        module _ (was : SamePort old.moment.ports begun.ports port) (set_since : ended.state port ≡ Ready → IsInterrupted turn port → length t.start.tape ≤ (t.end.port port.0).notes.st_set_at)
+            (stops : ShowsFailure (t.start.port port.0) ⊎ ShowsChange (t.start.port port.0) → IsInterrupted turn port) (its : LosesNoTrouble turn began ended t.end port) where
+          -- trouble that came before the turn stopped the port in it
+          stopped : (kind : TroubleKind) → Gains (IsOne kind port.0) old.device t.start → IsInterrupted turn port
+          stopped kind early = stops (is_trouble kind (t.start.port port.0) (told kind (t.start.port port.0) ((first.trouble_shown kind).came early)))
 
-          -- one that came in the call is shown at its end, unless the port was stopped
-          came : (kind : ErrorKind) → Gains (IsOne kind port.0) old.device new → IsInterrupted call port ⊎ ShowsFailure (new.port port.0)
-          came kind g = ⊎_elim
+          -- what came in the call is shown at its end, where what came in the turn is shown at the end of that, unless the port was stopped
+          came : (kind : TroubleKind) → (Gains (IsOne kind port.0) t.start t.end → IsInterrupted turn port ⊎ Tells kind (t.end.port port.0)) → Gains (IsOne kind port.0) old.device new
+              → IsInterrupted call port ⊎ Tells kind (new.port port.0)
+          came kind then g = ⊎_elim
               (λ early. inl (named (stopped kind early)))
               (λ rest. ⊎_elim
-              (λ within. ⊎_elim (λ i. inl (named i)) (λ f. inr (failure_still port.0 t.end new last.errors_shown f)) (its.errors ready_then (inr (one_came kind port.0 t.start t.end within))))
-              (λ late. inr (failure kind (new.port port.0) ((last.errors_shown kind).came late)))
+              (λ within. ⊎_elim (λ i. inl (named i)) (λ tells. inr (tells_still kind port.0 t.end new last.trouble_shown tells)) (then within))
+              (λ late. inr (told kind (new.port port.0) ((last.trouble_shown kind).came late)))
               (in_parts (IsOne kind port.0) t.start t.end new middle last.grows rest))
               (in_parts (IsOne kind port.0) old.device t.start new first.grows since g)
 
-          -- and one that came since ST was set is shown
-          came_since : (kind : ErrorKind) → (ended.state port ≡ Ready → GainsRunning (IsOne kind port.0) port.0 t.start t.end → Shows kind (t.end.port port.0)) → ports.state port ≡ Ready
+          -- and what came since ST was set is shown
+          came_since : (kind : TroubleKind) → (ended.state port ≡ Ready → GainsRunning (IsOne kind port.0) port.0 t.start t.end → Shows kind (t.end.port port.0)) → ports.state port ≡ Ready
               → GainsRunning (IsOne kind port.0) port.0 old.device new → Shows kind (new.port port.0)
           came_since kind its_own ready g =
               let at : (new.port port.0).notes.st_set_at ≡ (t.end.port port.0).notes.st_set_at = ap (λ n. n.st_set_at) last.leaves.notes in
@@ -193,66 +173,75 @@ module _ (laws : Laws) (port : Port) where
               by_parts (IsOne kind port.0) (Shows kind (new.port port.0)) g.before g.entry g.later g.tape g.is
               (λ early small. let set = set_since is_ready (stopped kind early) in absurd (omega (arith, at, least, set, small)))
               (λ ahead rest tape place.
-              (last.errors_shown kind).still (its_own is_ready (record { before = ahead; entry = g.entry; later = rest; tape = tape; is = g.is; since = omega (arith, at, least, place) })))
-              (last.errors_shown kind).came
+              (last.trouble_shown kind).still (its_own is_ready (record { before = ahead; entry = g.entry; later = rest; tape = tape; is = g.is; since = omega (arith, at, least, place) })))
+              (last.trouble_shown kind).came
 
           pub trouble_is_the_calls : LosesNoTrouble call old ports new port
           trouble_is_the_calls = record {
             errors = λ ready trouble. ⊎_elim
-                (λ shown. inl (named (stops (failure_still port.0 old.device t.start first.errors_shown shown))))
-                (λ g. ⊎_elim (came faults) (came fatals) g)
+                (λ shown. inl (named (stops (inl (failure_still port.0 old.device t.start first.trouble_shown shown)))))
+                (λ g. ⊎_elim (came faults (λ g. its.errors (was.1 ∙ ready) (inr (inl g)))) (came fatals (λ g. its.errors (was.1 ∙ ready) (inr (inr g)))) g)
                 trouble;
-            changes = λ tends trouble. absurd (⊎_elim asked.change (never_plugged laws port old new asked) trouble);
+            changes = λ tends trouble. ⊎_elim
+                (λ shown. inl (named (stops (inr (change_still port.0 old.device t.start first.trouble_shown shown)))))
+                (came disks (λ g. its.changes (was.0 ∙ tends.0, λ dead. tends.1 (sym was.1 ∙ dead)) (inr g)))
+                trouble;
             fault = came_since faults its.fault;
             fatal = came_since fatals its.fatal;
-            disk = λ ready g. absurd (never_plugged laws port old new asked (gains_of port.0 (IsPlugging port.0) old.device new g));
+            disk = came_since disks its.disk;
           }
 
-        pub well_is_the_calls : (ended.state port ≡ Ready → (t.end.port port.0).notes.st_set_at ≤ length t.end.tape) → RunsWellAnew turn t.turn began ended t.end port → RunsWellAnew call (all_of t) old ports new port
-        well_is_the_calls known its i ready plugs unfailed unbroken how =
+        pub well_is_the_calls : (old.device.port port.0).link_due ≡ false → (ended.state port ≡ Ready → (t.end.port port.0).notes.st_set_at ≤ length t.end.tape) → RunsWellAnew turn t.turn began ended t.end port
+            → RunsWellAnew call (all_of t) old ports new port
+        well_is_the_calls undue known its i ready plugs unfailed unbroken how =
             let is_ready : ended.state port ≡ Ready = sym stays.1 ∙ ready in
             let same : (new.port port.0).notes.st_set_at ≡ (t.end.port port.0).notes.st_set_at = ap (λ n. n.st_set_at) last.leaves.notes in
             let small = known is_ready in
-            let stayed : ResetsLink port t.turn ⊎ StayedUp port t.start t.end =
-            ⊎_elim (λ r. inl (reset_in_turn r)) (λ (up : StayedUp port old.device new). inr (record { fresh = first.fresh undue plug_parts.0 ∙ up.fresh; unbroken = within_turn up.unbroken })) how in
+            let parts = plug_parts plugs in
+            let up : ResetsLink port t.turn ⊎ ((t.start.port port.0).fresh ≡ true) = ⊎_elim (λ r. inl (reset_in_turn r)) (λ fresh. inr (first.fresh undue parts.0 ∙ fresh)) how in
             laws.well port.0 t.end new
             (laws.runs port t.later t.end new on_then t.last
             (All-weaker (IsOfOther port) (SparesRegister Ghc) (λ access x. laws.spares_host x.0 access x.2) t.later t.others_later)
             (spares_other t.later t.others_later)
             (All-weaker (IsOfOther port) (SparesRegister (Px port Cmd)) (λ access x. laws.spares x.0 port Cmd x.1 access x.2) t.later t.others_later))
             (calm_since laws port.0 old.device t.end new (laws.grows_more old.device t.start t.end first.grows middle) last.grows (omega (arith, same, small)) plugs unfailed unbroken)
-            (its (unnamed i) is_ready plug_parts.1
+            (its (unnamed i) is_ready parts.1
             (λ g. unfailed (running_in_part (IsFaultOf port.0) port.0 old.device t.start t.end new first.grows last.grows same g))
             (λ g. unbroken (running_in_part (IsFatalOf port.0) port.0 old.device t.start t.end new first.grows last.grows same g))
-            stayed)
+            up)
 
 -- ---- a plain request's fault
 
--- where TFES alone is shown, with no other trouble in the call, the call's part is asked
-alone_asked : (port : Port) (old : Instant Device) (new : Device) → HasFaultAlone port old new → IsAskedOf port old new
-alone_asked port old new alone = record { ready = alone.ready; change = alone.shows.change; device = alone.shows.device; plugged = alone.plugged }
-
 module _ (laws : Laws) (port : Port) (old : Instant Device) (begun : Moment) (new : Device) (on : IsOn old.device) (undue : (old.device.port port.0).link_due ≡ false) (t : HasTurnIn port old.device new) (on_then : IsOn t.end)
     (ready_then : begun.ports.state port ≡ Ready) (alone : HasFaultAlone port old new) where
-  then_asked : IsAskedOf port (record { device = t.start; moment = begun }) t.end
-  then_asked = asked_then laws port old begun new on undue t on_then ready_then (alone_asked port old new alone)
+  first_left : IsLeft laws port old.device t.start
+  first_left = others_leave laws port t.before old.device t.start on t.first t.others
 
-  -- so it is in its turn
+  parts : PlugsNone port.0 old.device t.start × PlugsNone port.0 t.start t.end
+  parts = plug_parts laws port old begun new on t on_then alone.plugged
+
+  -- no change of its link is shown when the turn begins, since none was
+  unchanged : ShowsChange (t.start.port port.0) → ⊥
+  unchanged shown = alone.shows.change (⊎_elim
+      (λ n. inl (⊎_elim (λ set. set) (λ clear. absurd (false≢true (sym ((first_left.disks undue).serr_n parts.0 clear) ∙ n))) (cases_Bool (old.device.port port.0).serr_n)))
+      (λ x. inr (⊎_elim (λ set. set) (λ clear. absurd (false≢true (sym ((first_left.disks undue).serr_x (laws.plugs_come port.0 old.device t.start parts.0) clear) ∙ x))) (cases_Bool (old.device.port port.0).serr_x)))
+      shown)
+
+  -- where TFES alone is shown, with no other trouble in the call, so it is in its turn
   pub alone_then : HasFaultAlone port (record { device = t.start; moment = begun }) t.end
   alone_then =
-      let first = others_leave laws port t.before old.device t.start on t.first t.others in
       let middle = grows_over laws port t.turn t.start t.end t.then in
       let last = grows_over laws port t.later t.end new t.last in
       let since = laws.grows_more t.start t.end new middle last in
-      let a = laws.fatal_parts port.0 old.device t.start new first.grows.0 since.0 first.grows.1 since.1 alone.fatal in
+      let a = laws.fatal_parts port.0 old.device t.start new first_left.grows.0 since.0 first_left.grows.1 since.1 alone.fatal in
       record {
         ready = ready_then;
         shows = record {
-          fault = (first.errors_shown faults).still alone.shows.fault;
-          fatal = no_fatal_then laws port old.device t.start first.errors a.0 alone.shows.fatal;
-          change = then_asked.change;
-          device = then_asked.device;
+          fault = (first_left.trouble_shown faults).still alone.shows.fault;
+          fatal = no_fatal_then laws port old.device t.start first_left.errors a.0 alone.shows.fatal;
+          change = unchanged;
+          device = first_left.shows undue parts.0 ∙ alone.shows.device;
         };
         fatal = (laws.fatal_parts port.0 t.start t.end new middle.0 last.0 middle.1 last.1 a.1).0;
-        plugged = then_asked.plugged;
+        plugged = parts.1;
       }

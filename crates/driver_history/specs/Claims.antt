@@ -62,8 +62,8 @@ pub record GoesWellFor (old : Instant Device) (h : Happening Device DeviceStep) 
 -- ---- failures
 
 -- A service heeds the failure that a port showed when it began, a fault or a fatal error: what had ended on the port is answered Ok. The port was stopped, or got stuck, and none
--- of its requests that wait keeps its issue. One of them is told a fault at most, and none where a fatal error was shown. And where TFES alone was, with no fatal error in the call, a
--- plain one that was outstanding, and hadn't ended, is told its fault, unless the port ends dead. So it isn't tried again.
+-- of its requests that wait keeps its issue. One of them is told a fault at most, and none where a fatal error was shown. And where TFES alone was, with no fatal error in the call, and
+-- no disk that goes or comes, a plain one that was outstanding, and hadn't ended, is told its fault, unless the port ends dead. So it isn't tried again.
 pub record HeedsFailure (port : Port) (old : Instant Device) (h : Happening Device DeviceStep) : Type 0 where
   pub ended : AnswersEnded old.moment.machine h.event.steps port
   pub stopped : IsInterrupted h.event.evidence port

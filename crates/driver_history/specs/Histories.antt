@@ -218,18 +218,14 @@ pub record LosesNoTrouble (evidence : Evidence) (old : Instant Device) (ports : 
   pub fatal : ports.state port ≡ Ready → GainsRunning (IsFatalOf port.0) port.0 old.device new → ShowsFatal (new.port port.0)
   pub disk : ports.state port ≡ Ready → GainsRunning (IsPlugging port.0) port.0 old.device new → (new.port port.0).serr_n ≡ true
 
--- Its disk's first FIS had come when the call began, and no fatal error came in the call.
-pub record StayedUp (port : Port) (old new : Device) : Type 0 where
-  pub fresh : (old.port port.0).fresh ≡ true
-  pub unbroken : NoneFatal port.0 old new
-
 -- Where a port was stopped and is ready after the call, its boot or its recovery has taken the trouble away, what came meanwhile too: it runs well, if
--- no disk went or came in the call, and no fault and no fatal error came since ST was last set; and if its link was reset, as a boot does, or stayed up.
+-- no disk went or came in the call, and no fault and no fatal error came since ST was last set; and if its link was reset, as a boot does, or its disk's first FIS had
+-- come when the call began.
 abbrev pub RunsWellAnew : Evidence → List Access → Instant Device → Ports → Device → Port → Type 0
 RunsWellAnew evidence accesses old ports new port =
     IsInterrupted evidence port → ports.state port ≡ Ready → PlugsNone port.0 old.device new
     → (GainsRunning (IsFaultOf port.0) port.0 old.device new → ⊥) → (GainsRunning (IsFatalOf port.0) port.0 old.device new → ⊥)
-    → ResetsLink port accesses ⊎ StayedUp port old.device new → RunsWell (new.port port.0)
+    → ResetsLink port accesses ⊎ ((old.device.port port.0).fresh ≡ true) → RunsWell (new.port port.0)
 
 -- ---- one port's part in a call, and the whole
 
@@ -252,7 +248,7 @@ pub record Ties (wanted : List Wanted) (old : Instant Device) (h : Happening Dev
   pub backed : IsBacked old.device h.device old.moment.machine h.event.steps
   pub evidenced : IsEvidenced h.event.ask h.event.said accesses old h.event.ports h.device h.event.evidence
   pub issues : (port : Port) → Issues h.event.ask h.event.steps (moment_after old.moment h.event).machine h.event.ports port
-  pub port : (port : Port) → IsAskedOf port old h.device → TiesPort old h accesses port
+  pub port : (port : Port) → IsAskedOf port old → TiesPort old h accesses port
   pub holds : HoldsAt wanted (record { device = h.device; moment = moment_after old.moment h.event })
 
 -- What a new server leaves is what holds at each instant, with the adapter on. (Its book is empty, since the machine is a start.)

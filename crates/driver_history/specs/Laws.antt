@@ -3,7 +3,7 @@ use Rattle.std.specs.Prelude.{ℕ, true, false, ◌≡◌, ◌≢◌, ◌≤◌,
 use Rattle.ata_types.specs.declared.Port.{Port}
 use Rattle.hba_regs.specs.Bits.{bit}
 use Rattle.hba_regs.specs.declared.reg.PortReg.{PortReg}
-use Rattle.hba_regs.specs.declared.reg.PortReg.TheVariants.{Cmd, Is, Sctl}
+use Rattle.hba_regs.specs.declared.reg.PortReg.TheVariants.{Cmd, Is, Sctl, Serr}
 use Rattle.hba_regs.specs.declared.reg.Reg.TheVariants.{Ghc, Px}
 use Rattle.adapter.specs.Access.{Access, Does, DoesAll, Writes}
 use Rattle.adapter.specs.Device.{PortState, Device}
@@ -12,7 +12,7 @@ use Rattle.adapter.specs.Rules.{IsOn}
 use Rattle.adapter.specs.Steps.{Steps}
 use Rattle.adapter.specs.declared.tape.Entry.{Entry}
 use Rattle.agreement.specs.Driven.{Grows, IsDrivenBy, IsOf, LeavesPort}
-use Rattle.agreement.specs.Errors.{ChangesByDisks, ChangesByErrors, NoneComes, NoneFails, NoneFatal}
+use Rattle.agreement.specs.Errors.{ChangesByDisks, ChangesByErrors, KeepsErrors, NoneComes, NoneFails, NoneFatal}
 use Rattle.agreement.specs.Facts.{RunsWell, Undisturbed}
 use Rattle.agreement.specs.Links.{LeavesControls, LeavesLink, PlugsNone, SparesRegister}
 use Rattle.error_recovery.specs.Evidence.{ShowsFatal}
@@ -51,6 +51,11 @@ pub record Laws : Type 0 where
   pub faults_access : (port : Port) (access : Access) (old new : Device) → old.hr ≡ false → SparesRegister (Px port Is) access → Does access old new → (new.port port.0).is 30 ≡ false → ((old.port port.0).is 30 ≡ false) × NoneFails port.0 old new
   pub fatals_steps : (port : ℕ) (old new : Device) → old.hr ≡ false → Steps old new → ((place : ℕ) → 27 ≤ place → place ≤ 29 → (new.port port).is place ≡ false) → ((place : ℕ) → 27 ≤ place → place ≤ 29 → (old.port port).is place ≡ false) × NoneFatal port old new
   pub fatals_access : (port : Port) (access : Access) (old new : Device) → old.hr ≡ false → SparesRegister (Px port Is) access → Does access old new → ((place : ℕ) → 27 ≤ place → place ≤ 29 → (new.port port.0).is place ≡ false) → ((place : ℕ) → 27 ≤ place → place ≤ 29 → (old.port port.0).is place ≡ false) × NoneFatal port.0 old new
+  pub disks_steps : (port : ℕ) (old new : Device) → old.hr ≡ false → Steps old new → (new.port port).serr_n ≡ false → ((old.port port).serr_n ≡ false) × PlugsNone port old new
+  pub disks_access : (port : Port) (access : Access) (old new : Device) → old.hr ≡ false → SparesRegister (Px port Serr) access → Does access old new → (new.port port.0).serr_n ≡ false → ((old.port port.0).serr_n ≡ false) × PlugsNone port.0 old new
+  pub changes_steps : (port : ℕ) (old new : Device) → old.hr ≡ false → Steps old new → KeepsErrors (old.port port) (new.port port)
+  pub changes_access : (port : Port) (access : Access) (old new : Device) → old.hr ≡ false → SparesRegister (Px port Serr) access → Does access old new
+      → ((old.port port.0).serr_n ≡ true → (new.port port.0).serr_n ≡ true) × ((old.port port.0).serr_x ≡ true → (new.port port.0).serr_x ≡ true)
   pub fatal_unless : (p : PortState) → (((place : ℕ) → 27 ≤ place → place ≤ 29 → p.is place ≡ false) → ⊥) → ShowsFatal p
   pub controls : (port : Port) (access : Access) (old new : Device) → old.hr ≡ false → Does access old new → LeavesControls access port (old.port port.0) (new.port port.0)
   pub command : (port : Port) (v : ℕ) (old new : Device) → Writes (Px port Cmd) v old new → ((new.port port.0).st ≡ bit v 0) × ((new.port port.0).fre ≡ bit v 4)

@@ -4,8 +4,8 @@ ghost use Rattle.driver_history.specs.Laws.{Laws};
 use adapter::laws::{accesses_compose, steps_keep};
 use agreement::facts::{
     adapter_stays, calm_composes, cleared_stays, coming_composes, controls_are_set, controls_stay,
-    errors_are_shown, errors_rise_by_disks, fatal_errors_compose, faults_compose, link_stays,
-    plugging_composes,
+    errors_are_kept, errors_are_shown, errors_rise_by_disks, fatal_errors_compose, faults_compose,
+    link_stays, plugging_composes, plugging_is_found,
 };
 use agreement::stretches::{other_ports_are_left, tapes_grow};
 use error_recovery::laws::fatal_errors_show_unless_clear;
@@ -24,6 +24,7 @@ pub fn laws_hold()
     coming_composes();
     controls_are_set();
     controls_stay();
+    errors_are_kept();
     errors_are_shown();
     errors_rise_by_disks();
     fatal_errors_compose();
@@ -31,6 +32,7 @@ pub fn laws_hold()
     faults_compose();
     link_stays();
     plugging_composes();
+    plugging_is_found();
     other_ports_are_left();
     tapes_grow();
     a_port_runs_on();

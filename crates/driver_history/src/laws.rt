@@ -137,11 +137,11 @@ pub fn false_unplugged_is_refused()
         → Contains h.event.steps (Answer e outcome.Unplugged) → ⊥ }
 {}
 
-/// A service answers each request of a port of which a call's part is asked whose bits are clear when it begins, whether or not a command has failed there.
+/// A service answers each request of a ready port whose bits are clear when it begins, whether or not a command has failed there or its disk was lost.
 pub fn seen_are_answered()
     ensures { (wanted : List Wanted) (first : Instant Device) (past : List (Happening Device DeviceStep)) (h : Happening Device DeviceStep)
         (port : Port) (slot : ℕ) (id : RequestId) → IsHistory wanted first (h ∷ past) → h.event.ask ≡ Service
-        → IsAskedOf port (now first past) h.device
+        → IsAskedOf port (now first past)
         → ServesRequest (now first past).moment.machine (now first past).device.memory ((now first past).device.port port.0) port.0 slot id
         → ((now first past).device.port port.0).ci slot ≡ false → ((now first past).device.port port.0).sact slot ≡ false
         → (done : Pending) × (done.request.id ≡ id) × Contains h.event.steps (Answer done outcome.Ok) }

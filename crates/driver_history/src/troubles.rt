@@ -1,5 +1,5 @@
-// Laws of what a call owes a port on which a command fails, or that meets a fatal error, for callers: the clause is the theorem. These functions do nothing.
-ghost use Rattle.std.specs.Prelude.{ℕ, true, false, ◌≡◌, ◌≤◌, List, ◌∷◌, All, length};
+// Laws of what a call owes a port on which a command fails, that meets a fatal error, or whose disk goes or comes, for callers: the clause is the theorem. These functions do nothing.
+ghost use Rattle.std.specs.Prelude.{ℕ, true, false, ◌≡◌, ◌⊎◌, ◌≤◌, List, ◌∷◌, All, length};
 ghost use Rattle.ata_types.specs.declared.Port.{Port};
 ghost use Rattle.ata_types.specs.declared.PortState.TheVariants.{Ready};
 ghost use Rattle.hba_regs.specs.declared.reg.Reg.TheVariants.{Ghc};
@@ -17,7 +17,7 @@ ghost use Rattle.block_machine.specs.Histories.{Happening, Instant, now};
 ghost use Rattle.block_machine.specs.Ports.{Evidence, IsInterrupted, Ports, SamePort};
 ghost use Rattle.error_recovery.specs.Evidence.{GainsRunning};
 ghost use Rattle.driver_history.specs.Claims.{HeedsFailure};
-ghost use Rattle.driver_history.specs.Evidence.{ShowsFailure, StaysHealthy};
+ghost use Rattle.driver_history.specs.Evidence.{ShowsChange, ShowsFailure};
 ghost use Rattle.driver_history.specs.Guard.{IsAskedOf};
 ghost use Rattle.driver_history.specs.Histories.{BootsAnew, HasFaultAlone, IsHistory, LosesNoTrouble, RunsWellAnew};
 ghost use Rattle.driver_history.specs.Parts.{HasTurnIn, NamesAlike, all_of};
@@ -27,64 +27,54 @@ ghost use Rattle.port_control.specs.Engines.{Stops};
 
 use super::lawful::laws_hold;
 
-/// A ready port that stays healthy in a call is one of which the call's part is asked.
-pub fn healthy_ports_are_asked_of()
-    ensures { (port : Port) (old : Instant Device) (new : Device) → old.moment.ports.state port ≡ Ready → StaysHealthy port.0 old.device new
-        → IsAskedOf port old new }
-{}
-
-/// A service heeds the failure that a ready port showed when it began, a fault or a fatal error, where the port has a device and shows no change of its link,
-/// and no disk goes or comes in the call: what had ended is answered, the port was stopped, who waits keeps no issue, and one request is told a fault
-/// at most. With a fatal error nobody is told one; with TFES alone, and no fatal error in the call, a plain request always is.
+/// A service heeds the failure that a ready port showed when it began, a fault or a fatal error, whatever else it showed: what had ended is answered, the port
+/// was stopped, who waits keeps no issue, and one request is told a fault at most. With a fatal error nobody is told one; with TFES alone, and in the call no fatal error,
+/// and no disk that goes or comes, a plain request always is.
 pub fn shown_faults_are_heeded()
     ensures { (wanted : List Wanted) (first : Instant Device) (past : List (Happening Device DeviceStep)) (h : Happening Device DeviceStep)
-        (port : Port) → IsHistory wanted first (h ∷ past) → h.event.ask ≡ Service → IsAskedOf port (now first past) h.device
+        (port : Port) → IsHistory wanted first (h ∷ past) → h.event.ask ≡ Service → IsAskedOf port (now first past)
         → ShowsFailure ((now first past).device.port port.0) → HeedsFailure port (now first past) h }
 {}
 
-/// Accesses that leave the adapter on, and clear no bit that tells of a port's trouble, lose none of it; nor does the device by itself: of a port of
-/// which a call's part is asked, a fault or a fatal error that was shown is shown still, and so is one that came. (No other trouble comes there.)
+/// Accesses that leave the adapter on, and clear no bit that tells of a port's trouble, lose none of it; nor does the device by itself: a fault, a fatal error, or a
+/// change of the link that was shown is shown still, and so is one that came, and a disk that went or came.
 pub fn ordinary_accesses_lose_no_trouble()
     ensures accesses { (port : Port) (old : Instant Device) (new : Device) (accesses : List Access) (evidence : Evidence) (ports : Ports)
-        → IsOn old.device → IsAskedOf port old new → DoesAll accesses old.device new → All (SparesRegister Ghc) accesses
+        → IsOn old.device → DoesAll accesses old.device new → All (SparesRegister Ghc) accesses
         → All (ClearsNone port) accesses → LosesNoTrouble evidence old ports new port }
     ensures steps { (port : Port) (old : Instant Device) (new : Device) (evidence : Evidence) (ports : Ports) → IsOn old.device
-        → IsAskedOf port old new → Steps old.device new → LosesNoTrouble evidence old ports new port }
+        → Steps old.device new → LosesNoTrouble evidence old ports new port }
 {
     laws_hold();
 }
 
-/// Where a call's part is asked of a port, so it is of the port's own turn in it, if no link is due when the call begins; and where the port shows TFES alone when
-/// the call begins, with no other trouble in it, so it is of the turn.
-pub fn what_is_asked_of_a_call_is_asked_of_a_turn()
-    ensures asked { (port : Port) (old : Instant Device) (begun : Moment) (new : Device) → IsOn old.device
-        → (old.device.port port.0).link_due ≡ false → (t : HasTurnIn port old.device new) → IsOn t.end → begun.ports.state port ≡ Ready
-        → IsAskedOf port old new → IsAskedOf port (record { device = t.start; moment = begun }) t.end }
-    ensures alone { (port : Port) (old : Instant Device) (begun : Moment) (new : Device) → IsOn old.device
+/// Where a ready port shows TFES alone when a call begins, with no other trouble in it, so it is in the port's own turn, if no link is due when the call begins.
+pub fn a_fault_alone_in_a_call_is_alone_in_a_turn()
+    ensures { (port : Port) (old : Instant Device) (begun : Moment) (new : Device) → IsOn old.device
         → (old.device.port port.0).link_due ≡ false → (t : HasTurnIn port old.device new) → IsOn t.end → begun.ports.state port ≡ Ready
         → HasFaultAlone port old new → HasFaultAlone port (record { device = t.start; moment = begun }) t.end }
 {
     laws_hold();
 }
 
-/// Of a port of which a call's part is asked, and no link of which is due when the call begins: what its turn owes of trouble the whole call does, where the turn's
-/// and the call's evidence name the port in the same lists, ST was set in the turn if it stopped the port and left it ready, and it stopped the port if that showed a
-/// failure when it began. So it is with boots; and with a port that runs well anew, where ST of one that is left ready was set by the turn's end.
+/// What a port's turn owes of trouble the whole call does, where the turn's and the call's evidence name the port in the same lists, ST was set in the turn if it
+/// stopped the port and left it ready, and it stopped the port if that showed a failure, or a change of its link, when it began. Where no link is due when the call
+/// begins, so it is with boots; and with a port that runs well anew, where ST of one that is left ready was set by the turn's end.
 pub fn a_turns_trouble_is_the_calls()
     ensures trouble { (port : Port) (old : Instant Device) (begun : Moment) (ended ports : Ports) (new : Device) (turn call : Evidence) → IsOn old.device
-        → (old.device.port port.0).link_due ≡ false → (t : HasTurnIn port old.device new) → IsOn t.end → begun.ports.state port ≡ Ready
-        → IsAskedOf port old new → SamePort ended ports port → NamesAlike port turn call
+        → (t : HasTurnIn port old.device new) → IsOn t.end → SamePort ended ports port → NamesAlike port turn call
+        → SamePort old.moment.ports begun.ports port
         → (ended.state port ≡ Ready → IsInterrupted turn port → length t.start.tape ≤ (t.end.port port.0).notes.st_set_at)
-        → (ShowsFailure (t.start.port port.0) → IsInterrupted turn port)
+        → (ShowsFailure (t.start.port port.0) ⊎ ShowsChange (t.start.port port.0) → IsInterrupted turn port)
         → LosesNoTrouble turn (record { device = t.start; moment = begun }) ended t.end port → LosesNoTrouble call old ports new port }
     ensures boots { (port : Port) (old : Instant Device) (begun : Moment) (ended ports : Ports) (new : Device) (one other : Said) → IsOn old.device
-        → (old.device.port port.0).link_due ≡ false → (t : HasTurnIn port old.device new) → IsOn t.end → begun.ports.state port ≡ Ready
-        → IsAskedOf port old new → SamePort ended ports port → SamePort old.moment.ports begun.ports port
+        → (old.device.port port.0).link_due ≡ false → (t : HasTurnIn port old.device new) → IsOn t.end
+        → SamePort ended ports port → SamePort old.moment.ports begun.ports port
         → BootsAnew Service one t.turn (record { device = t.start; moment = begun }) ended t.end port
         → BootsAnew Service other (all_of t) old ports new port }
     ensures well { (port : Port) (old : Instant Device) (begun : Moment) (ended ports : Ports) (new : Device) (turn call : Evidence) → IsOn old.device
-        → (old.device.port port.0).link_due ≡ false → (t : HasTurnIn port old.device new) → IsOn t.end → begun.ports.state port ≡ Ready
-        → IsAskedOf port old new → SamePort ended ports port → NamesAlike port turn call
+        → (old.device.port port.0).link_due ≡ false → (t : HasTurnIn port old.device new) → IsOn t.end
+        → SamePort ended ports port → NamesAlike port turn call
         → (ended.state port ≡ Ready → (t.end.port port.0).notes.st_set_at ≤ length t.end.tape)
         → RunsWellAnew turn t.turn (record { device = t.start; moment = begun }) ended t.end port
         → RunsWellAnew call (all_of t) old ports new port }
@@ -101,6 +91,13 @@ pub fn what_is_untroubled_since_st_was_set_is_calm()
 {
     laws_hold();
 }
+
+/// A fatal error that came in a part of a call since ST of its port was last set has come since then in the whole, where ST wasn't set again after the part.
+pub fn a_fatal_error_of_a_part_is_of_the_whole()
+    ensures { (port : ℕ) (old start end new : Device) → Grows old start → Grows end new
+        → (new.port port).notes.st_set_at ≡ (end.port port).notes.st_set_at → GainsRunning (IsFatalOf port) port start end
+        → GainsRunning (IsFatalOf port) port old new }
+{}
 
 /// Where accesses that leave the adapter on stopped a port, and its ST is one after them, it was set since they began.
 pub fn a_port_that_was_stopped_was_set_since()

@@ -1,16 +1,16 @@
 -- A port that runs again: what it shows, and that it goes well.
-use Rattle.std.proofs.Common.{ℕ, Bool, ◌≡◌, ◌≤◌, ◌++◌, true, false, List, ◌∷◌, length, inl, inr, refl, sym, ◌∙◌, ap, subst, arith, append_assoc, ⊎_elim}
+use Rattle.std.proofs.Common.{ℕ, Bool, ◌≡◌, ◌≤◌, ◌++◌, true, false, List, [], ◌∷◌, length, inl, inr, refl, sym, ◌∙◌, ap, subst, arith, append_assoc, ⊎_elim}
 use Rattle.std.specs.Prelude.{All, Contains}
 use Rattle.std.proofs.lemmas.Bool.{true≢false, cases_eq}
 use Rattle.std.proofs.lemmas.List.{length-append}
-use Rattle.std.proofs.lemmas.List.Elements.{All-contains}
+use Rattle.std.proofs.lemmas.List.Elements.{All-cons, All-contains, All-nil}
 use Rattle.ata_types.specs.declared.Port.{Port}
 use Rattle.adapter.specs.Device.{Device, Notes, PortState}
 use Rattle.adapter.specs.Device.Halt.{LogOnly, NotHalted}
 use Rattle.adapter.specs.Steps.{restarted}
 use Rattle.adapter.specs.declared.tape.Entry.{Entry}
 use Rattle.agreement.specs.Driven.{Grows, HasNoCommand}
-use Rattle.agreement.specs.Errors.{IsFatalOf}
+use Rattle.agreement.specs.Errors.{IsFatalOf, NoneFatal}
 use Rattle.agreement.specs.Facts.{HasFaults, IsFaultOf, IsFaulted}
 use Rattle.agreement.specs.Links.{IsPlugging}
 use Rattle.agreement.specs.Slots.{IsOver}
@@ -20,7 +20,7 @@ use Rattle.error_recovery.specs.Evidence.{GainsRunning, ShowsFatal, ShowsTrouble
 use Rattle.error_recovery.specs.Laws.{Laws}
 use Rattle.error_recovery.specs.Parts.{GoesOn, Resumes}
 use Rattle.error_recovery.specs.Recovery.{RunsAgain}
-use Rattle.error_recovery.proofs.Going.{Asks, Goes, plugs_in_parts, fatal_in_parts}
+use Rattle.error_recovery.proofs.Going.{Asks, Goes, plugs_in_parts}
 use Rattle.error_recovery.proofs.Lists.{behind, stands}
 use Rattle.error_recovery.proofs.Quieting.{commands_plain}
 
@@ -34,6 +34,25 @@ gained_since Is port old start new set gained is none g =
     let split = behind start.tape gained (old.tape ++ g.before) g.entry g.later at (omega (arith, set, long, since)) in
     let here : Contains gained g.entry = subst (λ (es : List Entry). Contains es g.entry) (sym split.1) (stands split.0 g.entry g.later) in
     All-contains (λ e. Is e → ⊥) gained g.entry none here g.is
+
+-- and what hasn't come since ST was set, a stretch from then on hasn't gained
+none_since : (Is : Entry → Type 0) (port : ℕ) (old start new : Device) → Grows old start → (new.port port).notes.st_set_at ≡ length start.tape → (GainsRunning Is port old new → ⊥) → (before later : List Entry) →
+    new.tape ≡ start.tape ++ (before ++ later) → All (λ e. Is e → ⊥) later
+none_since Is port old start new grows set none before [] tape = All-nil (λ e. Is e → ⊥)
+none_since Is port old start new grows set none before (e ∷ later) tape =
+    let long = ap (λ (es : List Entry). length es) grows.1 ∙ length-append old.tape grows.0 in
+    let more = length-append grows.0 before in
+    All-cons (λ e. Is e → ⊥) e later
+    (λ is. none (record {
+      before = grows.0 ++ before;
+      entry = e;
+      later = later;
+      tape = tape ∙ ap (λ (es : List Entry). es ++ (before ++ e ∷ later)) grows.1 ∙ append_assoc old.tape grows.0 (before ++ e ∷ later)
+          ∙ ap (λ (es : List Entry). old.tape ++ es) (sym (append_assoc grows.0 before (e ∷ later)));
+      is = is;
+      since = omega (arith, set, long, more);
+    }))
+    (none_since Is port old start new grows set none (before ++ e ∷ []) later (tape ∙ ap (λ (es : List Entry). start.tape ++ es) (sym (append_assoc before (e ∷ []) later))))
 
 -- where a bit isn't clear, it is set
 set_unless_clear : (b : Bool) → (b ≡ false → ⊥) → b ≡ true
@@ -165,11 +184,14 @@ module _ (laws : Laws) (port : Port) (outstanding : ℕ) (queued : Bool) (before
       well = λ none calm linked plain.
           let n = plugs_in_parts laws port.0 old d new first.grows (laws.grows_more d start new then.grows later.grows) none in
           let m = plugs_in_parts laws port.0 d start new then.grows later.grows n.1 in
-          let f = fatal_in_parts laws port.0 old d new first.grows (laws.grows_more d start new then.grows later.grows) calm in
-          let k = fatal_in_parts laws port.0 d start new then.grows later.grows f.1 in
+          let unbroken : NoneFatal port.0 start new = record {
+            gained = later.grows.0;
+            tape = later.grows.1;
+            none = none_since (IsFatalOf port.0) port.0 old start new (laws.grows_more old d start first.grows then.grows) (ap (λ (n : Notes). n.st_set_at) l.notes ∙ s.set) calm [] later.grows.0 later.grows.1;
+          } in
           let c = later.changes (then.undue undue) in
-          laws.runs_well (new.port port.0) (a.runs m.1 k.1 (s.linked (first.linked n.0 linked) m.0)) running unflagged
+          laws.runs_well (new.port port.0) (a.runs m.1 unbroken (s.linked (first.linked n.0 linked) m.0)) running unflagged
           (c.serr_n m.1 (s.changes.serr_n m.0 (r.quiets.clear.serr_n n.0)))
           (c.serr_x (laws.plugs_come port.0 start new m.1) (s.changes.serr_x (laws.plugs_come port.0 d start m.0) (r.quiets.clear.serr_x (laws.plugs_come port.0 old d n.0))))
-          (a.raises k.1 (λ place from to. s.calm place (r.quiets.calm place (omega (arith, to)))));
+          (a.raises unbroken (λ place from to. s.calm place (r.quiets.calm place (omega (arith, to)))));
     }

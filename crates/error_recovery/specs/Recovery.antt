@@ -13,7 +13,7 @@ use Rattle.adapter.specs.declared.command.Operation.TheVariants.{Identify, ReadL
 use Rattle.adapter.specs.declared.tape.Fault as tape_fault
 use Rattle.agreement.specs.Acts.{AnySlots, ByDeviceAlone, InSlots, Performs}
 use Rattle.agreement.specs.Driven.{AgreesWith, IsControl, SendsNone}
-use Rattle.agreement.specs.Errors.{NoneFatal}
+use Rattle.agreement.specs.Errors.{IsFatalOf}
 use Rattle.agreement.specs.Facts.{HasFaults, IsFaulted, RunsWell}
 use Rattle.agreement.specs.GivingUp.{given_up}
 use Rattle.agreement.specs.Links.{PlugsNone, SparesRegister}
@@ -27,7 +27,7 @@ use Rattle.port_control.specs.Ports.{IsClearing, IsRunning, IsStopped, Shows, Sh
 use Rattle.port_control.specs.declared.PortFault.TheVariants.{EngineStuck}
 use Rattle.port_control.specs.declared.Running as running_token
 use Rattle.port_control.specs.declared.Stopped as stopped_token
-use Rattle.error_recovery.specs.Evidence.{BringsLog, HasFailed, ShowsTrouble}
+use Rattle.error_recovery.specs.Evidence.{BringsLog, GainsRunning, HasFailed, ShowsTrouble}
 use Rattle.error_recovery.specs.declared.Next.{Next}
 use Rattle.error_recovery.specs.declared.Next.TheVariants.{Running, Restart, Dead}
 use Rattle.error_recovery.specs.declared.Recovered.{Recovered}
@@ -153,8 +153,8 @@ MayRestart queued port outstanding accesses old new =
 
 -- The port runs, with its areas in their places and no command in a slot; ST was set in the call, so that the record of its faults has begun anew;
 -- and the count of PxSSTS is as it was. After queued commands no fault halts it, and one that worked on plain commands alone does so; so none takes
--- READ LOG EXT alone. What came since ST was set is shown. And where the link was up, no disk went or came and no fatal error came, the port runs well;
--- one without queued commands, if it worked on plain ones alone.
+-- READ LOG EXT alone. What came since ST was set is shown. And where the link was up, no disk went or came, and no fatal error came since ST was set, the port runs
+-- well; one without queued commands, if it worked on plain ones alone.
 pub record RunsAgain (queued : Bool) (port : ℕ) (old new : Device) : Type 0 where
   pub runs : IsRunning port (new.port port)
   pub recorded : HasFaults new.tape (new.port port) port
@@ -164,7 +164,7 @@ pub record RunsAgain (queued : Bool) (port : ℕ) (old new : Device) : Type 0 wh
   pub plain : queued ≡ false → WorksPlainly (old.port port) → WorksPlainly (new.port port)
   pub unhalted : (queued ≡ false → WorksPlainly (old.port port)) → (new.port port).halt ≢ LogOnly
   pub shows : ShowsTrouble port old new
-  pub well : PlugsNone port old new → NoneFatal port old new → IsLinked (old.port port) → (queued ≡ false → WorksPlainly (old.port port))
+  pub well : PlugsNone port old new → (GainsRunning (IsFatalOf port) port old new → ⊥) → IsLinked (old.port port) → (queued ≡ false → WorksPlainly (old.port port))
       → RunsWell (new.port port)
 
 -- It is as `next` says: it runs; it is stopped, so that it can be booted; or its engine was awaited in vain.

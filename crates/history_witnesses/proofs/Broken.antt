@@ -19,7 +19,7 @@ use Rattle.adapter.specs.declared.access.DeviceStep.{DeviceStep}
 use Rattle.agreement.specs.Acts.{at}
 use Rattle.agreement.specs.Agrees.{port_at}
 use Rattle.agreement.specs.Driver.{IsBacked, Knows}
-use Rattle.agreement.specs.Links.{IsPlugging, SparesRegister}
+use Rattle.agreement.specs.Links.{SparesRegister}
 use Rattle.agreement.specs.Slots.{IsFree}
 use Rattle.agreement.specs.Witness.{first_id}
 use Rattle.block_machine.specs.Events.{HadDisk, Happens, Served, ServesReady, Service}
@@ -31,7 +31,6 @@ use Rattle.block_machine.specs.Steps.{Step, Answer}
 use Rattle.host_boot.specs.Taken.{wanted_of}
 use Rattle.identify.specs.declared.wanted.Wanted.TheVariants.{Any}
 use Rattle.driver_history.specs.Evidence.{IsEvidencedOf, ShowsFailure, ShowsLoss}
-use Rattle.driver_history.specs.Guard.{IsAskedOf}
 use Rattle.driver_history.specs.Histories.{BootsAnew, FindsDone, IsAnsweredOk, IsIssuedOn, LosesNoTrouble, RunsWellAnew, TendsPort, Ties, TiesPort}
 use Rattle.driver_history.specs.Holds.{HoldsOf, HoldsWith, IsReadyAt, IsStoppedAt}
 use Rattle.driver_history.specs.Trace.{LeavesCommand, ResetsLink}
@@ -387,15 +386,6 @@ ties = record {
   holds = (no_slots, holds_booted);
 }
 
--- the port shows a device and no change, and no disk goes or comes
-is_asked : IsAskedOf (port_at 0) broken_at booted
-is_asked = record {
-  ready = refl;
-  change = ⊎_elim (λ (n : false ≡ true). true≢false (sym n)) (λ (x : false ≡ true). true≢false (sym x));
-  device = refl;
-  plugged = record { gained = []; tape = refl; none = All-nil (λ e. IsPlugging 0 e → ⊥) };
-}
-
 pub fatal_error_is_a_history : FatalErrorIsAHistory
 unfolding ties meeting_ties
 fatal_error_is_a_history = record {
@@ -412,7 +402,6 @@ fatal_error_is_a_history = record {
   serves = (refl, refl);
   evidence = refl;
   unfit = refl;
-  is_asked = is_asked;
   does = does;
   allowed = allowed;
   history = (((((starts, fit_ready plain_disks), begins plain_disks), submit_happens, submit_ties), meeting_happens, meeting_ties), happens, ties);

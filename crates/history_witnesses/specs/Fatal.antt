@@ -22,7 +22,6 @@ use Rattle.block_machine.specs.Histories.{Instant, Happening, now}
 use Rattle.block_machine.specs.Ports.{Evidence}
 use Rattle.identify.specs.declared.wanted.Wanted.TheVariants.{Any}
 use Rattle.error_recovery.specs.Evidence.{ShowsFatal}
-use Rattle.driver_history.specs.Guard.{IsAskedOf}
 use Rattle.driver_history.specs.Histories.{IsHistory, TiesPort}
 use Rattle.history_witnesses.specs.Allowed.{AreAllowed}
 
@@ -66,7 +65,7 @@ fatal_evidence = record {
 }
 
 -- A read of port 0 is accepted and issued. The device is told to meet a fatal error of the port's link, and the port shows it. The service finds it, gives the
--- port up, and boots it anew, which finds no ATA disk: the port is unfit, and the read is answered Unplugged. This part is asked of the port. The service's
+-- port up, and boots it anew, which finds no ATA disk: the port is unfit, and the read is answered Unplugged. The port was ready, so that this part is asked of it. The service's
 -- accesses keep to the adapter's rules. Each port's part in the three calls is done, whether it stays healthy or not.
 pub record FatalErrorIsAHistory : Type 0 where
   pub first : Instant Device
@@ -83,7 +82,6 @@ pub record FatalErrorIsAHistory : Type 0 where
       × (service.event.said ≡ Served (record { id = first_id; client = asked.client; outcome = Unplugged } ∷ []))
   pub evidence : service.event.evidence ≡ fatal_evidence
   pub unfit : service.event.ports.state (port_at 0) ≡ Unfit 8
-  pub is_asked : IsAskedOf (port_at 0) (now first (told ∷ submit ∷ [])) service.device
   pub does : DoesAll fatal_accesses told.device service.device
   pub allowed : AreAllowed fatal_accesses told.device service.device does
   pub history : IsHistory (Any ∷ Any ∷ []) first (service ∷ told ∷ submit ∷ [])

@@ -34,6 +34,7 @@ pub fn event(line: Line) -> Event
             length: count,
         },
         Line::Service => Event::Service,
+        Line::Tick => Event::Tick,
         Line::State(port) => Event::State(port),
         Line::Device(step) => Event::Device(step),
     }

@@ -27,7 +27,7 @@ fn print_replies<W: io::Write>(out: &mut W, replies: &[Reply]) -> io::Result<()>
     Ok(())
 }
 
-/// Prints what a call said, of which a service's replies stand in a list.
+/// Prints what a call said, of which the replies of a service or a tick stand in a list.
 fn print_told<W: io::Write>(out: &mut W, told: &Told, replies: &[Reply]) -> io::Result<()>
     ensures { OnOk result (Appends (W.contents out.old) (W.contents out.new) (said_text (with_replies told.now replies.now))) }
 {
@@ -77,7 +77,7 @@ fn print_trace<W: io::Write>(
 }
 
 /// Writes what is printed of a call, in place of what the text had: with a trace, what the tape gained past so many entries, and then what the
-/// call said, of which a service's replies stand in a list. It fails where memory is refused.
+/// call said, of which the replies of a service or a tick stand in a list. It fails where memory is refused.
 pub fn print_call(
     text: &mut Vec<u8>,
     trace: bool,

@@ -71,7 +71,7 @@ impl From<Stop> for Ended {
 /// What a run keeps from line to line.
 #[derive(Drop)]
 struct Room {
-    /// What a service answered.
+    /// What a service or a tick answered.
     replies: Replies,
     /// What is printed of one line.
     text: Vec<u8>,

@@ -20,7 +20,7 @@ use Rattle.adapter.specs.declared.access.DeviceStep.TheVariants as step
 use Rattle.adapter.specs.declared.access.FatalError.{FatalError}
 use Rattle.adapter.specs.declared.access.FatalError.TheVariants.{Interface, HostBus}
 use Rattle.script.specs.declared.line.Line.{Line}
-use Rattle.script.specs.declared.line.Line.TheVariants.{Submit, Store, Load, Service, State, Device}
+use Rattle.script.specs.declared.line.Line.TheVariants.{Submit, Store, Load, Service, Tick, State, Device}
 use Rattle.script.specs.Fields.{Word, fatal_word, frames_word}
 use Rattle.script.specs.Line.{IsLine, IsPlace, IsRequest, IsStep, line_text, line_words, op_word, page_word, place_words, request_words, step_words}
 use Rattle.script.proofs.FrameLemmas.{IsFrame, decimals}
@@ -117,6 +117,7 @@ line_are (Load client frame offset count) h =
     more (fixed (codes "load") refl) (more (number client.0 (omega (arith, h.0))) (more (number frame.0 (omega (arith, h.1)))
     (more (number offset (omega (arith, h.2))) (more (number count (omega (arith, h.4))) none))))
 line_are Service h = more (fixed (codes "service") refl) none
+line_are Tick h = more (fixed (codes "tick") refl) none
 line_are (State port) h = port_are (codes "state") port (fixed (codes "state") refl) h
 line_are (Device s) h = more (fixed (codes "dev") refl) (step_are s h)
 
@@ -151,6 +152,7 @@ few_words (Submit r) = omega (arith, request_few r.op r)
 few_words (Store client frame offset bytes) = omega arith
 few_words (Load client frame offset count) = omega arith
 few_words Service = omega arith
+few_words Tick = omega arith
 few_words (State port) = omega arith
 few_words (Device s) = omega (arith, step_few s)
 
@@ -159,6 +161,7 @@ some_words (Submit r) = omega arith
 some_words (Store client frame offset bytes) = omega arith
 some_words (Load client frame offset count) = omega arith
 some_words Service = omega arith
+some_words Tick = omega arith
 some_words (State port) = omega arith
 some_words (Device s) = omega arith
 

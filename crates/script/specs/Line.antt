@@ -14,7 +14,7 @@ use Rattle.adapter.specs.declared.access.DeviceStep.{DeviceStep}
 use Rattle.adapter.specs.declared.access.DeviceStep.TheVariants as step
 use Rattle.script.specs.Fields.{Word, fatal_word, frames_word}
 use Rattle.script.specs.declared.line.Line.{Line}
-use Rattle.script.specs.declared.line.Line.TheVariants.{Submit, Store, Load, Service, State, Device}
+use Rattle.script.specs.declared.line.Line.TheVariants.{Submit, Store, Load, Service, Tick, State, Device}
 
 abbrev pub op_word : Op → Word
 op_word Read = codes "read"
@@ -65,6 +65,7 @@ line_words (Store client frame offset bytes) =
 line_words (Load client frame offset count) =
     codes "load" ∷ decimal client.0 ∷ decimal frame.0 ∷ decimal offset ∷ decimal count ∷ []
 line_words Service = codes "service" ∷ []
+line_words Tick = codes "tick" ∷ []
 line_words (State port) = codes "state" ∷ decimal port.0 ∷ []
 line_words (Device asked) = codes "dev" ∷ step_words asked
 
@@ -115,5 +116,6 @@ IsLine (Store client frame offset bytes) = (client.0 < 256) × (frame.0 < 65536)
     × All (λ b. b < 256) bytes.items × (1 ≤ length bytes.items) × (length bytes.items ≤ 64)
 IsLine (Load client frame offset count) = (client.0 < 256) × (frame.0 < 65536) × (offset < 2 ^ 32) × (1 ≤ count) × (count ≤ 64)
 IsLine Service = Unit {0}
+IsLine Tick = Unit {0}
 IsLine (State port) = port.0 < 4
 IsLine (Device asked) = IsStep asked

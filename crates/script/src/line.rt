@@ -39,6 +39,8 @@ pub enum Line {
     },
     /// Answer what is done.
     Service,
+    /// Note that a tick has gone by.
+    Tick,
     /// Show the state of a port.
     State(Port),
     /// Have the device do a step.
@@ -219,6 +221,10 @@ fn asked(words: &[&str]) -> Option<Line>
         "dev" => Some(Line::Device(step(rest)?)),
         "service" => match rest {
             [] => Some(Line::Service),
+            _ => None,
+        },
+        "tick" => match rest {
+            [] => Some(Line::Tick),
             _ => None,
         },
         "read" => Some(Line::Submit(transfer(Op::Read, rest)?)),

@@ -19,7 +19,6 @@ use Rattle.server_history.specs.declared.Trouble.TheVariants.{Broken, Failed, Hu
 use Rattle.server_history.specs.Below.{LawsBelow}
 use Rattle.server_history.specs.Mended.{AreQueued, MendsPort}
 use Rattle.server_history.specs.Server.{Server, IsKept, IsMachineOf, ports_of, slots_at, state_of}
-use Rattle.driver_history.specs.Guard.{IsAskedOf}
 use Rattle.server_history.specs.Turns.{HeedsTrouble, InService, TiesTurn, instant_of}
 use Rattle.server_history.proofs.Deciding.{DecidesTurn}
 use Rattle.server_history.proofs.Evident.{IsEvident}
@@ -77,15 +76,15 @@ module _ (laws : LawsBelow) (port : Port) (replies : List Reply) (old new : Serv
           ((evident.evidenced Service m).gone_only here).1)
       by Hung is = absurd (unhung is)
 
-  -- where it is restarted, what is asked of trouble
-  pub heeds_trouble : IsAskedOf port (instant_of old m) new.device → HeedsTrouble port evident.accesses (instant_of old m) (evidence_by r.settled) (ports_of new) new.device
-  heeds_trouble asked = record {
+  -- what a call does of trouble
+  pub heeds_trouble : HeedsTrouble port evident.accesses (instant_of old m) (evidence_by r.settled) (ports_of new) new.device
+  heeds_trouble = record {
     trouble = lasting laws port replies old new k ready r looks kept evident.parts m;
-    well = going_well laws port replies old new k ready r looks kept evident plainly m asked;
+    well = going_well laws port replies old new k ready r looks kept evident plainly m;
   }
 
   pub ties_recovered : r.settled.mended.trouble ≢ Hung → TiesTurn InService port replies evident.accesses old new m (evidence_by r.settled) d.steps
-  ties_recovered unhung asked = record {
+  ties_recovered unhung = record {
     finds = λ _ e issued. finding laws port replies old new k ready r looks kept evident m reached is d;
     faults = λ alone e slot issued unended says plain. faulting laws port replies old new k ready r looks kept m reached is d (failing unhung alone) e slot issued unended says plain;
     tries = λ _ _. record {
@@ -95,7 +94,7 @@ module _ (laws : LawsBelow) (port : Port) (replies : List Reply) (old new : Serv
       changed = λ bad. absurd (not_bad bad);
     };
     boots = reboots laws port replies old new k ready r looks kept evident m;
-    trouble = (heeds_trouble asked).trouble;
-    well = (heeds_trouble asked).well;
+    trouble = heeds_trouble.trouble;
+    well = heeds_trouble.well;
     heeds = λ _. serves_ready laws port replies old new k ready r looks kept evident m reached is d unhung;
   }

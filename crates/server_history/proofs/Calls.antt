@@ -47,7 +47,6 @@ use Rattle.ata_types.specs.declared.PortState.TheVariants.{Dead}
 use Rattle.port_look.specs.Services.{IsService}
 use Rattle.server_history.specs.Below.{LawsBelow}
 use Rattle.driver_history.specs.Histories.{CameBy, Issues, LosesNoTrouble, TiesPort}
-use Rattle.driver_history.specs.Guard.{IsAskedOf}
 use Rattle.driver_history.specs.Trace.{ClearsNone, LeavesEngine}
 use Rattle.server_history.specs.Histories.{Adds, Leads, Stands, load_said, store_said}
 use Rattle.server_history.specs.Server.{HasCommand, Server, IsKept, IsMachineOf, IsPortOf, IsSettled, mode_in, ports_of, situation_of, used_for}
@@ -112,13 +111,13 @@ bytes_clear_none port (Writing r v) its = absurd its
 module _ (laws : LawsBelow) where
   -- ---- trouble that isn't lost
 
-  untroubled : (s : Server) → IsKept s → (m : Moment) (port : Port) → IsAskedOf port (still s m) s.device → LosesNoTrouble (told_by s.device m.ports) (still s m) (ports_of s) s.device port
-  untroubled s k m port asked = laws.calls.ordinary port (still s m) s.device [] (told_by s.device m.ports) (ports_of s) k.on asked refl (All-nil (SparesRegister Ghc)) (All-nil (ClearsNone port))
+  untroubled : (s : Server) → IsKept s → (m : Moment) (port : Port) → LosesNoTrouble (told_by s.device m.ports) (still s m) (ports_of s) s.device port
+  untroubled s k m port = laws.calls.ordinary port (still s m) s.device [] (told_by s.device m.ports) (ports_of s) k.on refl (All-nil (SparesRegister Ghc)) (All-nil (ClearsNone port))
 
-  one_untroubled : (s : Server) → IsKept s → (new : Device) (access : Access) → IsOfBytes access → Does access s.device new → (m : Moment) (port : Port) → IsAskedOf port (still s m) new
+  one_untroubled : (s : Server) → IsKept s → (new : Device) (access : Access) → IsOfBytes access → Does access s.device new → (m : Moment) (port : Port)
       → LosesNoTrouble (told_by s.device m.ports) (still s m) (ports_of s) new port
-  one_untroubled s k new access its does m port asked =
-      laws.calls.ordinary port (still s m) new (access ∷ []) (told_by s.device m.ports) (ports_of s) k.on asked (new, does, refl)
+  one_untroubled s k new access its does m port =
+      laws.calls.ordinary port (still s m) new (access ∷ []) (told_by s.device m.ports) (ports_of s) k.on (new, does, refl)
       (All-cons (SparesRegister Ghc) access [] (bytes_spare_host access its) (All-nil (SparesRegister Ghc)))
       (All-cons (ClearsNone port) access [] (bytes_clear_none port access its) (All-nil (ClearsNone port)))
 
@@ -185,7 +184,7 @@ module _ (laws : LawsBelow) where
           (refl, asked)
           (λ port. All-nil (LeavesEngine port))
           (λ port. tt)
-          (λ port asked. record { finds = tt; faults = tt; tries = tt; boots = tt; trouble = laws.calls.ordinary_steps port (with_device s.device old) new (told_by s.device old.moment.ports) (ports_of s) k.kept.on asked moves; well = λ i. absurd (uninterrupted s.device old.moment.ports port i); heeds = uninterrupted s.device old.moment.ports port })
+          (λ port _. record { finds = tt; faults = tt; tries = tt; boots = tt; trouble = laws.calls.ordinary_steps port (with_device s.device old) new (told_by s.device old.moment.ports) (ports_of s) k.kept.on moves; well = λ i. absurd (uninterrupted s.device old.moment.ports port i); heeds = uninterrupted s.device old.moment.ports port })
           x.3.backed
           (machine_on laws s new old.moment.machine steps m x.3.only x.2)
 
@@ -194,7 +193,7 @@ module _ (laws : LawsBelow) where
   nothing_adds : (s : Server) (ask : Ask DeviceStep) (said : Said) → IsSettled s → ((m : Moment) → CameBy m ask said [] s.device s.device)
       → ((old : Instant Device) → Stands old s → (evidence : Evidence) → IsAnswered ask said old.moment evidence [] (record { machine = old.moment.machine; ports = ports_of s }))
       → ((old : Instant Device) → IsReached old.moment.machine → Stands old s → (port : Port) → Issues ask [] old.moment.machine (ports_of s) port)
-      → ((m : Moment) (port : Port) → IsAskedOf port (still s m) s.device → TiesPort (still s m) (happening (still s m) s.device ask said [] (ports_of s)) [] port)
+      → ((m : Moment) (port : Port) → TiesPort (still s m) (happening (still s m) s.device ask said [] (ports_of s)) [] port)
       → Adds s s ask said
   nothing_adds s ask said k came answered issues parts = record { settled = k; adds = adds }
     where
@@ -203,19 +202,19 @@ module _ (laws : LawsBelow) where
       adds first past leads =
           let old : Instant Device = now first past in
           lead_by laws first past s s ask said [] refl refl leads k.kept tt tt tt tt (answered old leads.stands (told_by s.device old.moment.ports)) [] (came old.moment)
-          (λ port. All-nil (LeavesEngine port)) (issues old (reached laws first past s leads) leads.stands) (λ port asked. parts old.moment port asked) (nothing_backed s.device old.moment.machine) leads.stands.machine
+          (λ port. All-nil (LeavesEngine port)) (issues old (reached laws first past s leads) leads.stands) (λ port _. parts old.moment port) (nothing_backed s.device old.moment.machine) leads.stands.machine
 
   pub undone_adds : (s : Server) (step : DeviceStep) → IsSettled s → Adds s s (Told step) (Stepped false)
   undone_adds s step k =
       nothing_adds s (Told step) (Stepped false) k (λ m. (refl, refl))
       (λ old at evidence. (refl, ports_same old.moment.ports (ports_of s) at.ports_are)) (λ old was at port. tt)
-      (λ m port asked. record { finds = tt; faults = tt; tries = tt; boots = tt; trouble = untroubled s k.kept m port asked; well = λ i. absurd (uninterrupted s.device m.ports port i); heeds = uninterrupted s.device m.ports port })
+      (λ m port. record { finds = tt; faults = tt; tries = tt; boots = tt; trouble = untroubled s k.kept m port; well = λ i. absurd (uninterrupted s.device m.ports port i); heeds = uninterrupted s.device m.ports port })
 
   pub state_adds : (s : Server) (port : Port) → IsSettled s → Adds s s (State port) (Shown ((ports_of s).state port))
   state_adds s port k =
       nothing_adds s (State port) (Shown ((ports_of s).state port)) k (λ m. (refl, refl))
       (λ old at evidence. (ap (λ (ports : Ports). ports.state port) (sym at.ports_are), refl, ports_same old.moment.ports (ports_of s) at.ports_are)) (λ old was at port. tt)
-      (λ m port asked. record { finds = tt; faults = tt; tries = tt; boots = tt; trouble = untroubled s k.kept m port asked; well = λ i. absurd (uninterrupted s.device m.ports port i); heeds = uninterrupted s.device m.ports port })
+      (λ m port. record { finds = tt; faults = tt; tries = tt; boots = tt; trouble = untroubled s k.kept m port; well = λ i. absurd (uninterrupted s.device m.ports port i); heeds = uninterrupted s.device m.ports port })
 
   pub store_refused : (s : Server) (client : ClientId) (frame : Frame) (offset : ℕ) (bytes : List ℕ) (fault : MemFault) → IsSettled s
       → IsFirstMemFault (owner_of s.table) (lent_to s.table) client frame offset (length bytes) fault → Adds s s (StoreAt client frame offset bytes) (store_said (Err fault))
@@ -223,7 +222,7 @@ module _ (laws : LawsBelow) where
       nothing_adds s (StoreAt client frame offset bytes) (store_said (Err fault)) k (λ m. (refl, refl))
       (λ old at evidence. (as_told s old.moment.machine at.machine (λ owner lent. IsFirstMemFault owner lent client frame offset (length bytes) fault) is, refl, ports_same old.moment.ports (ports_of s) at.ports_are))
       (λ old was at port. tt)
-      (λ m port asked. record { finds = tt; faults = tt; tries = tt; boots = tt; trouble = untroubled s k.kept m port asked; well = λ i. absurd (uninterrupted s.device m.ports port i); heeds = uninterrupted s.device m.ports port })
+      (λ m port. record { finds = tt; faults = tt; tries = tt; boots = tt; trouble = untroubled s k.kept m port; well = λ i. absurd (uninterrupted s.device m.ports port i); heeds = uninterrupted s.device m.ports port })
 
   pub load_refused : (s : Server) (client : ClientId) (frame : Frame) (offset count : ℕ) (bytes : List ℕ) (fault : MemFault) → IsSettled s
       → IsFirstMemFault (owner_of s.table) (lent_to s.table) client frame offset count fault → Adds s s (LoadAt client frame offset count) (load_said (Err fault) bytes)
@@ -231,7 +230,7 @@ module _ (laws : LawsBelow) where
       nothing_adds s (LoadAt client frame offset count) (load_said (Err fault) bytes) k (λ m. (refl, refl))
       (λ old at evidence. (as_told s old.moment.machine at.machine (λ owner lent. IsFirstMemFault owner lent client frame offset count fault) is, refl, ports_same old.moment.ports (ports_of s) at.ports_are))
       (λ old was at port. tt)
-      (λ m port asked. record { finds = tt; faults = tt; tries = tt; boots = tt; trouble = untroubled s k.kept m port asked; well = λ i. absurd (uninterrupted s.device m.ports port i); heeds = uninterrupted s.device m.ports port })
+      (λ m port. record { finds = tt; faults = tt; tries = tt; boots = tt; trouble = untroubled s k.kept m port; well = λ i. absurd (uninterrupted s.device m.ports port i); heeds = uninterrupted s.device m.ports port })
 
   -- ---- what a request meets
 
@@ -252,7 +251,7 @@ module _ (laws : LawsBelow) where
       nothing_adds s (Submit r) (Submitted (Err refusal)) k (λ m. (refl, refl))
       (λ old at evidence. (subst (λ (x : Situation). IsFirstRefusal x r refusal) (sym (situation_is s old at)) is, refl, ports_same old.moment.ports (ports_of s) at.ports_are))
       (λ old was at port ready. none_issued s old.moment.machine at.machine [] (λ id. refl) (mode_in s port) port (k.issued port))
-      (λ m port asked. record { finds = tt; faults = tt; tries = tt; boots = tt; trouble = untroubled s k.kept m port asked; well = λ i. absurd (uninterrupted s.device m.ports port i); heeds = uninterrupted s.device m.ports port })
+      (λ m port. record { finds = tt; faults = tt; tries = tt; boots = tt; trouble = untroubled s k.kept m port; well = λ i. absurd (uninterrupted s.device m.ports port i); heeds = uninterrupted s.device m.ports port })
 
   -- ---- clients' bytes
 
@@ -327,7 +326,7 @@ module _ (laws : LawsBelow) where
             ((new, loads, refl), refl)
             (λ port. All-cons (LeavesEngine port) (Loading (4096 * frame.0 + offset) bytes) [] (tt, tt) (All-nil (LeavesEngine port)))
             (λ port. tt)
-            (λ port asked. record { finds = tt; faults = tt; tries = tt; boots = tt; trouble = one_untroubled s k new (Loading (4096 * frame.0 + offset) bytes) tt loads old.moment port asked; well = λ i. absurd (uninterrupted s.device old.moment.ports port i); heeds = uninterrupted s.device old.moment.ports port })
+            (λ port _. record { finds = tt; faults = tt; tries = tt; boots = tt; trouble = one_untroubled s k new (Loading (4096 * frame.0 + offset) bytes) tt loads old.moment port; well = λ i. absurd (uninterrupted s.device old.moment.ports port i); heeds = uninterrupted s.device old.moment.ports port })
             x.0.backed x.1
 
     pub store_adds : Stores (4096 * frame.0 + offset) bytes s.device new → Adds s (record s { device = new }) (StoreAt client frame offset bytes) (store_said (Ok tt))
@@ -347,7 +346,7 @@ module _ (laws : LawsBelow) where
             ((new, stores, refl), refl)
             (λ port. All-cons (LeavesEngine port) (Storing (4096 * frame.0 + offset) bytes) [] (tt, tt) (All-nil (LeavesEngine port)))
             (λ port. tt)
-            (λ port asked. record { finds = tt; faults = tt; tries = tt; boots = tt; trouble = one_untroubled s k new (Storing (4096 * frame.0 + offset) bytes) tt stores old.moment port asked; well = λ i. absurd (uninterrupted s.device old.moment.ports port i); heeds = uninterrupted s.device old.moment.ports port })
+            (λ port _. record { finds = tt; faults = tt; tries = tt; boots = tt; trouble = one_untroubled s k new (Storing (4096 * frame.0 + offset) bytes) tt stores old.moment port; well = λ i. absurd (uninterrupted s.device old.moment.ports port i); heeds = uninterrupted s.device old.moment.ports port })
             x.0.backed x.1
 
   -- of so many bytes

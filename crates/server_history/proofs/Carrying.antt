@@ -1,5 +1,5 @@
 -- What a call has found and answered of a port so far it has still when another port has had its turn.
-use Rattle.std.proofs.Common.{ℕ, ◌≡◌, ◌≢◌, ◌<◌, ◌≤◌, true, false, List, [], ◌∷◌, ◌++◌, length, refl, sym, ap, ◌∙◌, subst, inl, inr, ⊎_elim, append_assoc}
+use Rattle.std.proofs.Common.{ℕ, ◌≡◌, ◌≢◌, ◌<◌, ◌≤◌, true, false, List, [], ◌∷◌, ◌++◌, length, refl, sym, ap, ◌∙◌, subst, inl, inr, ⊎_elim, append_assoc, ◌⊎◌}
 use Rattle.std.specs.List.{Contains, list_any}
 use Rattle.std.proofs.lemmas.Bool.{or_right}
 use Rattle.std.proofs.lemmas.List.Elements.{All-nil, All-weaker, Contains-append_cases, Contains-append_right}
@@ -24,8 +24,7 @@ use Rattle.block_machine.specs.Ports.{Evidence, IsInterrupted, Ports, SamePort}
 use Rattle.block_machine.specs.State.{Machine, Pending}
 use Rattle.block_machine.specs.Steps.{Step, Again, Answer}
 use Rattle.host_boot.specs.Taken.{found_of}
-use Rattle.driver_history.specs.Evidence.{ShowsFailure}
-use Rattle.driver_history.specs.Guard.{IsAskedOf}
+use Rattle.driver_history.specs.Evidence.{ShowsChange, ShowsFailure}
 use Rattle.driver_history.specs.Histories.{FindsDone}
 use Rattle.driver_history.specs.Parts.{HasTurnIn, IsOfOther, NamesAlike}
 use Rattle.driver_history.specs.Trace.{IsServing}
@@ -55,11 +54,11 @@ module _ (plan : Plan) (laws : LawsBelow) (s : Server) (start : IsSettled s) (ol
   abbrev Progress : ℕ → Server → List Reply → Type 0
   Progress n c replies = progress.Progress plan laws s start old reached at ports_are n c replies
 
-  module _ (n : ℕ) (c mid : Server) (before its : List Reply) (p : Progress n c before) (part : HasPart (turn_at plan n) (port_at n) its c mid) (m_reached : IsReached (after old.machine p.steps)) where
+  module _ (n : ℕ) (c mid : Server) (before its : List Reply) (p : Progress n c before) (part : HasPart (turn_at plan (found_of s.ports n) n) (port_at n) its c mid) (m_reached : IsReached (after old.machine p.steps)) where
     abbrev m : Machine
     m = after old.machine p.steps
 
-    abbrev x : MakesTurn (turn_at plan n) (port_at n) its part.accesses c mid m
+    abbrev x : MakesTurn (turn_at plan (found_of s.ports n) n) (port_at n) its part.accesses c mid m
     x = part.makes m m_reached p.stands
 
     abbrev all : List Step
@@ -163,9 +162,6 @@ module _ (plan : Plan) (laws : LawsBelow) (s : Server) (start : IsSettled s) (ol
         pub undue : (s.device.port q.0).link_due ≡ false
         undue = ((kept.behind q.0 low).runs ready).recorded.linked
 
-        pub asked_so_far : IsAskedOf q began mid.device → IsAskedOf q began c.device
-        asked_so_far asked = laws.calls.asked_then q began old mid.device kept.on undue t p.on was_ready asked
-
         -- where it was stopped so far and left ready, ST was set since the call began
         set_since : state_of (found_of c.ports q.0) ≡ ReadyState → IsInterrupted p.evidence q → length s.device.tape ≤ (c.device.port q.0).notes.st_set_at
         set_since ready_c i = ⊎_elim
@@ -183,9 +179,9 @@ module _ (plan : Plan) (laws : LawsBelow) (s : Server) (start : IsSettled s) (ol
         pub same_self : SamePort old.ports old.ports q
         same_self = (refl, refl, refl, refl, refl, refl)
 
-        pub trouble_still : (evidence : Evidence) → NamesAlike q p.evidence evidence → SamePort (ports_of c) (ports_of mid) q → IsAskedOf q began mid.device → (ShowsFailure (s.device.port q.0) → IsInterrupted p.evidence q)
+        pub trouble_still : (evidence : Evidence) → NamesAlike q p.evidence evidence → SamePort (ports_of c) (ports_of mid) q → (ShowsFailure (s.device.port q.0) ⊎ ShowsChange (s.device.port q.0) → IsInterrupted p.evidence q)
             → HeedsTrouble q p.accesses began p.evidence (ports_of c) c.device → HeedsTrouble q accesses began evidence (ports_of mid) mid.device
-        trouble_still evidence alike same asked stops_failed did = record {
-          trouble = laws.calls.call_trouble q began old (ports_of c) (ports_of mid) mid.device p.evidence evidence kept.on undue t p.on was_ready asked same alike set_since stops_failed did.trouble;
-          well = laws.calls.call_well q began old (ports_of c) (ports_of mid) mid.device p.evidence evidence kept.on undue t p.on was_ready asked same alike (λ ready_c. ((p.settled.kept.behind q.0 low).runs ready_c).recorded.known) did.well;
+        trouble_still evidence alike same stops_troubled did = record {
+          trouble = laws.calls.call_trouble q began old (ports_of c) (ports_of mid) mid.device p.evidence evidence kept.on t p.on same alike same_self set_since stops_troubled did.trouble;
+          well = laws.calls.call_well q began old (ports_of c) (ports_of mid) mid.device p.evidence evidence kept.on undue t p.on same alike (λ ready_c. ((p.settled.kept.behind q.0 low).runs ready_c).recorded.known) did.well;
         }

@@ -276,7 +276,7 @@ module _ (laws : LawsBelow) (port : Port) (replies : List Reply) (old new : Serv
 
     had_seen : (told : Look) (l : LooksAt port told old.device x.seen) → (told ≡ look.Failed) ⊎ (told ≡ look.Broken) → Had
     had_seen told l error =
-        had_at (look_list port l.causes l.own l.status) x.seen (look_does port told old.device x.seen l) (shows_device laws port old.device x.seen told l k.on error) grown_seen m stands steps backed
+        had_at (look_list port l.causes l.own l.status) x.seen (look_does port told old.device x.seen l) (shows_device laws port old.device x.seen told l k.on (λ lost. ⊎_elim (λ (is : told ≡ look.Failed). let z : look.Lost ≡ look.Failed = sym lost ∙ is in cc) (λ (is : told ≡ look.Broken). let z : look.Lost ≡ look.Broken = sym lost ∙ is in cc) error)) grown_seen m stands steps backed
 
     had_booted : (booted : Booted) → BootsAgain (wanted_of old.wanted port.0) port booted a.device r.mid.device → ShowsDisk (state_of booted.found) → Had
     had_booted booted b shows =

@@ -25,7 +25,7 @@ use Rattle.error_recovery.specs.declared.Recovered.{Recovered}
 use Rattle.port_boot.specs.States.{RunsOn}
 use Rattle.port_look.specs.Looks.{LooksAt, look_of}
 use Rattle.port_look.specs.declared.Look.{Look}
-use Rattle.port_look.specs.declared.Look.TheVariants.{Broken, Failed, Lost}
+use Rattle.port_look.specs.declared.Look.TheVariants.{Broken, Failed, Lost, Undisturbed}
 use Rattle.server_history.specs.Below.{LawsBelow}
 use Rattle.server_history.specs.Mended.{EndsGivenUp, TellsMending}
 use Rattle.server_history.specs.declared.Trouble.{Trouble}
@@ -183,9 +183,15 @@ module _ (laws : LawsBelow) (port : Port) (look : Look) (old seen : Device) (l :
     not_missing new later undue missing none =
         not_lost (laws.looking.looks_unlinked port look old seen on l missing undue (laws.looks.comes_parts port.0 old seen new looked.0 later.0 looked.1 later.1 none).0)
 
-  -- where it told an error, a device showed
-  pub shows_link : (look ≡ Failed) ⊎ (look ≡ Broken) → l.status % 16 ≡ 3
-  shows_link error = ⊎_elim (λ failed. (laws.looking.looks_failed l.causes l.status (its Failed failed)).4) (λ broken. (laws.looking.looks_broken l.causes l.status (its Broken broken)).3) error
+  -- where it told of no loss, a device showed
+  pub shows_link : look ≢ Lost → l.status % 16 ≡ 3
+  shows_link not_lost = by look refl
+    where
+      by : (told : Look) → look ≡ told → l.status % 16 ≡ 3
+      by Failed is = (laws.looking.looks_failed l.causes l.status (its Failed is)).4
+      by Broken is = (laws.looking.looks_broken l.causes l.status (its Broken is)).3
+      by Undisturbed is = (laws.looking.looks_undisturbed l.causes l.status (its Undisturbed is)).1
+      by Lost is = absurd (not_lost is)
 
   -- and a failure was shown when the turn began, or came
   pub errors_shown : (look ≡ Failed) ⊎ (look ≡ Broken) → (new : Device) → Grows l.seen new → ShowsFailure (old.port port.0) ⊎ (Gains (IsFaultOf port.0) old new ⊎ Gains (IsFatalOf port.0) old new)

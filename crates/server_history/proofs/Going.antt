@@ -180,7 +180,7 @@ pub lead_with : LawsBelow → (first : Instant Device) (past : List (Happening D
     → (accesses : List Access) → CameBy (now first past).moment ask said accesses s.device new.device
     → IsEvidenced ask said accesses (with_device s.device (now first past)) (ports_of new) new.device evidence
     → ((port : Port) → Issues ask steps (after (now first past).moment.machine steps) (ports_of new) port)
-    → ((port : Port) → IsAskedOf port (with_device s.device (now first past)) new.device
+    → ((port : Port) → IsAskedOf port (with_device s.device (now first past))
     → TiesPort (with_device s.device (now first past)) (happening_with evidence new.device ask said steps (ports_of new)) accesses port)
     → IsBacked s.device new.device (now first past).moment.machine steps
     → IsMachineOf new (after (now first past).moment.machine steps)
@@ -231,7 +231,7 @@ pub lead_by : LawsBelow → (first : Instant Device) (past : List (Happening Dev
     → (accesses : List Access) → CameBy (now first past).moment ask said accesses s.device new.device
     → ((port : Port) → All (LeavesEngine port) accesses)
     → ((port : Port) → Issues ask steps (after (now first past).moment.machine steps) (ports_of new) port)
-    → ((port : Port) → IsAskedOf port (with_device s.device (now first past)) new.device
+    → ((port : Port) → IsAskedOf port (with_device s.device (now first past))
     → TiesPort (with_device s.device (now first past)) (happening (with_device s.device (now first past)) new.device ask said steps (ports_of new)) accesses port)
     → IsBacked s.device new.device (now first past).moment.machine steps
     → IsMachineOf new (after (now first past).moment.machine steps)

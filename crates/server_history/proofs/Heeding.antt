@@ -1,4 +1,4 @@
--- A port's turn heeds a command that fails, and a fatal error: its look told it, or it is shown still.
+-- A port's turn heeds trouble that comes: a command that fails, a fatal error, or a disk that goes or comes. Its look told it, or it is shown still.
 use Rattle.std.proofs.Common.{ℕ, ◌≡◌, ◌≤◌, ◌++◌, Bool, true, false, List, ◌∷◌, inl, inr, refl, sym, ◌∙◌, subst, ⊎_elim, arith}
 use Rattle.std.specs.List.{All, Contains}
 use Rattle.std.proofs.lemmas.Bool.{false≢true}
@@ -21,8 +21,7 @@ use Rattle.agreement.specs.Links.{IsPlugging, SparesRegister}
 use Rattle.agreement.proofs.Driven.{by_none, by_then, driven_as}
 use Rattle.block_machine.specs.Histories.{Instant}
 use Rattle.block_machine.specs.Ports.{Evidence, Ports}
-use Rattle.driver_history.specs.Evidence.{Gains, ShowsFailure}
-use Rattle.driver_history.specs.Guard.{IsAskedOf}
+use Rattle.driver_history.specs.Evidence.{Gains, ShowsChange, ShowsFailure}
 use Rattle.driver_history.specs.Histories.{LosesNoTrouble}
 use Rattle.error_recovery.specs.Evidence.{GainsRunning, ShowsFatal}
 use Rattle.ncq.specs.Masks.{IsFinding}
@@ -83,7 +82,7 @@ issuing_ordinary port access here = (issues_serve port access here, issuing_spar
 module _ (laws : LawsBelow) where
   module _ (port : Port) (slots : PortSlots) (replies : List Reply) (old : Instant Device) (new : Device) (turn : HasTurn port slots replies old.device new) (on : IsOn old.device) where
     -- what comes after a look that told nothing
-    later_driven : turn.look ≡ Calm → IsDrivenBy (IsOrdinary port) turn.seen new
+    pub later_driven : turn.look ≡ Calm → IsDrivenBy (IsOrdinary port) turn.seen new
     later_driven calm = ⊎_elim
         (λ (none : HasNone c.mask). subst (IsDrivenBy (IsOrdinary port) turn.seen) (sym (c.idle none).1) (by_none (IsOrdinary port) turn.seen))
         (λ some.
@@ -123,24 +122,29 @@ module _ (laws : LawsBelow) where
           let none = laws.trouble.fatal_more port.0 old.device turn.seen new early.1 late.1 in
           gains_none (IsFatalOf port.0) old.device new none.gained none.tape none.none g)
 
+      -- and so is a disk that went or came
+      disk_shown : Gains (IsPlugging port.0) old.device new → (new.port port.0).serr_n ≡ true
+      disk_shown g = set_unless (new.port port.0).serr_n (λ clear.
+          let late = laws.looking.ordinary_disks port turn.seen new seen_on (later_driven calm) clear in
+          let early = laws.looking.looks_disk port turn.look old.device turn.seen on turn.looks late.0 in
+          let none = laws.trouble.plugs_more port.0 old.device turn.seen new early.1 late.1 in
+          gains_none (IsPlugging port.0) old.device new none.gained none.tape none.none g)
+
       -- no failure was shown when it began
       pub never_failed : ShowsFailure (old.device.port port.0) → ⊥
       never_failed (inl fatal) = let high = fatal.to in false≢true (sym (shown_none.quiet fatal.place fatal.from (omega (arith, high))) ∙ fatal.set)
       never_failed (inr fault) = false≢true (sym (shown_none.quiet 30 (omega arith) (omega arith)) ∙ fault)
 
-      pub trouble_shown : (evidence : Evidence) (ports : Ports) → IsAskedOf port old new → LosesNoTrouble evidence old ports new port
-      trouble_shown evidence ports asked = record {
+      -- nor a change of its link
+      pub never_changed : ShowsChange (old.device.port port.0) → ⊥
+      never_changed (inl n) = false≢true (sym shown_none.serr_n ∙ n)
+      never_changed (inr x) = false≢true (sym shown_none.serr_x ∙ x)
+
+      pub trouble_shown : (evidence : Evidence) (ports : Ports) → LosesNoTrouble evidence old ports new port
+      trouble_shown evidence ports = record {
         errors = λ ready trouble. inr (⊎_elim (λ shows. absurd (never_failed shows)) (λ gains. ⊎_elim (λ g. inr (fault_shown g)) (λ g. inl (fatal_shown g)) gains) trouble);
-        changes = λ tended trouble. absurd (⊎_elim asked.change never_plugged trouble);
+        changes = λ tended trouble. inr (⊎_elim (λ shows. absurd (never_changed shows)) (λ g. inl (disk_shown g)) trouble);
         fault = λ ready g. fault_shown (gained_running (IsFaultOf port.0) port.0 old.device new g);
         fatal = λ ready g. fatal_shown (gained_running (IsFatalOf port.0) port.0 old.device new g);
-        disk = λ ready g. absurd (never_plugged (gained_running (IsPlugging port.0) port.0 old.device new g));
+        disk = λ ready g. disk_shown (gained_running (IsPlugging port.0) port.0 old.device new g);
       }
-        where
-          never_plugged : Gains (IsPlugging port.0) old.device new → ⊥
-          never_plugged g = gains_none (IsPlugging port.0) old.device new asked.plugged.gained asked.plugged.tape asked.plugged.none g
-
-    -- a look at such a port told nothing
-    module _ (undue : (old.device.port port.0).link_due ≡ false) (asked : IsAskedOf port old new) where
-      pub told_nothing : turn.look ≡ Calm
-      told_nothing = turn.quiet

@@ -181,3 +181,10 @@ ready_or_not Absent = inr (λ is. let z : Absent ≡ ReadyState = is in absurd c
 ready_or_not Foreign = inr (λ is. let z : Foreign ≡ ReadyState = is in absurd cc)
 ready_or_not (Unfit cause) = inr (λ is. let z : Unfit cause ≡ ReadyState = is in absurd cc)
 ready_or_not Dead = inr (λ is. let z : Dead ≡ ReadyState = is in absurd cc)
+
+pub dead_or_not : (state : PortState) → (state ≡ Dead) ⊎ (state ≢ Dead)
+dead_or_not Dead = inl refl
+dead_or_not Absent = inr (λ is. let z : Absent ≡ Dead = is in absurd cc)
+dead_or_not Foreign = inr (λ is. let z : Foreign ≡ Dead = is in absurd cc)
+dead_or_not (Unfit cause) = inr (λ is. let z : Unfit cause ≡ Dead = is in absurd cc)
+dead_or_not ReadyState = inr (λ is. let z : ReadyState ≡ Dead = is in absurd cc)

@@ -1,5 +1,5 @@
 -- What a port's turn has found and answered, the call has so far.
-use Rattle.std.proofs.Common.{ℕ, ◌≡◌, ◌≢◌, ◌<◌, ◌≤◌, true, false, List, [], ◌∷◌, ◌++◌, Some, None, length, refl, sym, ap, ◌∙◌, subst, inl, inr, ⊎_elim, arith, append_assoc, append-nil}
+use Rattle.std.proofs.Common.{ℕ, ◌≡◌, ◌≢◌, ◌<◌, ◌≤◌, true, false, List, [], ◌∷◌, ◌++◌, Some, None, length, refl, sym, ap, ◌∙◌, subst, inl, inr, ⊎_elim, arith, append_assoc, append-nil, ◌⊎◌}
 use Rattle.std.specs.List.{Contains, count_by, list_any}
 use Rattle.std.specs.Prelude.{◌↔◌}
 use Rattle.std.proofs.lemmas.Bool.{cases_eq, false≢true, ne_eqb, or_from, or_left, or_right}
@@ -30,14 +30,13 @@ use Rattle.block_machine.specs.State.{Pending, Machine}
 use Rattle.block_machine.specs.Steps.{Step, Again, Answer}
 use Rattle.block_machine.proofs.Calm.{counts_none}
 use Rattle.host_boot.specs.Taken.{found_of}
-use Rattle.driver_history.specs.Evidence.{ShowsFailure}
-use Rattle.driver_history.specs.Guard.{IsAskedOf}
+use Rattle.driver_history.specs.Evidence.{ShowsChange, ShowsFailure}
 use Rattle.driver_history.specs.Histories.{FindsDone, IsAnsweredOk, IsIssuedOn, RunsWellAnew}
 use Rattle.driver_history.specs.Parts.{HasTurnIn, IsOfOther, NamesAlike}
 use Rattle.driver_history.specs.Trace.{LeavesCommand, LeavesEngine}
 use Rattle.server_history.specs.Below.{LawsBelow}
 use Rattle.server_history.specs.Turns.{FindsTurn, HasPart, HeedsTrouble, MakesTurn, instant_of, moment_of}
-use Rattle.server_history.proofs.Plans.{Plan, not_reset, turn_at}
+use Rattle.server_history.proofs.Plans.{Plan, TakesTurn, not_reset, turn_at}
 use Rattle.server_history.specs.Server.{Server, IsKept, IsMachineOf, IsSettled, ports_of, state_of, used_for}
 use Rattle.server_history.proofs.Origins.{IsSame}
 use Rattle.server_history.proofs.Progress.{others_leave}
@@ -72,17 +71,17 @@ module _ (plan : Plan) (laws : LawsBelow) (s : Server) (start : IsSettled s) (ol
   state_at q = state_of (found_of s.ports q)
 
   abbrev HadTurn : ℕ → Port → Type 0
-  HadTurn n q = (q.0 < n) × (state_at q.0 ≡ ReadyState)
+  HadTurn n q = (q.0 < n) × TakesTurn plan (found_of s.ports q.0)
 
   abbrev Progress : ℕ → Server → List Reply → Type 0
   Progress n c replies = progress.Progress plan laws s start old reached at ports_are n c replies
 
-  module _ (n : ℕ) (c mid : Server) (before its : List Reply) (ready : state_at n ≡ ReadyState) (p : Progress n c before) (next : IsSettled mid) (part : HasPart (turn_at plan n) (port_at n) its c mid)
+  module _ (n : ℕ) (c mid : Server) (before its : List Reply) (ready : state_at n ≡ ReadyState) (p : Progress n c before) (next : IsSettled mid) (part : HasPart (turn_at plan (found_of s.ports n) n) (port_at n) its c mid)
       (m_reached : IsReached (after old.machine p.steps)) (on_mid : IsOn mid.device) where
     abbrev m : Machine
     m = after old.machine p.steps
 
-    abbrev x : MakesTurn (turn_at plan n) (port_at n) its part.accesses c mid m
+    abbrev x : MakesTurn (turn_at plan (found_of s.ports n) n) (port_at n) its part.accesses c mid m
     x = part.makes m m_reached p.stands
 
     abbrev all : List Step
@@ -288,7 +287,7 @@ module _ (plan : Plan) (laws : LawsBelow) (s : Server) (start : IsSettled s) (ol
         (λ stopped. ⊎_elim
         (λ stops. laws.calls.set_since (port_at n) part.accesses c.device mid.device p.on
         (All-weaker (IsOf (port_at n)) (SparesRegister Ghc) (λ access of. laws.of_host (port_at n) access of) part.accesses part.of) part.does stops ((next.kept.behind n low).runs ready_mid).st)
-        (λ (reset : _ × _). absurd (not_reset plan n its reset.0))
+        (λ (reset : _ × _). absurd (not_reset plan (found_of s.ports n) n its reset.0))
         (x.evidenced.stopped_only stopped))
         (λ stuck.
         let lives = x.becomes.1 (λ dead. let z : ReadyState ≡ Dead = sym ready_c ∙ dead in absurd cc) in
@@ -296,18 +295,15 @@ module _ (plan : Plan) (laws : LawsBelow) (s : Server) (start : IsSettled s) (ol
         let z : ReadyState ≡ Dead = sym ready_mid ∙ dead in absurd cc)
         i
 
-    pub asked_now : IsAskedOf (port_at n) began mid.device → IsAskedOf (port_at n) (instant_of c m) mid.device
-    asked_now asked = laws.calls.asked_then (port_at n) began (moment_of c m) mid.device kept.on undue t on_mid ready_c asked
-
     -- what it did of trouble the call did so far
-    module _ (evidence : Evidence) (alike : NamesAlike (port_at n) x.evidence evidence) (same_n : SamePort old.ports (ports_of c) (port_at n)) (asked : IsAskedOf (port_at n) began mid.device)
-        (stops_failed : ShowsFailure (c.device.port n) → IsInterrupted x.evidence (port_at n)) (did : HeedsTrouble (port_at n) part.accesses (instant_of c m) x.evidence (ports_of mid) mid.device) where
+    module _ (evidence : Evidence) (alike : NamesAlike (port_at n) x.evidence evidence) (same_n : SamePort old.ports (ports_of c) (port_at n))
+        (stops_troubled : ShowsFailure (c.device.port n) ⊎ ShowsChange (c.device.port n) → IsInterrupted x.evidence (port_at n)) (did : HeedsTrouble (port_at n) part.accesses (instant_of c m) x.evidence (ports_of mid) mid.device) where
       same_self : SamePort (ports_of mid) (ports_of mid) (port_at n)
       same_self = (refl, refl, refl, refl, refl, refl)
 
       pub trouble_whole : HeedsTrouble (port_at n) accesses began evidence (ports_of mid) mid.device
       trouble_whole = record {
-        trouble = laws.calls.call_trouble (port_at n) began (moment_of c m) (ports_of mid) (ports_of mid) mid.device x.evidence evidence kept.on undue t on_mid ready_c asked same_self alike set_since stops_failed did.trouble;
+        trouble = laws.calls.call_trouble (port_at n) began (moment_of c m) (ports_of mid) (ports_of mid) mid.device x.evidence evidence kept.on t on_mid same_self alike same_n set_since stops_troubled did.trouble;
         well = subst (λ (list : List Access). RunsWellAnew evidence (p.accesses ++ list) began (ports_of mid) mid.device (port_at n)) (append-nil part.accesses)
-            (laws.calls.call_well (port_at n) began (moment_of c m) (ports_of mid) (ports_of mid) mid.device x.evidence evidence kept.on undue t on_mid ready_c asked same_self alike (λ ready_mid. ((next.kept.behind n low).runs ready_mid).recorded.known) did.well);
+            (laws.calls.call_well (port_at n) began (moment_of c m) (ports_of mid) (ports_of mid) mid.device x.evidence evidence kept.on undue t on_mid same_self alike (λ ready_mid. ((next.kept.behind n low).runs ready_mid).recorded.known) did.well);
       }

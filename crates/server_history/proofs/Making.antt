@@ -13,7 +13,6 @@ use Rattle.ata_types.specs.declared.request.Outcome.{Outcome}
 use Rattle.ata_types.specs.declared.request.Outcome.TheVariants.{Ok, Unplugged}
 use Rattle.ata_types.specs.declared.request.Reply.{Reply}
 use Rattle.ata_types.specs.declared.request.RequestId.{RequestId}
-use Rattle.adapter.specs.Device.{PortState}
 use Rattle.adapter.specs.declared.access.DeviceStep.{DeviceStep}
 use Rattle.adapter.specs.declared.command.Operation.TheVariants.{ReadLog}
 use Rattle.agreement.specs.Driven.{SendsNone}
@@ -25,6 +24,7 @@ use Rattle.block_machine.specs.Ports.{Evidence, IsServiced, Ports, SamePort}
 use Rattle.block_machine.specs.State.{Machine, Pending}
 use Rattle.block_machine.specs.Steps.{Step, Again, Answer, Issue}
 use Rattle.block_machine.specs.declared.due.Mode.{Mode}
+use Rattle.driver_history.specs.Evidence.{IsEvidencedOf}
 use Rattle.driver_history.specs.Histories.{IssuesDue}
 use Rattle.host_boot.specs.Taken.{found_of}
 use Rattle.port_look.specs.declared.Look.TheVariants.{Undisturbed as Calm}
@@ -33,14 +33,14 @@ use Rattle.slots.specs.declared.Use.{Use as SlotUse}
 use Rattle.server_history.specs.Below.{LawsBelow}
 use Rattle.server_history.specs.Served.{AnswersBy, AnswersTurn, HasEnded, HasTurn, IsAnsweredIn, IssuesOnly, SameSettings, answers_in}
 use Rattle.server_history.specs.Server.{Server, IsMachineOf, IsSettled, mode_in, ports_of, remembered_at, slots_at, state_of, used_for}
-use Rattle.server_history.specs.Turns.{InService, ServesPort, IsOfTurn, LeavesOthers, MakesTurn, NamesOnly, moment_of}
+use Rattle.server_history.specs.Turns.{InService, ServesPort, IsOfTurn, LeavesOthers, MakesTurn, NamesOnly, instant_of, moment_of}
 use Rattle.server_history.proofs.Answered.{answered_in, ended_stood, issuing_answers, may_parts, no_answer, no_answer_issuing, told_so, with_ok}
 use Rattle.server_history.proofs.Coming.{TurnList, turn_list}
 use Rattle.server_history.proofs.Settling.{turn_apart, turn_settings, turn_slots}
 use Rattle.server_history.proofs.Slots.{ready_found}
-use Rattle.server_history.proofs.Tying.{finds, ties}
+use Rattle.server_history.proofs.Tying.{finds, never_lost, ties, unfailing}
 use Rattle.server_history.proofs.Zips.{at_right}
-use Rattle.server_history.proofs.Told.{chosen, chosen_of, evidenced_of, ready_that, shows_failure, shows_fatal, shows_loss, told_of}
+use Rattle.server_history.proofs.Told.{no_evidence}
 use Rattle.server_history.proofs.Lists.{nowhere}
 
 -- What such a turn adds to a machine that stands for the server.
@@ -163,8 +163,9 @@ module _ (laws : LawsBelow) (port : Port) (replies : List Reply) (old new : Serv
   list : TurnList port (slots_at old.slots port.0) replies old.device new.device turn
   list = turn_list port laws low (slots_at old.slots port.0) replies old.device new.device turn
 
+  -- no trouble is named
   abbrev its : Evidence
-  its = told_of (port ∷ []) old.device (ports_of old)
+  its = no_evidence
 
   others : LeavesOthers port old new
   others = record {
@@ -184,16 +185,12 @@ module _ (laws : LawsBelow) (port : Port) (replies : List Reply) (old new : Serv
   mode_same : mode_in new port ≡ mode_in old port
   mode_same = ap (λ (n : Server). mode_in n port) same
 
-  -- who is named is the port
-  named : (shows : PortState → Bool) → All (λ q. q ≡ port) (chosen (ready_that shows old.device (ports_of old)) (port ∷ []))
-  named shows = chosen_of (λ q. q ≡ port) (ready_that shows old.device (ports_of old)) (port ∷ []) (All-cons (λ q. q ≡ port) port [] refl (All-nil (λ q. q ≡ port)))
-
   names : NamesOnly port its
   names = record {
     lost = All-nil (λ q. q ≡ port);
-    gone = named shows_loss;
-    failed = named shows_failure;
-    fatal = named shows_fatal;
+    gone = All-nil (λ q. q ≡ port);
+    failed = All-nil (λ q. q ≡ port);
+    fatal = All-nil (λ q. q ≡ port);
     stopped = All-nil (λ q. q ≡ port);
     stuck = All-nil (λ q. q ≡ port);
   }
@@ -286,6 +283,21 @@ module _ (laws : LawsBelow) (port : Port) (replies : List Reply) (old new : Serv
       ),
     )
 
+    -- no trouble was shown
+    evidenced : IsEvidencedOf Service (Served replies) list.driven.accesses (instant_of old m) (ports_of new) new.device its port
+    evidenced = record {
+      lost = λ here. absurd (nowhere port here);
+      gone_all = λ _ loss. absurd (never_lost laws port replies old new t ready turn list port_same m reached is x.steps x.may b answered loss);
+      gone_only = λ here. absurd (nowhere port here);
+      failed_all = λ _ failure. absurd (unfailing laws port replies old new t ready turn list port_same m reached is x.steps x.may b answered failure);
+      failed_only = λ here. absurd (nowhere port here);
+      fatal_all = λ _ fatal. absurd (unfailing laws port replies old new t ready turn list port_same m reached is x.steps x.may b answered (inl fatal));
+      fatal_only = λ here. absurd (nowhere port here);
+      stopped_all = inl list.leaves;
+      stopped_only = λ here. absurd (nowhere port here);
+      stuck_only = λ here. absurd (nowhere port here);
+    }
+
     makes : MakesTurn InService port replies list.driven.accesses old new m
     makes = record {
       steps = x.steps;
@@ -305,10 +317,9 @@ module _ (laws : LawsBelow) (port : Port) (replies : List Reply) (old new : Serv
       disk = inl port_same;
       keeps = inl (port_same.2, port_same.3);
       issues = λ _. subst (λ (kind : Mode). IssuesDue kind x.steps (after m x.steps) port) (sym mode_same) x.issues;
-      evidenced = evidenced_of (port ∷ []) Service (Served replies) list.driven.accesses (record { device = old.device; moment = began }) (ports_of new) new.device port
-          (λ _. Contains-get_or (port ∷ []) 0 port (omega arith)) list.leaves;
+      evidenced = evidenced;
       faults = λ told here. absurd (nowhere told here);
-      ties = ties laws port replies old new t ready turn list port_same m reached is x.steps x.may b answered;
+      ties = ties laws port replies old new t ready turn list port_same m reached is x.steps x.may b answered x.backed;
       finds = λ _. finds laws port replies old new t ready turn list port_same m reached is x.steps x.may b answered;
     }
 

@@ -24,20 +24,20 @@ use Rattle.block_machine.specs.State.{Pending, Machine}
 use Rattle.block_machine.specs.Steps.{Step, Answer}
 use Rattle.block_machine.proofs.Counting.{count_append}
 use Rattle.host_boot.specs.Taken.{found_of}
-use Rattle.driver_history.specs.Evidence.{ShowsFailure}
-use Rattle.driver_history.specs.Guard.{IsAskedOf}
+use Rattle.host_boot.specs.declared.Found.{Found}
+use Rattle.driver_history.specs.Evidence.{ShowsChange, ShowsFailure}
 use Rattle.driver_history.specs.Histories.{BootsAnew, FindsDone, HasBadDisk, HasFaultAlone, IsAnsweredFaulty, IsIssuedOn, TiesPort}
 use Rattle.driver_history.specs.Parts.{HasTurnIn, NamesAlike}
 use Rattle.server_history.specs.Below.{LawsBelow}
-use Rattle.server_history.specs.Turns.{HasPart, HeedsTrouble, InService, MakesTurn, instant_of, moment_of, turn_of}
+use Rattle.server_history.specs.Turns.{HasPart, HeedsTrouble, InService, MakesTurn, TiesTurn, Turn, instant_of, moment_of, turn_of}
 use Rattle.server_history.specs.Server.{HasCommand, Server, IsKept, IsMachineOf, IsSettled, ports_of, state_of}
 use Rattle.server_history.proofs.Joined.{same_then}
 use Rattle.server_history.proofs.Progress.{others_leave}
 use Rattle.server_history.proofs.Lifting as lifting
 use Rattle.server_history.proofs.Lifting.{counts_apart}
-use Rattle.server_history.proofs.Plans.{AService}
+use Rattle.server_history.proofs.Plans.{AService, turn_at}
 use Rattle.server_history.proofs.Progress as progress
-use Rattle.server_history.proofs.Slots.{free_unused}
+use Rattle.server_history.proofs.Slots.{ready_found, free_unused}
 
 module _ (laws : LawsBelow) (s : Server) (start : IsSettled s) (old : Moment) (reached : IsReached old.machine) (at : IsMachineOf s old.machine) (ports_are : old.ports ≡ ports_of s) where
   abbrev kept : IsKept s
@@ -52,12 +52,12 @@ module _ (laws : LawsBelow) (s : Server) (start : IsSettled s) (old : Moment) (r
   abbrev Progress : ℕ → Server → List Reply → Type 0
   Progress n c replies = progress.Progress AService laws s start old reached at ports_are n c replies
 
-  module _ (n : ℕ) (c mid : Server) (before its : List Reply) (ready : state_at n ≡ ReadyState) (p : Progress n c before) (next : IsSettled mid) (part : HasPart InService (port_at n) its c mid)
+  module _ (n : ℕ) (c mid : Server) (before its : List Reply) (ready : state_at n ≡ ReadyState) (p : Progress n c before) (next : IsSettled mid) (part : HasPart (turn_at AService (found_of s.ports n) n) (port_at n) its c mid)
       (m_reached : IsReached (after old.machine p.steps)) (on_mid : IsOn mid.device) where
     abbrev m : Machine
     m = after old.machine p.steps
 
-    abbrev x : MakesTurn InService (port_at n) its part.accesses c mid m
+    abbrev x : MakesTurn (turn_at AService (found_of s.ports n) n) (port_at n) its part.accesses c mid m
     x = part.makes m m_reached p.stands
 
     abbrev all : List Step
@@ -65,6 +65,13 @@ module _ (laws : LawsBelow) (s : Server) (start : IsSettled s) (old : Moment) (r
 
     abbrev accesses : List Access
     accesses = p.accesses ++ part.accesses
+
+    -- it is ready, and so its turn is one in which it is served
+    is_service : turn_at AService (found_of s.ports n) n ≡ InService
+    is_service = ap (λ (found : Found). turn_at AService found n) (ready_found s n kept ready).1.1
+
+    its_ties : TiesTurn InService (port_at n) its part.accesses c mid m x.evidence x.steps
+    its_ties = subst (λ (turn : Turn). TiesTurn turn (port_at n) its part.accesses c mid m x.evidence x.steps) is_service x.ties
 
     low : n < 4
     low = lifting.low AService laws s start old reached at ports_are n c mid before its ready p next part m_reached on_mid
@@ -96,18 +103,15 @@ module _ (laws : LawsBelow) (s : Server) (start : IsSettled s) (old : Moment) (r
     whole_is : after old.machine all ≡ after m x.steps
     whole_is = lifting.whole_is AService laws s start old reached at ports_are n c mid before its ready p next part m_reached on_mid
 
-    module _ (evidence : Evidence) (alike : NamesAlike (port_at n) x.evidence evidence) (same_n : SamePort old.ports (ports_of c) (port_at n)) (asked : IsAskedOf (port_at n) began mid.device) where
-      asked_now : IsAskedOf (port_at n) (instant_of c m) mid.device
-      asked_now = lifting.asked_now AService laws s start old reached at ports_are n c mid before its ready p next part m_reached on_mid asked
-
+    module _ (evidence : Evidence) (alike : NamesAlike (port_at n) x.evidence evidence) (same_n : SamePort old.ports (ports_of c) (port_at n)) where
       abbrev did : TiesPort (instant_of c m) (turn_of InService its mid x.evidence x.steps) part.accesses (port_at n)
-      did = x.ties asked_now
+      did = its_ties
 
       abbrev serves : ServesReady (moment_of c m) x.evidence x.steps (record { machine = after m x.steps; ports = ports_of mid }) (port_at n)
       serves = did.heeds ready_c
 
       finding : (e : Pending) → IsIssuedOn (port_at n) old.machine e → FindsDone (port_at n) accesses began all
-      finding e leads = lifting.finding AService laws s start old reached at ports_are n c mid before its ready p next part m_reached on_mid (x.finds refl asked_now (leading e leads).now_is (then_issued e leads (leading e leads))) serves.ended
+      finding e leads = lifting.finding AService laws s start old reached at ports_are n c mid before its ready p next part m_reached on_mid (x.finds is_service (leading e leads).now_is (then_issued e leads (leading e leads))) serves.ended
 
       -- ---- a plain request's fault
 
@@ -212,9 +216,9 @@ module _ (laws : LawsBelow) (s : Server) (start : IsSettled s) (old : Moment) (r
       same_self : SamePort (ports_of mid) (ports_of mid) (port_at n)
       same_self = (refl, refl, refl, refl, refl, refl)
 
-      -- where the port showed a failure when it began, the turn stopped it
-      stops_failed : ShowsFailure (c.device.port n) → IsInterrupted x.evidence (port_at n)
-      stops_failed failure = serves.interrupts (inl (x.evidenced.failed_all ready_c failure))
+      -- where the port showed a failure when it began, or a change of its link, the turn stopped it
+      stops_troubled : ShowsFailure (c.device.port n) ⊎ ShowsChange (c.device.port n) → IsInterrupted x.evidence (port_at n)
+      stops_troubled trouble = serves.interrupts (⊎_elim (λ failure. inl (x.evidenced.failed_all ready_c failure)) (λ change. inr (x.evidenced.gone_all ready_c (inl change))) trouble)
 
       -- ---- the whole
 
@@ -226,7 +230,7 @@ module _ (laws : LawsBelow) (s : Server) (start : IsSettled s) (old : Moment) (r
       not_absent absent = let z : Absent ≡ ReadyState = sym absent ∙ was_ready in absurd cc
 
       heeds_trouble : HeedsTrouble (port_at n) accesses began evidence (ports_of mid) mid.device
-      heeds_trouble = lifting.trouble_whole AService laws s start old reached at ports_are n c mid before its ready p next part m_reached on_mid evidence alike same_n asked stops_failed (record { trouble = did.trouble; well = did.well })
+      heeds_trouble = lifting.trouble_whole AService laws s start old reached at ports_are n c mid before its ready p next part m_reached on_mid evidence alike same_n stops_troubled (record { trouble = did.trouble; well = did.well })
 
       pub ties_whole : TiesPort began (turn_of InService [] mid evidence all) accesses (port_at n)
       ties_whole = record {
@@ -239,7 +243,7 @@ module _ (laws : LawsBelow) (s : Server) (start : IsSettled s) (old : Moment) (r
           changed = λ bad. absurd (not_bad bad);
         };
         boots = subst (λ (list : List Access). BootsAnew Service (Served []) (p.accesses ++ list) began (ports_of mid) mid.device (port_at n)) (append-nil part.accesses)
-            (laws.calls.call_boots (port_at n) began (moment_of c m) (ports_of mid) (ports_of mid) mid.device (Served its) (Served []) kept.on undue t on_mid ready_c asked same_self same_n did.boots);
+            (laws.calls.call_boots (port_at n) began (moment_of c m) (ports_of mid) (ports_of mid) mid.device (Served its) (Served []) kept.on undue t on_mid same_self same_n did.boots);
         trouble = heeds_trouble.trouble;
         well = heeds_trouble.well;
         heeds = λ _. heeds_whole;

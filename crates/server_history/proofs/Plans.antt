@@ -1,9 +1,10 @@
 -- Calls in which ready ports have their turns one after another: a service, and a tick.
-use Rattle.std.proofs.Common.{ℕ, ◌≡◌, ◌++◌, Bool, true, false, if◌then◌else◌, List, [], ◌∷◌, refl, ap, ◌∙◌, inl, inr, ⊎_elim}
+use Rattle.std.proofs.Common.{ℕ, ◌≡◌, ◌++◌, Bool, true, false, if◌then◌else◌, List, [], ◌∷◌, refl, ap, ◌∙◌, inl, inr, ⊎_elim, ◌≢◌, sym, ◌⊎◌}
 use Rattle.std.specs.List.{All}
+use Rattle.std.proofs.lemmas.Bool.{false≢true}
 use Rattle.std.proofs.lemmas.List.Elements.{All-head, All-tail, Contains-append_left, Contains-append_right}
 use Rattle.ata_types.specs.declared.Port.{Port}
-use Rattle.ata_types.specs.declared.PortState.TheVariants.{Ready as ReadyState}
+use Rattle.ata_types.specs.declared.PortState.TheVariants.{Absent, Dead, Ready as ReadyState}
 use Rattle.ata_types.specs.declared.request.Outcome.{Outcome}
 use Rattle.ata_types.specs.declared.request.Reply.{Reply}
 use Rattle.adapter.specs.Access.{Access}
@@ -17,8 +18,10 @@ use Rattle.block_machine.specs.Steps.{Step, Again, Answer, Issue}
 use Rattle.block_machine.specs.declared.due.Mode.{Mode}
 use Rattle.driver_history.specs.Evidence.{IsEndedReset, IsEvidencedOf}
 use Rattle.driver_history.specs.Histories.{TendsPort}
-use Rattle.server_history.specs.Server.{Server}
-use Rattle.server_history.specs.Turns.{AtRest, InRestart, InService, IsStepOf, OwesTurn, Turn, call_of}
+use Rattle.host_boot.specs.declared.Found.{Found}
+use Rattle.host_boot.specs.declared.Found.TheVariants.{Ready, Unready, Unserved}
+use Rattle.server_history.specs.Server.{Server, is_served, state_of}
+use Rattle.server_history.specs.Turns.{AtRest, InRestart, InService, InTry, IsStepOf, OwesTurn, Turn, call_of}
 use Rattle.server_history.proofs.Joined.{joined}
 use Rattle.server_history.proofs.Told.{no_evidence}
 use Rattle.server_history.proofs.Turns.{grounded_join, grounded_on}
@@ -28,29 +31,44 @@ pub data Plan : Type 0 where
   AService : Plan
   ATick : (ℕ → Bool) → Plan
 
--- the turn of a ready port in it
-abbrev pub turn_at : Plan → ℕ → Turn
-turn_at AService n = InService
-turn_at (ATick hung) n = if hung n then InRestart else AtRest
+-- the turn of a port in it, which was found so
+abbrev pub turn_at : Plan → Found → ℕ → Turn
+turn_at AService (Ready info) n = InService
+turn_at AService found n = InTry
+turn_at (ATick hung) found n = if hung n then InRestart else AtRest
+
+-- a port that was found so has a turn in it: in a service each that is served, but for dead ones; in a tick each that is ready
+abbrev pub TakesTurn : Plan → Found → Type 0
+TakesTurn AService found = (is_served found ≡ true) × (state_of found ≢ Dead)
+TakesTurn (ATick hung) found = state_of found ≡ ReadyState
 
 abbrev pub asks_for : Plan → Ask DeviceStep
 asks_for AService = Service
 asks_for (ATick hung) = Tick
 
-pub asks_so : (plan : Plan) (n : ℕ) → call_of (turn_at plan n) ≡ asks_for plan
-asks_so AService n = refl
-asks_so (ATick hung) n = by (hung n)
+pub asks_so : (plan : Plan) (found : Found) (n : ℕ) → call_of (turn_at plan found n) ≡ asks_for plan
+asks_so AService (Ready info) n = refl
+asks_so AService (Unready state) n = refl
+asks_so AService Unserved n = refl
+asks_so (ATick hung) found n = by (hung n)
   where
     by : (b : Bool) → call_of (if b then InRestart else AtRest) ≡ Tick
     by true = refl
     by false = refl
 
--- the port is restarted in it
-abbrev pub IsRestartedIn : Plan → ℕ → Type 0
-IsRestartedIn AService n = ⊥
-IsRestartedIn (ATick hung) n = hung n ≡ true
+-- a ready port has one
+pub ready_takes : (plan : Plan) (found : Found) → state_of found ≡ ReadyState → TakesTurn plan found
+ready_takes AService (Ready info) is = (refl, λ dead. let z : ReadyState ≡ Dead = dead in cc)
+ready_takes AService (Unready state) is = (refl, λ dead. let z : ReadyState ≡ Dead = sym is ∙ dead in cc)
+ready_takes AService Unserved is = let z : Absent ≡ ReadyState = is in absurd cc
+ready_takes (ATick hung) found is = is
 
--- which ready ports' registers it uses
+-- one that isn't served has none
+pub unserved_waits : (plan : Plan) → TakesTurn plan Unserved → ⊥
+unserved_waits AService takes = false≢true takes.0
+unserved_waits (ATick hung) takes = let z : Absent ≡ ReadyState = takes in cc
+
+-- which ports' registers it uses
 abbrev pub Uses : Plan → Ports → Port → Type 0
 Uses AService ports port = TendsPort ports port
 Uses (ATick hung) ports port = (ports.state port ≡ ReadyState) × (hung port.0 ≡ true)
@@ -128,12 +146,17 @@ any_said (ATick hung) one other made i ports d e q v = record {
 }
 
 -- what is owed is so of more steps, with what the turn owes
-pub owes_join : (plan : Plan) (n : ℕ) (port : Port) (accesses : List Access) (old new : Server) (m : Machine) (early its : Evidence) (steps late : List Step) → OwesBy plan early steps → OwesTurn (turn_at plan n) port accesses old new m its late
+pub owes_join : (plan : Plan) (found : Found) (n : ℕ) (port : Port) (accesses : List Access) (old new : Server) (m : Machine) (early its : Evidence) (steps late : List Step) → OwesBy plan early steps → OwesTurn (turn_at plan found n) port accesses old new m its late
     → OwesBy plan (joined early its) (late ++ steps)
-owes_join AService n port accesses old new m early its steps late so_far turn = grounded_join (joined early its) late steps
-    (grounded_on its (joined early its) (λ q there. Contains-append_right early.failed its.failed q there) late turn)
+owes_join AService found n port accesses old new m early its steps late so_far turn = grounded_join (joined early its) late steps
+    (grounded_on its (joined early its) (λ q there. Contains-append_right early.failed its.failed q there) late (by found turn))
     (grounded_on early (joined early its) (λ q there. Contains-append_left early.failed its.failed q there) steps so_far)
-owes_join (ATick hung) n port accesses old new m early its steps late so_far turn = by (hung n) turn
+  where
+    by : (was : Found) → OwesTurn (turn_at AService was n) port accesses old new m its late → AllGrounded its late
+    by (Ready info) o = o
+    by (Unready state) o = o.0
+    by Unserved o = o.0
+owes_join (ATick hung) found n port accesses old new m early its steps late so_far turn = by (hung n) turn
   where
     none : its.faults ≡ [] → early.faults ++ its.faults ≡ []
     none is = ap (λ list. list ++ its.faults) so_far ∙ is
@@ -142,10 +165,20 @@ owes_join (ATick hung) n port accesses old new m early its steps late so_far tur
     by true (restarts, is) = none is
     by false (made, did, is, uninterrupted) = none is
 
+-- of a port that isn't ready no fault is told, and no loss
+pub ready_or_silent : (plan : Plan) (found : Found) (n : ℕ) (port : Port) (accesses : List Access) (old new : Server) (m : Machine) (its : Evidence) (steps : List Step) → TakesTurn plan found → OwesTurn (turn_at plan found n) port accesses old new m its steps
+    → (state_of found ≡ ReadyState) ⊎ ((its.faults ≡ []) × (its.lost ≡ []))
+ready_or_silent AService (Ready info) n port accesses old new m its steps takes o = inl refl
+ready_or_silent AService (Unready state) n port accesses old new m its steps takes o = inr (o.1, o.2)
+ready_or_silent AService Unserved n port accesses old new m its steps takes o = inr (o.1, o.2)
+ready_or_silent (ATick hung) found n port accesses old new m its steps takes o = inl takes
+
 -- it is no reset
-pub not_reset : (plan : Plan) (n : ℕ) (said : List Reply) → IsEndedReset (call_of (turn_at plan n)) (Served said) → ⊥
-not_reset AService n said is = is
-not_reset (ATick hung) n said is = by (hung n) is
+pub not_reset : (plan : Plan) (found : Found) (n : ℕ) (said : List Reply) → IsEndedReset (call_of (turn_at plan found n)) (Served said) → ⊥
+not_reset AService (Ready info) n said is = is
+not_reset AService (Unready state) n said is = is
+not_reset AService Unserved n said is = is
+not_reset (ATick hung) found n said is = by (hung n) is
   where
     by : (b : Bool) → IsEndedReset (call_of (if b then InRestart else AtRest)) (Served said) → ⊥
     by true reset = reset

@@ -32,7 +32,7 @@ use Rattle.driver_history.specs.Parts.{IsOfOther}
 use Rattle.driver_history.specs.Trace.{IsServing, LeavesEngine, ResetsLink}
 use Rattle.server_history.specs.Below.{LawsBelow}
 use Rattle.server_history.specs.Turns.{HeedsTrouble, InService, IsStepOf, moment_of, turn_of}
-use Rattle.server_history.proofs.Plans.{AService, ATick, OwesBy, Plan, Uses, asks_for, owes_nothing}
+use Rattle.server_history.proofs.Plans.{AService, ATick, OwesBy, Plan, TakesTurn, Uses, asks_for, owes_nothing, ready_takes}
 use Rattle.server_history.specs.Server.{Server, IsKept, IsMachineOf, IsSettled, mode_at, mode_in, ports_of, remembered_at, slots_at, state_of}
 use Rattle.server_history.proofs.Asks.{none_issued}
 use Rattle.server_history.proofs.Told.{no_evidence}
@@ -52,7 +52,7 @@ pub record IsRestarted (old : Instant Device) (port : Port) (accesses : List Acc
   pub another : (e : Pending) → Contains steps (Answer e Unplugged) → e.request.port ≡ port
       → (state_of (found_of c.ports port.0) ≢ Dead) × (state_of (found_of c.ports port.0) ≡ ReadyState → SameDisk old.moment.ports (ports_of c) port → ⊥)
   pub disk : HadDisk old.moment steps (moment_of c (after old.moment.machine steps)) port
-  pub heeds : IsAskedOf port old c.device → HeedsTrouble port accesses old evidence (ports_of c) c.device
+  pub heeds : HeedsTrouble port accesses old evidence (ports_of c) c.device
 
 -- It has let the port rest.
 pub record HasRested (old : Moment) (port : Port) (accesses : List Access) (c : Server) (evidence : Evidence) (steps : List Step) : Type 0 where
@@ -69,13 +69,13 @@ pub record HasTicked (hung : ℕ → Bool) (s : Server) (old : Moment) (port : P
 
 abbrev pub TiesSoFar : Plan → Server → Moment → Port → List Access → Server → Evidence → List Step → Type 0
 TiesSoFar AService s old port accesses c evidence steps =
-    IsAskedOf port (record { device = s.device; moment = old }) c.device → TiesPort (record { device = s.device; moment = old }) (turn_of InService [] c evidence steps) accesses port
+    IsAskedOf port (record { device = s.device; moment = old }) → TiesPort (record { device = s.device; moment = old }) (turn_of InService [] c evidence steps) accesses port
 TiesSoFar (ATick hung) s old port accesses c evidence steps = HasTicked hung s old port accesses c evidence steps
 
 -- nothing is done of a port that isn't ready, and that had no turn
 unready_ties : (plan : Plan) (s : Server) (old : Moment) (port : Port) (accesses : List Access) (c : Server) (evidence : Evidence) (steps : List Step) → old.ports.state port ≢ ReadyState → HasRested old port accesses c evidence steps
     → TiesSoFar plan s old port accesses c evidence steps
-unready_ties AService s old port accesses c evidence steps unready rests = λ asked. absurd (unready asked.ready)
+unready_ties AService s old port accesses c evidence steps unready rests = λ asked. absurd (unready asked)
 unready_ties (ATick hung) s old port accesses c evidence steps unready rests = record {
   restarted = λ ready. absurd (unready ready);
   rested = λ _. rests;
@@ -93,9 +93,12 @@ module _ (plan : Plan) (laws : LawsBelow) (s : Server) (start : IsSettled s) (ol
   abbrev pub state_at : ℕ → PortState
   state_at q = state_of (found_of s.ports q)
 
-  -- ports that had their turns
+  -- ports that have turns, and those that had theirs
+  abbrev pub Takes : Port → Type 0
+  Takes q = TakesTurn plan (found_of s.ports q.0)
+
   abbrev pub HadTurn : ℕ → Port → Type 0
-  HadTurn n q = (q.0 < n) × (state_at q.0 ≡ ReadyState)
+  HadTurn n q = (q.0 < n) × Takes q
 
   -- What is so of a port that had its turn, or none, at the end of what was done so far.
   pub record IsDone (c : Server) (accesses : List Access) (steps : List Step) (evidence : Evidence) (q : Port) : Type 0 where
@@ -127,6 +130,7 @@ module _ (plan : Plan) (laws : LawsBelow) (s : Server) (start : IsSettled s) (ol
     pub belong : Belong (asks_for plan) (ports_of c) steps
     pub evidence : Evidence
     pub names : NamesSome (HadTurn n) evidence
+    pub lost : All (λ q. state_at q.0 ≡ ReadyState) evidence.lost
     pub lawful : AllLawful old evidence (ports_of c) steps
     pub owes : OwesBy plan evidence steps
     pub unplugs : UnplugsAll steps (after old.machine steps)
@@ -167,6 +171,7 @@ module _ (plan : Plan) (laws : LawsBelow) (s : Server) (start : IsSettled s) (ol
       stopped = All-nil (HadTurn 0);
       stuck = All-nil (HadTurn 0);
     };
+    lost = All-nil (λ q. state_at q.0 ≡ ReadyState);
     lawful = tt;
     owes = owes_nothing plan;
     unplugs = record { emptied = λ e other here there. absurd (nowhere (Answer e Unplugged) here); alike = λ e other here there. absurd (nowhere (Answer e Unplugged) here) };
@@ -200,29 +205,28 @@ module _ (plan : Plan) (laws : LawsBelow) (s : Server) (start : IsSettled s) (ol
   pub others_leave : (q : Port) (accesses : List Access) → All (IsOfOther q) accesses → All (LeavesEngine q) accesses
   others_leave q accesses of = All-weaker (IsOfOther q) (LeavesEngine q) (λ access x. (laws.of_spares x.0 q Cmd x.1 access x.2, laws.of_spares x.0 q Sctl x.1 access x.2)) accesses of
 
-  -- nothing is asked of the evidence of a port that isn't ready, and that it doesn't name
-  pub none_evidenced : (accesses : List Access) (new : Device) (ports : Ports) (evidence : Evidence) (q : Port) → state_at q.0 ≢ ReadyState → NamesSome (λ r. state_at r.0 ≡ ReadyState) evidence → All (IsOfOther q) accesses
+  -- nothing is asked of the evidence of a port that has no turn, and that it doesn't name
+  none_evidenced : (accesses : List Access) (new : Device) (ports : Ports) (evidence : Evidence) (q : Port) → (Takes q → ⊥) → NamesSome Takes evidence → All (IsOfOther q) accesses
       → IsEvidencedOf (asks_for plan) (Served []) accesses began ports new evidence q
-  none_evidenced accesses new ports evidence q unready names of =
-      let Such : Port → Type 0 = λ r. state_at r.0 ≡ ReadyState in
-      let was_ready : old.ports.state q ≡ ReadyState → ⊥ = λ is. unready (sym (ap (λ (ports : Ports). ports.state q) ports_are) ∙ is) in
+  none_evidenced accesses new ports evidence q not names of =
+      let was_ready : old.ports.state q ≡ ReadyState → ⊥ = λ is. not (ready_takes plan (found_of s.ports q.0) (sym (ap (λ (ports : Ports). ports.state q) ports_are) ∙ is)) in
       record {
-        lost = λ here. absurd (unready (All-contains Such evidence.lost q names.lost here));
+        lost = λ here. absurd (not (All-contains Takes evidence.lost q names.lost here));
         gone_all = λ is. absurd (was_ready is);
-        gone_only = λ here. absurd (unready (All-contains Such evidence.gone q names.gone here));
+        gone_only = λ here. absurd (not (All-contains Takes evidence.gone q names.gone here));
         failed_all = λ is. absurd (was_ready is);
-        failed_only = λ here. absurd (unready (All-contains Such evidence.failed q names.failed here));
+        failed_only = λ here. absurd (not (All-contains Takes evidence.failed q names.failed here));
         fatal_all = λ is. absurd (was_ready is);
-        fatal_only = λ here. absurd (unready (All-contains Such evidence.fatal q names.fatal here));
+        fatal_only = λ here. absurd (not (All-contains Takes evidence.fatal q names.fatal here));
         stopped_all = inl (others_leave q accesses of);
-        stopped_only = λ here. absurd (unready (All-contains Such evidence.stopped q names.stopped here));
-        stuck_only = λ here. absurd (unready (All-contains Such evidence.stuck q names.stuck here));
+        stopped_only = λ here. absurd (not (All-contains Takes evidence.stopped q names.stopped here));
+        stuck_only = λ here. absurd (not (All-contains Takes evidence.stuck q names.stuck here));
       }
 
-  -- what is so of a port that isn't ready, and had no turn
-  pub idle_done : (n : ℕ) (c : Server) (replies : List Reply) → (p : Progress n c replies) → (q : Port) → state_at q.0 ≢ ReadyState → IsDone c p.accesses p.steps p.evidence q
-  idle_done n c replies p q unready =
-      let none : HadTurn n q → ⊥ = λ served. unready served.1 in
+  -- what is so of a port that has no turn
+  pub idle_done : (n : ℕ) (c : Server) (replies : List Reply) → (p : Progress n c replies) → (q : Port) → (Takes q → ⊥) → IsDone c p.accesses p.steps p.evidence q
+  idle_done n c replies p q not =
+      let none : HadTurn n q → ⊥ = λ served. not served.1 in
       let un = unnamed n q none p.evidence p.names in
       let same : SamePort old.ports (ports_of c) q = subst (λ (ports : Ports). SamePort ports (ports_of c) q) (sym ports_are) (same_at s c q (p.found q none) (p.remembered q none) (p.modes q none)) in
       record {
@@ -240,18 +244,18 @@ module _ (plan : Plan) (laws : LawsBelow) (s : Server) (start : IsSettled s) (ol
         );
         disk = inl same;
         keeps = inl (same.2, same.3);
-        evidenced = none_evidenced p.accesses c.device (ports_of c) p.evidence q unready (names_more (HadTurn n) (λ r. state_at r.0 ≡ ReadyState) (λ r served. served.1) p.evidence p.names) (p.others q none);
-        ties = unready_ties plan s old q p.accesses c p.evidence p.steps (λ is. unready (sym (ap (λ (ports : Ports). ports.state q) ports_are) ∙ is)) (record {
+        evidenced = none_evidenced p.accesses c.device (ports_of c) p.evidence q not (names_more (HadTurn n) Takes (λ r served. served.1) p.evidence p.names) (p.others q none);
+        ties = unready_ties plan s old q p.accesses c p.evidence p.steps (λ is. not (ready_takes plan (found_of s.ports q.0) (sym (ap (λ (ports : Ports). ports.state q) ports_are) ∙ is))) (record {
           others = p.others q none;
           same = same;
           uninterrupted = λ i. ⊎_elim un.4 un.5 i;
-          again = λ e here own. unready (ap (λ (r : Port). state_at r.0) (sym own) ∙ (again_of (HadTurn n) p.steps p.of e here).1);
-          answer = λ e o here own. unready (ap (λ (r : Port). state_at r.0) (sym own) ∙ (answered_of (HadTurn n) p.steps p.of e o here).1);
+          again = λ e here own. not (subst Takes own (again_of (HadTurn n) p.steps p.of e here).1);
+          answer = λ e o here own. not (subst Takes own (answered_of (HadTurn n) p.steps p.of e o here).1);
         });
       }
 
-  -- a port that isn't ready has no turn
-  pub skipped : (n : ℕ) (c : Server) (replies : List Reply) → state_at n ≢ ReadyState → Progress n c replies → Progress (n + 1) c replies
+  -- a port is passed over that has no turn
+  pub skipped : (n : ℕ) (c : Server) (replies : List Reply) → (TakesTurn plan (found_of s.ports n) → ⊥) → Progress n c replies → Progress (n + 1) c replies
   skipped n c replies other p = record {
     settled = p.settled;
     wanted = p.wanted;
@@ -268,6 +272,7 @@ module _ (plan : Plan) (laws : LawsBelow) (s : Server) (start : IsSettled s) (ol
     evidence = p.evidence;
     names = names_more (HadTurn n) (HadTurn (n + 1)) (λ q served. let small = served.0 in (omega (arith, small), served.1)) p.evidence p.names;
     lawful = p.lawful;
+    lost = p.lost;
     owes = p.owes;
     unplugs = p.unplugs;
     answers = p.answers;
@@ -280,7 +285,7 @@ module _ (plan : Plan) (laws : LawsBelow) (s : Server) (start : IsSettled s) (ol
         (λ (less : q.0 < n). p.done q less)
         (λ (most : n ≤ q.0).
         let same : n ≡ q.0 = omega (arith, lt, most) in
-        idle_done n c replies p q (λ is_ready. other (ap state_at same ∙ is_ready)))
+        idle_done n c replies p q (λ takes. other (subst (λ (k : ℕ). TakesTurn plan (found_of s.ports k)) (sym same) takes)))
         (cases_lt q.0 n);
     due = p.due;
     of = all_of_ports (HadTurn n) (HadTurn (n + 1)) (λ q served. let small = served.0 in (omega (arith, small), served.1)) p.steps p.of;
@@ -290,6 +295,6 @@ module _ (plan : Plan) (laws : LawsBelow) (s : Server) (start : IsSettled s) (ol
     slots = λ q none. p.slots q (λ served. let small = served.0 in none (omega (arith, small), served.1));
   }
 
-  -- who was answered is of a port that was ready
-  pub answered_was : (n : ℕ) (c : Server) (replies : List Reply) → (p : Progress n c replies) → (e : Pending) (o : Outcome) → Contains p.steps (Answer e o) → state_at e.request.port.0 ≡ ReadyState
+  -- who was answered is of a port that has a turn
+  pub answered_was : (n : ℕ) (c : Server) (replies : List Reply) → (p : Progress n c replies) → (e : Pending) (o : Outcome) → Contains p.steps (Answer e o) → Takes e.request.port
   answered_was n c replies p e o here = (answered_of (HadTurn n) p.steps p.of e o here).1

@@ -1,10 +1,11 @@
 -- A service adds an event to a history.
-use Rattle.std.proofs.Common.{ℕ, ◌≡◌, ◌≢◌, List, [], ◌∷◌, refl, sym, ap, ◌∙◌, ⊎_elim, arith}
+use Rattle.std.proofs.Common.{ℕ, ◌≡◌, ◌≢◌, List, [], ◌∷◌, refl, sym, ap, ◌∙◌, ⊎_elim, arith, subst, inl, inr, ◌⊎◌}
 use Rattle.std.specs.List.{Contains}
 use Rattle.std.proofs.lemmas.Bool.{cases_lt}
 use Rattle.ata_types.specs.declared.Port.{Port}
+use Rattle.ata_types.specs.declared.PortState.{PortState}
 use Rattle.ata_types.specs.declared.PortState.TheVariants.{Dead, Ready as ReadyState}
-use Rattle.ata_types.specs.declared.request.Outcome.{Outcome}
+use Rattle.agreement.specs.Agrees.{port_at}
 use Rattle.ata_types.specs.declared.request.Reply.{Reply}
 use Rattle.adapter.specs.Device.{Device}
 use Rattle.adapter.specs.declared.access.DeviceStep.{DeviceStep}
@@ -13,22 +14,25 @@ use Rattle.block_machine.specs.Histories.{Instant, Happening, IsReached, now}
 use Rattle.block_machine.specs.Left.{after}
 use Rattle.block_machine.specs.Ports.{Ports}
 use Rattle.block_machine.specs.State.{Pending}
-use Rattle.block_machine.specs.Steps.{Answer}
 use Rattle.host_boot.specs.Taken.{found_of}
+use Rattle.host_boot.specs.declared.Found.{Found}
+use Rattle.host_boot.specs.declared.Found.TheVariants.{Unready}
+use Rattle.server_history.proofs.Joined.{dead_or_not}
 use Rattle.driver_history.specs.Evidence.{IsEvidenced}
 use Rattle.driver_history.specs.Guard.{IsAskedOf}
 use Rattle.driver_history.specs.Histories.{TiesPort}
 use Rattle.request_queue.specs.Machine.{IsEntry}
 use Rattle.server_history.specs.Histories.{Adds, Leads}
 use Rattle.server_history.specs.Below.{LawsBelow}
-use Rattle.server_history.specs.Turns.{ServePorts, ServesPort}
+use Rattle.server_history.specs.Turns.{HasPart, ServePorts, ServesPort, TriesOther}
+use Rattle.server_history.specs.Tried.{IsLookedAt}
 use Rattle.server_history.specs.Server.{Server, IsKept, IsMachineOf, IsSettled, mode_in, ports_of, state_of}
 use Rattle.server_history.proofs.Asks.{none_due}
 use Rattle.server_history.proofs.Beginning.{kept_fit}
 use Rattle.server_history.proofs.Going.{happening_with, lead_with, with_device}
-use Rattle.server_history.proofs.Slots.{of_ready}
+use Rattle.server_history.proofs.Slots.{of_ready, ready_found}
 use Rattle.server_history.proofs.Zips.{at_right}
-use Rattle.server_history.proofs.Plans.{AService}
+use Rattle.server_history.proofs.Plans.{AService, TakesTurn, turn_at}
 use Rattle.server_history.proofs.Progress.{IsDone, Progress, answered_was, begun, idle_done}
 use Rattle.server_history.proofs.Services.{Whole, go, turns_kept}
 
@@ -45,8 +49,31 @@ module _ (laws : LawsBelow) (s new : Server) (replies : List Reply) (start : IsS
   reached : IsReached old.machine
   reached = laws.basic.history_reached s.wanted first past leads.history
 
+  ready_part : (n : ℕ) (c mid : Server) (before its : List Reply) → state_of (found_of s.ports n) ≡ ReadyState → Progress AService laws s start old reached at same n c before → ServesPort (port_at n) its c mid
+      → HasPart (turn_at AService (found_of s.ports n) n) (port_at n) its c mid
+  ready_part n c mid before its is_ready_n p serves = subst (λ (found : Found). HasPart (turn_at AService found n) (port_at n) its c mid) (sym (ready_found s n start.kept is_ready_n).1.1) serves.part
+
+  -- a dead port is passed over
+  other_part : (n : ℕ) (c mid : Server) (before : List Reply) (state : PortState) → found_of s.ports n ≡ Unready state → Progress AService laws s start old reached at same n c before → TriesOther (port_at n) c mid
+      → ((TakesTurn AService (found_of s.ports n) → ⊥) × (mid ≡ c)) ⊎ (TakesTurn AService (found_of s.ports n) × HasPart (turn_at AService (found_of s.ports n) n) (port_at n) [] c mid)
+  other_part n c mid before state is p tries = ⊎_elim
+      (λ (dead : state ≡ Dead).
+      let its_state : tries.does.state ≡ Dead =
+          let found : Unready tries.does.state ≡ Unready state = sym tries.does.is ∙ p.found (port_at n) (λ served. let lt = served.0 in omega (arith, lt)) ∙ is in
+          (let one : tries.does.state ≡ state = cc in one) ∙ dead in
+      let looks = subst (λ (of : PortState). IsLookedAt of (port_at n) tries.does.result c.device tries.does.seen) its_state tries.does.looks in
+      inl (
+        λ takes. takes.1 (ap state_of is ∙ dead),
+        tries.does.left looks.0 ∙ ap (λ (d : Device). record c { device = d }) looks.1,
+      ))
+      (λ (lives : state ≢ Dead). inr (
+        subst (TakesTurn AService) (sym is) (refl, lives),
+        subst (λ (found : Found). HasPart (turn_at AService found n) (port_at n) [] c mid) (sym is) tries.part,
+      ))
+      (dead_or_not state)
+
   ends : Whole AService laws s start old reached at same new replies
-  ends = go AService laws s start old reached at same ServesPort (λ n c mid before its ready p serves. serves.part) s.ports 0 (λ i. ap (λ (k : ℕ). found_of s.ports k) (omega arith)) s new [] replies (begun AService laws s start old reached at same) serves
+  ends = go AService laws s start old reached at same ServesPort TriesOther ready_part other_part s.ports 0 (λ i. ap (λ (k : ℕ). found_of s.ports k) (omega arith)) s new [] replies (begun AService laws s start old reached at same) serves
 
   p : Progress AService laws s start old reached at same ends.count new replies
   p = ends.progress
@@ -75,14 +102,10 @@ module _ (laws : LawsBelow) (s new : Server) (replies : List Reply) (start : IsS
       let a = at_right IsEntry new.book (after old.machine p.steps).book p.stands.book e here in
       other (ap (λ (q : Port). state_of (found_of new.ports q.0)) (sym own ∙ a.2.port) ∙ of_ready new holds a.0 a.1)
 
-  -- who is answered is of a port that was ready
-  answered_ready : (e : Pending) (o : Outcome) → Contains p.steps (Answer e o) → old.ports.state e.request.port ≡ ReadyState
-  answered_ready e o here = is_ready e.request.port ∙ answered_was AService laws s start old reached at same ends.count new replies p e o here
-
   all_answered : AnswersService old p.evidence p.steps replies end
   all_answered = record {
     tells = record { answers = p.answers; same = p.permuted; ordered = p.ordered; told = p.told };
-    dead = λ e o h dead. let z : Dead ≡ ReadyState = sym dead ∙ answered_ready e o h in absurd cc;
+    dead = λ e o h dead. absurd ((answered_was AService laws s start old reached at same ends.count new replies p e o h).1 (sym (is_ready e.request.port) ∙ dead));
     grounded = p.owes;
     unplugs = p.unplugs;
     issues = λ port ready. none_due new (after old.machine p.steps) p.stands (mode_in new port) port (p.settled.issued port);
@@ -114,7 +137,7 @@ module _ (laws : LawsBelow) (s new : Server) (replies : List Reply) (start : IsS
   }
 
   -- what the service has done of each port of which that is asked
-  port_part : (port : Port) → IsAskedOf port began new.device → TiesPort began (happening_with p.evidence new.device Service (Served replies) p.steps (ports_of new)) p.accesses port
+  port_part : (port : Port) → IsAskedOf port began → TiesPort began (happening_with p.evidence new.device Service (Served replies) p.steps (ports_of new)) p.accesses port
   port_part port asked =
       let did = (done port).ties asked in
       record { finds = did.finds; faults = did.faults; tries = did.tries; boots = did.boots; trouble = did.trouble; well = did.well; heeds = did.heeds }
@@ -131,4 +154,4 @@ module _ (laws : LawsBelow) (s new : Server) (replies : List Reply) (start : IsS
       p.backed p.stands
 
 pub services_add : LawsBelow → (s new : Server) (replies : List Reply) → IsSettled s → ServePorts 0 s.ports replies s new → Adds s new Service (Served replies)
-services_add laws s new replies start serves = record { settled = turns_kept ServesPort s.ports 0 s new replies start serves; adds = λ first past leads. service_event laws s new replies start serves first past leads }
+services_add laws s new replies start serves = record { settled = turns_kept ServesPort TriesOther s.ports 0 s new replies start serves; adds = λ first past leads. service_event laws s new replies start serves first past leads }

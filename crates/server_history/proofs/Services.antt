@@ -1,5 +1,5 @@
 -- Ready ports have their turns one after another, and each leads on what was done so far.
-use Rattle.std.proofs.Common.{ℕ, suc, ◌≡◌, ◌≢◌, ◌≤◌, ◌<◌, ◌+◌, ◌-◌, ◌||◌, Bool, true, false, List, [], ◌∷◌, ◌++◌, map, Some, None, refl, sym, ap, ◌∙◌, subst, inl, inr, ⊎_elim, arith, append_assoc, append-nil}
+use Rattle.std.proofs.Common.{ℕ, suc, ◌≡◌, ◌≢◌, ◌≤◌, ◌<◌, ◌+◌, ◌-◌, ◌||◌, Bool, true, false, List, [], ◌∷◌, ◌++◌, map, Some, None, refl, sym, ap, ◌∙◌, subst, inl, inr, ⊎_elim, arith, append_assoc, append-nil, ◌⊎◌}
 use Rattle.std.specs.List.{All, AllPairs, Contains, list_any}
 use Rattle.std.specs.List.Sorted.{IsPermutation}
 use Rattle.std.proofs.lemmas.Bool.{cases_Bool, cases_eq, cases_lt, or_left, or_right}
@@ -8,7 +8,7 @@ use Rattle.std.proofs.lemmas.List.Elements.{All-nil, All-append, All-contains, A
 use Rattle.std.proofs.lemmas.List.Sorted.{Contains-permutation, IsPermutation-append, IsPermutation-append_comm, IsPermutation-trans}
 use Rattle.ata_types.specs.declared.Port.{Port}
 use Rattle.ata_types.specs.declared.PortState.{PortState}
-use Rattle.ata_types.specs.declared.PortState.TheVariants.{Absent, Dead, Ready as ReadyState}
+use Rattle.ata_types.specs.declared.PortState.TheVariants.{Dead, Ready as ReadyState}
 use Rattle.ata_types.specs.declared.request.Outcome.{Outcome}
 use Rattle.ata_types.specs.declared.request.Reply.{Reply}
 use Rattle.ata_types.specs.declared.request.RequestId.{RequestId}
@@ -34,7 +34,6 @@ use Rattle.block_machine.proofs.Members.{map_in}
 use Rattle.host_boot.specs.Taken.{found_of}
 use Rattle.host_boot.specs.declared.Found.{Found}
 use Rattle.host_boot.specs.declared.Found.TheVariants.{Unserved, Ready, Unready}
-use Rattle.identify.specs.declared.DiskInfo.{DiskInfo}
 use Rattle.driver_history.specs.Evidence.{FailsPlain, FailsQueued, IsEvidencedOf}
 use Rattle.error_recovery.specs.Evidence.{BringsLog, HasFailed}
 use Rattle.driver_history.specs.Histories.{IssuesDue}
@@ -51,11 +50,12 @@ use Rattle.slots.specs.declared.Use.{Use as SlotUse}
 use Rattle.slots.specs.Uses.{Uses as PortSlots, use_at}
 use Rattle.block_machine.specs.declared.due.Mode.{Mode}
 use Rattle.server_history.proofs.Turns.{AreTurns, all_of_ports, answered_of, belong_join, lawful_join, lawful_on, present_before, turn_on, unplugs_join}
-use Rattle.server_history.proofs.Plans.{Plan, Uses, any_said, asks_for, asks_so, belong_on, owes_join, turn_at}
+use Rattle.server_history.proofs.Plans.{Plan, TakesTurn, Uses, any_said, asks_for, asks_so, belong_on, owes_join, ready_or_silent, ready_takes, turn_at, unserved_waits}
 use Rattle.server_history.proofs.Ties.{serving, ties_carried, ties_turned}
-use Rattle.server_history.proofs.Progress.{none_evidenced, skipped}
+use Rattle.server_history.proofs.Progress.{skipped}
+use Rattle.server_history.proofs.Lists.{nowhere}
 use Rattle.server_history.proofs.Progress as progress
-use Rattle.server_history.proofs.Joined.{NamesSome, alike_first, alike_then, all_pairs_append, answers_append, answers_there, joined, lawful_lift, names_joined, names_more, names_only, ready_or_not, same_at, same_disk, same_then, serviced_lift}
+use Rattle.server_history.proofs.Joined.{NamesSome, alike_first, alike_then, all_pairs_append, answers_append, answers_there, joined, lawful_lift, names_joined, names_more, names_only, same_at, same_disk, same_then, serviced_lift}
 
 same_some : {X : Type 0} {a b : X} → Some a ≡ Some b → a ≡ b
 same_some is = cc
@@ -71,7 +71,7 @@ module _ (plan : Plan) (laws : LawsBelow) (s : Server) (start : IsSettled s) (ol
   state_at q = state_of (found_of s.ports q)
 
   abbrev HadTurn : ℕ → Port → Type 0
-  HadTurn n q = (q.0 < n) × (state_at q.0 ≡ ReadyState)
+  HadTurn n q = (q.0 < n) × TakesTurn plan (found_of s.ports q.0)
 
   abbrev IsDone : Server → List Access → List Step → Evidence → Port → Type 0
   IsDone c accesses steps evidence q = progress.IsDone plan laws s start old reached at ports_are c accesses steps evidence q
@@ -84,14 +84,14 @@ module _ (plan : Plan) (laws : LawsBelow) (s : Server) (start : IsSettled s) (ol
 
   -- ---- a turn
 
-  module _ (n : ℕ) (c mid : Server) (before its : List Reply) (info : DiskInfo) (found_is : found_of s.ports n ≡ Ready info) (p : Progress n c before) (next : IsSettled mid) (part : HasPart (turn_at plan n) (port_at n) its c mid) where
+  module _ (n : ℕ) (c mid : Server) (before its : List Reply) (low : n < 4) (takes : TakesTurn plan (found_of s.ports n)) (p : Progress n c before) (next : IsSettled mid) (part : HasPart (turn_at plan (found_of s.ports n) n) (port_at n) its c mid) where
     abbrev m : Machine
     m = after old.machine p.steps
 
     m_reached : IsReached m
     m_reached = laws.basic.reached old.machine p.steps reached p.turns.may
 
-    abbrev x : MakesTurn (turn_at plan n) (port_at n) its part.accesses c mid m
+    abbrev x : MakesTurn (turn_at plan (found_of s.ports n) n) (port_at n) its part.accesses c mid m
     x = part.makes m m_reached p.stands
 
     abbrev all : List Step
@@ -103,20 +103,15 @@ module _ (plan : Plan) (laws : LawsBelow) (s : Server) (start : IsSettled s) (ol
     abbrev evidence : Evidence
     evidence = joined p.evidence x.evidence
 
-    ready : state_at n ≡ ReadyState
-    ready = ap state_of found_is
-
-    low : n < 4
-    low = (ready_found s n kept ready).0
-
     not_yet : HadTurn n (port_at n) → ⊥
     not_yet served = let lt = served.0 in omega (arith, lt)
 
-    ready_c : state_of (found_of c.ports n) ≡ ReadyState
-    ready_c = ap state_of (p.found (port_at n) not_yet) ∙ ready
+    -- it has its turn now
+    takes_at : (q : ℕ) → q ≡ n → TakesTurn plan (found_of s.ports q)
+    takes_at q is = subst (λ (k : ℕ). TakesTurn plan (found_of s.ports k)) (sym is) takes
 
-    was_ready : old.ports.state (port_at n) ≡ ReadyState
-    was_ready = ap (λ (ports : Ports). ports.state (port_at n)) ports_are ∙ ready
+    silent_or_ready : (state_at n ≡ ReadyState) ⊎ ((x.evidence.faults ≡ []) × (x.evidence.lost ≡ []))
+    silent_or_ready = ready_or_silent plan (found_of s.ports n) n (port_at n) part.accesses c mid m x.evidence x.steps takes x.owes
 
     its_driven : IsDrivenBy (IsOf (port_at n)) c.device mid.device
     its_driven = record { accesses = part.accesses; all = part.does; only = part.of }
@@ -191,21 +186,40 @@ module _ (plan : Plan) (laws : LawsBelow) (s : Server) (start : IsSettled s) (ol
     undue : (q : Port) → state_at q.0 ≡ ReadyState → (s.device.port q.0).link_due ≡ false
     undue q is = ((kept.behind q.0 (ready_found s q.0 kept is).0).runs is).recorded.linked
 
+    -- where a link may be due nothing is asked of a port
+    state_was : (q : Port) → old.ports.state q ≡ state_at q.0
+    state_was q = ap (λ (ports : Ports). ports.state q) ports_are
+
+    undue_n : (old.ports.state (port_at n) ≡ ReadyState) ⊎ Contains x.evidence.lost (port_at n) → (s.device.port n).link_due ≡ false
+    undue_n (inl is) = undue (port_at n) (sym (state_was (port_at n)) ∙ is)
+    undue_n (inr lost) = ⊎_elim (λ is. undue (port_at n) is) (λ silent. absurd (nowhere (port_at n) (subst (λ (list : List Port). Contains list (port_at n)) silent.1 lost))) silent_or_ready
+
+    undue_before : (q : Port) → (old.ports.state q ≡ ReadyState) ⊎ Contains p.evidence.lost q → (s.device.port q.0).link_due ≡ false
+    undue_before q (inl is) = undue q (sym (state_was q) ∙ is)
+    undue_before q (inr lost) = undue q (All-contains (λ (r : Port). state_at r.0 ≡ ReadyState) p.evidence.lost q p.lost lost)
+
+    -- who is named as lost was ready
+    its_lost : All (λ (r : Port). state_at r.0 ≡ ReadyState) x.evidence.lost
+    its_lost = ⊎_elim
+        (λ is. All-weaker (λ (r : Port). r ≡ port_at n) (λ (r : Port). state_at r.0 ≡ ReadyState) (λ r same. ap (λ (t : Port). state_at t.0) same ∙ is) x.evidence.lost x.names.lost)
+        (λ silent. subst (All (λ (r : Port). state_at r.0 ≡ ReadyState)) (sym silent.1) (All-nil (λ (r : Port). state_at r.0 ≡ ReadyState)))
+        silent_or_ready
+
     its_evidenced : IsEvidencedOf (asks_for plan) (Served its) part.accesses (record { device = c.device; moment = moment_of c m }) (ports_of mid) mid.device x.evidence (port_at n)
-    its_evidenced = subst (λ (ask : Ask DeviceStep). IsEvidencedOf ask (Served its) part.accesses (record { device = c.device; moment = moment_of c m }) (ports_of mid) mid.device x.evidence (port_at n)) (asks_so plan n) x.evidenced
+    its_evidenced = subst (λ (ask : Ask DeviceStep). IsEvidencedOf ask (Served its) part.accesses (record { device = c.device; moment = moment_of c m }) (ports_of mid) mid.device x.evidence (port_at n)) (asks_so plan (found_of s.ports n) n) x.evidenced
 
     evidenced_n : IsEvidencedOf (asks_for plan) (Served []) accesses began (ports_of mid) mid.device evidence (port_at n)
     unfolding turn_of
     evidenced_n = subst (λ (list : List Access). IsEvidencedOf (asks_for plan) (Served []) (p.accesses ++ list) began (ports_of mid) mid.device evidence (port_at n)) (append-nil part.accesses)
-        (laws.calls.evidence (port_at n) began (moment_of c m) (ports_of mid) (ports_of mid) mid.device x.evidence evidence (asks_for plan) (Served []) kept.on (λ _. undue (port_at n) ready) turn_of on_mid same_n
+        (laws.calls.evidence (port_at n) began (moment_of c m) (ports_of mid) (ports_of mid) mid.device x.evidence evidence (asks_for plan) (Served []) kept.on undue_n turn_of on_mid same_n
         (same_self (ports_of mid) (port_at n)) alike_n
         (any_said plan its [] part.accesses (record { device = c.device; moment = moment_of c m }) (ports_of mid) mid.device x.evidence (port_at n) its_evidenced))
 
-    evidenced_before : (q : Port) → q.0 < n → state_at q.0 ≡ ReadyState → IsEvidencedOf (asks_for plan) (Served []) p.accesses began (ports_of c) c.device p.evidence q
+    evidenced_before : (q : Port) → q.0 < n → IsEvidencedOf (asks_for plan) (Served []) p.accesses began (ports_of c) c.device p.evidence q
         → IsEvidencedOf (asks_for plan) (Served []) accesses began (ports_of mid) mid.device evidence q
     unfolding turn_before
-    evidenced_before q lt is v =
-        laws.calls.evidence q began old (ports_of c) (ports_of mid) mid.device p.evidence evidence (asks_for plan) (Served []) kept.on (λ _. undue q is) (turn_before q (λ same. omega (arith, lt, same))) p.on
+    evidenced_before q lt v =
+        laws.calls.evidence q began old (ports_of c) (ports_of mid) mid.device p.evidence evidence (asks_for plan) (Served []) kept.on (undue_before q) (turn_before q (λ same. omega (arith, lt, same))) p.on
         (same_self old.ports q) (same_other q (λ same. omega (arith, lt, same))) (alike_other q (earlier q lt)) v
 
     -- ---- requests
@@ -329,7 +343,7 @@ module _ (plan : Plan) (laws : LawsBelow) (s : Server) (start : IsSettled s) (ol
           (λ none. inr (λ e here. none e (subst (λ (k : Machine). Contains k.book e) whole_is here)))
           x.keeps;
       evidenced = evidenced_n;
-      ties = ties_turned plan laws s start old reached at ports_are n c mid before its ready p next part m_reached on_mid evidence alike_n same_n;
+      ties = ties_turned plan laws s start old reached at ports_are n c mid before its takes p next part m_reached on_mid evidence alike_n same_n;
     }
 
     done_before : (q : Port) → q.0 < n → IsDone c p.accesses p.steps p.evidence q → IsDone mid accesses all evidence q
@@ -348,10 +362,7 @@ module _ (plan : Plan) (laws : LawsBelow) (s : Server) (start : IsSettled s) (ol
           let b = stood laws (port_at n) m x.steps x.own e (subst (λ (k : Machine). Contains k.book e) whole_is here) in
           none b.was b.here (ap (λ r. r.port) b.request ∙ own)))
           d.keeps;
-      evidenced = ⊎_elim
-          (λ is_ready. evidenced_before q lt is_ready d.evidenced)
-          (λ unready. idle q unready)
-          (ready_or_not (state_at q.0));
+      evidenced = evidenced_before q lt d.evidenced;
       ties = ties_carried plan laws s start old reached at ports_are n c mid before its p part m_reached q (earlier q lt) d evidence alike same;
     }
       where
@@ -361,19 +372,10 @@ module _ (plan : Plan) (laws : LawsBelow) (s : Server) (start : IsSettled s) (ol
         alike : NamesAlike q p.evidence evidence
         alike = alike_other q (earlier q lt)
 
-        more_names : NamesSome (λ r. state_at r.0 ≡ ReadyState) evidence
-        more_names = names_joined (λ r. state_at r.0 ≡ ReadyState) p.evidence x.evidence
-            (names_more (HadTurn n) (λ r. state_at r.0 ≡ ReadyState) (λ r served. served.1) p.evidence p.names)
-            (names_more (λ r. r ≡ port_at n) (λ r. state_at r.0 ≡ ReadyState) (λ r is. ap (λ (t : Port). state_at t.0) is ∙ ready) x.evidence mine)
-
-        idle : (q : Port) → state_at q.0 ≢ ReadyState → IsEvidencedOf (asks_for plan) (Served []) accesses began (ports_of mid) mid.device evidence q
-        idle q unready = none_evidenced plan laws s start old reached at ports_are accesses mid.device (ports_of mid) evidence q unready more_names
-            (All-append (IsOfOther q) p.accesses part.accesses (p.others q (λ served. unready served.1)) (of_other q (λ is. unready (ap state_at is ∙ ready))))
-
     -- ---- faults
 
     -- the request of a slot that was used when the turn began was in the slot when the call began
-    module _ (told : Fault) (f : TellsFault (port_at n) part.accesses c mid told) where
+    module _ (ready : state_at n ≡ ReadyState) (told : Fault) (f : TellsFault (port_at n) part.accesses c mid told) where
       used_s : used_for s.slots n f.slot ≡ Some f.used
       used_s = ap (λ (slots : PortSlots). use_at slots f.slot) (sym (p.slots (port_at n) not_yet)) ∙ f.served
 
@@ -445,7 +447,7 @@ module _ (plan : Plan) (laws : LawsBelow) (s : Server) (start : IsSettled s) (ol
           plain = λ plain. plainly (sym kind_is ∙ kind_same ∙ plain);
           queued = λ queued. by_log (sym kind_is ∙ kind_same ∙ queued);
         };
-        served = subst (HadTurn (n + 1)) (sym port_is) (omega arith, ready);
+        served = subst (HadTurn (n + 1)) (sym port_is) (omega arith, takes);
         lives = λ queued dead. f.lives (sym kind_is ∙ kind_same ∙ queued) (ap (λ (q : Port). state_of (found_of mid.ports q.0)) (sym port_is) ∙ dead);
       }
         where
@@ -499,22 +501,23 @@ module _ (plan : Plan) (laws : LawsBelow) (s : Server) (start : IsSettled s) (ol
       accesses = accesses;
       does = laws.basic.does_append p.accesses part.accesses s.device c.device mid.device p.does part.does;
       serving = All-append (IsServing (Uses plan old.ports)) p.accesses part.accesses p.serving
-          (serving plan laws old.ports n low was_ready (ap (λ (ports : Ports). ports.served (port_at n)) ports_are ∙ ap is_served found_is) its c mid m part x);
+          (serving laws n plan (found_of s.ports n) old.ports (ap (λ (ports : Ports). ports.served (port_at n)) ports_are) (state_was (port_at n)) takes its c mid m part x);
       others = λ q none. All-append (IsOfOther q) p.accesses part.accesses
           (p.others q (λ served. let lt = served.0 in none (omega (arith, lt), served.1)))
-          (of_other q (λ is. none (omega (arith, is), ap state_at is ∙ ready)));
+          (of_other q (λ is. none (omega (arith, is), takes_at q.0 is)));
       steps = all;
       turns = its_turns;
       stands = subst (IsMachineOf mid) (sym whole_is) x.stands;
       backed = laws.backed_parts s.device c.device mid.device old.machine p.steps x.steps p.backed x.backed;
-      belong = belong_join (asks_for plan) (ports_of mid) x.steps p.steps (subst (λ (ask : Ask DeviceStep). Belong ask (ports_of mid) x.steps) (asks_so plan n) x.belong)
+      belong = belong_join (asks_for plan) (ports_of mid) x.steps p.steps (subst (λ (ask : Ask DeviceStep). Belong ask (ports_of mid) x.steps) (asks_so plan (found_of s.ports n) n) x.belong)
           (belong_on plan (λ q. q.0 < n) (ports_of c) (ports_of mid) (λ q lt. let same = same_other q (λ is. omega (arith, lt, is)) in (same.1, same.5)) p.steps p.turns.below p.belong);
       evidence = evidence;
+      lost = All-append (λ (q : Port). state_at q.0 ≡ ReadyState) p.evidence.lost x.evidence.lost p.lost its_lost;
       names = names_joined (HadTurn (n + 1)) p.evidence x.evidence
           (names_more (HadTurn n) (HadTurn (n + 1)) (λ q served. let lt = served.0 in (omega (arith, lt), served.1)) p.evidence p.names)
-          (names_more (λ q. q ≡ port_at n) (HadTurn (n + 1)) (λ q is. subst (HadTurn (n + 1)) (sym is) (omega arith, ready)) x.evidence mine);
+          (names_more (λ q. q ≡ port_at n) (HadTurn (n + 1)) (λ q is. subst (HadTurn (n + 1)) (sym is) (omega arith, takes)) x.evidence mine);
       lawful = joined_lawful;
-      owes = owes_join plan n (port_at n) part.accesses c mid m p.evidence x.evidence p.steps x.steps p.owes x.owes;
+      owes = owes_join plan (found_of s.ports n) n (port_at n) part.accesses c mid m p.evidence x.evidence p.steps x.steps p.owes x.owes;
       unplugs = unplugs_join laws old reached n p.steps x.steps p.turns x.own x.may x.last p.unplugs x.unplugs;
       answers = p.answers ++ x.tells.answers;
       permuted = permuted_all;
@@ -526,7 +529,7 @@ module _ (plan : Plan) (laws : LawsBelow) (s : Server) (start : IsSettled s) (ol
       told = ap (λ (list : List Reply). list ++ its) p.told ∙ ap (λ (list : List Reply). map reply_of p.answers ++ list) x.tells.told ∙ sym (map-append reply_of p.answers x.tells.answers);
       faults = λ told here. ⊎_elim
           (λ early. fault_before told (p.faults told early))
-          (λ late. fault_n told (x.faults told late))
+          (λ late. ⊎_elim (λ is. fault_n is told (x.faults told late)) (λ silent. absurd (nowhere told (subst (λ (list : List Fault). Contains list told) silent.0 late))) silent_or_ready)
           (Contains-append_cases p.evidence.faults x.evidence.faults told here);
       done = λ q lt. ⊎_elim
           (λ (less : q.0 < n). done_before q less (p.done q less))
@@ -534,12 +537,12 @@ module _ (plan : Plan) (laws : LawsBelow) (s : Server) (start : IsSettled s) (ol
           (cases_lt q.0 n);
       due = due_now;
       of = All-append (IsStepOf (HadTurn (n + 1))) x.steps p.steps
-          (all_of_ports (λ q. q ≡ port_at n) (HadTurn (n + 1)) (λ q is. subst (HadTurn (n + 1)) (sym is) (omega arith, ready)) x.steps x.own)
+          (all_of_ports (λ q. q ≡ port_at n) (HadTurn (n + 1)) (λ q is. subst (HadTurn (n + 1)) (sym is) (omega arith, takes)) x.steps x.own)
           (all_of_ports (HadTurn n) (HadTurn (n + 1)) (λ q served. let lt = served.0 in (omega (arith, lt), served.1)) p.steps p.of);
-      found = λ q none. part.others.found q.0 (λ is. none (omega (arith, is), ap state_at is ∙ ready)) ∙ p.found q (still_none q none);
-      remembered = λ q none. part.others.remembered q.0 (λ is. none (omega (arith, is), ap state_at is ∙ ready)) ∙ p.remembered q (still_none q none);
-      modes = λ q none. part.others.modes q.0 (λ is. none (omega (arith, is), ap state_at is ∙ ready)) ∙ p.modes q (still_none q none);
-      slots = λ q none. part.others.slots q.0 (λ is. none (omega (arith, is), ap state_at is ∙ ready)) ∙ p.slots q (still_none q none);
+      found = λ q none. part.others.found q.0 (λ is. none (omega (arith, is), takes_at q.0 is)) ∙ p.found q (still_none q none);
+      remembered = λ q none. part.others.remembered q.0 (λ is. none (omega (arith, is), takes_at q.0 is)) ∙ p.remembered q (still_none q none);
+      modes = λ q none. part.others.modes q.0 (λ is. none (omega (arith, is), takes_at q.0 is)) ∙ p.modes q (still_none q none);
+      slots = λ q none. part.others.slots q.0 (λ is. none (omega (arith, is), takes_at q.0 is)) ∙ p.slots q (still_none q none);
     }
       where
         still_none : (q : Port) → (HadTurn (n + 1) q → ⊥) → HadTurn n q → ⊥
@@ -547,10 +550,10 @@ module _ (plan : Plan) (laws : LawsBelow) (s : Server) (start : IsSettled s) (ol
 
   -- ---- all ports
 
-  -- how far all got, where no port from there on is ready
+  -- how far all got, where no port from there on has a turn
   pub record Whole (new : Server) (replies : List Reply) : Type 0 where
     pub count : ℕ
-    pub past : (port : ℕ) → count ≤ port → state_of (found_of s.ports port) ≡ ReadyState → ⊥
+    pub past : (port : ℕ) → count ≤ port → TakesTurn plan (found_of s.ports port) → ⊥
     pub progress : Progress count new replies
 
   on : (f : Found) (found : List Found) (n : ℕ) → ((i : ℕ) → found_of s.ports (n + i) ≡ found_of (f ∷ found) i) → (i : ℕ) → found_of s.ports (n + 1 + i) ≡ found_of found i
@@ -559,36 +562,43 @@ module _ (plan : Plan) (laws : LawsBelow) (s : Server) (start : IsSettled s) (ol
   head_is : (f : Found) (found : List Found) (n : ℕ) → ((i : ℕ) → found_of s.ports (n + i) ≡ found_of (f ∷ found) i) → found_of s.ports n ≡ f
   head_is f found n here = ap (λ (k : ℕ). found_of s.ports k) (omega arith) ∙ here 0
 
-  -- a port that was found with a disk alone is ready
-  unready : (state : PortState) (n : ℕ) → found_of s.ports n ≡ Unready state → state_of (found_of s.ports n) ≢ ReadyState
-  unready state n is is_ready = let z : Unready state ≡ Ready _ = sym is ∙ (ready_found s n kept is_ready).1.1 in absurd cc
+  -- one that isn't served has none
+  unserved : (n : ℕ) → found_of s.ports n ≡ Unserved → TakesTurn plan (found_of s.ports n) → ⊥
+  unserved n is takes = unserved_waits plan (subst (TakesTurn plan) is takes)
 
-  -- each port's turn is a part of the call
-  module _ (Such : Port → List Reply → Server → Server → Type 0)
-      (is_part : (n : ℕ) (c mid : Server) (before its : List Reply) → state_at n ≡ ReadyState → Progress n c before → Such (port_at n) its c mid → HasPart (turn_at plan n) (port_at n) its c mid) where
-    pub go : (found : List Found) (n : ℕ) → ((i : ℕ) → found_of s.ports (n + i) ≡ found_of found i) → (c new : Server) (before replies : List Reply) → Progress n c before → TakeTurns Such n found replies c new
+  -- each port's turn is a part of the call: a ready one's; and another one's, unless it is passed over
+  module _ (Such : Port → List Reply → Server → Server → Type 0) (Other : Port → Server → Server → Type 0)
+      (is_part : (n : ℕ) (c mid : Server) (before its : List Reply) → state_at n ≡ ReadyState → Progress n c before → Such (port_at n) its c mid → HasPart (turn_at plan (found_of s.ports n) n) (port_at n) its c mid)
+      (is_other : (n : ℕ) (c mid : Server) (before : List Reply) (state : PortState) → found_of s.ports n ≡ Unready state → Progress n c before → Other (port_at n) c mid
+      → ((TakesTurn plan (found_of s.ports n) → ⊥) × (mid ≡ c)) ⊎ (TakesTurn plan (found_of s.ports n) × HasPart (turn_at plan (found_of s.ports n) n) (port_at n) [] c mid)) where
+    pub go : (found : List Found) (n : ℕ) → ((i : ℕ) → found_of s.ports (n + i) ≡ found_of found i) → (c new : Server) (before replies : List Reply) → Progress n c before → TakeTurns Such Other n found replies c new
         → Whole new (before ++ replies)
     go [] n here c new before replies p turns = record {
       count = n;
-      past = λ q most is_ready.
-          let none : found_of s.ports q ≡ Unserved = ap (λ (k : ℕ). found_of s.ports k) (omega (arith, most)) ∙ here (q - n) in
-          let z : Absent ≡ ReadyState = sym (ap state_of none) ∙ is_ready in absurd cc;
+      past = λ q most takes. unserved q (ap (λ (k : ℕ). found_of s.ports k) (omega (arith, most)) ∙ here (q - n)) takes;
       progress = subst (λ (x : Server). Progress n x (before ++ replies)) (sym turns.1) (subst (Progress n c) (sym (append-nil before) ∙ ap (λ (r : List Reply). before ++ r) (sym turns.0)) p);
     }
     go (Ready info ∷ found) n here c new before replies p (mid, its, later, is, next, turn, more) =
         let its_found = head_is (Ready info) found n here in
+        let its_ready = ap state_of its_found in
         subst (Whole new) (append_assoc before its later ∙ ap (λ (r : List Reply). before ++ r) (sym is))
         (go found (n + 1) (on (Ready info) found n here) mid new (before ++ its) later
-        (had_turn n c mid before its info its_found p next (is_part n c mid before its (ap state_of its_found) p turn)) more)
+        (had_turn n c mid before its (ready_found s n kept its_ready).0 (ready_takes plan (found_of s.ports n) its_ready) p next (is_part n c mid before its its_ready p turn)) more)
     go (Unserved ∷ found) n here c new before replies p turns =
-        go found (n + 1) (on Unserved found n here) c new before replies
-        (skipped plan laws s start old reached at ports_are n c before (λ is_ready. let z : Absent ≡ ReadyState = sym (ap state_of (head_is Unserved found n here)) ∙ is_ready in cc) p) turns
-    go (Unready state ∷ found) n here c new before replies p turns =
-        go found (n + 1) (on (Unready state) found n here) c new before replies (skipped plan laws s start old reached at ports_are n c before (unready state n (head_is (Unready state) found n here)) p) turns
+        go found (n + 1) (on Unserved found n here) c new before replies (skipped plan laws s start old reached at ports_are n c before (unserved n (head_is Unserved found n here)) p) turns
+    go (Unready state ∷ found) n here c new before replies p (mid, next, turn, more) =
+        let its_found = head_is (Unready state) found n here in
+        ⊎_elim
+        (λ over. go found (n + 1) (on (Unready state) found n here) c new before replies (skipped plan laws s start old reached at ports_are n c before over.0 p)
+        (subst (λ (x : Server). TakeTurns Such Other (n + 1) found replies x new) over.1 more))
+        (λ part. subst (λ (list : List Reply). Whole new (list ++ replies)) (append-nil before)
+        (go found (n + 1) (on (Unready state) found n here) mid new (before ++ []) replies
+        (had_turn n c mid before [] (kept.there n (ap is_served its_found)).0 part.0 p next part.1) more))
+        (is_other n c mid before state its_found p turn)
 
 -- a server whose ports had their turns keeps what it keeps
-pub turns_kept : (Such : Port → List Reply → Server → Server → Type 0) (found : List Found) (n : ℕ) (s new : Server) (replies : List Reply) → IsSettled s → TakeTurns Such n found replies s new → IsSettled new
-turns_kept Such [] n s new replies keeps turns = subst IsSettled (sym turns.1) keeps
-turns_kept Such (Ready info ∷ found) n s new replies keeps (mid, its, later, is, next, turn, more) = turns_kept Such found (n + 1) mid new later next more
-turns_kept Such (Unserved ∷ found) n s new replies keeps turns = turns_kept Such found (n + 1) s new replies keeps turns
-turns_kept Such (Unready state ∷ found) n s new replies keeps turns = turns_kept Such found (n + 1) s new replies keeps turns
+pub turns_kept : (Such : Port → List Reply → Server → Server → Type 0) (Other : Port → Server → Server → Type 0) (found : List Found) (n : ℕ) (s new : Server) (replies : List Reply) → IsSettled s → TakeTurns Such Other n found replies s new → IsSettled new
+turns_kept Such Other [] n s new replies keeps turns = subst IsSettled (sym turns.1) keeps
+turns_kept Such Other (Ready info ∷ found) n s new replies keeps (mid, its, later, is, next, turn, more) = turns_kept Such Other found (n + 1) mid new later next more
+turns_kept Such Other (Unserved ∷ found) n s new replies keeps turns = turns_kept Such Other found (n + 1) s new replies keeps turns
+turns_kept Such Other (Unready state ∷ found) n s new replies keeps (mid, next, turn, more) = turns_kept Such Other found (n + 1) mid new replies next more

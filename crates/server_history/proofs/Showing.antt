@@ -45,6 +45,13 @@ split (b ∷ before) e later (f ∷ first) rest is =
     (λ late. inr late)
     (split before e later first rest tails)
 
+-- ---- accesses one after another
+
+-- the tape grows over them
+pub grows_over : LawsBelow → (accesses : List Access) (old new : Device) → DoesAll accesses old new → Grows old new
+grows_over laws [] old new is = subst (Grows old) (sym is) (laws.looks.grows_none old)
+grows_over laws (access ∷ accesses) old new (mid, does, rest) = laws.looks.grows_more old mid new (laws.looks.access_grows access old mid does) (grows_over laws accesses mid new rest)
+
 -- ---- what came since ST was set
 
 module _ (Such : Entry → Type 0) (port : ℕ) where

@@ -1,9 +1,9 @@
--- A port of which a look told a failure showed a device: so it had a disk when the turn began, or one went or came in it.
-use Rattle.std.proofs.Common.{ℕ, ◌≡◌, ◌⊎◌, ◌++◌, true, false, List, [], ◌∷◌, append_assoc, inl, inr, sym, ap, ◌∙◌, subst, ⊎_elim}
+-- A port of which a look told no loss showed a device: so it had a disk when the turn began, or one went or came in it.
+use Rattle.std.proofs.Common.{ℕ, ◌≡◌, ◌≢◌, ◌⊎◌, ◌++◌, true, false, List, [], ◌∷◌, append_assoc, inl, inr, sym, ap, ◌∙◌, subst, ⊎_elim}
 use Rattle.std.specs.List.{Contains, list_any}
 use Rattle.std.proofs.lemmas.Bool.{cases_Bool, cases_eq, false≢true}
 use Rattle.std.proofs.lemmas.List.{append_cancel_left}
-use Rattle.std.proofs.lemmas.List.Elements.{Contains-append_left}
+use Rattle.std.proofs.lemmas.List.Elements.{All-weaker, Contains-append_left}
 use Rattle.ata_types.specs.declared.Port.{Port}
 use Rattle.hba_regs.specs.declared.reg.PortReg.TheVariants.{Is, Ssts}
 use Rattle.hba_regs.specs.declared.reg.Reg.TheVariants as reg
@@ -17,7 +17,7 @@ use Rattle.adapter.specs.declared.tape.Entry.TheVariants as entry
 use Rattle.agreement.specs.Driven.{AnyAccess, Grows}
 use Rattle.agreement.specs.Driver.{IsBacked}
 use Rattle.agreement.specs.Errors.{IsComing, NoneComes}
-use Rattle.agreement.specs.Links.{IsPlugging, SparesRegister}
+use Rattle.agreement.specs.Links.{IsPlugging, PlugsNone, SparesRegister}
 use Rattle.agreement.proofs.Driven.{along, written_ghc}
 use Rattle.block_machine.specs.Events.{changes_disk}
 use Rattle.block_machine.specs.State.{Machine}
@@ -27,7 +27,7 @@ use Rattle.port_look.specs.declared.Look.{Look}
 use Rattle.server_history.specs.Below.{LawsBelow}
 use Rattle.server_history.specs.Server.{Server, IsMachineOf}
 use Rattle.server_history.proofs.Faulted.{one_or_none, shows_link}
-use Rattle.port_look.specs.declared.Look.TheVariants.{Broken, Failed}
+use Rattle.port_look.specs.declared.Look.TheVariants.{Lost}
 
 -- the tape only grows
 pub grown : LawsBelow → (accesses : List Access) (one two : Device) → DoesAll accesses one two → Grows one two
@@ -52,6 +52,14 @@ coming_plugs port (entry.Clear x) is = absurd is
 coming_plugs port (entry.Done x) is = absurd is
 coming_plugs port (entry.Fault x) is = absurd is
 coming_plugs port (entry.Fatal x) is = absurd is
+
+-- where no disk goes or comes, none comes
+pub none_comes : (port : ℕ) (old new : Device) → PlugsNone port old new → NoneComes port old new
+none_comes port old new none = record {
+  gained = none.gained;
+  tape = none.tape;
+  none = All-weaker (λ e. IsPlugging port e → ⊥) (λ e. IsComing port e → ⊥) (λ e plugs is. plugs (coming_plugs port e is)) none.gained none.none;
+}
 
 -- where none comes, this goes on
 StaysSo : (PortState → Type 0) → Port → Device → Device → Type 0
@@ -79,7 +87,7 @@ module _ (laws : LawsBelow) (port : Port) (P : PortState → Type 0) (one : (acc
   stays_so accesses old new does = (so_all accesses old new does).1
 
 module _ (laws : LawsBelow) (port : Port) where
-  module _ (old seen : Device) (look : Look) (l : LooksAt port look old seen) (on : IsOn old) (error : (look ≡ Failed) ⊎ (look ≡ Broken)) where
+  module _ (old seen : Device) (look : Look) (l : LooksAt port look old seen) (on : IsOn old) (not_lost : look ≢ Lost) where
     on_over : (access : Access) (a b : Device) → SparesRegister Ghc access → Does access a b → IsOn a → IsOn b
     on_over access a b spares does here = laws.looks.access_on access a b here (written_ghc access spares) does
 
@@ -89,7 +97,7 @@ module _ (laws : LawsBelow) (port : Port) where
         let read = on_over (Reading (Px port Is) l.causes) old l.seen tt l.reads on in
         let cleared = on_over (Writing (Px port Is) l.causes) l.seen l.cleared (λ e. absurd (let z : Px port Is ≡ Ghc = e in cc)) l.clears read in
         let acknowledged = on_over (Writing reg.Is l.own) l.cleared l.acknowledged (λ e. absurd (let z : reg.Is ≡ Ghc = e in cc)) l.acknowledges cleared in
-        sym (laws.looks.shown_after port Ssts l.status l.acknowledged seen acknowledged.no_reset l.shows) ∙ shows_link laws port look old seen l on error
+        sym (laws.looks.shown_after port Ssts l.status l.acknowledged seen acknowledged.no_reset l.shows) ∙ shows_link laws port look old seen l on not_lost
 
   -- where a disk is in at a moment, one was in before, or the tape tells that one came
   was_in : (accesses : List Access) (old seen : Device) → DoesAll accesses old seen → (seen.port port.0).present ≡ true → ((old.port port.0).present ≡ true) ⊎ ((gained : List Entry) × (seen.tape ≡ old.tape ++ gained) × ((e : Entry) × Contains gained e × IsComing port.0 e))

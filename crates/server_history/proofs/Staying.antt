@@ -1,5 +1,5 @@
 -- What a service has done of a port so far it has done still when another port has had its turn.
-use Rattle.std.proofs.Common.{ℕ, ◌≡◌, ◌≢◌, true, false, List, [], ◌++◌, refl, sym, ap, ◌∙◌, inl, inr, ⊎_elim, arith}
+use Rattle.std.proofs.Common.{ℕ, ◌≡◌, ◌≢◌, true, false, List, [], ◌++◌, refl, sym, ap, ◌∙◌, inl, inr, ⊎_elim, arith, ◌⊎◌}
 use Rattle.std.specs.List.{count_by, list_any}
 use Rattle.std.proofs.lemmas.List.Elements.{Contains-append_cases, Contains-append_right}
 use Rattle.ata_types.specs.declared.Port.{Port}
@@ -19,7 +19,7 @@ use Rattle.block_machine.specs.State.{Machine}
 use Rattle.block_machine.specs.Steps.{Step, Answer}
 use Rattle.block_machine.proofs.Counting.{count_append}
 use Rattle.host_boot.specs.Taken.{found_of}
-use Rattle.driver_history.specs.Evidence.{ShowsFailure}
+use Rattle.driver_history.specs.Evidence.{ShowsChange, ShowsFailure}
 use Rattle.driver_history.specs.Guard.{IsAskedOf}
 use Rattle.driver_history.specs.Histories.{HasBadDisk, HasFaultAlone, IsAnsweredFaulty, TiesPort}
 use Rattle.driver_history.specs.Parts.{HasTurnIn, NamesAlike}
@@ -29,7 +29,7 @@ use Rattle.server_history.specs.Server.{Server, IsKept, IsMachineOf, IsSettled, 
 use Rattle.server_history.proofs.Joined.{same_then}
 use Rattle.server_history.proofs.Origins.{stood}
 use Rattle.server_history.proofs.Carrying as carrying
-use Rattle.server_history.proofs.Plans.{AService}
+use Rattle.server_history.proofs.Plans.{AService, turn_at}
 use Rattle.server_history.proofs.Progress as progress
 use Rattle.server_history.proofs.Lifting.{counts_apart}
 
@@ -49,11 +49,11 @@ module _ (laws : LawsBelow) (s : Server) (start : IsSettled s) (old : Moment) (r
   abbrev Progress : ℕ → Server → List Reply → Type 0
   Progress n c replies = progress.Progress AService laws s start old reached at ports_are n c replies
 
-  module _ (n : ℕ) (c mid : Server) (before its : List Reply) (p : Progress n c before) (part : HasPart InService (port_at n) its c mid) (m_reached : IsReached (after old.machine p.steps)) where
+  module _ (n : ℕ) (c mid : Server) (before its : List Reply) (p : Progress n c before) (part : HasPart (turn_at AService (found_of s.ports n) n) (port_at n) its c mid) (m_reached : IsReached (after old.machine p.steps)) where
     abbrev m : Machine
     m = after old.machine p.steps
 
-    abbrev x : MakesTurn InService (port_at n) its part.accesses c mid m
+    abbrev x : MakesTurn (turn_at AService (found_of s.ports n) n) (port_at n) its part.accesses c mid m
     x = part.makes m m_reached p.stands
 
     abbrev all : List Step
@@ -66,24 +66,21 @@ module _ (laws : LawsBelow) (s : Server) (start : IsSettled s) (old : Moment) (r
     whole_is = laws.basic.joined old.machine x.steps p.steps
 
     module _ (q : Port) (apart : q ≢ port_at n) (d : IsDone c p.accesses p.steps p.evidence q) (evidence : Evidence) (alike : NamesAlike q p.evidence evidence) (same : SamePort (ports_of c) (ports_of mid) q)
-        (asked : IsAskedOf q began mid.device) where
+        (asked : IsAskedOf q began) where
       undue : (s.device.port q.0).link_due ≡ false
-      undue = carrying.undue AService laws s start old reached at ports_are n c mid before its p part m_reached q apart d asked.ready
+      undue = carrying.undue AService laws s start old reached at ports_are n c mid before its p part m_reached q apart d asked
 
       abbrev t : HasTurnIn q s.device mid.device
       t = carrying.t AService laws s start old reached at ports_are n c mid before its p part m_reached q apart
 
-      asked_so_far : IsAskedOf q began c.device
-      asked_so_far = carrying.asked_so_far AService laws s start old reached at ports_are n c mid before its p part m_reached q apart d asked.ready asked
-
       abbrev did : TiesPort began (turn_of InService [] c p.evidence p.steps) p.accesses q
-      did = d.ties asked_so_far
+      did = d.ties asked
 
       abbrev serves : ServesReady old p.evidence p.steps (record { machine = m; ports = ports_of c }) q
-      serves = did.heeds asked.ready
+      serves = did.heeds asked
 
       alone_so_far : HasFaultAlone q began mid.device → HasFaultAlone q began c.device
-      alone_so_far alone = laws.calls.alone_then q began old mid.device kept.on undue t p.on asked.ready alone
+      alone_so_far alone = laws.calls.alone_then q began old mid.device kept.on undue t p.on asked alone
 
       -- ---- what the call heeds of it
 
@@ -129,21 +126,21 @@ module _ (laws : LawsBelow) (s : Server) (start : IsSettled s) (old : Moment) (r
       same_self : SamePort old.ports old.ports q
       same_self = (refl, refl, refl, refl, refl, refl)
 
-      -- and where it showed a failure when the call began, it was stopped
-      stops_failed : ShowsFailure (s.device.port q.0) → IsInterrupted p.evidence q
-      stops_failed failure = serves.interrupts (inl (d.evidenced.failed_all asked.ready failure))
+      -- and where it showed a failure when the call began, or a change of its link, it was stopped
+      stops_troubled : ShowsFailure (s.device.port q.0) ⊎ ShowsChange (s.device.port q.0) → IsInterrupted p.evidence q
+      stops_troubled trouble = serves.interrupts (⊎_elim (λ failure. inl (d.evidenced.failed_all asked failure)) (λ change. inr (d.evidenced.gone_all asked (inl change))) trouble)
 
       -- ---- the whole
 
       not_bad : HasBadDisk old.ports q → ⊥
-      not_bad (inl foreign) = let z : Foreign ≡ ReadyState = sym foreign ∙ asked.ready in absurd cc
-      not_bad (inr (cause, unfit)) = let z : Unfit cause ≡ ReadyState = sym unfit ∙ asked.ready in absurd cc
+      not_bad (inl foreign) = let z : Foreign ≡ ReadyState = sym foreign ∙ asked in absurd cc
+      not_bad (inr (cause, unfit)) = let z : Unfit cause ≡ ReadyState = sym unfit ∙ asked in absurd cc
 
       not_absent : old.ports.state q ≡ Absent → ⊥
-      not_absent absent = let z : Absent ≡ ReadyState = sym absent ∙ asked.ready in absurd cc
+      not_absent absent = let z : Absent ≡ ReadyState = sym absent ∙ asked in absurd cc
 
       heeds_trouble : HeedsTrouble q accesses began evidence (ports_of mid) mid.device
-      heeds_trouble = carrying.trouble_still AService laws s start old reached at ports_are n c mid before its p part m_reached q apart d asked.ready evidence alike same asked stops_failed (record { trouble = did.trouble; well = did.well })
+      heeds_trouble = carrying.trouble_still AService laws s start old reached at ports_are n c mid before its p part m_reached q apart d asked evidence alike same stops_troubled (record { trouble = did.trouble; well = did.well })
 
       pub ties_still : TiesPort began (turn_of InService [] mid evidence all) accesses q
       ties_still = record {
@@ -158,7 +155,7 @@ module _ (laws : LawsBelow) (s : Server) (start : IsSettled s) (old : Moment) (r
           missing = λ bad. absurd (not_bad bad);
           changed = λ bad. absurd (not_bad bad);
         };
-        boots = laws.calls.call_boots q began old (ports_of c) (ports_of mid) mid.device (Served []) (Served []) kept.on undue t p.on asked.ready asked same same_self did.boots;
+        boots = laws.calls.call_boots q began old (ports_of c) (ports_of mid) mid.device (Served []) (Served []) kept.on undue t p.on same same_self did.boots;
         trouble = heeds_trouble.trouble;
         well = heeds_trouble.well;
         heeds = λ _. heeds_whole;

@@ -7,6 +7,7 @@ use Rattle.std.proofs.lemmas.Bool.{and_from, and_parts, cases_Bool, cases_lt, co
 use Rattle.std.proofs.lemmas.List.Elements.{All-cons, All-head, All-nil, All-tail, All-weaker, Contains-append_cases, Contains-append_left}
 use Rattle.std.proofs.lemmas.List.Sorted.{IsPermutation-refl}
 use Rattle.ata_types.specs.declared.Port.{Port}
+use Rattle.ata_types.specs.declared.PortState.{PortState}
 use Rattle.ata_types.specs.declared.PortState.TheVariants.{Dead, Ready as ReadyState}
 use Rattle.ata_types.specs.declared.request.Outcome.{Outcome}
 use Rattle.ata_types.specs.declared.request.Outcome.TheVariants as outcome
@@ -53,7 +54,7 @@ use Rattle.server_history.proofs.Beginning.{kept_fit}
 use Rattle.server_history.proofs.Going.{happening_with, lead_with, with_device}
 use Rattle.server_history.proofs.Joined.{answers_append, lawful_lift, ready_or_not}
 use Rattle.server_history.proofs.Lists.{nowhere}
-use Rattle.server_history.proofs.Plans.{ATick, Plan, Uses, turn_at}
+use Rattle.server_history.proofs.Plans.{ATick, Plan, TakesTurn, Uses, turn_at}
 use Rattle.server_history.proofs.Progress.{HasRested, IsDone, IsRestarted, Progress, begun, idle_done}
 use Rattle.server_history.proofs.Rounds.{any_append, dues_carried, issued_late, issued_parts, or_none}
 use Rattle.server_history.proofs.Services.{Whole, go, turns_kept}
@@ -233,7 +234,7 @@ module _ (laws : LawsBelow) (s new : Server) (replies : List Reply) (start : IsS
 
   -- a port's turn is a part of the tick
   turn_part : (n : ℕ) (c mid : Server) (before its : List Reply) → state_of (found_of aged.ports n) ≡ ReadyState → Progress plan laws aged aged_start old aged_reached aged_at same n c before → TicksPort aged.book (port_at n) its c mid
-      → HasPart (turn_at plan n) (port_at n) its c mid
+      → HasPart (turn_at plan (found_of s.ports n) n) (port_at n) its c mid
   turn_part n c mid before its is_ready_n p (inl (overdue, mends, is_hung, part)) =
       subst (λ (b : Bool). HasPart (if b then InRestart else AtRest) (port_at n) its c mid) (sym (is_so_overdue aged.book n overdue)) part
   turn_part n c mid before its is_ready_n p (inr (young, none, still)) =
@@ -241,8 +242,13 @@ module _ (laws : LawsBelow) (s new : Server) (replies : List Reply) (start : IsS
       (sym (⊎_elim (λ so. absurd (young (overdue_is aged.book n so))) (λ not_so. not_so) (cases_Bool (hung n))))
       (subst (HasPart AtRest (port_at n) its c) (sym still) (subst (λ (list : List Reply). HasPart AtRest (port_at n) list c c) (sym none) (resting laws (port_at n) (ready_found s n kept is_ready_n).0 c p.settled)))
 
+  -- another port is passed over
+  other_part : (n : ℕ) (c mid : Server) (before : List Reply) (state : PortState) → found_of s.ports n ≡ Unready state → Progress plan laws aged aged_start old aged_reached aged_at same n c before → mid ≡ c
+      → ((TakesTurn plan (found_of s.ports n) → ⊥) × (mid ≡ c)) ⊎ (TakesTurn plan (found_of s.ports n) × HasPart (turn_at plan (found_of s.ports n) n) (port_at n) [] c mid)
+  other_part n c mid before state is p still = inl (λ is_ready_n. let z : Unready state ≡ Ready _ = sym is ∙ (ready_found s n kept is_ready_n).1.1 in absurd cc, still)
+
   ends : Whole plan laws aged aged_start old aged_reached aged_at same new replies
-  ends = go plan laws aged aged_start old aged_reached aged_at same (TicksPort aged.book) turn_part s.ports 0 (λ i. ap (λ (k : ℕ). found_of s.ports k) (omega arith)) aged new [] replies (begun plan laws aged aged_start old aged_reached aged_at same) ticks
+  ends = go plan laws aged aged_start old aged_reached aged_at same (TicksPort aged.book) (λ port one other. other ≡ one) turn_part other_part s.ports 0 (λ i. ap (λ (k : ℕ). found_of s.ports k) (omega arith)) aged new [] replies (begun plan laws aged aged_start old aged_reached aged_at same) ticks
 
   p : Progress plan laws aged aged_start old aged_reached aged_at same ends.count new replies
   p = ends.progress
@@ -430,7 +436,7 @@ module _ (laws : LawsBelow) (s new : Server) (replies : List Reply) (start : IsS
       );
       later = p.steps;
       first = refl;
-      once = no_ages (λ q. (q.0 < ends.count) × (state_of (found_of aged.ports q.0) ≡ ReadyState)) p.steps p.of;
+      once = no_ages (λ q. (q.0 < ends.count) × TakesTurn plan (found_of aged.ports q.0)) p.steps p.of;
     };
     restarts = restarts;
     unplugs = record {
@@ -481,23 +487,20 @@ module _ (laws : LawsBelow) (s new : Server) (replies : List Reply) (start : IsS
 
   -- ---- what it has done of each port
 
-  asked_then : (port : Port) → IsAskedOf port (with_device s.device (now first past)) new.device → IsAskedOf port (record { device = s.device; moment = old }) new.device
-  asked_then port asked = record { ready = asked.ready; change = asked.change; device = asked.device; plugged = asked.plugged }
-
-  trouble_of : (port : Port) → IsAskedOf port (with_device s.device (now first past)) new.device → HeedsTrouble port p.accesses (record { device = s.device; moment = old }) p.evidence (ports_of new) new.device
-  trouble_of port asked = ⊎_elim
-      (λ r. r.1.heeds (asked_then port asked))
+  trouble_of : (port : Port) → HeedsTrouble port p.accesses (record { device = s.device; moment = old }) p.evidence (ports_of new) new.device
+  trouble_of port = ⊎_elim
+      (λ r. r.1.heeds)
       (λ r. record {
-        trouble = laws.calls.ordinary port (record { device = s.device; moment = old }) new.device p.accesses p.evidence (ports_of new) kept.on (asked_then port asked) p.does
+        trouble = laws.calls.ordinary port (record { device = s.device; moment = old }) new.device p.accesses p.evidence (ports_of new) kept.on p.does
             (All-weaker (IsServing (Uses plan old.ports)) (SparesRegister Ghc) (λ access serving. serving.1) p.accesses p.serving)
             (All-weaker (IsOfOther port) (ClearsNone port) (other_clears_none port) p.accesses r.1.others);
         well = λ i. absurd (r.1.uninterrupted i);
       })
       (restarted_or_not port)
 
-  port_part : (port : Port) → IsAskedOf port (with_device s.device (now first past)) new.device → TiesPort (with_device s.device (now first past)) (happening_with p.evidence new.device Tick (Served replies) steps (ports_of new)) p.accesses port
+  port_part : (port : Port) → IsAskedOf port (with_device s.device (now first past)) → TiesPort (with_device s.device (now first past)) (happening_with p.evidence new.device Tick (Served replies) steps (ports_of new)) p.accesses port
   port_part port asked =
-      let t = trouble_of port asked in
+      let t = trouble_of port in
       record {
         finds = λ h. finds_before port (restart port h).finds;
         faults = tt;
@@ -529,6 +532,6 @@ module _ (laws : LawsBelow) (s new : Server) (replies : List Reply) (start : IsS
 
 pub ticks_add : LawsBelow → (s new : Server) (replies : List Reply) → IsSettled s → Ticks replies s new → Adds s new Tick (Served replies)
 ticks_add laws s new replies start ticks = record {
-  settled = turns_kept (TicksPort (a_tick_older s).book) s.ports 0 (a_tick_older s) new replies (older_settled laws s start) ticks;
+  settled = turns_kept (TicksPort (a_tick_older s).book) (λ port one other. other ≡ one) s.ports 0 (a_tick_older s) new replies (older_settled laws s start) ticks;
   adds = λ first past leads. tick_event laws s new replies start ticks first past leads;
 }

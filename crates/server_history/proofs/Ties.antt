@@ -1,5 +1,5 @@
 -- What a call has done of a port so far, in a service or in a tick: a port's turn, and what was so of another one before it.
-use Rattle.std.proofs.Common.{ℕ, ◌≡◌, ◌≢◌, ◌<◌, Bool, true, false, if◌then◌else◌, List, [], ◌∷◌, ◌++◌, refl, sym, ap, ◌∙◌, subst, inl, inr, ⊎_elim, append_assoc, append-nil}
+use Rattle.std.proofs.Common.{ℕ, ◌≡◌, ◌≢◌, Bool, true, false, if◌then◌else◌, List, [], ◌∷◌, ◌++◌, sym, ap, ◌∙◌, subst, inl, inr, ⊎_elim, append_assoc, append-nil}
 use Rattle.std.specs.List.{All, Contains}
 use Rattle.std.proofs.lemmas.Bool.{cases_Bool}
 use Rattle.std.proofs.lemmas.List.Elements.{All-append, All-cons, All-head, All-nil, All-tail, All-weaker, Contains-append_cases}
@@ -26,14 +26,15 @@ use Rattle.block_machine.specs.Steps.{Step, Again, Answer}
 use Rattle.driver_history.specs.Parts.{IsOfOther, NamesAlike}
 use Rattle.driver_history.specs.Trace.{IsDriversOwn, IsServing, LeavesEngine, ResetsLink}
 use Rattle.host_boot.specs.Taken.{found_of}
+use Rattle.host_boot.specs.declared.Found.{Found}
 use Rattle.server_history.specs.Below.{LawsBelow}
-use Rattle.server_history.specs.Server.{Server, IsMachineOf, IsSettled, ports_of, state_of}
+use Rattle.server_history.specs.Server.{Server, IsMachineOf, IsSettled, is_served, ports_of, state_of}
 use Rattle.server_history.specs.Turns.{AtRest, HasPart, InRestart, MakesTurn, OwesTurn, RestartsPort, TiesTurn}
 use Rattle.server_history.proofs.Carrying as carrying
 use Rattle.server_history.proofs.Joined.{same_then}
 use Rattle.server_history.proofs.Lifting as lifting
 use Rattle.server_history.proofs.Owing.{ties_whole}
-use Rattle.server_history.proofs.Plans.{AService, ATick, Plan, Uses, turn_at}
+use Rattle.server_history.proofs.Plans.{AService, ATick, Plan, TakesTurn, Uses, turn_at}
 use Rattle.server_history.proofs.Progress as progress
 use Rattle.server_history.proofs.Progress.{HasRested, HasTicked, IsRestarted, TiesSoFar, others_leave}
 use Rattle.server_history.proofs.Staying.{ties_still}
@@ -72,7 +73,7 @@ resets_since port early late r = record {
 }
 
 -- a turn's accesses serve ports that the call uses
-module _ (plan : Plan) (laws : LawsBelow) (ports : Ports) (n : ℕ) (low : n < 4) (ready : ports.state (port_at n) ≡ ReadyState) (served : ports.served (port_at n) ≡ true) where
+module _ (laws : LawsBelow) (n : ℕ) where
   of_such : (Such : Port → Type 0) → Such (port_at n) → (list : List Access) → All (IsOf (port_at n)) list → All IsDriversOwn list → All (IsServing Such) list
   of_such Such its [] of own = All-nil (IsServing Such)
   of_such Such its (access ∷ list) of own = All-cons (IsServing Such) access list
@@ -87,18 +88,16 @@ module _ (plan : Plan) (laws : LawsBelow) (ports : Ports) (n : ℕ) (low : n < 4
       one (Loading at bytes) of own = (own, tt, tt)
       one (Storing at bytes) of own = (own, tt, tt)
 
-  pub serving : (its : List Reply) (c : Server) (mid : Server) (m : Machine) (part : HasPart (turn_at plan n) (port_at n) its c mid) → MakesTurn (turn_at plan n) (port_at n) its part.accesses c mid m → All (IsServing (Uses plan ports)) part.accesses
-  serving its c mid m part x = by plan refl
-    where
-      by : (kind : Plan) → plan ≡ kind → All (IsServing (Uses plan ports)) part.accesses
-      by AService is = subst (λ (kind : Plan). All (IsServing (Uses kind ports)) part.accesses) (sym is)
-          (of_such (Uses AService ports) (served, λ dead. let z : ReadyState ≡ Dead = sym ready ∙ dead in absurd cc) part.accesses part.of part.own)
-      by (ATick hung) is = ⊎_elim
-          (λ (so : hung n ≡ true). subst (λ (kind : Plan). All (IsServing (Uses kind ports)) part.accesses) (sym is) (of_such (Uses (ATick hung) ports) (ready, so) part.accesses part.of part.own))
-          (λ (not_so : hung n ≡ false).
-          let rests = subst (λ (b : Bool). OwesTurn (if b then InRestart else AtRest) (port_at n) part.accesses c mid m x.evidence x.steps) not_so (subst (λ (kind : Plan). OwesTurn (turn_at kind n) (port_at n) part.accesses c mid m x.evidence x.steps) is x.owes) in
-          subst (All (IsServing (Uses plan ports))) (sym rests.0) (All-nil (IsServing (Uses plan ports))))
-          (cases_Bool (hung n))
+  pub serving : (plan : Plan) (found : Found) (ports : Ports) → ports.served (port_at n) ≡ is_served found → ports.state (port_at n) ≡ state_of found → TakesTurn plan found → (its : List Reply) (c mid : Server) (m : Machine)
+      (part : HasPart (turn_at plan found n) (port_at n) its c mid) → MakesTurn (turn_at plan found n) (port_at n) its part.accesses c mid m → All (IsServing (Uses plan ports)) part.accesses
+  serving AService found ports served state takes its c mid m part x =
+      of_such (Uses AService ports) (served ∙ takes.0, λ dead. takes.1 (sym state ∙ dead)) part.accesses part.of part.own
+  serving (ATick hung) found ports served state takes its c mid m part x = ⊎_elim
+      (λ (so : hung n ≡ true). of_such (Uses (ATick hung) ports) (state ∙ takes, so) part.accesses part.of part.own)
+      (λ (not_so : hung n ≡ false).
+      let rests = subst (λ (b : Bool). OwesTurn (if b then InRestart else AtRest) (port_at n) part.accesses c mid m x.evidence x.steps) not_so x.owes in
+      subst (All (IsServing (Uses (ATick hung) ports))) (sym rests.0) (All-nil (IsServing (Uses (ATick hung) ports))))
+      (cases_Bool (hung n))
 
 -- ---- a tick
 
@@ -114,12 +113,12 @@ module _ (hung : ℕ → Bool) (laws : LawsBelow) (s : Server) (start : IsSettle
 
   -- ---- a port's turn
 
-  module _ (n : ℕ) (c mid : Server) (before its : List Reply) (ready : state_of (found_of s.ports n) ≡ ReadyState) (p : Progress n c before) (next : IsSettled mid) (part : HasPart (turn_at plan n) (port_at n) its c mid)
+  module _ (n : ℕ) (c mid : Server) (before its : List Reply) (ready : state_of (found_of s.ports n) ≡ ReadyState) (p : Progress n c before) (next : IsSettled mid) (part : HasPart (turn_at plan (found_of s.ports n) n) (port_at n) its c mid)
       (m_reached : IsReached (after old.machine p.steps)) (on_mid : IsOn mid.device) (evidence : Evidence) where
     abbrev m : Machine
     m = after old.machine p.steps
 
-    abbrev x : MakesTurn (turn_at plan n) (port_at n) its part.accesses c mid m
+    abbrev x : MakesTurn (turn_at plan (found_of s.ports n) n) (port_at n) its part.accesses c mid m
     x = part.makes m m_reached p.stands
 
     abbrev all : List Step
@@ -153,8 +152,7 @@ module _ (hung : ℕ → Bool) (laws : LawsBelow) (s : Server) (start : IsSettle
             (λ early. absurd (not_early e Unplugged early own))
             (Contains-append_cases x.steps p.steps (Answer e Unplugged) here);
         disk = lifting.disk_whole plan laws s start old reached at ports_are n c mid before its ready p next part m_reached on_mid r.disk;
-        heeds = λ asked. lifting.trouble_whole plan laws s start old reached at ports_are n c mid before its ready p next part m_reached on_mid evidence alike same_n asked (λ _. r.interrupts)
-            (ties (lifting.asked_now plan laws s start old reached at ports_are n c mid before its ready p next part m_reached on_mid asked));
+        heeds = lifting.trouble_whole plan laws s start old reached at ports_are n c mid before its ready p next part m_reached on_mid evidence alike same_n (λ _. r.interrupts) ties;
       }
         where
           r : RestartsPort (port_at n) part.accesses c mid m x.evidence x.steps
@@ -190,12 +188,12 @@ module _ (hung : ℕ → Bool) (laws : LawsBelow) (s : Server) (start : IsSettle
 
   -- ---- another port, before it
 
-  module _ (n : ℕ) (c mid : Server) (before its : List Reply) (p : Progress n c before) (part : HasPart (turn_at plan n) (port_at n) its c mid) (m_reached : IsReached (after old.machine p.steps)) (q : Port) (apart : q ≢ port_at n)
+  module _ (n : ℕ) (c mid : Server) (before its : List Reply) (p : Progress n c before) (part : HasPart (turn_at plan (found_of s.ports n) n) (port_at n) its c mid) (m_reached : IsReached (after old.machine p.steps)) (q : Port) (apart : q ≢ port_at n)
       (d : progress.IsDone plan laws s start old reached at ports_are c p.accesses p.steps p.evidence q) (evidence : Evidence) (alike : NamesAlike q p.evidence evidence) (same : SamePort (ports_of c) (ports_of mid) q) where
     abbrev m_so_far : Machine
     m_so_far = after old.machine p.steps
 
-    abbrev y : MakesTurn (turn_at plan n) (port_at n) its part.accesses c mid m_so_far
+    abbrev y : MakesTurn (turn_at plan (found_of s.ports n) n) (port_at n) its part.accesses c mid m_so_far
     y = part.makes m_so_far m_reached p.stands
 
     abbrev steps_then : List Step
@@ -226,8 +224,7 @@ module _ (hung : ℕ → Bool) (laws : LawsBelow) (s : Server) (start : IsSettle
                 (λ early. let w = r.another e early own in (λ dead. w.0 (sym same.1 ∙ dead), λ is_ready disk. w.1 (sym same.1 ∙ is_ready) (sym same.2 ∙ disk.0, sym same.3 ∙ disk.1)))
                 (Contains-append_cases y.steps p.steps (Answer e Unplugged) here);
             disk = carrying.disk_still plan laws s start old reached at ports_are n c mid before its p part m_reached q apart same r.disk;
-            heeds = λ asked. carrying.trouble_still plan laws s start old reached at ports_are n c mid before its p part m_reached q apart d was_ready evidence alike same asked (λ _. r.interrupts)
-                (r.heeds (carrying.asked_so_far plan laws s start old reached at ports_are n c mid before its p part m_reached q apart d was_ready asked));
+            heeds = carrying.trouble_still plan laws s start old reached at ports_are n c mid before its p part m_reached q apart d was_ready evidence alike same (λ _. r.interrupts) r.heeds;
           };
       rested = λ not.
           let r = d.ties.rested not in
@@ -248,15 +245,17 @@ module _ (hung : ℕ → Bool) (laws : LawsBelow) (s : Server) (start : IsSettle
 
 -- ---- both
 
+-- of a port that isn't ready a service has nothing to show
 pub ties_turned : (plan : Plan) (laws : LawsBelow) (s : Server) (start : IsSettled s) (old : Moment) (reached : IsReached old.machine) (at : IsMachineOf s old.machine) (ports_are : old.ports ≡ ports_of s) (n : ℕ) (c mid : Server) (before its : List Reply)
-    (ready : state_of (found_of s.ports n) ≡ ReadyState) (p : progress.Progress plan laws s start old reached at ports_are n c before) (next : IsSettled mid) (part : HasPart (turn_at plan n) (port_at n) its c mid) (m_reached : IsReached (after old.machine p.steps))
-    (on_mid : IsOn mid.device) (evidence : Evidence) → NamesAlike (port_at n) (part.makes (after old.machine p.steps) m_reached p.stands).evidence evidence → SamePort old.ports (ports_of c) (port_at n)
+    (takes : TakesTurn plan (found_of s.ports n)) (p : progress.Progress plan laws s start old reached at ports_are n c before) (next : IsSettled mid) (part : HasPart (turn_at plan (found_of s.ports n) n) (port_at n) its c mid)
+    (m_reached : IsReached (after old.machine p.steps)) (on_mid : IsOn mid.device) (evidence : Evidence) → NamesAlike (port_at n) (part.makes (after old.machine p.steps) m_reached p.stands).evidence evidence → SamePort old.ports (ports_of c) (port_at n)
     → TiesSoFar plan s old (port_at n) (p.accesses ++ part.accesses) mid evidence ((part.makes (after old.machine p.steps) m_reached p.stands).steps ++ p.steps)
-ties_turned AService laws s start old reached at ports_are n c mid before its ready p next part m_reached on_mid evidence alike same_n = λ asked. ties_whole laws s start old reached at ports_are n c mid before its ready p next part m_reached on_mid evidence alike same_n asked
-ties_turned (ATick hung) laws s start old reached at ports_are n c mid before its ready p next part m_reached on_mid evidence alike same_n = ticked hung laws s start old reached at ports_are n c mid before its ready p next part m_reached on_mid evidence alike same_n
+ties_turned AService laws s start old reached at ports_are n c mid before its takes p next part m_reached on_mid evidence alike same_n =
+    λ asked. ties_whole laws s start old reached at ports_are n c mid before its (sym (ap (λ (ports : Ports). ports.state (port_at n)) ports_are) ∙ asked) p next part m_reached on_mid evidence alike same_n
+ties_turned (ATick hung) laws s start old reached at ports_are n c mid before its takes p next part m_reached on_mid evidence alike same_n = ticked hung laws s start old reached at ports_are n c mid before its takes p next part m_reached on_mid evidence alike same_n
 
 pub ties_carried : (plan : Plan) (laws : LawsBelow) (s : Server) (start : IsSettled s) (old : Moment) (reached : IsReached old.machine) (at : IsMachineOf s old.machine) (ports_are : old.ports ≡ ports_of s) (n : ℕ) (c mid : Server) (before its : List Reply)
-    (p : progress.Progress plan laws s start old reached at ports_are n c before) (part : HasPart (turn_at plan n) (port_at n) its c mid) (m_reached : IsReached (after old.machine p.steps)) (q : Port) (apart : q ≢ port_at n)
+    (p : progress.Progress plan laws s start old reached at ports_are n c before) (part : HasPart (turn_at plan (found_of s.ports n) n) (port_at n) its c mid) (m_reached : IsReached (after old.machine p.steps)) (q : Port) (apart : q ≢ port_at n)
     (d : progress.IsDone plan laws s start old reached at ports_are c p.accesses p.steps p.evidence q) (evidence : Evidence) (alike : NamesAlike q p.evidence evidence) (same : SamePort (ports_of c) (ports_of mid) q)
     → TiesSoFar plan s old q (p.accesses ++ part.accesses) mid evidence ((part.makes (after old.machine p.steps) m_reached p.stands).steps ++ p.steps)
 ties_carried AService laws s start old reached at ports_are n c mid before its p part m_reached q apart d evidence alike same = λ asked. ties_still laws s start old reached at ports_are n c mid before its p part m_reached q apart d evidence alike same asked

@@ -20,7 +20,6 @@ use Rattle.agreement.specs.Driven.{AnyUse, IsDrivenBy, IsFollowed, IsOf}
 use Rattle.agreement.specs.Driver.{IsBacked}
 use Rattle.agreement.specs.Slots.{Free, Serves}
 use Rattle.agreement.specs.Spares.{SparesBook}
-use Rattle.agreement.proofs.Driven.{driven_as}
 use Rattle.block_machine.specs.Due.{NoneDue}
 use Rattle.block_machine.specs.Events.{AllDevices, AllMay, HadDisk, ShowsDisk, changes_disk}
 use Rattle.block_machine.specs.Histories.{IsReached}
@@ -28,8 +27,6 @@ use Rattle.block_machine.specs.Left.{after}
 use Rattle.block_machine.specs.State.{Machine, Pending}
 use Rattle.block_machine.specs.Steps.{Step}
 use Rattle.block_machine.specs.declared.due.Mode.{Mode}
-use Rattle.block_machine.specs.declared.due.Unanswered.{Unanswered}
-use Rattle.block_machine.proofs.Members.{map_in}
 use Rattle.driver_history.specs.Trace.{IsDriversOwn, LeavesEngine}
 use Rattle.error_recovery.specs.declared.Next.{Next}
 use Rattle.error_recovery.specs.declared.Next.TheVariants as next
@@ -37,7 +34,7 @@ use Rattle.host_boot.specs.Taken.{StillStandsBehind, found_of, wanted_of}
 use Rattle.host_boot.specs.declared.Found.{Found}
 use Rattle.host_boot.specs.declared.Found.TheVariants.{Unready, Unserved}
 use Rattle.port_look.specs.Looks.{IsLooking}
-use Rattle.request_queue.specs.Entries.{Held, asks, asks_of}
+use Rattle.request_queue.specs.Entries.{asks_of}
 use Rattle.server_history.specs.Below.{LawsBelow}
 use Rattle.server_history.specs.Server.{AreKept, IsKept, IsMachineOf, IsPortOf, IsSettled, Server, is_served, mode_at, mode_in, plain_mode, ports_of, state_of, usable_of, use_of}
 use Rattle.server_history.specs.Tried.{BootsOnce, IsFoundAnew, IsLookedAt, TriesPort}
@@ -54,7 +51,7 @@ use Rattle.server_history.proofs.Lists.{nowhere}
 use Rattle.server_history.proofs.Looking.{looked_kept, looking_silent}
 use Rattle.server_history.proofs.Meeting.{nobody}
 use Rattle.server_history.proofs.Halting.{followed_halts}
-use Rattle.server_history.proofs.Mending.{unlooked}
+use Rattle.server_history.proofs.Mending.{none_due_unready, unlooked}
 use Rattle.server_history.proofs.Ports.{port_on}
 use Rattle.server_history.proofs.Recovering.{IsPart}
 use Rattle.server_history.proofs.Recovery.{stopped_of}
@@ -63,7 +60,7 @@ use Rattle.port_look.specs.Services.{IsService}
 use Rattle.server_history.proofs.Running.{shown_on}
 use Rattle.server_history.proofs.Serving.{followed_steps, looks_serve}
 use Rattle.server_history.proofs.Sighted.{booted_had}
-use Rattle.server_history.proofs.Trying.{AddsTried, TellsTried, makes_try, none_held}
+use Rattle.server_history.proofs.Trying.{AddsTried, TellsTried, makes_try}
 
 -- What the turn is: a part of a service, after which the server goes on. Where no disk of the port came, what is there was tried.
 pub record TakesTry (port : Port) (old new : Server) : Type 0 where
@@ -200,9 +197,8 @@ module _ (laws : LawsBelow) (s new : Server) (seen : Device) (port : Port) (stat
 
   none_due : (q : Port) → NoneDue (mode_in then q) (asks_of s.book) q
   none_due q = ⊎_elim
-      (λ (same : q.0 ≡ port.0) (r : Unanswered) (own : r.port ≡ q) due.
-      let h = map_in (λ (x : Held). asks x.entry) s.book r due.here in
-      absurd (none_held laws port s k (unready laws s new seen port state k is lives looks b) h.0 h.1 (ap (λ (u : Unanswered). u.port) (sym h.2) ∙ own ∙ ap (λ (x : ℕ). record { 0 = x }) same)))
+      (λ (same : q.0 ≡ port.0).
+      subst (λ (x : Port). NoneDue (mode_in then q) (asks_of s.book) x) (ap (λ (x : ℕ). record { 0 = x }) (sym same)) (none_due_unready s k port (unready laws s new seen port state k is lives looks b) (mode_in then q)))
       (λ (other : q.0 ≢ port.0). subst (λ (mode : Mode). NoneDue mode (asks_of s.book) q) (sym (get_or-set_other s.modes port.0 q.0 b.mode plain_mode other)) (t.issued q))
       (cases_eq q.0 port.0)
 
@@ -260,7 +256,7 @@ module _ (laws : LawsBelow) (s : Server) (seen : Device) (port : Port) (state : 
   -- ---- the server
 
   serves : IsDrivenBy IsService s.device seen
-  serves = driven_as (IsLooking port) IsService s.device seen (laws.looking.looking_service port) looks.driven
+  serves = record { accesses = looks.driven.accesses; all = looks.driven.all; only = All-weaker (IsLooking port) IsService (laws.looking.looking_service port) looks.driven.accesses looks.driven.only }
 
   module _ (lives : state ≢ DeadState) (result : Bool) (l : IsLookedAt state port result s.device seen) (none : result ≡ false) where
     its_port : IsPortOf s.wanted s.ports port.0 seen
@@ -280,7 +276,7 @@ module _ (laws : LawsBelow) (s : Server) (seen : Device) (port : Port) (state : 
     other_port : (q : ℕ) → q < 4 → q ≢ port.0 → IsPortOf s.wanted s.ports q seen
     other_port q small other =
         port_on laws s.wanted s.ports q s.device seen (laws.looking.services_same s.device seen serves) t.kept.on serves
-        (λ _. laws.looks.other_left port q s.device seen other t.kept.on (driven_as (IsLooking port) (IsOf port) s.device seen (laws.looking.looking_of port) looks.driven))
+        (λ _. laws.looks.other_left port q s.device seen other t.kept.on (record { accesses = looks.driven.accesses; all = looks.driven.all; only = All-weaker (IsLooking port) (IsOf port) (laws.looking.looking_of port) looks.driven.accesses looks.driven.only }))
         (looking_silent s seen port t.kept looks q Identify refl)
         (followed_halts laws (port_at q) (IsLooking port) s t.kept seen looks (λ access its. (leaving port (port_at q) access its).0))
         (t.kept.behind q small)

@@ -15,10 +15,11 @@ use Rattle.hba_regs.specs.declared.reg.Reg.TheVariants.{Px}
 use Rattle.hba_regs.specs.declared.reg.PortReg.TheVariants.{Ci, Sact}
 use Rattle.adapter.specs.Access.{Reads}
 use Rattle.adapter.specs.Device.{Device}
-use Rattle.agreement.specs.Driven.{IsDrivenBy}
+use Rattle.agreement.specs.Driven.{Grows, IsDrivenBy}
+use Rattle.agreement.specs.Driver.{IsBacked}
 use Rattle.agreement.specs.Slots.{IsFree, IsServed, Serves, ServesRequest, Stage, Use}
 use Rattle.agreement.proofs.Finding.{ended_is_clear}
-use Rattle.block_machine.specs.Events.{AllMay, AnswersEnded, ServesReady, tells_fault}
+use Rattle.block_machine.specs.Events.{AllMay, AnswersEnded, ServesReady, changes_disk, tells_fault}
 use Rattle.block_machine.specs.Histories.{IsReached}
 use Rattle.block_machine.specs.Left.{after}
 use Rattle.block_machine.specs.Ports.{Evidence, IsInterrupted, SamePort}
@@ -27,13 +28,12 @@ use Rattle.block_machine.specs.Steps.{Step, Answer}
 use Rattle.block_machine.specs.declared.due.Mode.{Mode}
 use Rattle.block_machine.proofs.Calm.{counts_none}
 use Rattle.block_machine.proofs.Members.{into_map, map_in}
-use Rattle.driver_history.specs.Evidence.{ShowsChange, ShowsFailure}
-use Rattle.driver_history.specs.Guard.{IsAskedOf}
+use Rattle.driver_history.specs.Evidence.{ShowsFailure, ShowsLoss}
 use Rattle.driver_history.specs.Histories.{FindsDone, HasBadDisk, IsAnsweredOk, IsIssuedOn}
 use Rattle.driver_history.specs.Trace.{ReadsMasks}
 use Rattle.host_boot.specs.Taken.{found_of}
 use Rattle.port_look.specs.Looks.{IsLooking}
-use Rattle.port_look.specs.declared.Look.TheVariants.{Undisturbed as Calm}
+use Rattle.port_look.specs.declared.Look.TheVariants.{Lost, Undisturbed as Calm}
 use Rattle.slots.specs.declared.Use.{Use as SlotUse}
 use Rattle.server_history.specs.Below.{LawsBelow}
 use Rattle.server_history.specs.Served.{AnswersBy, Checks, HasEnded, HasTurn, IsAnsweredIn, IsMaskOf, answers_in, done_reply, is_used}
@@ -41,13 +41,16 @@ use Rattle.server_history.proofs.Clear.{unused_clear}
 use Rattle.server_history.specs.Turns.{FindsTurn, InService, TiesTurn, instant_of, moment_of}
 use Rattle.server_history.specs.Server.{Server, IsKept, IsMachineOf, IsSettled, mode_in, ports_of, slots_at, state_of, used_for}
 use Rattle.server_history.proofs.Answered.{answered_in, ended_stood, in_answered, may_parts, no_answer, no_answer_issuing}
-use Rattle.server_history.proofs.Coming.{TurnList}
-use Rattle.server_history.proofs.Heeding.{never_failed, told_nothing, trouble_shown}
+use Rattle.server_history.proofs.Coming.{TurnList, look_does, look_list}
+use Rattle.server_history.proofs.Faulted.{no_change, not_missing}
+use Rattle.server_history.proofs.Heeding.{later_driven, never_failed, trouble_shown}
 use Rattle.server_history.proofs.Looking.{both_clear}
 use Rattle.server_history.proofs.Plain.{both_read}
 use Rattle.server_history.proofs.Said.{one_said}
 use Rattle.server_history.proofs.Slots.{HasSlot, free_unused, issued_has, not_true, ready_found, serves_used, still_booked, used_or_not}
-use Rattle.server_history.proofs.Told.{named_is, shows_failure, shows_fatal, shows_loss, told_of, unfailed, unfatal, unlost}
+use Rattle.server_history.proofs.Shown.{had_disk, shows_device}
+use Rattle.server_history.proofs.Told.{no_evidence}
+use Rattle.server_history.proofs.Showing.{grows_over}
 use Rattle.server_history.proofs.Zips.{at_left, at_right}
 use Rattle.server_history.proofs.Lists.{nowhere}
 
@@ -72,8 +75,9 @@ module _ (laws : LawsBelow) (port : Port) (replies : List Reply) (old new : Serv
   low : port.0 < 4
   low = (ready_found old port.0 kept ready).0
 
+  -- no trouble is named
   abbrev its : Evidence
-  its = told_of (port ∷ []) old.device (ports_of old)
+  its = no_evidence
 
   -- how the port takes commands
   abbrev takes : Mode
@@ -240,29 +244,30 @@ module _ (laws : LawsBelow) (port : Port) (replies : List Reply) (old new : Serv
 
   -- ---- what is owed to it
 
-  module _ (asked : IsAskedOf port (instant_of old m) new.device) where
-    undue : (old.device.port port.0).link_due ≡ false
-    undue = ((kept.behind port.0 low).runs ready).recorded.linked
+  pub finds : (e : Pending) → IsIssuedOn port m e → FindsTurn port list.driven.accesses old m steps
+  finds e own = found_by_masks turn.quiet e own
 
-    calm : turn.look ≡ Calm
-    calm = told_nothing laws port (slots_at old.slots port.0) replies (instant_of old m) new.device turn kept.on undue asked
+  undue : (old.device.port port.0).link_due ≡ false
+  undue = ((kept.behind port.0 low).runs ready).recorded.linked
 
-    -- no failure was shown
-    unfailing : ShowsFailure (old.device.port port.0) → ⊥
-    unfailing = never_failed laws port (slots_at old.slots port.0) replies (instant_of old m) new.device turn kept.on calm
+  -- no failure was shown
+  pub unfailing : ShowsFailure (old.device.port port.0) → ⊥
+  unfailing = never_failed laws port (slots_at old.slots port.0) replies (instant_of old m) new.device turn kept.on turn.quiet
 
-    never_lost : ShowsChange (old.device.port port.0) ⊎ ((old.device.port port.0).ssts_det ≢ 3) → ⊥
-    never_lost lost = ⊎_elim asked.change (λ out. out asked.device) lost
+  not_lost : turn.look ≢ Lost
+  not_lost lost = let z : Calm ≡ Lost = sym turn.quiet ∙ lost in cc
 
-    not_gone : Contains its.gone port → ⊥
-    not_gone here = never_lost (unlost (old.device.port port.0) (named_is (port ∷ []) old.device (ports_of old) shows_loss port here).1)
+  later : Grows turn.seen new.device
+  later = let over = later_driven laws port (slots_at old.slots port.0) replies (instant_of old m) new.device turn kept.on turn.quiet in grows_over laws over.accesses turn.seen new.device over.all
 
-    not_failed : Contains its.failed port → ⊥
-    not_failed here = unfailing (unfailed (old.device.port port.0) (named_is (port ∷ []) old.device (ports_of old) shows_failure port here).1)
+  -- nor was a loss
+  pub never_lost : ShowsLoss port old.device new.device → ⊥
+  never_lost loss = ⊎_elim
+      (no_change laws port turn.look old.device turn.seen turn.looks kept.on not_lost)
+      (λ (out : _ × _). not_missing laws port turn.look old.device turn.seen turn.looks kept.on not_lost new.device later undue out.0 out.1)
+      loss
 
-    not_fatal : Contains its.fatal port → ⊥
-    not_fatal here = unfailing (inl (unfatal (old.device.port port.0) (named_is (port ∷ []) old.device (ports_of old) shows_fatal port here).1))
-
+  module _ (backed : IsBacked old.device new.device m steps) where
     uninterrupted : IsInterrupted its port → ⊥
     uninterrupted i = ⊎_elim (nowhere port) (nowhere port) i
 
@@ -270,40 +275,43 @@ module _ (laws : LawsBelow) (port : Port) (replies : List Reply) (old new : Serv
     not_bad (inl foreign) = let z : Foreign ≡ ReadyState = sym foreign ∙ ready in cc
     not_bad (inr (cause, unfit)) = let z : Unfit cause ≡ ReadyState = sym unfit ∙ ready in cc
 
+    not_absent : (ports_of old).state port ≡ Absent → ⊥
+    not_absent absent = let z : Absent ≡ ReadyState = sym absent ∙ ready in cc
+
+    -- the look saw a device, so a disk was in when the turn began, or one came before the look
+    had : (m.present port ≡ true) ⊎ (list_any (changes_disk port) steps ≡ true)
+    had =
+        let accesses = look_list port turn.looks.causes turn.looks.own turn.looks.status in
+        let does = look_does port turn.look old.device turn.seen turn.looks in
+        had_disk laws port old turn.seen new.device m accesses does
+        (laws.recovery.own_on port.0 accesses old.device turn.seen does ((kept.behind port.0 low).own ready) (shows_device laws port old.device turn.seen turn.look turn.looks kept.on not_lost))
+        at later steps backed
+
     serves_ready : ServesReady (moment_of old m) its steps (record { machine = after m steps; ports = ports_of new }) port
     serves_ready = record {
-      ended = heeded calm;
-      emptied = λ gone. absurd (not_gone gone);
-      told = λ gone. absurd (not_gone gone);
-      interrupts = λ trouble. absurd (⊎_elim not_failed not_gone trouble);
-      anew = λ trouble. absurd (⊎_elim not_failed (nowhere port) trouble);
+      ended = heeded turn.quiet;
+      emptied = λ gone. absurd (nowhere port gone);
+      told = λ gone. absurd (nowhere port gone);
+      interrupts = λ trouble. absurd (⊎_elim (nowhere port) (nowhere port) trouble);
+      anew = λ trouble. absurd (⊎_elim (nowhere port) (nowhere port) trouble);
       single = let none = counts_none (tells_fault port) port (λ step is. is) steps (tells_none port steps (λ e o here. (turn_ended e o here).1)) in omega (arith, none);
-      fatal = λ here. absurd (not_fatal here);
-      disk = λ shows. inl ((at.knows.agrees.disk port.0).present ∙ (kept.behind port.0 low).own ready asked.device);
+      fatal = λ here. absurd (nowhere port here);
+      disk = λ shows. had;
       calm = inr (record { same = same; told = λ e o here own. inl (turn_ended e o here).1; uninterrupted = uninterrupted });
     }
 
-  pub finds : IsAskedOf port (instant_of old m) new.device → (e : Pending) → IsIssuedOn port m e → FindsTurn port list.driven.accesses old m steps
-  finds asked e own = found_by_masks (calm asked) e own
-
-  pub ties : TiesTurn InService port replies list.driven.accesses old new m its steps
-  ties asked = record {
-    finds = λ is e own. finding (calm asked) e own;
-    faults = λ alone. absurd (unfailing asked (inr alone.shows.fault));
-    tries = λ served coming. record {
-      shown = λ absent det. absurd (never_absent absent);
-      absent = λ absent det fresh. absurd (never_absent absent);
-      missing = λ bad. absurd (not_bad asked bad);
-      changed = λ bad. absurd (not_bad asked bad);
-    };
-    boots = (
-      λ is trouble. absurd (⊎_elim (λ fatal. unfailing asked (inl fatal)) (λ loss. never_lost asked (⊎_elim (λ change. inl change) (λ out. inr out.0) loss)) trouble),
-      inl same,
-    );
-    trouble = trouble_shown laws port (slots_at old.slots port.0) replies (instant_of old m) new.device turn kept.on (calm asked) its (ports_of new) asked;
-    well = λ i. absurd (uninterrupted asked i);
-    heeds = λ is. serves_ready asked;
-  }
-    where
-      never_absent : (ports_of old).state port ≡ Absent → ⊥
-      never_absent absent = let z : Absent ≡ ReadyState = sym absent ∙ ready in cc
+    pub ties : TiesTurn InService port replies list.driven.accesses old new m its steps
+    ties = record {
+      finds = λ is e own. finding turn.quiet e own;
+      faults = λ alone. absurd (unfailing (inr alone.shows.fault));
+      tries = λ served coming. record {
+        shown = λ absent det. absurd (not_absent absent);
+        absent = λ absent det fresh. absurd (not_absent absent);
+        missing = λ bad. absurd (not_bad bad);
+        changed = λ bad. absurd (not_bad bad);
+      };
+      boots = (λ is trouble. absurd (⊎_elim (λ fatal. unfailing (inl fatal)) never_lost trouble), inl same);
+      trouble = trouble_shown laws port (slots_at old.slots port.0) replies (instant_of old m) new.device turn kept.on turn.quiet its (ports_of new);
+      well = λ i. absurd (uninterrupted i);
+      heeds = λ is. serves_ready;
+    }

@@ -1,8 +1,8 @@
 -- A port that was recovered, or booted anew, runs well after the turn, unless trouble came since ST was set.
-use Rattle.std.proofs.Common.{◌≡◌, ◌<◌, ◌++◌, true, false, List, [], ◌∷◌, refl, sym, ap, ◌∙◌, subst, ⊎_elim, arith}
+use Rattle.std.proofs.Common.{◌≡◌, ◌≢◌, ◌<◌, ◌++◌, true, false, List, [], ◌∷◌, refl, sym, ap, ◌∙◌, subst, inr, ⊎_elim, arith}
 use Rattle.std.specs.List.{All, Contains}
 use Rattle.std.specs.Prelude.{◌⊎◌}
-use Rattle.std.proofs.lemmas.Bool.{false≢true}
+use Rattle.std.proofs.lemmas.Bool.{cases_eq, false≢true}
 use Rattle.std.proofs.lemmas.List.Elements.{All-contains, All-contains_itself, All-head, All-tail, All-weaker, Contains-append_left, Contains-append_right}
 use Rattle.ata_types.specs.declared.Port.{Port}
 use Rattle.ata_types.specs.declared.PortState.TheVariants.{Dead as DeadState, Ready as ReadyState}
@@ -19,8 +19,7 @@ use Rattle.agreement.specs.Facts.{IsFaultOf, RunsWell, Undisturbed}
 use Rattle.agreement.specs.Links.{PlugsNone, SparesRegister}
 use Rattle.agreement.specs.Recovering.{IsLinked, WorksPlainly}
 use Rattle.block_machine.specs.State.{Machine}
-use Rattle.driver_history.specs.Guard.{IsAskedOf}
-use Rattle.driver_history.specs.Histories.{RunsWellAnew, StayedUp}
+use Rattle.driver_history.specs.Histories.{RunsWellAnew}
 use Rattle.driver_history.specs.Trace.{ResetsLink}
 use Rattle.error_recovery.specs.Evidence.{GainsRunning}
 use Rattle.error_recovery.specs.declared.Next.{Next}
@@ -29,19 +28,25 @@ use Rattle.host_boot.specs.Taken.{StillStandsBehind, found_of, wanted_of}
 use Rattle.host_boot.specs.declared.Found.{Found}
 use Rattle.port_boot.specs.States.{told_causes}
 use Rattle.port_look.specs.Looks.{IsLooking}
+use Rattle.server_history.specs.declared.Trouble.{Trouble}
+use Rattle.server_history.specs.declared.Trouble.TheVariants.{Failed}
+use Rattle.block_machine.specs.Events.{Service}
 use Rattle.server_history.specs.Below.{LawsBelow}
 use Rattle.server_history.specs.Mended.{IsMended, HasMetFates, MendsPort}
 use Rattle.server_history.specs.Server.{Server, IsKept, ports_of, state_of}
 use Rattle.server_history.specs.Turns.{instant_of}
 use Rattle.server_history.proofs.Becoming.{next_dead, state_new}
 use Rattle.server_history.proofs.Evident.{IsEvident}
+use Rattle.server_history.proofs.Faulted.{given_up}
 use Rattle.server_history.proofs.Following.{mid_kept, mid_ready}
 use Rattle.server_history.proofs.Lasting.{again, again_booted, asked, ends_ready, issuing, recovered_on, since_up, then_issuing, up_on}
 use Rattle.server_history.proofs.Recovering.{IsEarlyPart}
-use Rattle.server_history.proofs.Recovery.{evidence_by}
+use Rattle.server_history.proofs.Recovery.{evidence_by, gone_of}
 use Rattle.server_history.proofs.Resetting.{up_driven}
-use Rattle.server_history.proofs.Showing.{LeavesTrouble, on_one, shows_over}
+use Rattle.server_history.proofs.Showing.{LeavesTrouble, grows_over, on_one, shows_over}
+use Rattle.server_history.proofs.Shown.{none_comes}
 use Rattle.server_history.proofs.Slots.{ready_found}
+use Rattle.server_history.proofs.Lists.{nowhere}
 use Rattle.server_history.proofs.Stretching.{TurnParts}
 
 -- ---- a link that is up
@@ -53,10 +58,6 @@ record ShowsLink (p : PortState) : Type 0 where
   undue : p.link_due ≡ false
 
 module _ (laws : LawsBelow) (port : Port) where
-  pub grows_over : (accesses : List Access) (old new : Device) → DoesAll accesses old new → Grows old new
-  grows_over [] old new is = subst (Grows old) (sym is) (laws.looks.grows_none old)
-  grows_over (access ∷ accesses) old new (mid, does, rest) = laws.looks.grows_more old mid new (laws.looks.access_grows access old mid does) (grows_over accesses mid new rest)
-
   -- the access writes neither PxSCTL nor GHC
   abbrev LeavesLinked : Access → Type 0
   LeavesLinked access = SparesRegister (Px port Sctl) access × SparesRegister Ghc access
@@ -66,7 +67,7 @@ module _ (laws : LawsBelow) (port : Port) where
   linked_over (access ∷ accesses) old new on all none (mid, does, rest) up =
       let kind = All-head LeavesLinked access accesses all in
       let early = laws.looks.access_grows access old mid does in
-      let late = grows_over accesses mid new rest in
+      let late = grows_over laws accesses mid new rest in
       let parts = laws.trouble.plugs_parts port.0 old mid new early.0 late.0 early.1 late.1 none in
       linked_over accesses mid new (on_one laws port access old mid on kind.1 does) (All-tail LeavesLinked access accesses all) parts.1 rest
       (⊎_elim
@@ -114,13 +115,13 @@ module _ (laws : LawsBelow) (port : Port) (replies : List Reply) (old new : Serv
   then_ready = mid_ready laws port r.later old r.mid k ready a looks
 
   early_grows : Grows old.device a.mid.device
-  early_grows = grows_over laws port t.early.accesses old.device a.mid.device t.early.all
+  early_grows = grows_over laws t.early.accesses old.device a.mid.device t.early.all
 
   part_grows : Grows a.mid.device a.device
-  part_grows = grows_over laws port x.mends.accesses a.mid.device a.device t.does
+  part_grows = grows_over laws x.mends.accesses a.mid.device a.device t.does
 
   late_grows : Grows a.device new.device
-  late_grows = grows_over laws port t.late.accesses a.device new.device t.late.all
+  late_grows = grows_over laws t.late.accesses a.device new.device t.late.all
 
   -- ---- a port that runs again
 
@@ -160,23 +161,22 @@ module _ (laws : LawsBelow) (port : Port) (replies : List Reply) (old new : Serv
             (subst (λ (f : Found). StillStandsBehind (wanted_of a.mid.wanted port.0) f port.0 a.mid.device) f.1.1 (then_kept.behind port.0 low).behind).1.det
 
     runs_well : PlugsNone port.0 old.device new.device → (old.device.port port.0).ssts_det ≡ 3 → (GainsRunning (IsFaultOf port.0) port.0 old.device new.device → ⊥) → (GainsRunning (IsFatalOf port.0) port.0 old.device new.device → ⊥)
-        → ResetsLink port evident.accesses ⊎ StayedUp port old.device new.device → RunsWell (new.device.port port.0)
+        → ResetsLink port evident.accesses ⊎ ((old.device.port port.0).fresh ≡ true) → RunsWell (new.device.port port.0)
     runs_well none det unfailed unbroken how =
-        let stayed : StayedUp port old.device new.device = ⊎_elim
+        let fresh : (old.device.port port.0).fresh ≡ true = ⊎_elim
         (λ reset. absurd (never_reset port (t.early.accesses ++ (x.mends.accesses ++ t.late.accesses)) unreset (subst (ResetsLink port) evident.accesses_are reset)))
         (λ is. is) how in
         let rest = laws.looks.grows_more a.mid.device a.device new.device part_grows late_grows in
         let plugs = laws.trouble.plugs_parts port.0 a.mid.device a.device new.device part_grows.0 late_grows.0 part_grows.1 late_grows.1
         (laws.trouble.plugs_parts port.0 old.device a.mid.device new.device early_grows.0 rest.0 early_grows.1 rest.1 none).1 in
-        let fatal = laws.trouble.fatal_parts port.0 a.mid.device a.device new.device part_grows.0 late_grows.0 part_grows.1 late_grows.1
-        (laws.trouble.fatal_parts port.0 old.device a.mid.device new.device early_grows.0 rest.0 early_grows.1 rest.1 stayed.unbroken).1 in
         let runs = again laws port replies old new k ready r looks kept t token is in
         let on = recovered_on laws port replies old new k ready r looks kept t in
         let last = then_issuing laws port replies old new k ready r looks kept t token is in
         let same = (shows_over laws port last.accesses a.device new.device on last.only last.all).same in
         let known = runs.recorded.known in
         let calm = laws.calls.calm_since port.0 old.device a.device new.device (laws.looks.grows_more old.device a.mid.device a.device early_grows part_grows) late_grows (omega (arith, same, known)) none unfailed unbroken in
-        well_over laws port a.device new.device on last calm (runs.well plugs.0 fatal.0 (linked none det stayed.fresh) plainly)
+        well_over laws port a.device new.device on last calm
+        (runs.well plugs.0 (λ g. unbroken (laws.calls.fatal_in_part port.0 old.device a.mid.device a.device new.device early_grows late_grows same g)) (linked none det fresh) plainly)
 
   -- ---- one that was booted
 
@@ -192,27 +192,37 @@ module _ (laws : LawsBelow) (port : Port) (replies : List Reply) (old new : Serv
         let issued = issuing laws port replies old new k ready r looks kept t in
         let since = since_up laws port replies old new k ready r looks kept t token is is_ready in
         let first = laws.looks.grows_more old.device a.device then_asked (laws.looks.grows_more old.device a.mid.device a.device early_grows part_grows)
-        (let asks = (again_booted laws port replies old new k ready r looks kept t token is is_ready).2.asks.driven in grows_over laws port asks.accesses a.device then_asked asks.all) in
-        let booted = (let b = ready_then.boots.followed.driven in grows_over laws port b.accesses then_asked r.mid.device b.all) in
-        let last = grows_over laws port issued.accesses r.mid.device new.device issued.all in
+        (let asks = (again_booted laws port replies old new k ready r looks kept t token is is_ready).2.asks.driven in grows_over laws asks.accesses a.device then_asked asks.all) in
+        let booted = (let b = ready_then.boots.followed.driven in grows_over laws b.accesses then_asked r.mid.device b.all) in
+        let last = grows_over laws issued.accesses r.mid.device new.device issued.all in
         let rest = laws.looks.grows_more then_asked r.mid.device new.device booted last in
         let plugs = laws.trouble.plugs_parts port.0 then_asked r.mid.device new.device booted.0 last.0 booted.1 last.1
         (laws.trouble.plugs_parts port.0 old.device then_asked new.device first.0 rest.0 first.1 rest.1 none).1 in
-        let up = (let b = up_driven laws port then_asked way.up way.first in grows_over laws port b.accesses then_asked way.up b.all) in
-        let told = laws.looks.grows_more way.up way.then.asked r.mid.device (grows_over laws port way.then.asks.accesses way.up way.then.asked way.then.asks.all)
+        let up = (let b = up_driven laws port then_asked way.up way.first in grows_over laws b.accesses then_asked way.up b.all) in
+        let told = laws.looks.grows_more way.up way.then.asked r.mid.device (grows_over laws way.then.asks.accesses way.up way.then.asked way.then.asks.all)
         (laws.looks.access_grows (Writing (Px port Ie) told_causes) way.then.asked r.mid.device way.then.tells) in
         let same = (shows_over laws port since.accesses way.up new.device (up_on laws port replies old new k ready r looks kept t token is is_ready) since.only since.all).same in
         let set = way.first.set in
-        let calm = laws.calls.calm_since port.0 old.device way.up new.device (laws.looks.grows_more old.device then_asked way.up first up) (grows_over laws port since.accesses way.up new.device since.all)
+        let calm = laws.calls.calm_since port.0 old.device way.up new.device (laws.looks.grows_more old.device then_asked way.up first up) (grows_over laws since.accesses way.up new.device since.all)
         (omega (arith, same, set)) none unfailed unbroken in
         let parts = laws.looks.calm_parts port.0 way.up r.mid.device new.device told.0 last.0 told.1 last.1 calm in
         well_over laws port r.mid.device new.device kept.on issued parts.1 (way.well plugs.0 parts.0)
 
-  pub going_well : (m : Machine) → IsAskedOf port (instant_of old m) new.device → RunsWellAnew (evidence_by a) evident.accesses (instant_of old m) (ports_of new) new.device port
-  going_well m asked_of _ is_ready none unfailed unbroken how = by x.result.next refl
+  -- A port that runs again showed a device when the turn began, where no disk went or came: else the look would have told that its disk was lost.
+  showed : (m : Machine) (token : _) → x.result.next ≡ next.Running token → PlugsNone port.0 old.device new.device → (old.device.port port.0).ssts_det ≡ 3
+  showed m token is none = ⊎_elim
+      (λ shows. shows)
+      (λ (missing : (old.device.port port.0).ssts_det ≢ 3).
+      let failed : x.trouble ≢ Failed = λ failed.
+      nowhere port (subst (λ (t : Trouble). Contains (gone_of port t (old.device.port port.0)) port) failed ((evident.evidenced Service m).gone_all ready (inr (missing, none_comes port.0 old.device new.device none)))) in
+      absurd ((given_up x.trouble port x.outstanding x.queued x.result x.mends.accesses a.mid.device a.device x.tells failed).1 token is))
+      (cases_eq (old.device.port port.0).ssts_det 3)
+
+  pub going_well : (m : Machine) → RunsWellAnew (evidence_by a) evident.accesses (instant_of old m) (ports_of new) new.device port
+  going_well m _ is_ready none unfailed unbroken how = by x.result.next refl
     where
       by : (n : Next) → x.result.next ≡ n → RunsWell (new.device.port port.0)
-      by (next.Running token) is = runs_well token is none asked_of.device unfailed unbroken how
+      by (next.Running token) is = runs_well token is none (showed m token is none) unfailed unbroken how
       by (next.Restart token) is = boots_well token is is_ready none unfailed unbroken
       by next.Dead is =
           let dead = state_new laws port replies old new k ready r looks kept ∙ ap state_of (next_dead laws port replies old new k ready r looks kept is) in

@@ -21,9 +21,8 @@ use Rattle.agreement.specs.Facts.{IsFaulted, IsRecorded, RunsWell, ShowsNoTroubl
 use Rattle.block_machine.specs.Events.{Ask, Moment, Said, Service}
 use Rattle.block_machine.specs.Histories.{Instant}
 use Rattle.block_machine.specs.Ports.{Evidence, IsInterrupted, Ports, SamePort}
-use Rattle.driver_history.specs.Evidence.{IsEvidencedOf, ShowsFailure}
+use Rattle.driver_history.specs.Evidence.{IsEvidencedOf, ShowsChange, ShowsFailure}
 use Rattle.error_recovery.specs.Evidence.{BringsLog, HasFailed, GainsRunning}
-use Rattle.driver_history.specs.Guard.{IsAskedOf}
 use Rattle.driver_history.specs.Histories.{BootsAnew, HasFaultAlone, LosesNoTrouble, RunsWellAnew}
 use Rattle.driver_history.specs.Parts.{HasTurnIn, NamesAlike, all_of}
 use Rattle.driver_history.specs.Trace.{ClearsNone}
@@ -84,28 +83,28 @@ pub record CallLaws : Type 0 where
       → IsEvidencedOf ask said t.turn (record { device = t.start; moment = begun }) ended t.end turn port → IsEvidencedOf ask said (all_of t) old ports new call port
   pub failed : (port : Port) (old new : Device) (fault : Fault) → IsOn old → (t : HasTurnIn port old new) → HasFailed port t.turn t.start t.end fault → HasFailed port (all_of t) old new fault
   pub brings : (port : Port) (old new : Device) (page : List ℕ) → IsOn old → (t : HasTurnIn port old new) → SendsNone port.0 ReadLog t.end new → BringsLog port t.start t.end page → BringsLog port old new page
-  -- a port of which a call's part is asked, and its turn in the call
-  pub ordinary : (port : Port) (old : Instant Device) (new : Device) (accesses : List Access) (evidence : Evidence) (ports : Ports) → IsOn old.device → IsAskedOf port old new
+  -- a port's trouble, and its turn in the call
+  pub ordinary : (port : Port) (old : Instant Device) (new : Device) (accesses : List Access) (evidence : Evidence) (ports : Ports) → IsOn old.device
       → DoesAll accesses old.device new → All (SparesRegister Ghc) accesses → All (ClearsNone port) accesses → LosesNoTrouble evidence old ports new port
-  pub ordinary_steps : (port : Port) (old : Instant Device) (new : Device) (evidence : Evidence) (ports : Ports) → IsOn old.device → IsAskedOf port old new → Steps old.device new
-      → LosesNoTrouble evidence old ports new port
-  pub asked_then : (port : Port) (old : Instant Device) (begun : Moment) (new : Device) → IsOn old.device → (old.device.port port.0).link_due ≡ false → (t : HasTurnIn port old.device new) → IsOn t.end
-      → begun.ports.state port ≡ Ready → IsAskedOf port old new → IsAskedOf port (record { device = t.start; moment = begun }) t.end
+  pub ordinary_steps : (port : Port) (old : Instant Device) (new : Device) (evidence : Evidence) (ports : Ports) → IsOn old.device → Steps old.device new → LosesNoTrouble evidence old ports new port
   pub alone_then : (port : Port) (old : Instant Device) (begun : Moment) (new : Device) → IsOn old.device → (old.device.port port.0).link_due ≡ false → (t : HasTurnIn port old.device new) → IsOn t.end
       → begun.ports.state port ≡ Ready → HasFaultAlone port old new → HasFaultAlone port (record { device = t.start; moment = begun }) t.end
-  pub call_trouble : (port : Port) (old : Instant Device) (begun : Moment) (ended ports : Ports) (new : Device) (turn call : Evidence) → IsOn old.device → (old.device.port port.0).link_due ≡ false
-      → (t : HasTurnIn port old.device new) → IsOn t.end → begun.ports.state port ≡ Ready → IsAskedOf port old new → SamePort ended ports port → NamesAlike port turn call
-      → (ended.state port ≡ Ready → IsInterrupted turn port → length t.start.tape ≤ (t.end.port port.0).notes.st_set_at) → (ShowsFailure (t.start.port port.0) → IsInterrupted turn port)
+  pub call_trouble : (port : Port) (old : Instant Device) (begun : Moment) (ended ports : Ports) (new : Device) (turn call : Evidence) → IsOn old.device
+      → (t : HasTurnIn port old.device new) → IsOn t.end → SamePort ended ports port → NamesAlike port turn call → SamePort old.moment.ports begun.ports port
+      → (ended.state port ≡ Ready → IsInterrupted turn port → length t.start.tape ≤ (t.end.port port.0).notes.st_set_at)
+      → (ShowsFailure (t.start.port port.0) ⊎ ShowsChange (t.start.port port.0) → IsInterrupted turn port)
       → LosesNoTrouble turn (record { device = t.start; moment = begun }) ended t.end port → LosesNoTrouble call old ports new port
   pub call_boots : (port : Port) (old : Instant Device) (begun : Moment) (ended ports : Ports) (new : Device) (one other : Said) → IsOn old.device → (old.device.port port.0).link_due ≡ false
-      → (t : HasTurnIn port old.device new) → IsOn t.end → begun.ports.state port ≡ Ready → IsAskedOf port old new → SamePort ended ports port → SamePort old.moment.ports begun.ports port
+      → (t : HasTurnIn port old.device new) → IsOn t.end → SamePort ended ports port → SamePort old.moment.ports begun.ports port
       → BootsAnew Service one t.turn (record { device = t.start; moment = begun }) ended t.end port → BootsAnew Service other (all_of t) old ports new port
   pub call_well : (port : Port) (old : Instant Device) (begun : Moment) (ended ports : Ports) (new : Device) (turn call : Evidence) → IsOn old.device → (old.device.port port.0).link_due ≡ false
-      → (t : HasTurnIn port old.device new) → IsOn t.end → begun.ports.state port ≡ Ready → IsAskedOf port old new → SamePort ended ports port → NamesAlike port turn call
+      → (t : HasTurnIn port old.device new) → IsOn t.end → SamePort ended ports port → NamesAlike port turn call
       → (ended.state port ≡ Ready → (t.end.port port.0).notes.st_set_at ≤ length t.end.tape)
       → RunsWellAnew turn t.turn (record { device = t.start; moment = begun }) ended t.end port → RunsWellAnew call (all_of t) old ports new port
   pub set_since : (port : Port) (accesses : List Access) (old new : Device) → IsOn old → All (SparesRegister Ghc) accesses → DoesAll accesses old new → Stops port accesses → (new.port port.0).st ≡ true
       → length old.tape ≤ (new.port port.0).notes.st_set_at
   -- what came since ST was set
+  pub fatal_in_part : (port : ℕ) (old start end new : Device) → Grows old start → Grows end new → (new.port port).notes.st_set_at ≡ (end.port port).notes.st_set_at
+      → GainsRunning (IsFatalOf port) port start end → GainsRunning (IsFatalOf port) port old new
   pub calm_since : (port : ℕ) (old mid new : Device) → Grows old mid → Grows mid new → (new.port port).notes.st_set_at ≤ length mid.tape → PlugsNone port old new
       → (GainsRunning (IsFaultOf port) port old new → ⊥) → (GainsRunning (IsFatalOf port) port old new → ⊥) → Undisturbed port mid new

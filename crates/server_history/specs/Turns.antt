@@ -22,7 +22,6 @@ use Rattle.block_machine.specs.Steps.{Step, Again, Answer, Issue}
 use Rattle.driver_history.specs.Evidence.{IsEvidencedOf}
 use Rattle.error_recovery.specs.Evidence.{BringsLog, HasFailed}
 use Rattle.error_log.specs.Log.{TellsError}
-use Rattle.driver_history.specs.Guard.{IsAskedOf}
 use Rattle.driver_history.specs.Histories.{FindsDone, IsIssuedOn, IssuesDue, LosesNoTrouble, RunsWellAnew, TiesPort}
 use Rattle.driver_history.specs.Holds.{NoneWaits}
 use Rattle.driver_history.specs.Trace.{IsDriversOwn, ResetsLink}
@@ -103,17 +102,17 @@ turn_of turn replies new evidence steps = record {
   device = new.device;
 }
 
--- Where it is asked of the port, what a call does of trouble: none is lost, and a port that was stopped runs well anew.
+-- What a call does of a port's trouble: none is lost, and a port that was stopped runs well anew.
 pub record HeedsTrouble (port : Port) (accesses : List Access) (old : Instant Device) (evidence : Evidence) (ports : Ports) (new : Device) : Type 0 where
   pub trouble : LosesNoTrouble evidence old ports new port
   pub well : RunsWellAnew evidence accesses old ports new port
 
--- As such a call it has done of its port, if that is asked, what a service does of a port; where it restarts the port, what a call does of trouble.
+-- As such a call it has done of its port what a service does of a ready port; where it restarts the port, what a call does of trouble.
 abbrev pub TiesTurn : Turn → Port → List Reply → List Access → Server → Server → Machine → Evidence → List Step → Type 0
 TiesTurn InService port replies accesses old new m evidence steps =
-    IsAskedOf port (instant_of old m) new.device → TiesPort (instant_of old m) (turn_of InService replies new evidence steps) accesses port
+    TiesPort (instant_of old m) (turn_of InService replies new evidence steps) accesses port
 TiesTurn InRestart port replies accesses old new m evidence steps =
-    IsAskedOf port (instant_of old m) new.device → HeedsTrouble port accesses (instant_of old m) evidence (ports_of new) new.device
+    HeedsTrouble port accesses (instant_of old m) evidence (ports_of new) new.device
 TiesTurn InTry port replies accesses old new m evidence steps = Unit {0}
 TiesTurn AtRest port replies accesses old new m evidence steps = Unit {0}
 
@@ -145,8 +144,7 @@ OwesTurn AtRest port accesses old new m evidence steps = (accesses ≡ []) × (s
 
 -- What a turn that made these accesses and said these replies has made of the machine: its steps may come, and lead to a machine that stands for
 -- the new server; the tape backs them; and they are the device's own, or of requests of the port. Its evidence names the port alone, and is
--- backed by the device. Of what its call owes and claims it owes and claims what the block machine asks; and where that is asked of the port, it has done what a call
--- does of one.
+-- backed by the device. Of what its call owes and claims it owes and claims what the block machine asks; and it has done what a call does of a port.
 pub record MakesTurn (turn : Turn) (port : Port) (replies : List Reply) (accesses : List Access) (old new : Server) (m : Machine) : Type 0 where
   pub steps : List Step
   pub evidence : Evidence
@@ -168,7 +166,7 @@ pub record MakesTurn (turn : Turn) (port : Port) (replies : List Reply) (accesse
   pub evidenced : IsEvidencedOf (call_of turn) (Served replies) accesses (instant_of old m) (ports_of new) new.device evidence port
   pub faults : (told : Fault) → Contains evidence.faults told → TellsFault port accesses old new told
   pub ties : TiesTurn turn port replies accesses old new m evidence steps
-  pub finds : turn ≡ InService → IsAskedOf port (instant_of old m) new.device → (e : Pending) → IsIssuedOn port m e → FindsTurn port accesses old m steps
+  pub finds : turn ≡ InService → (e : Pending) → IsIssuedOn port m e → FindsTurn port accesses old m steps
 
 -- what a turn of the port leaves of the server: its grants, the disks that are wanted, the id that was handed out last, and what it has of other ports and their
 -- requests (the machine that stands for it has the owners, and the loans that are kept)
@@ -242,4 +240,4 @@ TicksPort book port replies old new =
 
 -- What a tick does: requests get older, and then each ready port has its turn, in rising number; nothing is done of another one.
 abbrev pub Ticks : List Reply → Server → Server → Type 0
-Ticks replies old new = TakeTurns (TicksPort (a_tick_older old).book) (λ port before then. then ≡ before) 0 old.ports replies (a_tick_older old) new
+Ticks replies old new = TakeTurns (TicksPort (a_tick_older old).book) (λ port one other. other ≡ one) 0 old.ports replies (a_tick_older old) new

@@ -26,9 +26,9 @@ use block_machine::laws::{
 };
 use driver_history::laws::{a_turns_evidence_is_the_calls, histories_reach_their_machines};
 use driver_history::troubles::{
+    a_fatal_error_of_a_part_is_of_the_whole, a_fault_alone_in_a_call_is_alone_in_a_turn,
     a_port_that_was_stopped_was_set_since, a_turns_trouble_is_the_calls,
-    ordinary_accesses_lose_no_trouble, what_is_asked_of_a_call_is_asked_of_a_turn,
-    what_is_untroubled_since_st_was_set_is_calm,
+    ordinary_accesses_lose_no_trouble, what_is_untroubled_since_st_was_set_is_calm,
 };
 use error_recovery::laws::{recovery_is_of_its_port, what_stands_behind_a_fault_stays};
 use host_boot::laws::what_was_booted_again_may_be_served;
@@ -134,9 +134,10 @@ fn call_laws_hold()
 {
     a_turns_evidence_is_the_calls();
     ordinary_accesses_lose_no_trouble();
-    what_is_asked_of_a_call_is_asked_of_a_turn();
+    a_fault_alone_in_a_call_is_alone_in_a_turn();
     a_turns_trouble_is_the_calls();
     a_port_that_was_stopped_was_set_since();
+    a_fatal_error_of_a_part_is_of_the_whole();
     what_is_untroubled_since_st_was_set_is_calm();
 }
 

@@ -3,7 +3,6 @@ use Rattle.block_server.proofs.laws.runs_serve_healthy_ports.Goals as goal
 
 pub returns : goal.returns
 returns g c old new events said first past = serves_healthy (record {
-  asked = c.healthy_ports_are_asked_of.ensures;
   seen = c.seen_are_answered.ensures;
   heeded = c.shown_faults_are_heeded.ensures;
   well = c.healthy_calls_go_well.ensures;

@@ -12,4 +12,4 @@ returns-in-Restart-clause-mode g c =
     let device = g.A.Adapter.device in ⊎_elim
     (λ boots. c.mode_of-mode.ensures.found _ boots.slots boots.queued)
     (λ absent. c.mode_of-mode.ensures.plain _ (λ info is. let z : Unready Absent ≡ Ready info = sym absent ∙ is in cc))
-    (boots_or_absent c.args.look c.args.wanted.now c.in-Restart.stopped.port c.boot_after-booted.result (device c.args.adapter.now) (device c.boot_after-booted.new.adapter) c.boot_after-booted.ensures.boots)
+    (boots_or_absent c.args.trouble c.args.wanted.now c.in-Restart.stopped.port c.boot_after-booted.result (device c.args.adapter.now) (device c.boot_after-booted.new.adapter) c.boot_after-booted.ensures.boots)

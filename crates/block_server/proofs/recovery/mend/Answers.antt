@@ -1,27 +1,35 @@
-use Rattle.std.proofs.Common.{sym, subst, ⊎_elim, ◌≡◌}
-use Rattle.port_look.specs.declared.Look.{Look}
-use Rattle.port_look.specs.declared.Look.TheVariants.{Broken, Lost}
+use Rattle.std.proofs.Common.{ℕ, Bool, List, sym, subst, ◌≢◌, refl}
+use Rattle.ata_types.specs.declared.Port.{Port}
+use Rattle.adapter.specs.Access.{Access}
+use Rattle.adapter.specs.Device.{Device}
+use Rattle.error_recovery.specs.declared.Recovered.{Recovered}
 use Rattle.server_history.specs.Mended.{EndsGivenUp, TellsMending}
+use Rattle.server_history.specs.declared.Trouble.{Trouble}
+use Rattle.server_history.specs.declared.Trouble.TheVariants.{Broken, Failed, Hung, Lost}
 use Rattle.block_server.proofs.recovery.mend.Goals as goal
+
+-- what is told of a port that was given up
+tells : (trouble : Trouble) (port : Port) (outstanding : ℕ) (queued : Bool) (result : Recovered) (accesses : List Access) (old new : Device) → trouble ≢ Failed → EndsGivenUp result
+    → TellsMending trouble port outstanding queued result accesses old new
+tells Failed port outstanding queued result accesses old new other ends = absurd (other refl)
+tells Broken port outstanding queued result accesses old new other ends = ends
+tells Lost port outstanding queued result accesses old new other ends = ends
+tells Hung port outstanding queued result accesses old new other ends = ends
 
 pub returns-in-Failed-clause-mends : goal.returns-in-Failed-clause-mends
 returns-in-Failed-clause-mends g c =
     let r = c.recover.ensures.recovers in
-    let T : Look → Type 0 = λ look. TellsMending look c.args.port c.args.outstanding c.args.queued c.recover.result r.mends.accesses (g.A.Adapter.device c.args.adapter.now) (g.A.Adapter.device c.recover.new.adapter) in
+    let T : Trouble → Type 0 = λ trouble. TellsMending trouble c.args.port c.args.outstanding c.args.queued c.recover.result r.mends.accesses (g.A.Adapter.device c.args.adapter.now) (g.A.Adapter.device c.recover.new.adapter) in
     (r.mends, subst T (sym c.in-Failed.is) r.tells)
 
 pub returns-in_default : goal.returns-in_default
 returns-in_default g c =
     let u = c.give_up.ensures.gives_up c.args.queued in
-    let T : Look → Type 0 = λ look. TellsMending look c.args.port c.args.outstanding c.args.queued c.give_up.result u.mends.accesses (g.A.Adapter.device c.args.adapter.now) (g.A.Adapter.device c.give_up.new.adapter) in
-    let ends : EndsGivenUp c.give_up.result = (u.nobody, u.halts) in
     record {
       on = c.give_up.ensures.on;
       mends = (
         u.mends,
-        ⊎_elim
-            (λ failed. absurd (c.in_default.not-Failed failed))
-            (λ rest. ⊎_elim (λ (broken : c.args.look ≡ Broken). subst T (sym broken) ends) (λ (lost : c.args.look ≡ Lost). subst T (sym lost) ends) rest)
-            c.requires.leads,
+        tells c.args.trouble c.args.port c.args.outstanding c.args.queued c.give_up.result u.mends.accesses (g.A.Adapter.device c.args.adapter.now) (g.A.Adapter.device c.give_up.new.adapter)
+        c.in_default.not-Failed (u.nobody, u.halts),
       );
     }

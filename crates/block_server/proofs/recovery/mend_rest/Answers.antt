@@ -13,7 +13,7 @@ done-finished-requires-clause-on g c =
       alone = c.a_troubled_port_may_be_mended.ensures.alone;
     } in
     let l = c.requires.lends in
-    (seen_kept laws l.0 (g.A.Adapter.device c.args.adapter.now) c.args.table.now c.args.book.now c.args.slots.now c.args.port c.args.look l.1).on
+    (seen_kept laws l.0 (g.A.Adapter.device c.args.adapter.now) c.args.table.now c.args.book.now c.args.slots.now c.args.port c.args.trouble l.1).on
 
 pub done-finished-requires-clause-there : goal.done-finished-requires-clause-there
 done-finished-requires-clause-there g c =
@@ -27,7 +27,7 @@ done-finished-requires-clause-there g c =
       alone = c.a_troubled_port_may_be_mended.ensures.alone;
     } in
     let l = c.requires.lends in
-    seen_there laws l.0 (g.A.Adapter.device c.args.adapter.now) c.args.table.now c.args.book.now c.args.slots.now c.args.port c.args.look l.1
+    seen_there laws l.0 (g.A.Adapter.device c.args.adapter.now) c.args.table.now c.args.book.now c.args.slots.now c.args.port c.args.trouble l.1
 
 pub answer_done-requires-clause-lends : goal.answer_done-requires-clause-lends
 answer_done-requires-clause-lends g c =
@@ -41,7 +41,7 @@ answer_done-requires-clause-lends g c =
       alone = c.a_troubled_port_may_be_mended.ensures.alone;
     } in
     let l = c.requires.lends in
-    (record l.0 { device = g.A.Adapter.device c.done-finished.new.adapter }, c.args.port, lends_done laws l.0 (g.A.Adapter.device c.args.adapter.now) c.args.table.now c.args.book.now c.args.slots.now c.args.port c.args.look l.1 c.taken-used.result c.taken-used.ensures c.done-finished.result (g.A.Adapter.device c.done-finished.new.adapter) c.done-finished.ensures.finds)
+    (record l.0 { device = g.A.Adapter.device c.done-finished.new.adapter }, c.args.port, lends_done laws l.0 (g.A.Adapter.device c.args.adapter.now) c.args.table.now c.args.book.now c.args.slots.now c.args.port c.args.trouble l.1 c.taken-used.result c.taken-used.ensures c.done-finished.result (g.A.Adapter.device c.done-finished.new.adapter) c.done-finished.ensures.finds)
 
 pub are_queued-queued-requires : goal.are_queued-queued-requires
 are_queued-queued-requires g c =
@@ -55,11 +55,11 @@ are_queued-queued-requires g c =
       alone = c.a_troubled_port_may_be_mended.ensures.alone;
     } in
     let l = c.requires.lends in
-    let done = lends_done laws l.0 (g.A.Adapter.device c.args.adapter.now) c.args.table.now c.args.book.now c.args.slots.now c.args.port c.args.look l.1 c.taken-used.result c.taken-used.ensures c.done-finished.result (g.A.Adapter.device c.done-finished.new.adapter) c.done-finished.ensures.finds in
+    let done = lends_done laws l.0 (g.A.Adapter.device c.args.adapter.now) c.args.table.now c.args.book.now c.args.slots.now c.args.port c.args.trouble l.1 c.taken-used.result c.taken-used.ensures c.done-finished.result (g.A.Adapter.device c.done-finished.new.adapter) c.done-finished.ensures.finds in
     let from = record l.0 { device = g.A.Adapter.device c.done-finished.new.adapter } in
     let answers = c.answer_done.ensures.answers from c.args.port done in
     let lent = c.answer_done.ensures.lends from c.args.port done in
-    record { alike = alike laws l.0 (g.A.Adapter.device c.args.adapter.now) c.args.table.now c.args.book.now c.args.slots.now c.args.port c.args.look l.1 c.taken-used.result c.taken-used.ensures c.done-finished.result (g.A.Adapter.device c.done-finished.new.adapter) c.done-finished.ensures.finds c.args.replies.now.items c.answer_done.new.replies.items c.answer_done.new.table c.answer_done.new.book c.answer_done.new.slots answers lent; places = places laws l.0 (g.A.Adapter.device c.args.adapter.now) c.args.table.now c.args.book.now c.args.slots.now c.args.port c.args.look l.1 c.taken-used.result c.taken-used.ensures c.done-finished.result (g.A.Adapter.device c.done-finished.new.adapter) c.done-finished.ensures.finds c.args.replies.now.items c.answer_done.new.replies.items c.answer_done.new.table c.answer_done.new.book c.answer_done.new.slots answers lent }
+    record { alike = alike laws l.0 (g.A.Adapter.device c.args.adapter.now) c.args.table.now c.args.book.now c.args.slots.now c.args.port c.args.trouble l.1 c.taken-used.result c.taken-used.ensures c.done-finished.result (g.A.Adapter.device c.done-finished.new.adapter) c.done-finished.ensures.finds c.args.replies.now.items c.answer_done.new.replies.items c.answer_done.new.table c.answer_done.new.book c.answer_done.new.slots answers lent; places = places laws l.0 (g.A.Adapter.device c.args.adapter.now) c.args.table.now c.args.book.now c.args.slots.now c.args.port c.args.trouble l.1 c.taken-used.result c.taken-used.ensures c.done-finished.result (g.A.Adapter.device c.done-finished.new.adapter) c.done-finished.ensures.finds c.args.replies.now.items c.answer_done.new.replies.items c.answer_done.new.table c.answer_done.new.book c.answer_done.new.slots answers lent }
 
 pub mend-recovered-requires-clause-there : goal.mend-recovered-requires-clause-there
 mend-recovered-requires-clause-there g c =
@@ -73,11 +73,11 @@ mend-recovered-requires-clause-there g c =
       alone = c.a_troubled_port_may_be_mended.ensures.alone;
     } in
     let l = c.requires.lends in
-    let done = lends_done laws l.0 (g.A.Adapter.device c.args.adapter.now) c.args.table.now c.args.book.now c.args.slots.now c.args.port c.args.look l.1 c.taken-used.result c.taken-used.ensures c.done-finished.result (g.A.Adapter.device c.done-finished.new.adapter) c.done-finished.ensures.finds in
+    let done = lends_done laws l.0 (g.A.Adapter.device c.args.adapter.now) c.args.table.now c.args.book.now c.args.slots.now c.args.port c.args.trouble l.1 c.taken-used.result c.taken-used.ensures c.done-finished.result (g.A.Adapter.device c.done-finished.new.adapter) c.done-finished.ensures.finds in
     let from = record l.0 { device = g.A.Adapter.device c.done-finished.new.adapter } in
     let answers = c.answer_done.ensures.answers from c.args.port done in
     let lent = c.answer_done.ensures.lends from c.args.port done in
-    mid_there laws l.0 (g.A.Adapter.device c.args.adapter.now) c.args.table.now c.args.book.now c.args.slots.now c.args.port c.args.look l.1 c.taken-used.result c.taken-used.ensures c.done-finished.result (g.A.Adapter.device c.done-finished.new.adapter) c.done-finished.ensures.finds c.args.replies.now.items c.answer_done.new.replies.items c.answer_done.new.table c.answer_done.new.book c.answer_done.new.slots answers lent
+    mid_there laws l.0 (g.A.Adapter.device c.args.adapter.now) c.args.table.now c.args.book.now c.args.slots.now c.args.port c.args.trouble l.1 c.taken-used.result c.taken-used.ensures c.done-finished.result (g.A.Adapter.device c.done-finished.new.adapter) c.done-finished.ensures.finds c.args.replies.now.items c.answer_done.new.replies.items c.answer_done.new.table c.answer_done.new.book c.answer_done.new.slots answers lent
 
 pub mend-recovered-requires-clause-room : goal.mend-recovered-requires-clause-room
 mend-recovered-requires-clause-room g c =
@@ -91,11 +91,11 @@ mend-recovered-requires-clause-room g c =
       alone = c.a_troubled_port_may_be_mended.ensures.alone;
     } in
     let l = c.requires.lends in
-    let done = lends_done laws l.0 (g.A.Adapter.device c.args.adapter.now) c.args.table.now c.args.book.now c.args.slots.now c.args.port c.args.look l.1 c.taken-used.result c.taken-used.ensures c.done-finished.result (g.A.Adapter.device c.done-finished.new.adapter) c.done-finished.ensures.finds in
+    let done = lends_done laws l.0 (g.A.Adapter.device c.args.adapter.now) c.args.table.now c.args.book.now c.args.slots.now c.args.port c.args.trouble l.1 c.taken-used.result c.taken-used.ensures c.done-finished.result (g.A.Adapter.device c.done-finished.new.adapter) c.done-finished.ensures.finds in
     let from = record l.0 { device = g.A.Adapter.device c.done-finished.new.adapter } in
     let answers = c.answer_done.ensures.answers from c.args.port done in
     let lent = c.answer_done.ensures.lends from c.args.port done in
-    (mid_kept laws l.0 (g.A.Adapter.device c.args.adapter.now) c.args.table.now c.args.book.now c.args.slots.now c.args.port c.args.look l.1 c.taken-used.result c.taken-used.ensures c.done-finished.result (g.A.Adapter.device c.done-finished.new.adapter) c.done-finished.ensures.finds c.args.replies.now.items c.answer_done.new.replies.items c.answer_done.new.table c.answer_done.new.book c.answer_done.new.slots answers lent).room
+    (mid_kept laws l.0 (g.A.Adapter.device c.args.adapter.now) c.args.table.now c.args.book.now c.args.slots.now c.args.port c.args.trouble l.1 c.taken-used.result c.taken-used.ensures c.done-finished.result (g.A.Adapter.device c.done-finished.new.adapter) c.done-finished.ensures.finds c.args.replies.now.items c.answer_done.new.replies.items c.answer_done.new.table c.answer_done.new.book c.answer_done.new.slots answers lent).room
 
 pub mend-recovered-requires-clause-agreed : goal.mend-recovered-requires-clause-agreed
 mend-recovered-requires-clause-agreed g c =
@@ -109,11 +109,11 @@ mend-recovered-requires-clause-agreed g c =
       alone = c.a_troubled_port_may_be_mended.ensures.alone;
     } in
     let l = c.requires.lends in
-    let done = lends_done laws l.0 (g.A.Adapter.device c.args.adapter.now) c.args.table.now c.args.book.now c.args.slots.now c.args.port c.args.look l.1 c.taken-used.result c.taken-used.ensures c.done-finished.result (g.A.Adapter.device c.done-finished.new.adapter) c.done-finished.ensures.finds in
+    let done = lends_done laws l.0 (g.A.Adapter.device c.args.adapter.now) c.args.table.now c.args.book.now c.args.slots.now c.args.port c.args.trouble l.1 c.taken-used.result c.taken-used.ensures c.done-finished.result (g.A.Adapter.device c.done-finished.new.adapter) c.done-finished.ensures.finds in
     let from = record l.0 { device = g.A.Adapter.device c.done-finished.new.adapter } in
     let answers = c.answer_done.ensures.answers from c.args.port done in
     let lent = c.answer_done.ensures.lends from c.args.port done in
-    agreed laws l.0 (g.A.Adapter.device c.args.adapter.now) c.args.table.now c.args.book.now c.args.slots.now c.args.port c.args.look l.1 c.taken-used.result c.taken-used.ensures c.done-finished.result (g.A.Adapter.device c.done-finished.new.adapter) c.done-finished.ensures.finds c.args.replies.now.items c.answer_done.new.replies.items c.answer_done.new.table c.answer_done.new.book c.answer_done.new.slots answers lent c.taken-outstanding.result c.taken-outstanding.ensures c.are_queued-queued.result c.are_queued-queued.ensures
+    agreed laws l.0 (g.A.Adapter.device c.args.adapter.now) c.args.table.now c.args.book.now c.args.slots.now c.args.port c.args.trouble l.1 c.taken-used.result c.taken-used.ensures c.done-finished.result (g.A.Adapter.device c.done-finished.new.adapter) c.done-finished.ensures.finds c.args.replies.now.items c.answer_done.new.replies.items c.answer_done.new.table c.answer_done.new.book c.answer_done.new.slots answers lent c.taken-outstanding.result c.taken-outstanding.ensures c.are_queued-queued.result c.are_queued-queued.ensures
 
 pub mend-recovered-requires-clause-may : goal.mend-recovered-requires-clause-may
 mend-recovered-requires-clause-may g c =
@@ -127,10 +127,7 @@ mend-recovered-requires-clause-may g c =
       alone = c.a_troubled_port_may_be_mended.ensures.alone;
     } in
     let l = c.requires.lends in
-    may laws l.0 (g.A.Adapter.device c.args.adapter.now) c.args.table.now c.args.book.now c.args.slots.now c.args.port c.args.look l.1 c.taken-used.result c.taken-used.ensures c.done-finished.result (g.A.Adapter.device c.done-finished.new.adapter) c.done-finished.ensures.finds
-
-pub mend-recovered-requires-clause-leads : goal.mend-recovered-requires-clause-leads
-mend-recovered-requires-clause-leads g c = let l = c.requires.lends in l.1.sees.mends
+    may laws l.0 (g.A.Adapter.device c.args.adapter.now) c.args.table.now c.args.book.now c.args.slots.now c.args.port c.args.trouble l.1 c.taken-used.result c.taken-used.ensures c.done-finished.result (g.A.Adapter.device c.done-finished.new.adapter) c.done-finished.ensures.finds
 
 pub mend-recovered-requires-clause-alone : goal.mend-recovered-requires-clause-alone
 mend-recovered-requires-clause-alone g c =
@@ -144,11 +141,11 @@ mend-recovered-requires-clause-alone g c =
       alone = c.a_troubled_port_may_be_mended.ensures.alone;
     } in
     let l = c.requires.lends in
-    let done = lends_done laws l.0 (g.A.Adapter.device c.args.adapter.now) c.args.table.now c.args.book.now c.args.slots.now c.args.port c.args.look l.1 c.taken-used.result c.taken-used.ensures c.done-finished.result (g.A.Adapter.device c.done-finished.new.adapter) c.done-finished.ensures.finds in
+    let done = lends_done laws l.0 (g.A.Adapter.device c.args.adapter.now) c.args.table.now c.args.book.now c.args.slots.now c.args.port c.args.trouble l.1 c.taken-used.result c.taken-used.ensures c.done-finished.result (g.A.Adapter.device c.done-finished.new.adapter) c.done-finished.ensures.finds in
     let from = record l.0 { device = g.A.Adapter.device c.done-finished.new.adapter } in
     let answers = c.answer_done.ensures.answers from c.args.port done in
     let lent = c.answer_done.ensures.lends from c.args.port done in
-    alone laws l.0 (g.A.Adapter.device c.args.adapter.now) c.args.table.now c.args.book.now c.args.slots.now c.args.port c.args.look l.1 c.taken-used.result c.taken-used.ensures c.done-finished.result (g.A.Adapter.device c.done-finished.new.adapter) c.done-finished.ensures.finds c.args.replies.now.items c.answer_done.new.replies.items c.answer_done.new.table c.answer_done.new.book c.answer_done.new.slots answers lent c.taken-outstanding.result c.taken-outstanding.ensures c.are_queued-queued.result c.are_queued-queued.ensures
+    alone laws l.0 (g.A.Adapter.device c.args.adapter.now) c.args.table.now c.args.book.now c.args.slots.now c.args.port c.args.trouble l.1 c.taken-used.result c.taken-used.ensures c.done-finished.result (g.A.Adapter.device c.done-finished.new.adapter) c.done-finished.ensures.finds c.args.replies.now.items c.answer_done.new.replies.items c.answer_done.new.table c.answer_done.new.book c.answer_done.new.slots answers lent c.taken-outstanding.result c.taken-outstanding.ensures c.are_queued-queued.result c.are_queued-queued.ensures
 
 pub failed_in-failed-requires : goal.failed_in-failed-requires
 failed_in-failed-requires g c =
@@ -162,11 +159,11 @@ failed_in-failed-requires g c =
       alone = c.a_troubled_port_may_be_mended.ensures.alone;
     } in
     let l = c.requires.lends in
-    let done = lends_done laws l.0 (g.A.Adapter.device c.args.adapter.now) c.args.table.now c.args.book.now c.args.slots.now c.args.port c.args.look l.1 c.taken-used.result c.taken-used.ensures c.done-finished.result (g.A.Adapter.device c.done-finished.new.adapter) c.done-finished.ensures.finds in
+    let done = lends_done laws l.0 (g.A.Adapter.device c.args.adapter.now) c.args.table.now c.args.book.now c.args.slots.now c.args.port c.args.trouble l.1 c.taken-used.result c.taken-used.ensures c.done-finished.result (g.A.Adapter.device c.done-finished.new.adapter) c.done-finished.ensures.finds in
     let from = record l.0 { device = g.A.Adapter.device c.done-finished.new.adapter } in
     let answers = c.answer_done.ensures.answers from c.args.port done in
     let lent = c.answer_done.ensures.lends from c.args.port done in
-    named laws l.0 (g.A.Adapter.device c.args.adapter.now) c.args.table.now c.args.book.now c.args.slots.now c.args.port c.args.look l.1 c.taken-used.result c.taken-used.ensures c.done-finished.result (g.A.Adapter.device c.done-finished.new.adapter) c.done-finished.ensures.finds c.args.replies.now.items c.answer_done.new.replies.items c.answer_done.new.table c.answer_done.new.book c.answer_done.new.slots answers lent c.taken-outstanding.result c.taken-outstanding.ensures c.are_queued-queued.result c.are_queued-queued.ensures c.mend-recovered.result (g.A.Adapter.device c.mend-recovered.new.adapter) c.mend-recovered.ensures.mends
+    named laws l.0 (g.A.Adapter.device c.args.adapter.now) c.args.table.now c.args.book.now c.args.slots.now c.args.port c.args.trouble l.1 c.taken-used.result c.taken-used.ensures c.done-finished.result (g.A.Adapter.device c.done-finished.new.adapter) c.done-finished.ensures.finds c.args.replies.now.items c.answer_done.new.replies.items c.answer_done.new.table c.answer_done.new.book c.answer_done.new.slots answers lent c.taken-outstanding.result c.taken-outstanding.ensures c.are_queued-queued.result c.are_queued-queued.ensures c.mend-recovered.result (g.A.Adapter.device c.mend-recovered.new.adapter) c.mend-recovered.ensures.mends
 
 pub returns-clause-mends : goal.returns-clause-mends
 returns-clause-mends g c = λ s l.
@@ -180,8 +177,8 @@ returns-clause-mends g c = λ s l.
       alone = c.a_troubled_port_may_be_mended.ensures.alone;
     } in
     let device = g.A.Adapter.device in
-    let done = lends_done laws s (g.A.Adapter.device c.args.adapter.now) c.args.table.now c.args.book.now c.args.slots.now c.args.port c.args.look l c.taken-used.result c.taken-used.ensures c.done-finished.result (g.A.Adapter.device c.done-finished.new.adapter) c.done-finished.ensures.finds in
+    let done = lends_done laws s (g.A.Adapter.device c.args.adapter.now) c.args.table.now c.args.book.now c.args.slots.now c.args.port c.args.trouble l c.taken-used.result c.taken-used.ensures c.done-finished.result (g.A.Adapter.device c.done-finished.new.adapter) c.done-finished.ensures.finds in
     let from = record s { device = g.A.Adapter.device c.done-finished.new.adapter } in
     let answers = c.answer_done.ensures.answers from c.args.port done in
     let lent = c.answer_done.ensures.lends from c.args.port done in
-    mends_rest laws s (g.A.Adapter.device c.args.adapter.now) c.args.table.now c.args.book.now c.args.slots.now c.args.port c.args.look l c.taken-used.result c.taken-used.ensures c.done-finished.result (g.A.Adapter.device c.done-finished.new.adapter) c.done-finished.ensures.finds c.args.replies.now.items c.answer_done.new.replies.items c.answer_done.new.table c.answer_done.new.book c.answer_done.new.slots answers lent c.taken-outstanding.result c.taken-outstanding.ensures c.are_queued-queued.result c.are_queued-queued.ensures c.mend-recovered.result (g.A.Adapter.device c.mend-recovered.new.adapter) c.mend-recovered.ensures.mends c.failed_in-failed.result c.failed_in-failed.ensures
+    mends_rest laws s (g.A.Adapter.device c.args.adapter.now) c.args.table.now c.args.book.now c.args.slots.now c.args.port c.args.trouble l c.taken-used.result c.taken-used.ensures c.done-finished.result (g.A.Adapter.device c.done-finished.new.adapter) c.done-finished.ensures.finds c.args.replies.now.items c.answer_done.new.replies.items c.answer_done.new.table c.answer_done.new.book c.answer_done.new.slots answers lent c.taken-outstanding.result c.taken-outstanding.ensures c.are_queued-queued.result c.are_queued-queued.ensures c.mend-recovered.result (g.A.Adapter.device c.mend-recovered.new.adapter) c.mend-recovered.ensures.mends c.failed_in-failed.result c.failed_in-failed.ensures

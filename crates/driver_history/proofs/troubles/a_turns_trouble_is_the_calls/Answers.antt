@@ -2,13 +2,13 @@ use Rattle.driver_history.proofs.Turned.{boots_are_the_calls, trouble_is_the_cal
 use Rattle.driver_history.proofs.troubles.a_turns_trouble_is_the_calls.Goals as goal
 
 pub returns-clause-trouble : goal.returns-clause-trouble
-returns-clause-trouble c port old begun ended ports new turn call on undue t on_then ready asked stays alike set stops its =
-    trouble_is_the_calls c.laws_hold.ensures port old begun new on undue t on_then ready asked ended ports stays turn call alike set stops its
+returns-clause-trouble c port old begun ended ports new turn call on t on_then stays alike was set stops its =
+    trouble_is_the_calls c.laws_hold.ensures port old begun new on t on_then ended ports stays turn call alike was set stops its
 
 pub returns-clause-boots : goal.returns-clause-boots
-returns-clause-boots c port old begun ended ports new one other on undue t on_then ready asked stays was its =
-    boots_are_the_calls c.laws_hold.ensures port old begun new on undue t on_then ready asked ended ports stays one other was its
+returns-clause-boots c port old begun ended ports new one other on undue t on_then stays was its =
+    boots_are_the_calls c.laws_hold.ensures port old begun new on t on_then ended ports stays one other undue was its
 
 pub returns-clause-well : goal.returns-clause-well
-returns-clause-well c port old begun ended ports new turn call on undue t on_then ready asked stays alike known its =
-    well_is_the_calls c.laws_hold.ensures port old begun new on undue t on_then ready asked ended ports stays turn call alike known its
+returns-clause-well c port old begun ended ports new turn call on undue t on_then stays alike known its =
+    well_is_the_calls c.laws_hold.ensures port old begun new on t on_then ended ports stays turn call alike undue known its

@@ -3,9 +3,9 @@ use Rattle.driver_history.proofs.Losing.{accesses_show, loses_none}
 use Rattle.driver_history.proofs.troubles.ordinary_accesses_lose_no_trouble.Goals as goal
 
 pub returns-clause-accesses : goal.returns-clause-accesses
-returns-clause-accesses c port old new accesses evidence ports on asked does spares clears =
-    loses_none c.laws_hold.ensures port old new asked (accesses_show c.laws_hold.ensures port accesses old.device new on does spares clears) evidence ports
+returns-clause-accesses c port old new accesses evidence ports on does spares clears =
+    loses_none c.laws_hold.ensures port old new (accesses_show c.laws_hold.ensures port accesses old.device new on does spares clears) evidence ports
 
 pub returns-clause-steps : goal.returns-clause-steps
-returns-clause-steps c port old new evidence ports on asked moves =
-    loses_none c.laws_hold.ensures port old new asked (λ kind. steps_show c.laws_hold.ensures kind port.0 old.device new on.no_reset moves) evidence ports
+returns-clause-steps c port old new evidence ports on moves =
+    loses_none c.laws_hold.ensures port old new (λ kind. steps_show c.laws_hold.ensures kind port.0 old.device new on.no_reset moves) evidence ports

@@ -13,21 +13,21 @@ use Rattle.driver_history.specs.Histories.{IsHistory, TellsPlainFaults}
 use Rattle.driver_history.proofs.troubles.shown_faults_are_heeded.Goals as goal
 
 heeds_fault : (wanted : List Wanted) (first : Instant Device) (past : List (Happening Device DeviceStep)) (h : Happening Device DeviceStep) (port : Port)
-    → IsHistory wanted first (h ∷ past) → h.event.ask ≡ Service → IsAskedOf port (now first past) h.device → ShowsFailure ((now first past).device.port port.0)
+    → IsHistory wanted first (h ∷ past) → h.event.ask ≡ Service → IsAskedOf port (now first past) → ShowsFailure ((now first past).device.port port.0)
     → HeedsFailure port (now first past) h
 heeds_fault wanted first past h port history asks asked failure =
     let old = now first past in
     let ties = history.2.port port asked in
     let evidenced = history.2.evidenced.port port in
-    let failed = evidenced.failed_all asked.ready failure in
+    let failed = evidenced.failed_all asked failure in
     let serves : ServesReady old.moment h.event.evidence h.event.steps (moment_after old.moment h.event) port =
-    subst (λ (ask : Ask DeviceStep). HeedsAt port ask old.moment h.event.evidence h.event.steps (moment_after old.moment h.event)) asks ties.heeds asked.ready in
+    subst (λ (ask : Ask DeviceStep). HeedsAt port ask old.moment h.event.evidence h.event.steps (moment_after old.moment h.event)) asks ties.heeds asked in
     record {
       ended = serves.ended;
       stopped = serves.interrupts (inl failed);
       anew = serves.anew (inl failed);
       single = serves.single;
-      fatal = λ shown. (serves.fatal (evidenced.fatal_all asked.ready shown)).1;
+      fatal = λ shown. (serves.fatal (evidenced.fatal_all asked shown)).1;
       told = subst (λ (ask : Ask DeviceStep). TellsPlainFaults ask old h.event.ports h.device h.event.steps port) asks ties.faults;
     }
 

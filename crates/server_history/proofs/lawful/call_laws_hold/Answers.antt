@@ -7,11 +7,11 @@ returns c = record {
   brings = c.a_turns_evidence_is_the_calls.ensures.brings;
   ordinary = c.ordinary_accesses_lose_no_trouble.ensures.accesses;
   ordinary_steps = c.ordinary_accesses_lose_no_trouble.ensures.steps;
-  asked_then = c.what_is_asked_of_a_call_is_asked_of_a_turn.ensures.asked;
-  alone_then = c.what_is_asked_of_a_call_is_asked_of_a_turn.ensures.alone;
+  alone_then = c.a_fault_alone_in_a_call_is_alone_in_a_turn.ensures;
   call_trouble = c.a_turns_trouble_is_the_calls.ensures.trouble;
   call_boots = c.a_turns_trouble_is_the_calls.ensures.boots;
   call_well = c.a_turns_trouble_is_the_calls.ensures.well;
   set_since = c.a_port_that_was_stopped_was_set_since.ensures;
+  fatal_in_part = c.a_fatal_error_of_a_part_is_of_the_whole.ensures;
   calm_since = c.what_is_untroubled_since_st_was_set_is_calm.ensures;
 }

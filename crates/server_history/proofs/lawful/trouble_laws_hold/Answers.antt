@@ -9,7 +9,6 @@ returns c = record {
   fails_more = c.faults_compose.ensures.more;
   fatal_none = c.fatal_errors_compose.ensures.none;
   fatal_more = c.fatal_errors_compose.ensures.more;
-  fatal_parts = c.fatal_errors_compose.ensures.parts;
   plugs_none = c.plugging_composes.ensures.none;
   plugs_more = c.plugging_composes.ensures.more;
   plugs_parts = c.plugging_composes.ensures.parts;

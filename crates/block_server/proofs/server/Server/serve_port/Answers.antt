@@ -2,21 +2,12 @@ use Rattle.std.proofs.Common.{[], append-nil, sym, ap, ◌∙◌, subst, ◌≡�
 use Rattle.host_boot.specs.Taken.{found_of}
 use Rattle.block_server.specs.Seen.{seen}
 use Rattle.block_server.specs.View.{ServerView, server_of}
-use Rattle.port_look.specs.declared.Look.{Look}
-use Rattle.port_look.specs.declared.Look.TheVariants.{Broken, Failed, Lost}
-use Rattle.server_history.specs.Mended.{LeadsToMending}
 use Rattle.server_history.specs.Served.{IsMaskOf}
 use Rattle.server_history.specs.Turns.{ServesPort}
 use Rattle.server_history.specs.Server.{slots_at}
 use Rattle.block_server.proofs.Finishing as finishing
 use Rattle.block_server.proofs.Serving as serving
 use Rattle.block_server.proofs.server.Server.serve_port.Goals as goal
-
--- a lost disk comes first, and a failed command last
-leads : {look : Look} → (look ≡ Lost) ⊎ ((look ≡ Broken) ⊎ (look ≡ Failed)) → LeadsToMending look
-leads (inl lost) = inr (inr lost)
-leads (inr (inl broken)) = inr (inl broken)
-leads (inr (inr failed)) = inl failed
 
 pub invariant_of-self : goal.invariant_of-self
 invariant_of-self g c =
@@ -31,19 +22,23 @@ mend_port-requires-clause-sees g c =
     let device = g.A.Adapter.device in
     let s = server_of device (seen c.self.inside) in
     let ready = finishing.ready_before device (seen c.self.inside) c.args.self.now c.self.view_is c.self.invariant c.args.port c.requires.ready in
-    (device c.self.inside.adapter, record { kept = c.self.invariant.kept; ready = ready; looks = c.look_at-look.ensures.looks; followed = c.look_at-look.ensures.followed; mends = leads c.in-Lost.is }, c.self.invariant)
+    let found = serving.found_out c.look_at-look.result c.in-Some.trouble c.args.port s.device (device c.look_at-look.new.adapter) (sym c.trouble_of.ensures ∙ c.in-Some.is) c.look_at-look.ensures.looks in
+    (device c.self.inside.adapter, record { kept = c.self.invariant.kept; ready = ready; finds = found.0; followed = c.look_at-look.ensures.followed }, c.self.invariant)
 
-pub returns-in-Lost-clause-serves : goal.returns-in-Lost-clause-serves
-returns-in-Lost-clause-serves g c =
+pub returns-in-Some-clause-serves : goal.returns-in-Some-clause-serves
+returns-in-Some-clause-serves g c =
     let device = g.A.Adapter.device in
     let s = server_of device (seen c.self.inside) in
     let ready = finishing.ready_before device (seen c.self.inside) c.args.self.now c.self.view_is c.self.invariant c.args.port c.requires.ready in
-    let done = c.mend_port.ensures.serves (device c.self.inside.adapter) (record { kept = c.self.invariant.kept; ready = ready; looks = c.look_at-look.ensures.looks; followed = c.look_at-look.ensures.followed; mends = leads c.in-Lost.is }) c.self.invariant in
+    let found = serving.found_out c.look_at-look.result c.in-Some.trouble c.args.port s.device (device c.look_at-look.new.adapter) (sym c.trouble_of.ensures ∙ c.in-Some.is) c.look_at-look.ensures.looks in
+    let done = c.mend_port.ensures.mends (device c.self.inside.adapter) (record { kept = c.self.invariant.kept; ready = ready; finds = found.0; followed = c.look_at-look.ensures.followed }) c.self.invariant in
+    let r = done.2 in
+    let served = c.a_port_is_served.ensures.mended s (server_of device c.mend_port.new.self) c.args.port done.0 c.self.invariant ready r.mends (λ hung. found.1 (sym r.trouble_is ∙ hung)) r.followed in
     let P : ServerView g.row.A.Denot → Type 0 = λ v. ServesPort c.args.port done.0 (server_of device v) (server_of device c.mend_port.new.self) in
-    (done.0, done.1, subst P c.self.view_is done.2)
+    (done.0, done.1, subst P c.self.view_is served.0)
 
-pub returns-in-Lost-clause-ports : goal.returns-in-Lost-clause-ports
-returns-in-Lost-clause-ports g c = λ q other.
+pub returns-in-Some-clause-ports : goal.returns-in-Some-clause-ports
+returns-in-Some-clause-ports g c = λ q other.
     c.mend_port.ensures.ports q other ∙ ap (λ (v : ServerView g.row.A.Denot). found_of v.ports q) c.self.view_is
 
 pub invariant_of-self-then-used-eq0 : goal.invariant_of-self-then-used-eq0
@@ -61,10 +56,11 @@ returns-then-used-eq0-clause-serves g c =
     let ready = finishing.ready_before device (seen c.self.inside) c.args.self.now c.self.view_is c.self.invariant c.args.port c.requires.ready in
     let seen_kept = c.looks_keep.ensures.looking s (device c.look_at-look.new.adapter) c.args.port c.self.invariant.kept ready c.look_at-look.ensures.followed in
     let its = serving.its_mask s c.args.port c.self.invariant.kept ready c.from.result c.from.ensures c.index-self-from.result c.taken-used.result c.taken-used.ensures in
+    let calm = serving.undisturbed c.look_at-look.result c.trouble_of.result c.args.port s.device (device c.look_at-look.new.adapter) c.trouble_of.ensures c.in_default-trouble_of.not-Some c.look_at-look.ensures.looks in
     let P : ServerView g.row.A.Denot → Type 0 = λ v. ServesPort c.args.port [] (server_of device v) (record s { device = device c.look_at-look.new.adapter }) in (
       [],
       sym (append-nil c.args.replies.now.items),
-      subst P c.self.view_is (c.a_port_is_served.ensures.idle s (device c.look_at-look.new.adapter) c.args.port c.self.invariant ready c.in-Undisturbed.ensures.looks c.look_at-look.ensures.followed
+      subst P c.self.view_is (c.a_port_is_served.ensures.idle s (device c.look_at-look.new.adapter) c.args.port c.self.invariant ready calm c.look_at-look.ensures.followed
           (subst (IsMaskOf (slots_at s.slots c.args.port.0)) c.if-used-eq0.true its)),
     )
 
@@ -121,11 +117,12 @@ returns-then-finished-ne0-clause-serves g c =
     let its = serving.its_mask s c.args.port c.self.invariant.kept ready c.from.result c.from.ensures c.index-self-from.result c.taken-used.result c.taken-used.ensures in
     let new = server_of device c.finish.new.self in
     let done = c.finish.ensures.finishes in
+    let calm = serving.undisturbed c.look_at-look.result c.trouble_of.result c.args.port s.device (device c.look_at-look.new.adapter) c.trouble_of.ensures c.in_default-trouble_of.not-Some c.look_at-look.ensures.looks in
     let P : ServerView g.row.A.Denot → Type 0 = λ v. ServesPort c.args.port done.0 (server_of device v) new in (
       done.0,
       done.1,
       subst P c.self.view_is (c.a_port_is_served.ensures.finished s new (device c.look_at-look.new.adapter) (device c.done-finished.new.adapter) c.args.port c.taken-used.result c.done-finished.result done.0 c.self.invariant ready
-          c.in-Undisturbed.ensures.looks c.look_at-look.ensures.followed its (λ none. c.if-used-eq0.false (serving.zero_of_none c.taken-used.result c.taken-used.type_inv none)) c.done-finished.ensures.finds c.done-finished.ensures.seen
+          calm c.look_at-look.ensures.followed its (λ none. c.if-used-eq0.false (serving.zero_of_none c.taken-used.result c.taken-used.type_inv none)) c.done-finished.ensures.finds c.done-finished.ensures.seen
           (λ none. c.if-finished-ne0.true (serving.zero_of_none c.done-finished.result c.done-finished.type_inv none)) done.2),
     )
 
@@ -136,11 +133,12 @@ returns-else-finished-ne0-clause-serves g c =
     let ready = finishing.ready_before device (seen c.self.inside) c.args.self.now c.self.view_is c.self.invariant c.args.port c.requires.ready in
     let seen_kept = c.looks_keep.ensures.looking s (device c.look_at-look.new.adapter) c.args.port c.self.invariant.kept ready c.look_at-look.ensures.followed in
     let its = serving.its_mask s c.args.port c.self.invariant.kept ready c.from.result c.from.ensures c.index-self-from.result c.taken-used.result c.taken-used.ensures in
+    let calm = serving.undisturbed c.look_at-look.result c.trouble_of.result c.args.port s.device (device c.look_at-look.new.adapter) c.trouble_of.ensures c.in_default-trouble_of.not-Some c.look_at-look.ensures.looks in
     let P : ServerView g.row.A.Denot → Type 0 = λ v. ServesPort c.args.port [] (server_of device v) (record s { device = device c.done-finished.new.adapter }) in (
       [],
       sym (append-nil c.args.replies.now.items),
       subst P c.self.view_is (c.a_port_is_served.ensures.unfinished s (device c.look_at-look.new.adapter) (device c.done-finished.new.adapter) c.args.port c.taken-used.result c.self.invariant ready
-          c.in-Undisturbed.ensures.looks c.look_at-look.ensures.followed its (λ none. c.if-used-eq0.false (serving.zero_of_none c.taken-used.result c.taken-used.type_inv none)) c.done-finished.result c.done-finished.ensures.finds c.done-finished.ensures.seen
+          calm c.look_at-look.ensures.followed its (λ none. c.if-used-eq0.false (serving.zero_of_none c.taken-used.result c.taken-used.type_inv none)) c.done-finished.result c.done-finished.ensures.finds c.done-finished.ensures.seen
           (serving.none_of_zero c.done-finished.result c.if-finished-ne0.false)),
     )
 

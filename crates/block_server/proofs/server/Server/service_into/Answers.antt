@@ -3,9 +3,9 @@ use Rattle.ata_types.specs.declared.request.Reply.{Reply}
 use Rattle.block_server.specs.View.{ServerView, server_of}
 use Rattle.host_boot.specs.Taken.{found_of}
 use Rattle.host_boot.specs.declared.Found.{Found}
-use Rattle.server_history.specs.Turns.{ServePorts}
+use Rattle.server_history.specs.Turns.{ServePorts, ServesPort}
 use Rattle.server_history.specs.Server.{IsSettled}
-use Rattle.block_server.proofs.Turns.{all_served, one_served}
+use Rattle.block_server.proofs.Turns.{all_turns, one_turn}
 use Rattle.block_server.proofs.server.Server.service_into.Goals as goal
 
 pub loop-number-preserved : goal.loop-number-preserved
@@ -22,7 +22,7 @@ loop-number-preserved g c =
           let W : List Reply → Type 0 = λ told. ServePorts 0 c.args.self.now.ports told (server_of device c.args.self.now) new in
           subst W (sym (ap (λ (told : List Reply). told ++ later) served.1 ∙ append_assoc c.loop-number.replies.items served.0 later))
           (so_far.rest (served.0 ++ later) new
-          (one_served ports c.loop-number.number c.in-Ready.field-0 s mid new served.0 later (omega (arith, four, c.loop-number-test.true)) c.in-Ready.is c.serve_port.ensures.settled served.2 more));
+          (one_turn ServesPort ports c.loop-number.number (omega (arith, four, c.loop-number-test.true)) c.in-Ready.field-0 s mid new served.0 later c.in-Ready.is c.serve_port.ensures.settled served.2 more));
       ports = λ q more. c.serve_port.ensures.ports q (λ same. omega (arith, more, same)) ∙ so_far.ports q (omega (arith, more));
       room = c.serve_port.ensures.room;
     }
@@ -33,7 +33,7 @@ returns-clause-services g c =
     let so_far = c.loop-number.invariant in
     let ports = c.self.inside.ports in
     let four : length ports ≡ 4 = search rules in
-    all_served ports c.args.self.now.ports c.loop-number.number c.loop-number.replies.items (server_of device c.args.self.now) (server_of device c.loop-number.self)
+    all_turns ServesPort ports c.args.self.now.ports c.loop-number.number c.loop-number.replies.items (server_of device c.args.self.now) (server_of device c.loop-number.self)
     (omega (arith, four, c.loop-number-test.false)) so_far.rest
 
 pub returns-clause-adds : goal.returns-clause-adds
