@@ -139,7 +139,7 @@ stopped_its port (next.Running token) = All-cons (λ q. q ≡ port) port [] refl
 stopped_its port (next.Restart token) = All-cons (λ q. q ≡ port) port [] refl (All-nil (λ q. q ≡ port))
 stopped_its port next.Dead = All-nil (λ q. q ≡ port)
 
-interrupted : (wanted : Wanted) (port : Port) (then : Next) (old new : Device) (found : Found) → IsFoundAnew wanted port then old new found → IsInterrupted (evidence_tried (stopped_of port then) (stuck_if port found)) port
+pub interrupted : (wanted : Wanted) (port : Port) (then : Next) (old new : Device) (found : Found) → IsFoundAnew wanted port then old new found → IsInterrupted (evidence_tried (stopped_of port then) (stuck_if port found)) port
 interrupted wanted port (next.Running token) old new found none = absurd none
 interrupted wanted port (next.Restart token) old new found is = inl (first_here port [])
 interrupted wanted port next.Dead old new found is = inr (stuck_all port found is.0)

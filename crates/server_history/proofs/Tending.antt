@@ -1,10 +1,12 @@
 -- A service in which no disk of a port comes tries what is there, where the port isn't ready: by how it was looked at, and booted.
-use Rattle.std.proofs.Common.{ℕ, ◌≡◌, ◌≢◌, ◌++◌, List, [], ◌∷◌, refl, ◌∙◌, subst, inl, inr, ⊎_elim, ◌⊎◌}
-use Rattle.std.proofs.lemmas.Bool.{cases_eq}
+use Rattle.std.proofs.Common.{true, false, sym, ℕ, ◌≡◌, ◌≢◌, ◌++◌, List, [], ◌∷◌, refl, ◌∙◌, subst, inl, inr, ⊎_elim, ◌⊎◌}
+use Rattle.std.specs.List.{All}
+use Rattle.std.proofs.lemmas.List.Elements.{All-head, All-tail}
+use Rattle.std.proofs.lemmas.Bool.{cases_Bool, cases_eq, false≢true}
 use Rattle.ata_types.specs.declared.Port.{Port}
 use Rattle.ata_types.specs.declared.PortState.{PortState as Shown}
 use Rattle.ata_types.specs.declared.PortState.TheVariants.{Absent, Dead, Foreign, Ready as ReadyState, Unfit}
-use Rattle.hba_regs.specs.declared.reg.PortReg.TheVariants.{Sctl, Ssts}
+use Rattle.hba_regs.specs.declared.reg.PortReg.TheVariants.{Is, Sctl, Serr, Ssts}
 use Rattle.hba_regs.specs.declared.reg.Reg.TheVariants.{Px}
 use Rattle.adapter.specs.Access.{Access, DoesAll, Reads}
 use Rattle.adapter.specs.Access.Access.{Reading, Writing}
@@ -12,18 +14,24 @@ use Rattle.adapter.specs.Device.{Device, PortState}
 use Rattle.adapter.specs.Rules.{IsOn}
 use Rattle.agreement.specs.Driven.{Grows}
 use Rattle.agreement.specs.Errors.{NoneComes}
-use Rattle.agreement.specs.Links.{IsPlugging}
+use Rattle.agreement.specs.Links.{IsPlugging, PlugsNone}
 use Rattle.agreement.specs.Vacant.{IsFreshIfShown, IsVacant}
-use Rattle.driver_history.specs.Evidence.{Gains}
+use Rattle.driver_history.specs.Evidence.{Gains, ShowsChange}
 use Rattle.driver_history.specs.Histories.{IsFreshOrGone}
 use Rattle.driver_history.specs.Trace.{ResetsLink}
 use Rattle.host_boot.specs.Again.{BootsStopped, EndsUnready}
 use Rattle.host_boot.specs.declared.Found.{Found}
 use Rattle.host_boot.specs.declared.Found.TheVariants.{Ready, Unready, Unserved}
+use Rattle.identify.specs.Wanted.{serial_of}
+use Rattle.identify.specs.declared.DiskInfo.{DiskInfo}
 use Rattle.identify.specs.declared.wanted.Wanted.{Wanted}
 use Rattle.port_control.specs.Ports.{HasClearErrors}
-use Rattle.port_boot.specs.States.{EndsEarly, TellsFault}
+use Rattle.port_boot.specs.States.{EndsAs, EndsEarly, TellsFault}
 use Rattle.block_machine.specs.Events.{ShowsDisk}
+use Rattle.port_look.specs.Looks.{IsLooking}
+use Rattle.server_history.proofs.Heeding.{gains_none}
+use Rattle.server_history.proofs.Looking.{looking_spares}
+use Rattle.server_history.proofs.Showing.{on_one}
 use Rattle.server_history.specs.Below.{LawsBelow}
 use Rattle.server_history.specs.Server.{state_of}
 use Rattle.server_history.proofs.Faulted.{is_plugging, one_or_none}
@@ -69,6 +77,41 @@ module _ (laws : LawsBelow) (port : Port) where
       (laws.trouble.link_left port (Reading (Px port Ssts) v) old new on.no_reset tt reads (record { gained = grows.0; tape = grows.1; none = none })))))
       (one_or_none (IsPlugging port.0) (is_plugging port.0) grows.0)
 
+-- ---- a look
+
+-- what isn't shown in PxSERR hasn't come, and X is shown still
+record KeepsChange (port : ℕ) (old new : Device) : Type 0 where
+  disk : (new.port port).serr_n ≡ false → ((old.port port).serr_n ≡ false) × PlugsNone port old new
+  came : (old.port port).serr_x ≡ true → (new.port port).serr_x ≡ true
+
+module _ (laws : LawsBelow) (port : Port) where
+  change_over : (accesses : List Access) (old new : Device) → IsOn old → All (IsLooking port) accesses → DoesAll accesses old new → KeepsChange port.0 old new
+  change_over [] old new on all is = subst (KeepsChange port.0 old) (sym is) (record { disk = λ clear. (clear, laws.trouble.plugs_none port.0 old); came = λ came. came })
+  change_over (access ∷ accesses) old new on all (mid, does, rest) =
+      let its = All-head (IsLooking port) access accesses all in
+      let spares = looking_spares port port Serr (λ e. let z : Is ≡ Serr = e in cc) access its in
+      let later = change_over accesses mid new (on_one laws port access old mid on (laws.of_host port access (laws.looking.looking_of port access its)) does) (All-tail (IsLooking port) access accesses all) rest in
+      record {
+        disk = λ clear.
+            let l = later.disk clear in
+            let e = laws.trouble.shows_disk port access old mid on.no_reset spares does l.0 in (e.0, laws.trouble.plugs_more port.0 old mid new e.1 l.1);
+        came = λ came. later.came ((laws.looks.access_news port access old mid on.no_reset spares does).1 came);
+      }
+
+  -- what the link told before, and what came, is shown still
+  pub change_shown : (accesses : List Access) (old new : Device) → IsOn old → All (IsLooking port) accesses → DoesAll accesses old new → ShowsChange (old.port port.0) ⊎ Gains (IsPlugging port.0) old new → ShowsChange (new.port port.0)
+  change_shown accesses old new on all does trouble = ⊎_elim
+      (λ (is : (new.port port.0).serr_n ≡ true). inl is)
+      (λ (clear : (new.port port.0).serr_n ≡ false).
+      let none = keeps.disk clear in ⊎_elim
+      (λ change. ⊎_elim (λ went. absurd (false≢true (sym none.0 ∙ went))) (λ came. inr (keeps.came came)) change)
+      (λ gains. absurd (gains_none (IsPlugging port.0) old new none.1.gained none.1.tape none.1.none gains))
+      trouble)
+      (cases_Bool ((new.port port.0).serr_n))
+    where
+      keeps : KeepsChange port.0 old new
+      keeps = change_over accesses old new on all does
+
 -- ---- a boot
 
 -- what a boot finds shows a disk, or no device, or a dead port
@@ -82,6 +125,12 @@ shows_or_not (Unready (Unfit n)) = inl tt
 shows_or_not (Unready Dead) = inr (inr refl)
 
 module _ (wanted : Wanted) (port : Port) (old new : Device) where
+  -- where the port is ready then, it found a disk that fits
+  pub boot_ready : (found : Found) → BootsStopped wanted port found old new → state_of found ≡ ReadyState → (info : DiskInfo) × (found ≡ Ready info)
+  boot_ready Unserved none is = absurd none
+  boot_ready (Ready info) e is = (info, refl)
+  boot_ready (Unready state) e is = absurd (subst (λ (its : Shown). EndsAs (serial_of wanted) its port.0 new) is e.ended)
+
   early_clear : (state : Shown) → state ≢ Absent → EndsEarly port state old new → HasClearErrors port.0 old new
   early_clear state other e = (e.found (λ none. other (subst (TellsFault state) none e.told))).clear
 

@@ -9,10 +9,7 @@ use Rattle.ata_types.specs.declared.PortState.{PortState}
 use Rattle.ata_types.specs.declared.PortState.TheVariants.{Absent, Dead as DeadState, Foreign, Ready as ReadyState, Unfit}
 use Rattle.ata_types.specs.declared.request.RequestId.{RequestId}
 use Rattle.hba_regs.specs.declared.reg.PortReg.TheVariants.{Cmd, Is, Sctl}
-use Rattle.hba_regs.specs.declared.reg.Reg.TheVariants as registers
-use Rattle.hba_regs.specs.declared.reg.Reg.TheVariants.{Px}
 use Rattle.adapter.specs.Access.{Access}
-use Rattle.adapter.specs.Access.Access.{Loading, Reading, Storing, Writing}
 use Rattle.adapter.specs.Device.{Device}
 use Rattle.adapter.specs.declared.command.Operation.TheVariants.{Identify, ReadLog}
 use Rattle.agreement.specs.Agrees.{port_at}
@@ -36,19 +33,17 @@ use Rattle.host_boot.specs.declared.Found.TheVariants.{Unready, Unserved}
 use Rattle.port_look.specs.Looks.{IsLooking}
 use Rattle.request_queue.specs.Entries.{asks_of}
 use Rattle.server_history.specs.Below.{LawsBelow}
-use Rattle.server_history.specs.Server.{AreKept, IsKept, IsMachineOf, IsPortOf, IsSettled, Server, is_served, mode_at, mode_in, plain_mode, ports_of, state_of, usable_of, use_of}
+use Rattle.server_history.specs.Server.{AreKept, IsKept, IsMachineOf, IsPortOf, IsSettled, Server, is_served, mode_at, mode_in, plain_mode, state_of, usable_of, use_of}
 use Rattle.server_history.specs.Tried.{BootsOnce, IsFoundAnew, IsLookedAt, TriesPort}
-use Rattle.agreement.specs.Errors.{NoneComes}
-use Rattle.driver_history.specs.Histories.{TriesDisk}
-use Rattle.server_history.proofs.Tended.{boot_tries, rests_tries}
-use Rattle.server_history.specs.Turns.{HasPart, InTry, TriesOther, instant_of, moment_of}
+use Rattle.server_history.proofs.Tended.{boot_does, rests_does}
+use Rattle.server_history.specs.Turns.{HasPart, InTry, TriesOther, moment_of}
 use Rattle.server_history.specs.declared.Trouble.TheVariants.{Hung}
 use Rattle.server_history.proofs.Anew.{accesses, after_it, book_left, does, found_then, its_stand, listed, looking_part, low, never_ready, no_disk, only, others, silent, stuck_if, tells, then_is, unready, until, until_of, whole}
 use Rattle.server_history.proofs.Glanced.{looked_stands}
 use Rattle.server_history.proofs.Going.{book_on, still_kept}
 use Rattle.server_history.proofs.Leading.{IsPassed, devices_both, passed, uses_then}
 use Rattle.server_history.proofs.Lists.{nowhere}
-use Rattle.server_history.proofs.Looking.{looked_kept, looking_silent}
+use Rattle.server_history.proofs.Looking.{looked_kept, looking_silent, looking_spares}
 use Rattle.server_history.proofs.Meeting.{nobody}
 use Rattle.server_history.proofs.Halting.{followed_halts}
 use Rattle.server_history.proofs.Mending.{none_due_unready, unlooked}
@@ -61,12 +56,6 @@ use Rattle.server_history.proofs.Running.{shown_on}
 use Rattle.server_history.proofs.Serving.{followed_steps, looks_serve}
 use Rattle.server_history.proofs.Sighted.{booted_had}
 use Rattle.server_history.proofs.Trying.{AddsTried, TellsTried, makes_try}
-
--- What the turn is: a part of a service, after which the server goes on. Where no disk of the port came, what is there was tried.
-pub record TakesTry (port : Port) (old new : Server) : Type 0 where
-  pub part : HasPart InTry port [] old new
-  pub settled : IsSettled new
-  pub tries : (m : Machine) → NoneComes port.0 old.device new.device → TriesDisk part.accesses (instant_of old m) (ports_of new) new.device port
 
 -- ---- it was booted
 
@@ -215,23 +204,18 @@ module _ (laws : LawsBelow) (s new : Server) (seen : Device) (port : Port) (stat
         own = All-weaker (IsPart port) IsDriversOwn (λ access x. x.0) _ its;
         others = others laws s new seen port state k is lives looks b;
         silent = silent laws s new seen port state k is lives looks b;
-        makes = λ m reached stood. makes_try laws port s k (unready laws s new seen port state k is lives looks b) then settled_then (stopped_of port b.result.next) (stuck_if port b.found) _ (tells laws s new seen port state k is lives looks b) m stood
+        makes = λ m reached stood. makes_try laws port s k (unready laws s new seen port state k is lives looks b) then settled_then (stopped_of port b.result.next) (stuck_if port b.found) _ (tells laws s new seen port state k is lives looks b) (boot_does laws s new seen port state k is lives looks b) m stood
             (adds m reached stood);
       }
 
-  pub booted_turn : TakesTry port s new
-  unfolding part_then
-  booted_turn = subst (TakesTry port s) (sym b.server) (record { part = part_then; settled = settled_then; tries = λ m comes. boot_tries laws s new seen port state k is lives looks b comes m })
+  pub booted_turn : HasPart InTry port [] s new × IsSettled new
+  booted_turn = subst (λ (x : Server). HasPart InTry port [] s x × IsSettled x) (sym b.server) (part_then, settled_then)
 
 -- ---- it was looked at, and that is all
 
 -- a look leaves the engine of each port
 leaving : (port q : Port) (access : Access) → IsLooking port access → LeavesEngine q access
-leaving port q (Reading r v) is = (tt, tt)
-leaving port q (Writing r v) (inl e) = (λ x. (let z : Px port Is ≡ Px q Cmd = sym e ∙ x in absurd cc), λ x. (let z : Px port Is ≡ Px q Sctl = sym e ∙ x in absurd cc))
-leaving port q (Writing r v) (inr e) = (λ x. (let z : registers.Is ≡ Px q Cmd = sym e.0 ∙ x in absurd cc), λ x. (let z : registers.Is ≡ Px q Sctl = sym e.0 ∙ x in absurd cc))
-leaving port q (Loading place bytes) is = absurd is
-leaving port q (Storing place bytes) is = absurd is
+leaving port q access its = (looking_spares port q Cmd (λ e. let z : Is ≡ Cmd = e in cc) access its, looking_spares port q Sctl (λ e. let z : Is ≡ Sctl = e in cc) access its)
 
 module _ (laws : LawsBelow) (s : Server) (seen : Device) (port : Port) (state : PortState) (t : IsSettled s) (is : found_of s.ports port.0 ≡ Unready state) (looks : IsFollowed (IsLooking port) AnyUse s.device seen) where
   abbrev rest : Server
@@ -287,7 +271,7 @@ module _ (laws : LawsBelow) (s : Server) (seen : Device) (port : Port) (state : 
         (λ (other : q ≢ port.0). other_port q small other)
         (cases_eq q port.0))
 
-  module _ (kept : IsKept rest) where
+  module _ (result : Bool) (l : IsLookedAt state port result s.device seen) (none : result ≡ false) (kept : IsKept rest) where
     rests_settled : IsSettled rest
     rests_settled = record { kept = kept; issued = t.issued }
 
@@ -302,7 +286,7 @@ module _ (laws : LawsBelow) (s : Server) (seen : Device) (port : Port) (state : 
         silent = λ q other alive. looking_silent s seen port t.kept looks q ReadLog refl (λ dead. alive (ap state_of dead));
         makes = λ m reached stood.
             let x = followed_steps laws s seen (looks_serve laws port s.device seen looks) m reached stood in
-            makes_try laws port s t.kept never rest rests_settled [] [] looks.driven.accesses rests_told m stood
+            makes_try laws port s t.kept never rest rests_settled [] [] looks.driven.accesses rests_told (rests_does s port state t.kept is laws seen result l none looks.driven.accesses looks.driven.only looks.driven.all) m stood
             (record { steps = x.0; only = x.4; may = x.1; stands = x.2; backed = x.3; disk = inl (refl, refl, refl, refl, refl, refl) });
       },
       rests_settled,
@@ -319,8 +303,7 @@ dead_or_not DeadState = inl refl
 
 -- A dead port isn't looked at. Another one is, and booted where what it was looked at for was found.
 pub turns : LawsBelow → (s new : Server) (port : Port) → IsSettled s → (tries : TriesPort port s new) → (tries.state ≢ DeadState → IsFollowed (IsLooking port) AnyUse s.device tries.seen)
-    → TakesTry port s new
-unfolding rests
+    → HasPart InTry port [] s new × IsSettled new
 turns laws s new port t tries looks = ⊎_elim
     (λ (dead : tries.state ≡ DeadState).
     let l = subst (λ (state : PortState). IsLookedAt state port tries.result s.device tries.seen) dead tries.looks in
@@ -331,12 +314,8 @@ turns laws s new port t tries looks = ⊎_elim
     (cases_Bool tries.result))
     (dead_or_not tries.state)
   where
-    whole_rest : tries.result ≡ false → IsFollowed (IsLooking port) AnyUse s.device tries.seen → IsKept (record s { device = tries.seen }) → TakesTry port s new
-    whole_rest none its kept = subst (TakesTry port s) (sym (tries.left none)) (record {
-      part = (rests laws s tries.seen port tries.state t tries.is its kept).0;
-      settled = (rests laws s tries.seen port tries.state t tries.is its kept).1;
-      tries = λ m comes. rests_tries s port tries.state t.kept tries.is laws tries.seen tries.result tries.looks none comes its.driven.accesses m;
-    })
+    whole_rest : tries.result ≡ false → IsFollowed (IsLooking port) AnyUse s.device tries.seen → IsKept (record s { device = tries.seen }) → HasPart InTry port [] s new × IsSettled new
+    whole_rest none its kept = subst (λ (n : Server). HasPart InTry port [] s n × IsSettled n) (sym (tries.left none)) (rests laws s tries.seen port tries.state t tries.is its tries.result tries.looks none kept)
 
 pub tried : LawsBelow → (s new : Server) (port : Port) → IsSettled s → (tries : TriesPort port s new) → (tries.state ≢ DeadState → IsFollowed (IsLooking port) AnyUse s.device tries.seen) → TriesOther port s new × IsSettled new
-tried laws s new port t tries looks = let x = turns laws s new port t tries looks in (record { does = tries; part = x.part }, x.settled)
+tried laws s new port t tries looks = let x = turns laws s new port t tries looks in (record { does = tries; part = x.0 }, x.1)
