@@ -36,12 +36,11 @@ use Rattle.server_history.specs.Served.{IssuesIn}
 use Rattle.server_history.specs.Server.{Server, IsKept, mode_in, ports_of, state_of}
 use Rattle.server_history.specs.Turns.{instant_of}
 use Rattle.server_history.proofs.Becoming.{interrupted, next_dead, ready_info, state_new}
-use Rattle.server_history.proofs.Shown.{grown}
 use Rattle.server_history.proofs.Recovering.{IsEarlyPart, IsPart, start_part}
 use Rattle.server_history.proofs.Recovery.{evidence_by}
 use Rattle.server_history.proofs.Resetting.{up_driven}
 use Rattle.server_history.proofs.Rounds.{each_driven}
-use Rattle.server_history.proofs.Showing.{LeavesTrouble, shown_more, shown_since, shows_over}
+use Rattle.server_history.proofs.Showing.{LeavesTrouble, grows_over, shown_more, shown_since, shows_over}
 use Rattle.server_history.proofs.Stretching.{TurnParts}
 use Rattle.server_history.proofs.Starting.{boots_or_absent}
 use Rattle.server_history.proofs.Slots.{ready_found}
@@ -154,7 +153,7 @@ module _ (laws : LawsBelow) (port : Port) (replies : List Reply) (old new : Serv
     then_issuing = subst (λ (d : Device). IsDrivenBy (LeavesTrouble port) d new.device) again_is.1 issuing
 
     runs_shows : ShowsTrouble port.0 old.device new.device
-    runs_shows = shown_more port.0 old.device a.mid.device a.device new.device again.shows (grown laws x.mends.accesses a.mid.device a.device t.does) again.since
+    runs_shows = shown_more port.0 old.device a.mid.device a.device new.device again.shows (grows_over laws x.mends.accesses a.mid.device a.device t.does) again.since
         (shows_over laws port then_issuing.accesses a.device new.device recovered_on then_issuing.only then_issuing.all)
 
   -- one that was booted

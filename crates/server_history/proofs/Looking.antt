@@ -1,4 +1,4 @@
--- A server goes on while a ready port is looked at, and while its transfer is looked for.
+-- A server goes on while a port is looked at, and while the transfer of a ready one is looked for.
 use Rattle.std.proofs.Common.{ℕ, ◌≡◌, ◌≢◌, ◌<◌, true, false, None, inl, inr, refl, sym, ap, ◌∙◌, subst, List}
 use Rattle.std.proofs.lemmas.Bool.{and_parts}
 use Rattle.ata_types.specs.declared.Port.{Port}
@@ -55,7 +55,6 @@ looking_spares port q r other (Writing reg v) (inr e) = λ is. let x : _ ≡ Px 
 looking_spares port q r other (Reading reg v) here = tt
 looking_spares port q r other (Loading at bytes) here = tt
 looking_spares port q r other (Storing at bytes) here = tt
-
 
 module _ (s : Server) (new : Device) (port : Port) (k : IsKept s) where
   -- in followed accesses that write neither PxCI nor PxSACT, no data comes for a command of the driver's own but on dead ports

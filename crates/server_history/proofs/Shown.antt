@@ -14,24 +14,21 @@ use Rattle.adapter.specs.Device.{Device, PortState}
 use Rattle.adapter.specs.Rules.{IsOn}
 use Rattle.adapter.specs.declared.tape.Entry.{Entry}
 use Rattle.adapter.specs.declared.tape.Entry.TheVariants as entry
-use Rattle.agreement.specs.Driven.{AnyAccess, Grows}
+use Rattle.agreement.specs.Driven.{Grows}
 use Rattle.agreement.specs.Driver.{IsBacked}
 use Rattle.agreement.specs.Errors.{IsComing, NoneComes}
 use Rattle.agreement.specs.Links.{IsPlugging, PlugsNone, SparesRegister}
-use Rattle.agreement.proofs.Driven.{along, written_ghc}
+use Rattle.agreement.proofs.Driven.{written_ghc}
 use Rattle.block_machine.specs.Events.{changes_disk}
 use Rattle.block_machine.specs.State.{Machine}
 use Rattle.block_machine.specs.Steps.{Step}
 use Rattle.port_look.specs.Looks.{LooksAt}
 use Rattle.port_look.specs.declared.Look.{Look}
 use Rattle.server_history.specs.Below.{LawsBelow}
+use Rattle.server_history.proofs.Showing.{grows_over}
 use Rattle.server_history.specs.Server.{Server, IsMachineOf}
 use Rattle.server_history.proofs.Faulted.{one_or_none, shows_link}
 use Rattle.port_look.specs.declared.Look.TheVariants.{Lost}
-
--- the tape only grows
-pub grown : LawsBelow → (accesses : List Access) (one two : Device) → DoesAll accesses one two → Grows one two
-grown laws accesses one two does = along Grows laws.looks.grows_none laws.looks.grows_more AnyAccess (λ access d e may is. laws.looks.access_grows access d e is) accesses one two (λ i d small. tt) does
 
 -- ---- disks that come
 
@@ -101,7 +98,7 @@ module _ (laws : LawsBelow) (port : Port) where
 
   -- where a disk is in at a moment, one was in before, or the tape tells that one came
   was_in : (accesses : List Access) (old seen : Device) → DoesAll accesses old seen → (seen.port port.0).present ≡ true → ((old.port port.0).present ≡ true) ⊎ ((gained : List Entry) × (seen.tape ≡ old.tape ++ gained) × ((e : Entry) × Contains gained e × IsComing port.0 e))
-  was_in accesses old seen does own = let grows = grown laws accesses old seen does in ⊎_elim
+  was_in accesses old seen does own = let grows = grows_over laws accesses old seen does in ⊎_elim
       (λ (is : (old.port port.0).present ≡ true). inl is)
       (λ (out : (old.port port.0).present ≡ false). inr (
         grows.0,

@@ -1,9 +1,9 @@
 -- A boot that finds a disk has seen a device on its way: PxSSTS was read, and its DET was 3 (AHCI 1.3.1, 3.3.10).
+use Rattle.std.proofs.Common.{◌⊎◌, true, ◌≡◌, ◌≢◌, ◌∷◌, ◌++◌, [], inl, inr, refl, sym, ap, ◌∙◌, ⊎_elim, arith}
+use Rattle.std.proofs.lemmas.Bool.{cases_eq}
+use Rattle.std.proofs.lemmas.List.Elements.{All-append, All-weaker}
 use Rattle.std.specs.List.{All, list_any}
 use Rattle.std.specs.Prelude.{List}
-use Rattle.std.proofs.Common.{◌⊎◌, true, ◌≡◌, ◌≢◌, ◌∷◌, ◌++◌, [], inl, inr, refl, sym, ap, ◌∙◌, ⊎_elim, arith}
-use Rattle.std.proofs.lemmas.List.Elements.{All-append, All-weaker}
-use Rattle.std.proofs.lemmas.Bool.{cases_eq}
 use Rattle.ata_types.specs.declared.Port.{Port}
 use Rattle.ata_types.specs.declared.PortState.{PortState as Shown}
 use Rattle.ata_types.specs.declared.PortState.TheVariants.{Absent, Dead, Foreign, Ready as ReadyState, Unfit}
@@ -29,8 +29,9 @@ use Rattle.port_control.specs.declared.PortFault.{PortFault}
 use Rattle.port_control.specs.declared.PortFault.TheVariants.{NoDevice, Busy, EngineStuck, NotAta}
 use Rattle.server_history.specs.Below.{LawsBelow}
 use Rattle.server_history.specs.Server.{IsMachineOf, Server, state_of}
-use Rattle.server_history.proofs.Shown.{grown, had_disk}
 use Rattle.server_history.proofs.Resetting.{IsBeside, cleared_then, late_then, linked_then, placing_boots, ready_then, resetting, started_then, until, without}
+use Rattle.server_history.proofs.Showing.{grows_over}
+use Rattle.server_history.proofs.Shown.{had_disk}
 
 -- At this moment of the way a device shows; and a disk is in then, since COMRESET has the port show no device until its link comes up.
 pub record SeesDevice (port : Port) (old new : Device) : Type 0 where
@@ -122,8 +123,8 @@ booted_sees laws port wanted booted accesses old d new on does of b shows = reco
   does = laws.basic.does_append until sees.early.accesses old b.asked sees.seen asked sees.early.all;
   shows = sees.shows;
   own = sees.own;
-  before = grown laws until old b.asked asked;
-  since = laws.looks.grows_more b.asked sees.seen new (grown laws sees.early.accesses b.asked sees.seen sees.early.all) late;
+  before = grows_over laws until old b.asked asked;
+  since = laws.looks.grows_more b.asked sees.seen new (grows_over laws sees.early.accesses b.asked sees.seen sees.early.all) late;
   later = late;
 }
   where
@@ -142,7 +143,7 @@ booted_sees laws port wanted booted accesses old d new on does of b shows = reco
         b.boots shows
 
     late : Grows sees.seen new
-    late = grown laws sees.late.accesses sees.seen new sees.late.all
+    late = grows_over laws sees.late.accesses sees.seen new sees.late.all
 
 -- The machine had a disk in the port then, or one went or came, where the device went on after the boot.
 pub booted_had : (laws : LawsBelow) (port : Port) (s : Server) (wanted : Wanted) (booted : Booted) (accesses : List Access) (d new end : Device) → IsOn s.device → DoesAll accesses s.device d → All (IsOf port) accesses

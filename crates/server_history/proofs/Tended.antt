@@ -1,24 +1,29 @@
--- The turn of a port that isn't ready, in a service in which no disk of it comes: what is there was tried.
+-- What the turn of a port that isn't ready has done of it: where no disk of it came, what is there was tried; it was booted anew, unless it is what it was; and no trouble of it is lost.
 use Rattle.std.proofs.Common.{◌<◌, ◌≡◌, ◌≢◌, ◌++◌, ◌%◌, ◌==◌, Bool, true, false, List, [], ◌∷◌, refl, sym, ap, ◌∙◌, subst, inl, inr, eqb-true, ⊎_elim, ◌⊎◌}
 use Rattle.std.proofs.lemmas.Bool.{false≢true}
+use Rattle.std.proofs.lemmas.List.Elements.{All-nil}
+use Rattle.std.specs.List.{All}
 use Rattle.ata_types.specs.declared.Port.{Port}
 use Rattle.ata_types.specs.declared.PortState.{PortState}
 use Rattle.ata_types.specs.declared.PortState.TheVariants.{Absent, Dead as DeadState, Ready as ReadyState}
 use Rattle.hba_regs.specs.Bits.{bit}
 use Rattle.hba_regs.specs.declared.reg.PortReg.TheVariants.{Is, Ssts}
 use Rattle.hba_regs.specs.declared.reg.Reg.TheVariants.{Px}
-use Rattle.adapter.specs.Access.{Access}
+use Rattle.adapter.specs.Access.{Access, DoesAll}
 use Rattle.adapter.specs.Access.Access.{Reading}
 use Rattle.adapter.specs.Device.{Device}
-use Rattle.agreement.specs.Driven.{AnyUse, IsFollowed}
-use Rattle.agreement.specs.Errors.{NoneComes}
+use Rattle.adapter.specs.Rules.{IsOn}
+use Rattle.agreement.specs.Driven.{AnyUse, IsFollowed, IsDrivenBy}
+use Rattle.agreement.specs.Errors.{NoneComes, IsFatalOf}
+use Rattle.agreement.specs.Facts.{IsFaultOf, RunsWell}
+use Rattle.agreement.specs.Links.{PlugsNone}
 use Rattle.agreement.specs.Vacant.{IsVacant}
 use Rattle.block_machine.specs.Events.{ShowsDisk}
+use Rattle.block_machine.specs.Ports.{Evidence, IsInterrupted}
 use Rattle.block_machine.specs.State.{Machine}
 use Rattle.driver_history.specs.Histories.{HasBadDisk, IsFreshOrGone, TriesDisk}
-use Rattle.port_control.specs.Ports.{HasClearErrors}
-use Rattle.server_history.proofs.Shown.{grown}
 use Rattle.driver_history.specs.Trace.{ResetsLink}
+use Rattle.error_recovery.specs.Evidence.{GainsRunning, ShowsTrouble}
 use Rattle.error_recovery.specs.declared.Next.{Next}
 use Rattle.error_recovery.specs.declared.Next.TheVariants as next
 use Rattle.host_boot.specs.Again.{BootsAgain}
@@ -26,6 +31,8 @@ use Rattle.host_boot.specs.Taken.{FoundBadDisk, found_of, wanted_of}
 use Rattle.host_boot.specs.declared.Booted.{Booted}
 use Rattle.host_boot.specs.declared.Found.{Found}
 use Rattle.host_boot.specs.declared.Found.TheVariants.{Ready, Unready}
+use Rattle.identify.specs.declared.DiskInfo.{DiskInfo}
+use Rattle.port_control.specs.Ports.{HasClearErrors}
 use Rattle.port_control.specs.declared.Stopped.{Stopped}
 use Rattle.port_look.specs.Glances.{FindsChange, FindsDevice}
 use Rattle.port_look.specs.Looks.{IsLooking}
@@ -34,27 +41,16 @@ use Rattle.server_history.specs.Server.{IsKept, Server, is_served, ports_of, sta
 use Rattle.server_history.specs.Tried.{BootsOnce, IsFoundAnew, IsLookedAt}
 use Rattle.server_history.specs.Turns.{instant_of}
 use Rattle.server_history.specs.declared.Trouble.TheVariants.{Hung, Lost}
-use Rattle.std.specs.List.{All}
-use Rattle.std.proofs.lemmas.List.Elements.{All-nil}
-use Rattle.adapter.specs.Access.{DoesAll}
-use Rattle.adapter.specs.Rules.{IsOn}
-use Rattle.agreement.specs.Driven.{IsDrivenBy}
-use Rattle.agreement.specs.Errors.{IsFatalOf}
-use Rattle.agreement.specs.Facts.{IsFaultOf, RunsWell}
-use Rattle.agreement.specs.Links.{PlugsNone}
-use Rattle.block_machine.specs.Ports.{Evidence, IsInterrupted}
-use Rattle.error_recovery.specs.Evidence.{GainsRunning, ShowsTrouble}
-use Rattle.identify.specs.declared.DiskInfo.{DiskInfo}
-use Rattle.server_history.proofs.Lasting.{boot_shows}
-use Rattle.server_history.proofs.Recovery.{stopped_of}
-use Rattle.server_history.proofs.Showing.{LeavesTrouble}
-use Rattle.server_history.proofs.Trying.{DoesTried, evidence_tried}
-use Rattle.server_history.proofs.Welling.{booted_well}
 use Rattle.server_history.proofs.Anew.{interrupted, never_ready, stuck_if, whole, accesses, afterwards, does, found_then, then_is, until, until_of}
 use Rattle.server_history.proofs.Glanced.{unchanged, unequal}
+use Rattle.server_history.proofs.Lasting.{boot_shows}
+use Rattle.server_history.proofs.Recovery.{stopped_of}
 use Rattle.server_history.proofs.Resetting.{resets_since}
+use Rattle.server_history.proofs.Showing.{LeavesTrouble, grows_over}
 use Rattle.server_history.proofs.Sighted.{SeesOver, booted_sees}
 use Rattle.server_history.proofs.Tending.{boot_clear, boot_ready, change_shown, has_gone, none_parts, reset_fresh_or_gone, shows_or_not, stays_vacant}
+use Rattle.server_history.proofs.Trying.{DoesTried, evidence_tried}
+use Rattle.server_history.proofs.Welling.{booted_well}
 
 -- ---- a port in which a disk was found that isn't served
 
@@ -195,7 +191,7 @@ module _ (laws : LawsBelow) (s new : Server) (seen : Device) (port : Port) (stat
   saw_none comes f bad out = ⊎_elim
       (λ shows.
       let x = sees f shows in
-      let early = grown laws x.accesses s.device x.seen x.does in
+      let early = grows_over laws x.accesses s.device x.seen x.does in
       absurd ((stays_vacant laws port x.accesses s.device x.seen x.does (none_parts laws port s.device x.seen new.device early x.later comes).0 (vacant s port state k is bad out)).det x.shows))
       (λ absent. absent)
       f.shows
@@ -238,7 +234,7 @@ module _ (laws : LawsBelow) (s new : Server) (seen : Device) (port : Port) (stat
 
     runs_well : PlugsNone port.0 s.device new.device → (GainsRunning (IsFaultOf port.0) port.0 s.device new.device → ⊥) → (GainsRunning (IsFatalOf port.0) port.0 s.device new.device → ⊥) → RunsWell (new.device.port port.0)
     runs_well = booted_well laws port low_port (wanted_of s.wanted port.0) found.0 f.booted s.device b.stopped new.device new.device stopped_on f.boots found.1 nothing (whole laws s new seen port state k is lives looks b).1.on
-        (grown laws first s.device b.stopped (until laws s new seen port state k is lives looks b))
+        (grows_over laws first s.device b.stopped (until laws s new seen port state k is lives looks b))
 
   -- a dead port isn't ready
   some_found : (ports_of then).state port ≡ ReadyState → FindsSome

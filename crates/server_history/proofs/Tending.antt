@@ -1,8 +1,8 @@
 -- A service in which no disk of a port comes tries what is there, where the port isn't ready: by how it was looked at, and booted.
 use Rattle.std.proofs.Common.{true, false, sym, ℕ, ◌≡◌, ◌≢◌, ◌++◌, List, [], ◌∷◌, refl, ◌∙◌, subst, inl, inr, ⊎_elim, ◌⊎◌}
-use Rattle.std.specs.List.{All}
-use Rattle.std.proofs.lemmas.List.Elements.{All-head, All-tail}
 use Rattle.std.proofs.lemmas.Bool.{cases_Bool, cases_eq, false≢true}
+use Rattle.std.proofs.lemmas.List.Elements.{All-head, All-tail}
+use Rattle.std.specs.List.{All}
 use Rattle.ata_types.specs.declared.Port.{Port}
 use Rattle.ata_types.specs.declared.PortState.{PortState as Shown}
 use Rattle.ata_types.specs.declared.PortState.TheVariants.{Absent, Dead, Foreign, Ready as ReadyState, Unfit}
@@ -16,6 +16,7 @@ use Rattle.agreement.specs.Driven.{Grows}
 use Rattle.agreement.specs.Errors.{NoneComes}
 use Rattle.agreement.specs.Links.{IsPlugging, PlugsNone}
 use Rattle.agreement.specs.Vacant.{IsFreshIfShown, IsVacant}
+use Rattle.block_machine.specs.Events.{ShowsDisk}
 use Rattle.driver_history.specs.Evidence.{Gains, ShowsChange}
 use Rattle.driver_history.specs.Histories.{IsFreshOrGone}
 use Rattle.driver_history.specs.Trace.{ResetsLink}
@@ -25,17 +26,16 @@ use Rattle.host_boot.specs.declared.Found.TheVariants.{Ready, Unready, Unserved}
 use Rattle.identify.specs.Wanted.{serial_of}
 use Rattle.identify.specs.declared.DiskInfo.{DiskInfo}
 use Rattle.identify.specs.declared.wanted.Wanted.{Wanted}
-use Rattle.port_control.specs.Ports.{HasClearErrors}
 use Rattle.port_boot.specs.States.{EndsAs, EndsEarly, TellsFault}
-use Rattle.block_machine.specs.Events.{ShowsDisk}
+use Rattle.port_control.specs.Ports.{HasClearErrors}
 use Rattle.port_look.specs.Looks.{IsLooking}
-use Rattle.server_history.proofs.Heeding.{gains_none}
-use Rattle.server_history.proofs.Looking.{looking_spares}
-use Rattle.server_history.proofs.Showing.{on_one}
 use Rattle.server_history.specs.Below.{LawsBelow}
 use Rattle.server_history.specs.Server.{state_of}
 use Rattle.server_history.proofs.Faulted.{is_plugging, one_or_none}
-use Rattle.server_history.proofs.Shown.{grown, stays_so}
+use Rattle.server_history.proofs.Heeding.{gains_none}
+use Rattle.server_history.proofs.Looking.{looking_spares}
+use Rattle.server_history.proofs.Showing.{grows_over, on_one}
+use Rattle.server_history.proofs.Shown.{stays_so}
 
 -- ---- accesses in which no disk comes
 
@@ -58,8 +58,8 @@ module _ (laws : LawsBelow) (port : Port) where
       let rest = r.between ++ (Writing (Px port Sctl) r.ending ∷ r.later) in
       let x = split r.before (Writing (Px port Sctl) r.sending ∷ rest) old new (subst (λ (list : List Access). DoesAll list old new) r.here does) in
       let sent = x.2.0 in
-      let early = laws.looks.grows_more old x.0 sent (grown laws r.before old x.0 x.1) (laws.looks.access_grows (Writing (Px port Sctl) r.sending) x.0 sent x.2.1) in
-      stays_so laws port IsFreshIfShown (laws.fresh_on port) rest sent new x.2.2 (none_parts old sent new early (grown laws rest sent new x.2.2) none).1 (laws.fresh_reset port r.sending x.0 sent r.sends x.2.1)
+      let early = laws.looks.grows_more old x.0 sent (grows_over laws r.before old x.0 x.1) (laws.looks.access_grows (Writing (Px port Sctl) r.sending) x.0 sent x.2.1) in
+      stays_so laws port IsFreshIfShown (laws.fresh_on port) rest sent new x.2.2 (none_parts old sent new early (grows_over laws rest sent new x.2.2) none).1 (laws.fresh_reset port r.sending x.0 sent r.sends x.2.1)
 
   fresh_or_gone : (p : PortState) → IsFreshIfShown p → IsFreshOrGone p
   fresh_or_gone p fresh = ⊎_elim (λ (shows : p.ssts_det ≡ 3). inl (fresh shows)) (λ (gone : p.ssts_det ≢ 3). inr gone) (cases_eq p.ssts_det 3)

@@ -1,9 +1,9 @@
 -- The turn of a port that isn't ready, in a service: it is looked at, and that is all; or it is booted then.
 use Rattle.std.proofs.Common.{ℕ, ◌≡◌, ◌≢◌, ◌<◌, ◌≤◌, ◌++◌, Bool, true, false, List, [], refl, sym, ap, ◌∙◌, subst, inl, inr, arith, ⊎_elim, ◌⊎◌}
-use Rattle.std.specs.List.{Contains, list_any}
 use Rattle.std.proofs.lemmas.Bool.{cases_Bool, cases_eq}
 use Rattle.std.proofs.lemmas.List.{get_or-set_other}
 use Rattle.std.proofs.lemmas.List.Elements.{All-nil, All-weaker, Contains-append_cases}
+use Rattle.std.specs.List.{Contains, list_any}
 use Rattle.ata_types.specs.declared.Port.{Port}
 use Rattle.ata_types.specs.declared.PortState.{PortState}
 use Rattle.ata_types.specs.declared.PortState.TheVariants.{Absent, Dead as DeadState, Foreign, Ready as ReadyState, Unfit}
@@ -31,30 +31,30 @@ use Rattle.host_boot.specs.Taken.{StillStandsBehind, found_of, wanted_of}
 use Rattle.host_boot.specs.declared.Found.{Found}
 use Rattle.host_boot.specs.declared.Found.TheVariants.{Unready, Unserved}
 use Rattle.port_look.specs.Looks.{IsLooking}
+use Rattle.port_look.specs.Services.{IsService}
 use Rattle.request_queue.specs.Entries.{asks_of}
 use Rattle.server_history.specs.Below.{LawsBelow}
 use Rattle.server_history.specs.Server.{AreKept, IsKept, IsMachineOf, IsPortOf, IsSettled, Server, is_served, mode_at, mode_in, plain_mode, state_of, usable_of, use_of}
 use Rattle.server_history.specs.Tried.{BootsOnce, IsFoundAnew, IsLookedAt, TriesPort}
-use Rattle.server_history.proofs.Tended.{boot_does, rests_does}
 use Rattle.server_history.specs.Turns.{HasPart, InTry, TriesOther, moment_of}
 use Rattle.server_history.specs.declared.Trouble.TheVariants.{Hung}
 use Rattle.server_history.proofs.Anew.{accesses, after_it, book_left, does, found_then, its_stand, listed, looking_part, low, never_ready, no_disk, only, others, silent, stuck_if, tells, then_is, unready, until, until_of, whole}
 use Rattle.server_history.proofs.Glanced.{looked_stands}
 use Rattle.server_history.proofs.Going.{book_on, still_kept}
+use Rattle.server_history.proofs.Halting.{followed_halts}
 use Rattle.server_history.proofs.Leading.{IsPassed, devices_both, passed, uses_then}
 use Rattle.server_history.proofs.Lists.{nowhere}
 use Rattle.server_history.proofs.Looking.{looked_kept, looking_silent, looking_spares}
 use Rattle.server_history.proofs.Meeting.{nobody}
-use Rattle.server_history.proofs.Halting.{followed_halts}
 use Rattle.server_history.proofs.Mending.{none_due_unready, unlooked}
 use Rattle.server_history.proofs.Ports.{port_on}
 use Rattle.server_history.proofs.Recovering.{IsPart}
 use Rattle.server_history.proofs.Recovery.{stopped_of}
 use Rattle.server_history.proofs.Replaced.{replaced_kept}
-use Rattle.port_look.specs.Services.{IsService}
 use Rattle.server_history.proofs.Running.{shown_on}
 use Rattle.server_history.proofs.Serving.{followed_steps, looks_serve}
 use Rattle.server_history.proofs.Sighted.{booted_had}
+use Rattle.server_history.proofs.Tended.{boot_does, rests_does}
 use Rattle.server_history.proofs.Trying.{AddsTried, TellsTried, makes_try}
 
 -- ---- it was booted

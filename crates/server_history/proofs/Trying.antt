@@ -1,22 +1,22 @@
 -- A port that isn't ready is looked at, and booted where its disk may have come, or may be another: a part of a service, after which the server goes on.
 use Rattle.std.proofs.Common.{◌≡◌, ◌≢◌, List, [], refl, sym, ap, ◌∙◌, subst, inl, inr, arith, ◌⊎◌}
-use Rattle.std.specs.List.{All, Contains}
-use Rattle.std.specs.List.Sorted.{IsPermutation}
 use Rattle.std.proofs.lemmas.List.Elements.{All-cons, All-nil}
 use Rattle.std.proofs.lemmas.List.Sorted.{IsPermutation-refl}
+use Rattle.std.specs.List.{All, Contains}
+use Rattle.std.specs.List.Sorted.{IsPermutation}
 use Rattle.ata_types.specs.declared.Port.{Port}
 use Rattle.ata_types.specs.declared.PortState.TheVariants.{Absent, Dead, Ready as ReadyState}
 use Rattle.ata_types.specs.declared.request.Outcome.TheVariants.{Unplugged}
 use Rattle.adapter.specs.Access.{Access}
 use Rattle.adapter.specs.declared.access.DeviceStep.{DeviceStep}
 use Rattle.agreement.specs.Driver.{IsBacked}
+use Rattle.agreement.specs.Errors.{NoneComes}
 use Rattle.block_machine.specs.Events.{AllDevices, AllGrounded, AllMay, HadDisk, Served, Service, Tells, UnplugsAll}
 use Rattle.block_machine.specs.Left.{after}
 use Rattle.block_machine.specs.Ports.{Evidence, IsInterrupted, IsServiced, SamePort}
 use Rattle.block_machine.specs.State.{Machine}
 use Rattle.block_machine.specs.Steps.{Step}
 use Rattle.driver_history.specs.Evidence.{IsEvidencedOf}
-use Rattle.agreement.specs.Errors.{NoneComes}
 use Rattle.driver_history.specs.Histories.{LosesNoTrouble, RunsWellAnew, TriesDisk}
 use Rattle.driver_history.specs.Holds.{NoneWaits}
 use Rattle.driver_history.specs.Trace.{LeavesEngine, ResetsLink}
