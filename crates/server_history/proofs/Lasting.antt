@@ -12,7 +12,8 @@ use Rattle.adapter.specs.Access.Access.{Loading, Reading, Storing, Writing}
 use Rattle.adapter.specs.Device.{Device}
 use Rattle.adapter.specs.Rules.{IsOn}
 use Rattle.agreement.specs.Driven.{AnyUse, IsDrivenBy, IsFollowed, IsOf}
-use Rattle.agreement.proofs.Driven.{by_then, driven_as}
+use Rattle.agreement.proofs.Driven.{by_then}
+use Rattle.server_history.proofs.Driving.{driven_as}
 use Rattle.block_machine.specs.State.{Machine}
 use Rattle.disk_page.specs.Asking.{IsAsking}
 use Rattle.driver_history.specs.Histories.{LosesNoTrouble}

@@ -90,3 +90,4 @@ pub mod Anew
 pub mod Tries
 pub mod Tending
 pub mod Tended
+pub mod Driving

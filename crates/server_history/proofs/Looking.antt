@@ -15,7 +15,8 @@ use Rattle.agreement.specs.Agrees.{port_at}
 use Rattle.agreement.specs.Driven.{AnyUse, IsDrivenBy, IsFollowed, IsOf, LeavesPort, NoneWrites, SendsNone}
 use Rattle.agreement.specs.Halting.{IsHaltedAsTaken}
 use Rattle.agreement.specs.Slots.{IsOver, Uses, op_of}
-use Rattle.agreement.proofs.Driven.{along, driven_as, followed_adds, followed_silent}
+use Rattle.agreement.proofs.Driven.{along, followed_adds, followed_silent}
+use Rattle.server_history.proofs.Driving.{driven_as}
 use Rattle.agreement.proofs.Finished.{access_over, steps_over}
 use Rattle.host_boot.specs.Taken.{found_of}
 use Rattle.host_boot.specs.declared.Found.TheVariants.{Unready}

@@ -19,7 +19,6 @@ use Rattle.agreement.specs.Agrees.{port_at}
 use Rattle.agreement.specs.Driven.{AnyAccess, IsDrivenBy, IsOf, LeavesPort, SendsNone}
 use Rattle.agreement.specs.Halting.{HaltsAsTaken, IsHaltedAsTaken}
 use Rattle.agreement.specs.Links.{HasDeviceOrNone, SameAdapter}
-use Rattle.agreement.proofs.Driven.{driven_as}
 use Rattle.block_machine.specs.Due.{is_plain}
 use Rattle.block_machine.specs.Events.{ShowsDisk}
 use Rattle.block_machine.specs.Histories.{IsReached}
@@ -53,6 +52,7 @@ use Rattle.server_history.specs.Server.{HasSlots, Server, IsKept, IsMachineOf, I
 use Rattle.server_history.specs.declared.Trouble.{Trouble}
 use Rattle.server_history.proofs.Behind.{left_on}
 use Rattle.server_history.proofs.Beside.{Passes}
+use Rattle.server_history.proofs.Driving.{driven_as}
 use Rattle.server_history.proofs.Remaining.{WasIn}
 use Rattle.server_history.proofs.Sighted.{boot_sees}
 use Rattle.server_history.proofs.Starting.{IsFoundAbsent, boots_or_absent}

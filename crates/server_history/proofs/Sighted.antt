@@ -29,6 +29,7 @@ use Rattle.port_control.specs.declared.PortFault.{PortFault}
 use Rattle.port_control.specs.declared.PortFault.TheVariants.{NoDevice, Busy, EngineStuck, NotAta}
 use Rattle.server_history.specs.Below.{LawsBelow}
 use Rattle.server_history.specs.Server.{IsMachineOf, Server, state_of}
+use Rattle.server_history.proofs.Driving.{driven_as}
 use Rattle.server_history.proofs.Resetting.{IsBeside, cleared_then, late_then, linked_then, placing_boots, ready_then, resetting, started_then, until, without}
 use Rattle.server_history.proofs.Showing.{grows_over}
 use Rattle.server_history.proofs.Shown.{had_disk}
@@ -63,7 +64,7 @@ module _ (laws : LawsBelow) (port : Port) where
         seen = found.seen;
         early = (resetting laws port old placed sent ended found.seen places sends ends (until laws port Ssts _ ended found.seen found.sees)).driven;
         shows = sym (laws.looks.shown_after port Ssts found.sees.value found.sees.waited found.seen there.no_reset found.sees.reads) ∙ found.sees.shown;
-        own = own_then placed sent ended found.seen (laws.of_on port old placed on (record { accesses = places.accesses; all = places.all; only = All-weaker (IsControl IsPlacing port) (IsOf port) (λ access is. laws.booting_of port access (placing_boots laws port access is)) places.accesses places.only })) sends ends found.sees;
+        own = own_then placed sent ended found.seen (laws.of_on port old placed on (driven_as (IsControl IsPlacing port) (IsOf port) old placed (λ access is. laws.booting_of port access (placing_boots laws port access is)) places)) sends ends found.sees;
         late = cleared_then laws port found.seen linked new found.clears rest;
       }
 

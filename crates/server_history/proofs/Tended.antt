@@ -1,7 +1,6 @@
 -- What the turn of a port that isn't ready has done of it: where no disk of it came, what is there was tried; it was booted anew, unless it is what it was; and no trouble of it is lost.
 use Rattle.std.proofs.Common.{◌<◌, ◌≡◌, ◌≢◌, ◌++◌, ◌%◌, ◌==◌, Bool, true, false, List, [], ◌∷◌, refl, sym, ap, ◌∙◌, subst, inl, inr, eqb-true, ⊎_elim, ◌⊎◌}
 use Rattle.std.proofs.lemmas.Bool.{false≢true}
-use Rattle.std.proofs.lemmas.List.Elements.{All-nil}
 use Rattle.std.specs.List.{All}
 use Rattle.ata_types.specs.declared.Port.{Port}
 use Rattle.ata_types.specs.declared.PortState.{PortState}
@@ -42,6 +41,7 @@ use Rattle.server_history.specs.Tried.{BootsOnce, IsFoundAnew, IsLookedAt}
 use Rattle.server_history.specs.Turns.{instant_of}
 use Rattle.server_history.specs.declared.Trouble.TheVariants.{Hung, Lost}
 use Rattle.server_history.proofs.Anew.{interrupted, never_ready, stuck_if, whole, accesses, afterwards, does, found_then, then_is, until, until_of}
+use Rattle.server_history.proofs.Driving.{by_none}
 use Rattle.server_history.proofs.Glanced.{unchanged, unequal}
 use Rattle.server_history.proofs.Lasting.{boot_shows}
 use Rattle.server_history.proofs.Recovery.{stopped_of}
@@ -224,7 +224,7 @@ module _ (laws : LawsBelow) (s new : Server) (seen : Device) (port : Port) (stat
     found = boot_ready (wanted_of s.wanted port.0) port f.boots.asked new.device f.booted.found f.boots.boots (ap state_of f.same ∙ sym state_then ∙ ready)
 
     nothing : IsDrivenBy (LeavesTrouble port) new.device new.device
-    nothing = record { accesses = []; all = refl; only = All-nil (LeavesTrouble port) }
+    nothing = by_none (LeavesTrouble port) new.device
 
     low_port : port.0 < 4
     low_port = (k.there port.0 (ap is_served is)).0

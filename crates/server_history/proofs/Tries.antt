@@ -39,6 +39,7 @@ use Rattle.server_history.specs.Tried.{BootsOnce, IsFoundAnew, IsLookedAt, Tries
 use Rattle.server_history.specs.Turns.{HasPart, InTry, TriesOther, moment_of}
 use Rattle.server_history.specs.declared.Trouble.TheVariants.{Hung}
 use Rattle.server_history.proofs.Anew.{accesses, after_it, book_left, does, found_then, its_stand, listed, looking_part, low, never_ready, no_disk, only, others, silent, stuck_if, tells, then_is, unready, until, until_of, whole}
+use Rattle.server_history.proofs.Driving.{driven_as}
 use Rattle.server_history.proofs.Glanced.{looked_stands}
 use Rattle.server_history.proofs.Going.{book_on, still_kept}
 use Rattle.server_history.proofs.Halting.{followed_halts}
@@ -240,7 +241,7 @@ module _ (laws : LawsBelow) (s : Server) (seen : Device) (port : Port) (state : 
   -- ---- the server
 
   serves : IsDrivenBy IsService s.device seen
-  serves = record { accesses = looks.driven.accesses; all = looks.driven.all; only = All-weaker (IsLooking port) IsService (laws.looking.looking_service port) looks.driven.accesses looks.driven.only }
+  serves = driven_as (IsLooking port) IsService s.device seen (laws.looking.looking_service port) looks.driven
 
   module _ (lives : state ≢ DeadState) (result : Bool) (l : IsLookedAt state port result s.device seen) (none : result ≡ false) where
     its_port : IsPortOf s.wanted s.ports port.0 seen
@@ -260,7 +261,7 @@ module _ (laws : LawsBelow) (s : Server) (seen : Device) (port : Port) (state : 
     other_port : (q : ℕ) → q < 4 → q ≢ port.0 → IsPortOf s.wanted s.ports q seen
     other_port q small other =
         port_on laws s.wanted s.ports q s.device seen (laws.looking.services_same s.device seen serves) t.kept.on serves
-        (λ _. laws.looks.other_left port q s.device seen other t.kept.on (record { accesses = looks.driven.accesses; all = looks.driven.all; only = All-weaker (IsLooking port) (IsOf port) (laws.looking.looking_of port) looks.driven.accesses looks.driven.only }))
+        (λ _. laws.looks.other_left port q s.device seen other t.kept.on (driven_as (IsLooking port) (IsOf port) s.device seen (laws.looking.looking_of port) looks.driven))
         (looking_silent s seen port t.kept looks q Identify refl)
         (followed_halts laws (port_at q) (IsLooking port) s t.kept seen looks (λ access its. (leaving port (port_at q) access its).0))
         (t.kept.behind q small)
