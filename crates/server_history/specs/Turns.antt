@@ -102,7 +102,7 @@ turn_of turn replies new evidence steps = record {
   device = new.device;
 }
 
--- What a call does of a port's trouble: none is lost, and a port that was stopped runs well anew.
+-- What a call does of a port's trouble: none is lost unless the port was stopped, and then it runs well anew.
 pub record HeedsTrouble (port : Port) (accesses : List Access) (old : Instant Device) (evidence : Evidence) (ports : Ports) (new : Device) : Type 0 where
   pub trouble : LosesNoTrouble evidence old ports new port
   pub well : RunsWellAnew evidence accesses old ports new port
