@@ -30,6 +30,6 @@ returns-in_default g c =
       mends = (
         u.mends,
         tells c.args.trouble c.args.port c.args.outstanding c.args.queued c.give_up.result u.mends.accesses (g.A.Adapter.device c.args.adapter.now) (g.A.Adapter.device c.give_up.new.adapter)
-        c.in_default.not-Failed (u.nobody, u.halts),
+            c.in_default.not-Failed (u.nobody, u.halts),
       );
     }
