@@ -1,9 +1,7 @@
-use Rattle.std.proofs.Common.{true, ◌≡◌, refl, sym, subst}
+use Rattle.std.proofs.Common.{true, refl, sym, subst}
 use Rattle.ata_types.specs.declared.Port.{Port}
-use Rattle.ata_types.specs.declared.PortState.TheVariants.{Dead}
 use Rattle.error_recovery.specs.declared.Next.{Next}
 use Rattle.host_boot.specs.Again.{BootsAgain}
-use Rattle.host_boot.specs.declared.Found.TheVariants.{Unready}
 use Rattle.port_boot.specs.States.{IsBootable}
 use Rattle.port_control.specs.Ports.{IsStopped}
 use Rattle.server_history.specs.Tried.{IsFoundAnew}

@@ -1,4 +1,4 @@
-use Rattle.std.proofs.Common.{[], append-nil, sym, ap, ◌∙◌, subst, ◌≡◌, ◌⊎◌, inl, inr}
+use Rattle.std.proofs.Common.{[], append-nil, sym, ap, ◌∙◌, subst}
 use Rattle.host_boot.specs.Taken.{found_of}
 use Rattle.block_server.specs.Seen.{seen}
 use Rattle.block_server.specs.View.{ServerView, server_of}

@@ -4,7 +4,7 @@ use Rattle.ata_types.specs.declared.request.Reply.{Reply}
 use Rattle.agreement.specs.Agrees.{port_at}
 use Rattle.host_boot.specs.Taken.{found_of}
 use Rattle.host_boot.specs.declared.Found.{Found}
-use Rattle.request_queue.specs.Entries.{Held, IsOverdue}
+use Rattle.request_queue.specs.Entries.{IsOverdue}
 use Rattle.server_history.specs.Server.{Server, IsSettled}
 use Rattle.server_history.specs.Turns.{TakeTurns, TicksPort, a_tick_older}
 use Rattle.block_server.specs.View.{ServerView, server_of}

@@ -2,7 +2,6 @@ use Rattle.std.proofs.Common.{ℕ, ◌≡◌, length, rules, sym, subst}
 use Rattle.host_boot.specs.Taken.{found_of, wanted_of}
 use Rattle.host_boot.specs.declared.Found.TheVariants.{Unready}
 use Rattle.server_history.specs.Turns.{TriesOther}
-use Rattle.server_history.specs.Tried.{IsLookedAt}
 use Rattle.block_server.specs.Seen.{seen}
 use Rattle.block_server.specs.Trying.{FindsAnew}
 use Rattle.block_server.specs.View.{ServerView, server_of}
