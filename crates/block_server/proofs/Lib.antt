@@ -4,6 +4,7 @@ pub mod Refusing
 pub mod Running
 pub mod Serving
 pub mod Turns
+pub mod Anew
 pub mod Making
 pub mod Accepting
 pub mod Finishing

@@ -8,3 +8,4 @@ pub mod Ports
 pub mod Healthy
 pub mod Fates
 pub mod Recovery
+pub mod Trying

@@ -10,6 +10,7 @@ mod port;
 mod recovery;
 mod run;
 mod server;
+mod trying;
 mod types;
 
 pub use server::Server;

@@ -8,6 +8,7 @@ use crate::kept::{KeptLoans, end_all, give_all_back, none_kept};
 use crate::modes::{PLAIN, modes_of, ready_ports, unused_slots};
 use crate::port::{issue_due, issue_where_ready};
 use crate::recovery::{find_after, mend_rest, order_from, prospect_of, trouble_of};
+use crate::trying::{find_anew, finds_news};
 use adapter::{Adapter, DeviceStep, Stepped};
 use ata_types::{
     ClientId, FRAME_BYTES, Frame, MemFault, Op, Port, PortState, Range, Refusal, Replies, Request,
@@ -27,9 +28,9 @@ use request_queue::{Book, Entry};
 use server_history::Trouble;
 use server_history::laws::{
     a_finished_port_settles, a_hung_port_is_restarted, a_mended_port_goes_on,
-    a_new_server_has_begun, a_port_is_served, acceptances_add, client_bytes_add, device_steps_add,
-    kept_loans_are_lent, looks_keep, open_bytes_are_free, refusals_add, requests_get_older,
-    requests_keep, services_add, ticks_add,
+    a_new_server_has_begun, a_port_is_served, acceptances_add, an_unready_port_is_tried,
+    client_bytes_add, device_steps_add, kept_loans_are_lent, looks_keep, open_bytes_are_free,
+    refusals_add, requests_get_older, requests_keep, services_add, ticks_add,
 };
 use slots::Slots;
 use std::alloc::Global;
@@ -89,7 +90,7 @@ impl<A: Adapter> Server<A> {
     ghost use Rattle.server_history.specs.Histories.{Adds, store_said, load_said};
     ghost use Rattle.ata_types.specs.declared.request.Reply.{Reply};
     ghost use Rattle.server_history.specs.Served.{AnswersDone};
-    ghost use Rattle.server_history.specs.Turns.{ServesPort, Ticks, TicksPort, a_tick_older};
+    ghost use Rattle.server_history.specs.Turns.{ServesPort, Ticks, TicksPort, TriesOther, a_tick_older};
     ghost use Rattle.block_server.specs.Recovery.{MendsOf, SeesTrouble};
     ghost use Rattle.adapter.specs.Device.{Device};
     ghost use Rattle.server_history.specs.Server.{IsSettled, disk_of, mode_at, remembered_at, situation_of, state_of, sectors_of, trims_of};
@@ -403,6 +404,27 @@ impl<A: Adapter> Server<A> {
         }
     }
 
+    /// Looks at a port that isn't ready. Where an absent one shows a device, or one whose disk isn't served shows that it is another by now, or gone, the port is
+    /// given up and booted. Nobody waits for it, so that nobody is answered. A dead port isn't looked at.
+    fn try_port(&mut self, port: Port, state: PortState)
+        requires unready { found_of self.old.ports port.0 ≡ Found.Unready state }
+        ensures tries { TriesOther port (server_of A.device self.old) (server_of A.device self.new) }
+        ensures settled { IsSettled (server_of A.device self.new) }
+        ensures ports { (q : ℕ) → q ≢ port.0 → found_of self.new.ports q ≡ found_of self.old.ports q }
+        ensures book { self.new.book ≡ self.old.book }
+    {
+        an_unready_port_is_tried();
+        if !finds_news(&mut self.adapter, port, state) {
+            return;
+        }
+        let place = usize::from(port.0);
+        let wanted = self.wanted[place];
+        let (found, mode) = find_anew(&mut self.adapter, port, &wanted);
+        self.ports[place] = found;
+        self.modes[place] = mode;
+        self.slots[place] = Slots::new(mode.usable);
+    }
+
     /// Serves each ready port, in rising number: requests that are done are answered, in order of acceptance, their frames are given back, and
     /// what is due then is issued. A port of which the look tells that a command had failed is recovered (AHCI 1.3.1, 6.2.2): what is done is answered; the request
     /// whose command failed is told `DeviceError`, with the disk's status and error; each other one that had been issued goes again, or is `Aborted` after the fourth issue.
@@ -411,6 +433,10 @@ impl<A: Adapter> Server<A> {
     /// other requests meet the same fates. Where the look tells that the disk went, though one may be in again, the port is stopped, and booted if a device shows: what is
     /// done is answered, and all others are `Unplugged`. A recovery waits for the disk at most so often as
     /// its parts tell, and meanwhile for all ports.
+    ///
+    /// A port that isn't ready is looked at in its turn (AHCI 1.3.1, 3.3.5 and 3.3.10): an absent one for a device, by one reading of PxSSTS; one whose disk is unfit or foreign for a
+    /// change of it, by one reading of PxIS and one of PxSSTS. Where a device shows (DET is 3), or a change (PCS or PRCS is set, or DET isn't 3), the port is stopped and booted anew, and is
+    /// what that finds: `Ready` with its disk, or `Absent`, `Unfit`, `Foreign` or `Dead`. Else it stays as it is. Nobody is answered for it. A dead port is left alone.
     pub fn service(&mut self) -> Replies
         ensures services { Services A.device self.old self.new result.items }
         ensures adds { Adds (server_of A.device self.old) (server_of A.device self.new) Service (Served result.items) }
@@ -430,10 +456,12 @@ impl<A: Adapter> Server<A> {
         replies.clear();
         let ports = self.ports;
         for number in 0..PORTS {
-            let Found::Ready(_) = ports[number] else {
-                continue;
-            };
-            self.serve_port(Port(number as u8), replies);
+            let port = Port(number as u8);
+            match ports[number] {
+                Found::Ready(_) => self.serve_port(port, replies),
+                Found::Unready(state) => self.try_port(port, state),
+                Found::Unserved => {}
+            }
         }
     }
 

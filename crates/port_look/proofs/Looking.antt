@@ -40,11 +40,21 @@ module _ (laws : Laws) (port : Port) (d0 d1 : Device) (causes : ℕ) (on : IsOn 
   then : (old mid new : Device) → IsFollowed (IsLooking port) AnyUse old mid → IsFollowed (IsLooking port) AnyUse mid new → IsFollowed (IsLooking port) AnyUse old new
   then old mid new a b = (laws.both (Looking port) (Looking port) (λ uses. uses) (λ uses. uses) (λ access may. may) (λ uses fits. fits) old mid new a b).followed
 
-  one_on : IsOn d1
+  pub one_on : IsOn d1
   one_on = spared_on laws (Reading (Px port Is) causes) d0 d1 tt first on
 
-  one_there : HasPort d1 port.0
+  pub one_there : HasPort d1 port.0
   one_there = there_after port.0 d0 d1 (laws.access_same (Reading (Px port Is) causes) d0 d1 first) there
+
+  -- PxSSTS is read then
+  module _ (status : ℕ) (d2 : Device) (second : Reads (Px port Ssts) status d1 d2) where
+    pub changing_on : IsOn d2
+    changing_on = spared_on laws (Reading (Px port Ssts) status) d1 d2 tt second one_on
+
+    pub changing_followed : IsFollowed (IsLooking port) AnyUse d0 d2
+    changing_followed =
+        then d0 d1 d2 (laws.reads (Looking port) (Px port Is) causes d0 d1 (inl refl) first).followed
+        (laws.reads (Looking port) (Px port Ssts) status d1 d2 (inr refl) second).followed
 
   pub clearing_may : (v : ℕ) → Stays (MayWrite (Px port Is) v) d1
   clearing_may v = laws.write_stays (Px port Is) v d1 (λ p e. cc) (one_on, one_there, tt)

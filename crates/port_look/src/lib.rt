@@ -1,10 +1,13 @@
-//! A look at a port: what its interrupts and its link tell (AHCI 1.3.1, 5.5.3 and 6.2); and what accesses that serve ports leave.
+//! A look at a port: what its interrupts and its link tell (AHCI 1.3.1, 5.5.3 and 6.2); a look at one that isn't ready, of which nothing is cleared; and what
+//! accesses that serve ports leave.
 //! Each call is of one port, whatever the others do.
 #![tactic(auto)]
 
-ghost use Rattle.std.specs.Prelude.{◌≡◌};
+ghost use Rattle.std.specs.Prelude.{◌≡◌, ◌||◌, ◌==◌, ◌%◌, not};
 ghost use Rattle.adapter.specs.Rules.{IsOn, HasPort};
 ghost use Rattle.agreement.specs.Driven.{AnyUse, IsFollowed};
+ghost use Rattle.hba_regs.specs.Bits.{bit};
+ghost use Rattle.port_look.specs.Glances.{FindsChange, FindsDevice};
 ghost use Rattle.port_look.specs.Looks.{look_of, IsLooking, LooksAt};
 
 use adapter::Adapter;
@@ -28,12 +31,26 @@ pub enum Look {
     Undisturbed,
 }
 
+/// Whether a device with a link shows (AHCI 1.3.1, 3.3.10).
+fn shows_device(status: SataStatus) -> bool
+    ensures { result ≡ (status.0 % 16 == 3) }
+{
+    status.detection() == SataStatus::DEVICE_WITH_LINK
+}
+
+/// Whether the device went or came, or isn't there (AHCI 1.3.1, 3.3.5 and 3.3.10).
+fn tells_change(interrupts: PortInterrupts, status: SataStatus) -> bool
+    ensures { result ≡ (bit interrupts.0 6 || bit interrupts.0 22 || not (status.0 % 16 == 3)) }
+{
+    let changed = interrupts.has_port_change() || interrupts.has_phy_ready_change();
+    changed || !shows_device(status)
+}
+
 /// What was read tells, first things first (AHCI 1.3.1, 3.3.5 and 3.3.10).
 fn told(interrupts: PortInterrupts, status: SataStatus) -> Look
     ensures { result ≡ look_of interrupts.0 status.0 }
 {
-    let changed = interrupts.has_port_change() || interrupts.has_phy_ready_change();
-    if changed || status.detection() != SataStatus::DEVICE_WITH_LINK {
+    if tells_change(interrupts, status) {
         return Look::Lost;
     }
     let host = interrupts.has_host_bus_data() || interrupts.has_host_bus_fatal();
@@ -61,4 +78,33 @@ pub fn look_at<A: Adapter>(adapter: &mut A, port: Port) -> Look
     adapter.write(Reg::Is, with_bit(0, u32::from(port.0)));
     let status = SataStatus(adapter.read(Reg::Px(port, PortReg::Ssts)));
     told(interrupts, status)
+}
+
+/// Looks at a port for a device, where there was none: whether one with a link shows (DET of PxSSTS is 3; AHCI 1.3.1, 3.3.10). PxSSTS is read, and
+/// that is all.
+pub fn finds_device<A: Adapter>(adapter: &mut A, port: Port) -> bool
+    requires on { IsOn (A.device adapter.old) }
+    requires there { HasPort (A.device adapter.old) port.0 }
+    ensures on { IsOn (A.device adapter.new) }
+    ensures finds { FindsDevice port result (A.device adapter.old) (A.device adapter.new) }
+    ensures followed { IsFollowed (IsLooking port) AnyUse (A.device adapter.old) (A.device adapter.new) }
+{
+    laws_hold();
+    let status = SataStatus(adapter.read(Reg::Px(port, PortReg::Ssts)));
+    shows_device(status)
+}
+
+/// Looks at a port for a change of its device: whether it went or came since PxIS was last cleared (PCS or PRCS of PxIS), or isn't there (DET of PxSSTS
+/// isn't 3; AHCI 1.3.1, 3.3.5 and 3.3.10). PxIS is read, and then PxSSTS; neither is written, so that a change is told until the port is booted.
+pub fn finds_change<A: Adapter>(adapter: &mut A, port: Port) -> bool
+    requires on { IsOn (A.device adapter.old) }
+    requires there { HasPort (A.device adapter.old) port.0 }
+    ensures on { IsOn (A.device adapter.new) }
+    ensures finds { FindsChange port result (A.device adapter.old) (A.device adapter.new) }
+    ensures followed { IsFollowed (IsLooking port) AnyUse (A.device adapter.old) (A.device adapter.new) }
+{
+    laws_hold();
+    let interrupts = PortInterrupts(adapter.read(Reg::Px(port, PortReg::Is)));
+    let status = SataStatus(adapter.read(Reg::Px(port, PortReg::Ssts)));
+    tells_change(interrupts, status)
 }

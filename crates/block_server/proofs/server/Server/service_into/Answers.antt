@@ -1,12 +1,13 @@
-use Rattle.std.proofs.Common.{◌≡◌, ◌++◌, List, append_assoc, arith, length, sym, ap, ◌∙◌, subst, rules}
+use Rattle.std.proofs.Common.{◌≡◌, ◌<◌, ◌++◌, List, append_assoc, arith, length, sym, ap, ◌∙◌, subst, rules}
 use Rattle.ata_types.specs.declared.request.Reply.{Reply}
 use Rattle.block_server.specs.View.{ServerView, server_of}
 use Rattle.host_boot.specs.Taken.{found_of}
 use Rattle.host_boot.specs.declared.Found.{Found}
-use Rattle.server_history.specs.Turns.{ServePorts, ServesPort}
+use Rattle.server_history.specs.Turns.{ServePorts, ServesPort, TriesOther}
 use Rattle.server_history.specs.Server.{IsSettled}
-use Rattle.block_server.proofs.Turns.{all_turns, one_turn}
+use Rattle.block_server.proofs.Turns.{all_turns, no_turn, one_turn, other_turn}
 use Rattle.block_server.proofs.server.Server.service_into.Goals as goal
+use Rattle.block_server.proofs.server.Server.service_into.Goals.{in-Ready, in-Unready, in-Unserved}
 
 pub loop-number-preserved : goal.loop-number-preserved
 loop-number-preserved g c =
@@ -14,18 +15,33 @@ loop-number-preserved g c =
     let so_far = c.loop-number.invariant in
     let ports = c.self.inside.ports in
     let s = server_of device c.loop-number.self in
-    let mid = server_of device c.serve_port.new.self in
     let four : length ports ≡ 4 = search rules in
-    let served = c.serve_port.ensures.serves in
-    record {
-      rest = λ later new more.
-          let W : List Reply → Type 0 = λ told. ServePorts 0 c.args.self.now.ports told (server_of device c.args.self.now) new in
-          subst W (sym (ap (λ (told : List Reply). told ++ later) served.1 ∙ append_assoc c.loop-number.replies.items served.0 later))
-          (so_far.rest (served.0 ++ later) new
-          (one_turn ServesPort ports c.loop-number.number (omega (arith, four, c.loop-number-test.true)) c.in-Ready.field-0 s mid new served.0 later c.in-Ready.is c.serve_port.ensures.settled served.2 more));
-      ports = λ q more. c.serve_port.ensures.ports q (λ same. omega (arith, more, same)) ∙ so_far.ports q (omega (arith, more));
-      room = c.serve_port.ensures.room;
-    }
+    let low : c.loop-number.number < length ports = omega (arith, four, c.loop-number-test.true) in
+    elim c.match-ports-number.branch [
+      | in-Ready w ↦
+          let served = w.serve_port.ensures.serves in
+          rw (w.self-is, w.replies-is) (record {
+            rest = λ later new more.
+                let W : List Reply → Type 0 = λ told. ServePorts 0 c.args.self.now.ports told (server_of device c.args.self.now) new in
+                subst W (sym (ap (λ (told : List Reply). told ++ later) served.1 ∙ append_assoc c.loop-number.replies.items served.0 later))
+                (so_far.rest (served.0 ++ later) new
+                (one_turn ServesPort TriesOther ports c.loop-number.number low w.in-Ready.field-0 s (server_of device w.serve_port.new.self) new served.0 later w.in-Ready.is w.serve_port.ensures.settled served.2 more));
+            ports = λ q more. w.serve_port.ensures.ports q (λ same. omega (arith, more, same)) ∙ so_far.ports q (omega (arith, more));
+            room = w.serve_port.ensures.room;
+          })
+      | in-Unready w ↦ rw (w.self-is, w.replies-is) (record {
+        rest = λ later new more.
+            so_far.rest later new
+            (other_turn ServesPort TriesOther ports c.loop-number.number low w.in-Unready.state s (server_of device w.try_port.new.self) new later w.in-Unready.is w.try_port.ensures.settled w.try_port.ensures.tries more);
+        ports = λ q more. w.try_port.ensures.ports q (λ same. omega (arith, more, same)) ∙ so_far.ports q (omega (arith, more));
+        room = let same = ap length w.try_port.ensures.book in let room = so_far.room in omega (arith, same, room);
+      })
+      | in-Unserved w ↦ rw (w.self-is, w.replies-is) (record {
+        rest = λ later new more. so_far.rest later new (no_turn ServesPort TriesOther ports c.loop-number.number low s new later w.in-Unserved.is more);
+        ports = λ q more. so_far.ports q (omega (arith, more));
+        room = so_far.room;
+      })
+    ]
 
 pub returns-clause-services : goal.returns-clause-services
 returns-clause-services g c =
@@ -33,7 +49,7 @@ returns-clause-services g c =
     let so_far = c.loop-number.invariant in
     let ports = c.self.inside.ports in
     let four : length ports ≡ 4 = search rules in
-    all_turns ServesPort ports c.args.self.now.ports c.loop-number.number c.loop-number.replies.items (server_of device c.args.self.now) (server_of device c.loop-number.self)
+    all_turns ServesPort TriesOther ports c.args.self.now.ports c.loop-number.number c.loop-number.replies.items (server_of device c.args.self.now) (server_of device c.loop-number.self)
     (omega (arith, four, c.loop-number-test.false)) so_far.rest
 
 pub returns-clause-adds : goal.returns-clause-adds

@@ -1,4 +1,5 @@
-use Rattle.std.proofs.Common.{◌≡◌, ◌↔◌, ◌<◌, ◌++◌, IsTrue, List, append_assoc, arith, false, length, slice_index_or, sym, ap, ◌∙◌, subst, rules}
+use Rattle.std.proofs.Common.{◌≡◌, ◌↔◌, ◌<◌, ◌++◌, IsTrue, List, append_assoc, arith, false, length, slice_index_or, refl, sym, ap, ◌∙◌, subst, rules}
+use Rattle.ata_types.specs.declared.Port.{Port}
 use Rattle.ata_types.specs.declared.request.Reply.{Reply}
 use Rattle.agreement.specs.Agrees.{port_at}
 use Rattle.host_boot.specs.Taken.{found_of}
@@ -7,8 +8,12 @@ use Rattle.request_queue.specs.Entries.{IsOverdue}
 use Rattle.server_history.specs.Server.{Server, IsSettled}
 use Rattle.server_history.specs.Turns.{TakeTurns, TicksPort, a_tick_older}
 use Rattle.block_server.specs.View.{ServerView, server_of}
-use Rattle.block_server.proofs.Turns.{all_turns, no_turn, one_turn}
+use Rattle.block_server.proofs.Turns.{all_turns, idle_turn, one_turn}
 use Rattle.block_server.proofs.server.Server.tick_into.Goals as goal
+
+-- nothing is done of a port that isn't ready
+abbrev Rests : Port → Server → Server → Type 0
+Rests port one other = other ≡ one
 
 pub loop-place-preserved-in_default : goal.loop-place-preserved-in_default
 loop-place-preserved-in_default g c =
@@ -20,10 +25,14 @@ loop-place-preserved-in_default g c =
     record {
       rest = λ later new more.
           so_far.rest later new
-          (no_turn (TicksPort book) ports c.loop-place.place (omega (arith, four, c.loop-place-test.true)) (server_of device c.loop-place.self) new later c.in_default.not-Ready more);
+          (idle_turn (TicksPort book) Rests ports c.loop-place.place (omega (arith, four, c.loop-place-test.true)) (server_of device c.loop-place.self) new later c.in_default.not-Ready so_far.settled refl more);
       ports = λ q more. so_far.ports q (omega (arith, more));
       room = so_far.room;
+      settled = so_far.settled;
     }
+
+pub tick_port-requires-clause-ready : goal.tick_port-requires-clause-ready
+tick_port-requires-clause-ready g c = c.loop-place.invariant.ports c.loop-place.place (omega arith) ∙ c.in-Ready.is
 
 pub loop-place-preserved : goal.loop-place-preserved
 loop-place-preserved g c =
@@ -41,12 +50,13 @@ loop-place-preserved g c =
     let ticked = c.tick_port.ensures.ticks book exact in
     record {
       rest = λ later new more.
-          let W : List Reply → Type 0 = λ told. TakeTurns (TicksPort book) 0 c.args.self.now.ports told (a_tick_older old) new in
+          let W : List Reply → Type 0 = λ told. TakeTurns (TicksPort book) Rests 0 c.args.self.now.ports told (a_tick_older old) new in
           subst W (sym (ap (λ (told : List Reply). told ++ later) ticked.1 ∙ append_assoc c.loop-place.replies.items ticked.0 later))
           (so_far.rest (ticked.0 ++ later) new
-          (one_turn (TicksPort book) ports c.loop-place.place low c.in-Ready.was s mid new ticked.0 later c.in-Ready.is c.tick_port.ensures.settled ticked.2 more));
+          (one_turn (TicksPort book) Rests ports c.loop-place.place low c.in-Ready.was s mid new ticked.0 later c.in-Ready.is c.tick_port.ensures.settled ticked.2 more));
       ports = λ q more. c.tick_port.ensures.ports q (λ same. omega (arith, more, same)) ∙ so_far.ports q (omega (arith, more));
       room = c.tick_port.ensures.room;
+      settled = c.tick_port.ensures.settled;
     }
 
 pub returns-clause-ticks : goal.returns-clause-ticks
@@ -55,7 +65,7 @@ returns-clause-ticks g c =
     let old = server_of device c.args.self.now in
     let ports = c.self.inside.ports in
     let four : length ports ≡ 4 = search rules in
-    all_turns (TicksPort (a_tick_older old).book) ports c.args.self.now.ports c.loop-place.place c.loop-place.replies.items (a_tick_older old) (server_of device c.loop-place.self)
+    all_turns (TicksPort (a_tick_older old).book) Rests ports c.args.self.now.ports c.loop-place.place c.loop-place.replies.items (a_tick_older old) (server_of device c.loop-place.self)
     (omega (arith, four, c.loop-place-test.false)) c.loop-place.invariant.rest
 
 pub returns-clause-adds : goal.returns-clause-adds
@@ -74,11 +84,12 @@ loop-place-init g c =
     let ports = ap (λ (v : ServerView g.row.A.Denot). v.ports) c.self.view_is in
     record {
       rest = λ later new turns.
-          let F : List Found → Server → Type 0 = λ found s. TakeTurns (TicksPort book) 0 found later s new in
-          let T : List Reply → Type 0 = λ told. TakeTurns (TicksPort book) 0 c.args.self.now.ports (told ++ later) (a_tick_older old) new in
+          let F : List Found → Server → Type 0 = λ found s. TakeTurns (TicksPort book) Rests 0 found later s new in
+          let T : List Reply → Type 0 = λ told. TakeTurns (TicksPort book) Rests 0 c.args.self.now.ports (told ++ later) (a_tick_older old) new in
           subst T (sym c.clear.ensures) (subst (F c.args.self.now.ports) older (subst (λ (found : List Found). F found (server_of device c.grow_older-overdue.new.self)) ports turns));
       ports = λ q more. ap (λ (s : Server). found_of s.ports q) older ∙ sym (ap (λ (found : List Found). found_of found q) ports);
       room =
           let all = c.the_book_stays_in_order.ensures.all c.grow_older-overdue.new.self.book c.grow_older-overdue.ensures.settled.kept.ordered in
           let none = ap length c.clear.ensures in omega (arith, all, none);
+      settled = c.grow_older-overdue.ensures.settled;
     }

@@ -2,14 +2,15 @@ use Rattle.std.proofs.Common.{ℕ, ◌≡◌, ◌+◌, ◌≤◌, ◌++◌, List
 use Rattle.host_boot.specs.Taken.{found_of}
 use Rattle.ata_types.specs.declared.request.Reply.{Reply}
 use Rattle.server_history.specs.Turns.{TakeTurns, TicksPort, a_tick_older}
-use Rattle.server_history.specs.Server.{Server}
+use Rattle.server_history.specs.Server.{Server, IsSettled}
 use Rattle.block_server.specs.View.{server_of}
 use Rattle.block_server.proofs.server.Server.tick_into.Given as goal
 
 abbrev pub invariant-loop-place : goal.invariant-loop-place
 invariant-loop-place g l = record {
-  rest : (later : List Reply) (new : Server) → TakeTurns (TicksPort (a_tick_older (server_of g.A.Adapter.device l.fn.self)).book) l.place (drop l.place l.ports) later (server_of g.A.Adapter.device l.self) new
-      → TakeTurns (TicksPort (a_tick_older (server_of g.A.Adapter.device l.fn.self)).book) 0 l.fn.self.ports (l.replies.items ++ later) (a_tick_older (server_of g.A.Adapter.device l.fn.self)) new;
+  rest : (later : List Reply) (new : Server) → TakeTurns (TicksPort (a_tick_older (server_of g.A.Adapter.device l.fn.self)).book) (λ port one other. other ≡ one) l.place (drop l.place l.ports) later (server_of g.A.Adapter.device l.self) new
+      → TakeTurns (TicksPort (a_tick_older (server_of g.A.Adapter.device l.fn.self)).book) (λ port one other. other ≡ one) 0 l.fn.self.ports (l.replies.items ++ later) (a_tick_older (server_of g.A.Adapter.device l.fn.self)) new;
   ports : (q : ℕ) → l.place ≤ q → found_of l.self.ports q ≡ found_of l.ports q;
   room : length l.replies.items + length l.self.book ≤ 128;
+  settled : IsSettled (server_of g.A.Adapter.device l.self);
 }

@@ -1,0 +1,102 @@
+-- A port that isn't ready is tried: what it was found to be, and what the server then is.
+use Rattle.std.proofs.Common.{ℕ, true, false, ◌≡◌, ◌≢◌, set, refl, sym, subst}
+use Rattle.ata_types.specs.declared.Port.{Port}
+use Rattle.ata_types.specs.declared.PortState.{PortState}
+use Rattle.ata_types.specs.declared.PortState.TheVariants.{Absent, Dead, Foreign, Ready, Unfit}
+use Rattle.adapter.specs.Device.{Device}
+use Rattle.agreement.specs.Driven.{AnyUse, IsFollowed}
+use Rattle.block_machine.specs.declared.due.Mode.{Mode}
+use Rattle.error_recovery.specs.declared.Next.{Next}
+use Rattle.error_recovery.specs.declared.Next.TheVariants as next
+use Rattle.host_boot.specs.Taken.{found_of, wanted_of}
+use Rattle.host_boot.specs.declared.Found.{Found}
+use Rattle.host_boot.specs.declared.Found.TheVariants.{Unready}
+use Rattle.identify.specs.declared.wanted.Wanted.{Wanted}
+use Rattle.port_control.specs.declared.Running.{Running}
+use Rattle.port_control.specs.declared.Stopped.{Stopped}
+use Rattle.port_look.specs.Looks.{IsLooking}
+use Rattle.server_history.specs.Mended.{AreUnused}
+use Rattle.server_history.specs.Server.{Server, IsSettled, is_served}
+use Rattle.server_history.specs.Tried.{IsFoundAnew, IsLookedAt, TriesPort}
+use Rattle.server_history.specs.Turns.{TriesOther}
+use Rattle.slots.specs.Uses.{Uses as PortSlots}
+use Rattle.block_server.specs.Trying.{FindsAnew}
+
+-- a port that isn't ready is served
+pub served_unready : (found : Found) (state : PortState) → found ≡ Unready state → is_served found ≡ true
+served_unready found state is = subst (λ (f : Found). is_served f ≡ true) (sym is) refl
+
+-- what is to be booted isn't dead
+pub booted_alive : (state : PortState) (port : Port) (old new : Device) → IsLookedAt state port true old new → state ≢ Dead
+booted_alive Absent port old new looks = λ dead. let z : Absent ≡ Dead = dead in cc
+booted_alive Foreign port old new looks = λ dead. let z : Foreign ≡ Dead = dead in cc
+booted_alive (Unfit cause) port old new looks = λ dead. let z : Unfit cause ≡ Dead = dead in cc
+booted_alive Ready port old new looks = let z : true ≡ false = looks.0 in absurd cc
+booted_alive Dead port old new looks = let z : true ≡ false = looks.0 in absurd cc
+
+-- a port that was given up, and may not be booted, is dead
+pub found_dead : (wanted : Wanted) (port : Port) (way : Next) (d : Device) → ((token : Running) → way ≢ next.Running token) → ((token : Stopped) → way ≡ next.Restart token → ⊥)
+    → IsFoundAnew wanted port way d d (Unready Dead)
+found_dead wanted port (next.Running token) d halts restarts = absurd (halts token refl)
+found_dead wanted port (next.Restart token) d halts restarts = absurd (restarts token refl)
+found_dead wanted port next.Dead d halts restarts = (refl, refl)
+
+-- the server once its port was found anew
+abbrev pub found_anew : Server → Device → Found → Mode → PortSlots → ℕ → Server
+found_anew s new found mode slots number = record s {
+  device = new;
+  ports = set s.ports number found;
+  modes = set s.modes number mode;
+  slots = set s.slots number slots;
+}
+
+-- what the law says of a port that was tried
+abbrev pub SettlesTried : Type 0
+SettlesTried = (s new : Server) (port : Port) → IsSettled s → (tries : TriesPort port s new) → (tries.state ≢ Dead → IsFollowed (IsLooking port) AnyUse s.device tries.seen) → TriesOther port s new × IsSettled new
+
+module _ (law : SettlesTried) (s : Server) (port : Port) (state : PortState) (is : found_of s.ports port.0 ≡ Unready state) (settled : IsSettled s) (seen : Device) where
+  -- where nothing shows, that was all
+  pub left_settles : IsLookedAt state port false s.device seen → IsFollowed (IsLooking port) AnyUse s.device seen → TriesOther port s (record s { device = seen }) × IsSettled (record s { device = seen })
+  left_settles looks followed = law s (record s { device = seen }) port settled tries (λ alive. followed)
+    where
+      tries : TriesPort port s (record s { device = seen })
+      tries = record {
+        state = state;
+        is = is;
+        result = false;
+        seen = seen;
+        looks = looks;
+        left = λ none. refl;
+        boots = λ booted. let z : false ≡ true = booted in absurd cc;
+      }
+
+  module _ (looks : IsLookedAt state port true s.device seen) (followed : IsFollowed (IsLooking port) AnyUse s.device seen) (new : Device) (found : Found) (mode : Mode) (slots : PortSlots)
+      (finds : FindsAnew (wanted_of s.wanted port.0) port found mode seen new) (unused : AreUnused mode slots) where
+    boots_so : TriesPort port s (found_anew s new found mode slots port.0)
+    boots_so = record {
+      state = state;
+      is = is;
+      result = true;
+      seen = seen;
+      looks = looks;
+      left = λ none. let z : true ≡ false = none in absurd cc;
+      boots = λ booted. record {
+        result = finds.result;
+        stopped = finds.stopped;
+        gives_up = finds.gives_up;
+        found = found;
+        is = finds.is;
+        mode = mode;
+        mode_is = finds.mode_is;
+        slots = slots;
+        unused = unused;
+        server = refl;
+      };
+    }
+
+    -- else it was given up, and booted
+    pub booted_settles : (number : ℕ) → number ≡ port.0 → TriesOther port s (found_anew s new found mode slots number) × IsSettled (found_anew s new found mode slots number)
+    unfolding boots_so
+    booted_settles number same =
+        subst (λ (n : ℕ). TriesOther port s (found_anew s new found mode slots n) × IsSettled (found_anew s new found mode slots n)) (sym same)
+        (law s (found_anew s new found mode slots port.0) port settled boots_so (λ alive. followed))
