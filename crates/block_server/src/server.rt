@@ -505,9 +505,10 @@ impl<A: Adapter> Server<A> {
     /// `PortDead`. Then what is due is issued, of age 0. Which ports are overdue is found out before any is restarted. A port of which no request is
     /// overdue isn't looked at, nor is one that isn't ready. The replies stand port by port, in rising number, each port's in order of acceptance.
     ///
-    /// The server reads no clock: its caller calls this by one, at a pace of its choosing, beside `service`. A disk has between two and three ticks' time for a request,
-    /// counted from its issue. A restart waits for the port as its stop and its boot do, at most so often as these tell, and meanwhile for all ports; four ports may be restarted in a
-    /// call. A tick that restarts none makes no access.
+    /// The server reads no clock: its caller calls this by one, at a pace of its choosing, beside `service`. A request has between two and three ticks' time
+    /// from its issue until a `service` answers it, which the disk and the caller share: so `service` is called before each tick. A restart costs the other requests that had been issued one
+    /// of their four issues. It waits for the port as its stop and its boot do, at most so often as these tell, and meanwhile for all ports; four ports may be restarted in a
+    /// call. A tick that restarts none makes no access (its contract says that it changes no port's registers).
     pub fn tick(&mut self) -> Replies
         ensures ticks { Ticks result.items (server_of A.device self.old) (server_of A.device self.new) }
         ensures adds { Adds (server_of A.device self.old) (server_of A.device self.new) Tick (Served result.items) }

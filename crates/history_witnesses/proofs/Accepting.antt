@@ -36,7 +36,7 @@ use Rattle.history_witnesses.proofs.Members.{nowhere, only}
 use Rattle.history_witnesses.proofs.Memory.{past_driver}
 use Rattle.history_witnesses.proofs.Pages.{plain_disks}
 use Rattle.history_witnesses.proofs.Ready.{Agreeing, Stands, begins, fit_ready, holds, instant_with, no_page, start, starts, two_ready}
-use Rattle.history_witnesses.proofs.Serving.{HasOne, agrees_one, none_due, serves_none, serves_one, outstanding_as}
+use Rattle.history_witnesses.proofs.Serving.{HasOne, agrees_one, aged, none_due, serves_none, serves_one, outstanding_as}
 use Rattle.history_witnesses.proofs.Submitting.{issued, others_clear, submit_accesses, submits, submitted}
 
 -- ---- the machine
@@ -82,29 +82,39 @@ waiting = outstanding_as first_id 100 40 (issuing_on.accepted submission).held
 abbrev pub submitted_at : Instant Device
 submitted_at = issuing_on.submitted_at submission
 
+-- the read issued still when it has this age
+abbrev pub waiting_for : ℕ → Pending
+waiting_for age = aged age waiting
+
+abbrev pub issued_for : ℕ → Machine
+issued_for age = record issuing { book = waiting_for age ∷ [] }
+
+abbrev pub issued_at : ℕ → Instant Device
+issued_at age = record { device = submitted; moment = record { machine = issued_for age; ports = both } }
+
 may_issue : May (after start (Accept (issuing_on.accepted submission) ∷ [])) (Issue plain waits)
 may_issue = ((0, omega arith, refl), record { here = (0, omega arith, refl); clear = refl; slot = λ h. absurd (true≢false h) }, λ e h. absurd (nowhere e h))
 
 stands : Stands issued
 stands = record { same = refl; quiet = λ place from. refl }
 
-pub in_book : (e : Pending) → Contains issuing.book e → e ≡ waiting
-in_book e here = only waiting e here
+pub in_book : (age : ℕ) (e : Pending) → Contains (issued_for age).book e → e ≡ waiting_for age
+in_book age e here = only (waiting_for age) e here
 
 -- ---- what holds
 
-serves_stage : Stage read_memory issued 0 0 waiting (read_of 100 1) (cut 0x28000 1)
-serves_stage = inl (record { started = refl; issued = refl; free = refl; sact = refl; block = tt; untouched = λ i. sym (le-ltb i 0 (omega arith)); unended = refl })
+serves_stage : (age : ℕ) → Stage read_memory issued 0 0 (waiting_for age) (read_of 100 1) (cut 0x28000 1)
+serves_stage age = inl (record { started = refl; issued = refl; free = refl; sact = refl; block = tt; untouched = λ i. sym (le-ltb i 0 (omega arith)); unended = refl })
 
 pub serves : ServesRequest issuing read_memory issued 0 0 first_id
-serves = serves_one issuing read_memory issued 0 (read_of 100 1) first_id 100 40 waiting.request.held refl (omega arith) (0, omega arith, refl) refl refl told serves_stage
+serves = serves_one issuing read_memory issued 0 (read_of 100 1) first_id 100 40 waiting.request.held 0 refl (omega arith) (0, omega arith, refl) refl refl told (serves_stage 0)
 
 pub serves_plain : is_queued serves.command.operation ≡ false
 unfolding serves serves_one
 serves_plain = refl
 
-has_one : HasOne plain_disks issuing [] read_memory issued (read_of 100 1) 100 40 waiting.request.held
-has_one = record {
+has_one : (age : ℕ) → HasOne plain_disks (issued_for age) [] read_memory issued (read_of 100 1) 100 40 waiting.request.held age
+has_one age = record {
   stands = stands;
   disks = (refl, refl, refl, refl);
   book = refl;
@@ -114,16 +124,19 @@ has_one = record {
   first = refl;
   kind = refl;
   told = told;
-  stage = serves_stage;
+  stage = serves_stage age;
   others = λ slot. record { issued = others_clear slot; free = refl; unarmed = refl };
   frames = λ f b from small. past_driver f b from;
 }
 
-submitted_agrees : Agreeing plain_disks first_slots issuing [] read_memory issued
-submitted_agrees = agrees_one plain_disks issuing [] read_memory issued (read_of 100 1) 100 40 waiting.request.held has_one
+issued_agrees : (age : ℕ) → Agreeing plain_disks first_slots (issued_for age) [] read_memory issued
+issued_agrees age = agrees_one plain_disks (issued_for age) [] read_memory issued (read_of 100 1) 100 40 waiting.request.held age (has_one age)
+
+pub holds_issued : (age : ℕ) → HoldsWith (Any ∷ Any ∷ []) first_slots (issued_at age)
+holds_issued age = holds plain_disks first_slots (issued_for age) [] read_memory issued (issued_agrees age)
 
 pub holds_submitted : HoldsWith (Any ∷ Any ∷ []) first_slots submitted_at
-holds_submitted = holds plain_disks first_slots issuing [] read_memory issued submitted_agrees
+holds_submitted = holds_issued 0
 
 pub ready_has_begun : ReadyPortHasBegun
 ready_has_begun = record {
@@ -138,7 +151,7 @@ ready_has_begun = record {
 is_issued : IsIssued submission
 is_issued = record {
   stands = record { same = refl; quiet = λ place from. refl };
-  agreeing = submitted_agrees;
+  agreeing = issued_agrees 0;
   takes = record { rows = refl; id_is = refl; left = omega arith; few = omega arith; owned = refl; free = refl; from = omega arith; to = omega arith; on_disk = omega arith };
   may = may_issue;
   all_issued = λ port is. none_due plain (unanswered waiting ∷ []) (λ r here. ap (λ (x : Unanswered). x.issued) (only (unanswered waiting) r here)) port;
@@ -169,17 +182,17 @@ no_flags (suc zero) place = refl
 no_flags (suc (suc n)) place = refl
 
 -- no request had ended then
-pub not_ended : (e : Pending) → Contains issuing.book e → e.ended ≡ true → ⊥
-not_ended e here is = true≢false (sym is ∙ ap (λ (x : Pending). x.ended) (in_book e here))
+pub not_ended : (age : ℕ) (e : Pending) → Contains (issued_for age).book e → e.ended ≡ true → ⊥
+not_ended age e here is = true≢false (sym is ∙ ap (λ (x : Pending). x.ended) (in_book age e here))
 
 -- where no command is taken yet, a slot whose bit of PxCI is clear serves no request
-pub bits_set : (p : PortState) → p.st ≡ true → ((k : ℕ) → p.ci k ≡ bit 1 k) → ((k : ℕ) → p.taken k ≡ None) → (e : Pending) (k : ℕ) → ServesRequest issuing read_memory p 0 k e.request.id → bit 1 k ≡ false → ⊥
-bits_set p started waits free e k s ci = serves_none issuing read_memory p k e.request.id s started (waits k ∙ ci) (free k)
-    (ap (λ (x : Pending). x.ended) (⊎_elim (λ m. in_book s.pending m.0) (λ m. absurd (nowhere s.pending m)) s.moves))
+pub bits_set : (age : ℕ) (p : PortState) → p.st ≡ true → ((k : ℕ) → p.ci k ≡ bit 1 k) → ((k : ℕ) → p.taken k ≡ None) → (e : Pending) (k : ℕ) → ServesRequest (issued_for age) read_memory p 0 k e.request.id → bit 1 k ≡ false → ⊥
+bits_set age p started waits free e k s ci = serves_none (issued_for age) read_memory p k e.request.id s started (waits k ∙ ci) (free k)
+    (ap (λ (x : Pending). x.ended) (⊎_elim (λ m. in_book age s.pending m.0) (λ m. absurd (nowhere s.pending m)) s.moves))
 
 -- and no other port has one
-pub none_there : (n : ℕ) (e : Pending) → IsIssuedOn (port_at (suc n)) issuing e → ⊥
-none_there n e on = let z : 0 ≡ suc n = sym (ap (λ (x : Pending). x.request.port.0) (in_book e on.here)) ∙ ap (λ (p : Port). p.0) on.port_is in omega (arith, z)
+pub none_there : (age n : ℕ) (e : Pending) → IsIssuedOn (port_at (suc n)) (issued_for age) e → ⊥
+none_there age n e on = let z : 0 ≡ suc n = sym (ap (λ (x : Pending). x.request.port.0) (in_book age e on.here)) ∙ ap (λ (p : Port). p.0) on.port_is in omega (arith, z)
 
 -- where this is the one step, there is one answer
 pub the_answer : (told : Outcome) (e : Pending) (o : Outcome) → Contains (Answer waiting told ∷ []) (Answer e o) → (e ≡ waiting) × (o ≡ told)
@@ -189,7 +202,7 @@ the_answer told e o here = let same : Answer e o ≡ Answer waiting told = only 
 pub leaves_other : (told : Outcome) (evidence : Evidence) (new : Moment) → IsUnnamed evidence (port_at 1) → count_by (tells_fault (port_at 1)) (Answer waiting told ∷ []) ≤ 1 → SamePort both new.ports (port_at 1)
     → ServesReady submitted_at.moment evidence (Answer waiting told ∷ []) new (port_at 1)
 leaves_other told evidence new un single same = record {
-  ended = λ e here at_port ended. absurd (not_ended e here ended);
+  ended = λ e here at_port ended. absurd (not_ended 0 e here ended);
   emptied = λ g. absurd (un.gone g);
   told = λ g. absurd (un.gone g);
   interrupts = λ why. absurd (⊎_elim un.failed un.gone why);

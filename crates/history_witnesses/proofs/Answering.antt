@@ -276,16 +276,16 @@ done_there = record {
   ci = 0;
   sact = 0;
   reads = record { before = []; later = losing_turn; here = refl; running = All-nil (LeavesCommand (port_at 0)) };
-  exact = λ e slot on s. (λ ok. (no_bit slot, no_bit slot), λ clear. (ended, sym (ap (λ (x : Pending). x.request) (in_book e on.here)), answer_here));
+  exact = λ e slot on s. (λ ok. (no_bit slot, no_bit slot), λ clear. (ended, sym (ap (λ (x : Pending). x.request) (in_book 0 e on.here)), answer_here));
 }
 
 service_finds : (n : ℕ) (e : Pending) → IsIssuedOn (port_at n) issuing e → FindsDone (port_at n) turns submitted_at service_steps
 service_finds zero e on = done_there
-service_finds (suc n) e on = absurd (none_there n e on)
+service_finds (suc n) e on = absurd (none_there 0 n e on)
 
 heeds : (n : ℕ) → both.state (port_at n) ≡ Ready → ServesReady submitted_at.moment loss_evidence service_steps lost_at.moment (port_at n)
 heeds zero is = record {
-  ended = λ e here at_port done. absurd (not_ended e here done);
+  ended = λ e here at_port done. absurd (not_ended 0 e here done);
   emptied = λ g e here. absurd (nowhere e here);
   told = λ g. absurd ((unnamed 0 (omega arith)).gone g);
   interrupts = λ why. absurd (⊎_elim (nowhere (port_at 0)) (unnamed 0 (omega arith)).gone why);
@@ -300,7 +300,7 @@ heeds zero is = record {
   });
 }
 heeds (suc zero) is = record {
-  ended = λ e here at_port done. absurd (not_ended e here done);
+  ended = λ e here at_port done. absurd (not_ended 0 e here done);
   emptied = λ g e here. absurd (nowhere e here);
   told = λ g. inl (λ e o here at_port. inl (only_ok e o here));
   interrupts = λ why. inl (named 1);

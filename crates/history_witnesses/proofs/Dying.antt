@@ -107,7 +107,7 @@ holds_dead m knows waits kept = record {
 }
 
 waits_first : (n : ℕ) → n ≢ 0 → NoneWaits issuing (port_at n)
-waits_first n ne e here is = ne (sym (sym (ap (λ (x : Pending). x.request.port.0) (in_book e here)) ∙ ap (λ (p : Port). p.0) is))
+waits_first n ne e here is = ne (sym (sym (ap (λ (x : Pending). x.request.port.0) (in_book 0 e here)) ∙ ap (λ (p : Port). p.0) is))
 
 not_ready : (n : ℕ) → dead.state (port_at n) ≡ Ready → ⊥
 not_ready zero is = let x : Dead ≡ Ready = is in cc
@@ -227,7 +227,7 @@ serves_kept =
     let s = serves in
     record {
       pending = s.pending;
-      moves = inr (0, omega arith, sym (⊎_elim (λ here. in_book s.pending here.0) (λ kept. absurd (nowhere s.pending kept)) s.moves));
+      moves = inr (0, omega arith, sym (⊎_elim (λ here. in_book 0 s.pending here.0) (λ kept. absurd (nowhere s.pending kept)) s.moves));
       id_is = s.id_is;
       port_is = s.port_is;
       placed = s.placed;

@@ -20,6 +20,10 @@ mod Answering
 mod Dying
 mod Together
 mod Reordered
+mod Restarting
 mod Breaking
 mod Meeting
+mod Rebooted
 mod Broken
+mod Aging
+mod Hung

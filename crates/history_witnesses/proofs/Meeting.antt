@@ -73,7 +73,7 @@ no_fault (suc (suc n)) = refl
 
 -- the slot serves the request as before
 serves_still : ServesRequest issuing read_memory broken 0 0 first_id
-serves_still = serves_one issuing read_memory broken 0 (read_of 100 1) first_id 100 40 waiting.request.held refl (omega arith) (0, omega arith, refl) refl refl told
+serves_still = serves_one issuing read_memory broken 0 (read_of 100 1) first_id 100 40 waiting.request.held 0 refl (omega arith) (0, omega arith, refl) refl refl told
     (inl (record { started = refl; issued = refl; free = refl; sact = refl; block = tt; untouched = λ i. sym (le-ltb i 0 (omega arith)); unended = refl }))
 
 slots : (n k : ℕ) → IsServedAs issuing read_memory tape_broken (having (broken ∷ second ∷ []) n) n k (uses_first n k)
@@ -106,7 +106,7 @@ port_ready = record {
   info = plain_disks.info;
   disk = fit_disk plain_disks 0 (dev broken) [] (page_entry plain_disks.page 1 ∷ gained) refl refl refl refl (other_page plain_disks.page gained (unpaged 0));
   shows = record { serial = refl; sectors = refl; trims = refl; mode = refl };
-  slots = requests_first broken_at plain (omega arith) (λ e here. kind_of e (in_book e here));
+  slots = requests_first broken_at plain (omega arith) (λ e here. kind_of e (in_book 0 e here));
   kept = λ e k. absurd (nowhere e k);
 }
 
@@ -114,7 +114,7 @@ port_broken : (n : ℕ) → HoldsOf (wanted_of (Any ∷ Any ∷ []) n) first_slo
 port_broken zero = port_ready
 port_broken (suc zero) = second_ready plain_disks first_slots issuing gained read_memory broken (unpaged 1) (λ slot. refl) refl refl
 port_broken (suc (suc n)) = unserved_at first_slots broken_at (suc (suc n)) refl refl (record { free = λ slot. refl; unparked = refl })
-    (λ e here is. let z : 0 ≡ suc (suc n) = sym (ap (λ (x : Pending). x.request.port.0) (in_book e here)) ∙ ap (λ (p : Port). p.0) is in omega (arith, z))
+    (λ e here is. let z : 0 ≡ suc (suc n) = sym (ap (λ (x : Pending). x.request.port.0) (in_book 0 e here)) ∙ ap (λ (p : Port). p.0) is in omega (arith, z))
     (λ e kept. absurd (nowhere e kept))
 
 pub holds_broken : HoldsWith (Any ∷ Any ∷ []) first_slots broken_at

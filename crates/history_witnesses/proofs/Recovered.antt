@@ -192,16 +192,16 @@ finds = record {
   ci = 1;
   sact = 0;
   reads = record { before = []; later = Reading (Px (port_at 0) Tfd) 0x4041 ∷ from_stop; here = refl; running = All-nil (LeavesCommand (port_at 0)) };
-  exact = λ e slot on s. (λ ok. absurd (none_ok e ok), λ clear. absurd (bits_set issued refl (λ k. refl) (λ k. refl) e slot s clear.0));
+  exact = λ e slot on s. (λ ok. absurd (none_ok e ok), λ clear. absurd (bits_set 0 issued refl (λ k. refl) (λ k. refl) e slot s clear.0));
 }
 
 service_finds : (n : ℕ) (e : Pending) → IsIssuedOn (port_at n) issuing e → FindsDone (port_at n) recovery_accesses submitted_at (answer ∷ [])
 service_finds zero e on = finds
-service_finds (suc n) e on = absurd (none_there n e on)
+service_finds (suc n) e on = absurd (none_there 0 n e on)
 
 heeds : (n : ℕ) → both.state (port_at n) ≡ Ready → ServesReady submitted_at.moment fault_evidence (answer ∷ []) recovered_at.moment (port_at n)
 heeds zero is = record {
-  ended = λ e here at_port ended. absurd (not_ended e here ended);
+  ended = λ e here at_port ended. absurd (not_ended 0 e here ended);
   emptied = λ g. absurd (nowhere (port_at 0) g);
   told = λ g. absurd (nowhere (port_at 0) g);
   interrupts = λ why. inl (named 0);

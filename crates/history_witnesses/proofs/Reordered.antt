@@ -156,7 +156,7 @@ unpaged : (slot k n port : ℕ) → All (λ e. IsMove port operation.Identify e 
 unpaged slot k n port = All-from_recursion (λ e. IsMove port operation.Identify e → ⊥) (ends slot k n) (λ (x : _ × _). let same : operation.ReadQueued ≡ operation.Identify = x.1 in cc, (λ x. x, tt))
 
 -- the first is taken still
-has_left : HasOne queueing_disks (found_on.answered discovery_two) (ends 1 101 41) swapped_memory found (queued_read 100) 100 40 held
+has_left : HasOne queueing_disks (found_on.answered discovery_two) (ends 1 101 41) swapped_memory found (queued_read 100) 100 40 held 0
 unfolding two_memory one_memory patched bytes_at
 has_left = record {
   stands = found_stands;
@@ -184,7 +184,7 @@ has_left = record {
 }
 
 left_agrees : Agreeing queueing_disks first_slots (found_on.answered discovery_two) (ends 1 101 41) swapped_memory found
-left_agrees = agrees_one queueing_disks (found_on.answered discovery_two) (ends 1 101 41) swapped_memory found (queued_read 100) 100 40 held has_left
+left_agrees = agrees_one queueing_disks (found_on.answered discovery_two) (ends 1 101 41) swapped_memory found (queued_read 100) 100 40 held 0 has_left
 
 -- exactly the second is answered
 exact_two : (e : Pending) (slot : ℕ) → IsIssuedOn (port_at 0) both_issuing e → ServesRequest both_issuing two_memory two_issued 0 slot e.request.id

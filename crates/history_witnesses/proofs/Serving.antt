@@ -32,12 +32,16 @@ use Rattle.history_witnesses.proofs.Submitting.{sent}
 abbrev pub outstanding_as : RequestId → ℕ → ℕ → (ℕ → Block) → Pending
 outstanding_as id k n held = issue (newly_accepted (accepted_as id k n held))
 
-unfoldable pub serves_one : (m : Machine) (memory : ℕ → ℕ) (p : PortState) (slot : ℕ) (c : Meaning) (id : RequestId) (k n : ℕ) (held : ℕ → Block) → p.bases.clb ≡ 0 → slot < 32
-    → Contains m.book (outstanding_as id k n held) → op_of c.operation ≡ Some Read → c.first ≡ k → Told memory 0 0 slot c (cut (4096 * n) 1)
-    → Stage memory p 0 slot (outstanding_as id k n held) c (cut (4096 * n) 1) → ServesRequest m memory p 0 slot id
-serves_one m memory p slot c id k n held list below here op first told stage =
+-- the request at an age
+abbrev pub aged : ℕ → Pending → Pending
+aged age e = record e { age = age }
+
+unfoldable pub serves_one : (m : Machine) (memory : ℕ → ℕ) (p : PortState) (slot : ℕ) (c : Meaning) (id : RequestId) (k n : ℕ) (held : ℕ → Block) (age : ℕ) → p.bases.clb ≡ 0 → slot < 32
+    → Contains m.book (aged age (outstanding_as id k n held)) → op_of c.operation ≡ Some Read → c.first ≡ k → Told memory 0 0 slot c (cut (4096 * n) 1)
+    → Stage memory p 0 slot (aged age (outstanding_as id k n held)) c (cut (4096 * n) 1) → ServesRequest m memory p 0 slot id
+serves_one m memory p slot c id k n held age list below here op first told stage =
     record {
-      pending = outstanding_as id k n held;
+      pending = aged age (outstanding_as id k n held);
       moves = inl (here, refl);
       id_is = refl;
       port_is = refl;
@@ -70,7 +74,10 @@ serves_none m memory p slot id s started unissued free unended = ⊎_elim
 first_apart : AreApart first_slots.uses
 first_apart q k q' k' id u v = let one = serves_first q k id u in let other = serves_first q' k' id v in (one.0 ∙ sym other.0, one.1 ∙ sym other.1)
 
-module _ (disk : Kind) (m : Machine) (more : List Entry) (memory : ℕ → ℕ) (p : PortState) (c : Meaning) (k n : ℕ) (held : ℕ → Block) where
+module _ (disk : Kind) (m : Machine) (more : List Entry) (memory : ℕ → ℕ) (p : PortState) (c : Meaning) (k n : ℕ) (held : ℕ → Block) (age : ℕ) where
+  abbrev the_request : Pending
+  the_request = aged age (outstanding_as first_id k n held)
+
   abbrev mode : Mode
   mode = mode_of queueing_cap disk.info
 
@@ -78,26 +85,26 @@ module _ (disk : Kind) (m : Machine) (more : List Entry) (memory : ℕ → ℕ) 
   pub record HasOne : Type 0 where
     pub stands : Stands p
     pub disks : (m.present ≡ start.present) × (m.disk_ids ≡ start.disk_ids) × (m.sizes ≡ start.sizes) × (m.disks ≡ start.disks)
-    pub book : m.book ≡ outstanding_as first_id k n held ∷ []
+    pub book : m.book ≡ aged age (outstanding_as first_id k n held) ∷ []
     pub unkept : m.kept ≡ []
     pub unpaged : (port : ℕ) → All (λ e. IsMove port Identify e → ⊥) more
     pub op : op_of c.operation ≡ Some Read
     pub first : c.first ≡ k
     pub kind : is_queued c.operation ≡ not (is_plain (mode_of queueing_cap disk.info) Read)
     pub told : Told memory 0 0 0 c (cut (4096 * n) 1)
-    pub stage : Stage memory p 0 0 (outstanding_as first_id k n held) c (cut (4096 * n) 1)
+    pub stage : Stage memory p 0 0 (aged age (outstanding_as first_id k n held)) c (cut (4096 * n) 1)
     pub others : (slot : ℕ) → IsFree p (suc slot)
     pub frames : SameMemory m memory
 
   module _ (has : HasOne) where
-    pub the_one : (e : Pending) → Contains m.book e → e ≡ outstanding_as first_id k n held
-    the_one e here = only (outstanding_as first_id k n held) e (subst (λ (es : List Pending). Contains es e) has.book here)
+    pub the_one : (e : Pending) → Contains m.book e → e ≡ the_request
+    the_one e here = only the_request e (subst (λ (es : List Pending). Contains es e) has.book here)
 
     slots : (slot : ℕ) → IsServedAs m memory (sent disk.page ++ more) p 0 slot (uses_first 0 slot)
-    slots zero = serves_one m memory p 0 c first_id k n held (ap (λ (q : PortState). q.bases.clb) has.stands.same) (omega arith) (subst (λ (es : List Pending). Contains es (outstanding_as first_id k n held)) (sym has.book) (0, omega arith, refl)) has.op has.first has.told has.stage
+    slots zero = serves_one m memory p 0 c first_id k n held age (ap (λ (q : PortState). q.bases.clb) has.stands.same) (omega arith) (subst (λ (es : List Pending). Contains es the_request) (sym has.book) (0, omega arith, refl)) has.op has.first has.told has.stage
     slots (suc slot) = has.others slot
 
-    kind_of : (e : Pending) → e ≡ outstanding_as first_id k n held → IsOfKind mode (served_with disk first_slots m more memory p) 0 0 e
+    kind_of : (e : Pending) → e ≡ the_request → IsOfKind mode (served_with disk first_slots m more memory p) 0 0 e
     kind_of e is = subst (IsOfKind mode (served_with disk first_slots m more memory p) 0 0) (sym is) (record {
       command = c;
       places = cut (4096 * n) 1;

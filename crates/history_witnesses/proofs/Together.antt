@@ -103,7 +103,7 @@ outstanding_second = outstanding_as second_id 101 41 held_too
 one_stands : Stands one_issued
 one_stands = record { same = refl; quiet = λ place from. refl }
 
-has_one : HasOne queueing_disks first_issuing [] one_memory one_issued (queued_read 100) 100 40 held
+has_one : HasOne queueing_disks first_issuing [] one_memory one_issued (queued_read 100) 100 40 held 0
 has_one = record {
   stands = one_stands;
   disks = (refl, refl, refl, refl);
@@ -120,7 +120,7 @@ has_one = record {
 }
 
 one_agrees : Agreeing queueing_disks first_slots first_issuing [] one_memory one_issued
-one_agrees = agrees_one queueing_disks first_issuing [] one_memory one_issued (queued_read 100) 100 40 held has_one
+one_agrees = agrees_one queueing_disks first_issuing [] one_memory one_issued (queued_read 100) 100 40 held 0 has_one
 
 may_first : May (after start (Accept (issued_on.accepted submission_one) ∷ [])) (Issue queued (newly_accepted (issued_on.accepted submission_one)))
 may_first = ((0, omega arith, refl), record { here = (0, omega arith, refl); clear = refl; slot = λ _. omega arith }, λ e h. absurd (nowhere e h))
@@ -154,8 +154,8 @@ waits_in : (k n slot : ℕ) (id : RequestId) (block : ℕ → Block) → two_iss
 waits_in k n slot id block issued active = inl (record { started = refl; issued = issued; free = refl; sact = active; block = tt; untouched = λ i. sym (le-ltb i 0 (omega arith)); unended = refl })
 
 two_serve : (slot : ℕ) → IsServedAs both_issuing two_memory pages two_issued 0 slot (two_uses 0 slot)
-two_serve zero = serves_one both_issuing two_memory two_issued 0 (queued_read 100) first_id 100 40 held refl (omega arith) (0, omega arith, refl) refl refl first_told (waits_in 100 40 0 first_id held refl refl)
-two_serve (suc zero) = serves_one both_issuing two_memory two_issued 1 (queued_read 101) second_id 101 41 held_too refl (omega arith) (1, omega arith, refl) refl refl second_told (waits_in 101 41 1 second_id held_too refl refl)
+two_serve zero = serves_one both_issuing two_memory two_issued 0 (queued_read 100) first_id 100 40 held 0 refl (omega arith) (0, omega arith, refl) refl refl first_told (waits_in 100 40 0 first_id held refl refl)
+two_serve (suc zero) = serves_one both_issuing two_memory two_issued 1 (queued_read 101) second_id 101 41 held_too 0 refl (omega arith) (1, omega arith, refl) refl refl second_told (waits_in 101 41 1 second_id held_too refl refl)
 two_serve (suc (suc slot)) = record { issued = neither slot; free = refl; unarmed = neither slot }
 
 pub not_second : first_id ≡ second_id → ⊥

@@ -5,4 +5,6 @@ pub mod Recovery
 pub mod Loss
 pub mod Dead
 pub mod Queued
+pub mod Restart
 pub mod Fatal
+pub mod Hung

@@ -2,6 +2,7 @@
 ghost use Rattle.history_witnesses.specs.Begun.{ReadyPortHasBegun};
 ghost use Rattle.history_witnesses.specs.Dead.{DeathIsAHistory};
 ghost use Rattle.history_witnesses.specs.Fatal.{FatalErrorIsAHistory};
+ghost use Rattle.history_witnesses.specs.Hung.{HungPortIsAHistory};
 ghost use Rattle.history_witnesses.specs.Loss.{LossIsAHistory};
 ghost use Rattle.history_witnesses.specs.Queued.{OrderIsFree};
 ghost use Rattle.history_witnesses.specs.Recovery.{RecoveryTies};
@@ -38,4 +39,10 @@ pub fn queued_requests_end_in_any_order()
 /// calls is met.
 pub fn a_fatal_error_is_a_history()
     ensures { FatalErrorIsAHistory }
+{}
+
+/// There is a history with a read that never ends, and three ticks, of which the third finds its port hung, gives it up, and boots it anew: all
+/// that is asked of its calls is met.
+pub fn a_hung_port_is_a_history()
+    ensures { HungPortIsAHistory }
 {}

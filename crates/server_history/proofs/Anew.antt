@@ -1,11 +1,12 @@
 -- A port that isn't ready is looked at, given up, and booted: what that leaves of the server, and what it tells.
 use Rattle.std.proofs.Common.{ℕ, ◌≡◌, ◌≢◌, ◌<◌, ◌++◌, true, false, List, [], ◌∷◌, Option, length, refl, sym, ap, ◌∙◌, subst, inl, inr, arith}
-use Rattle.std.specs.List.{All, Contains}
 use Rattle.std.proofs.lemmas.List.{get_or-set_other, get_or-set_same}
 use Rattle.std.proofs.lemmas.List.Elements.{All-append, All-cons, All-nil, All-weaker}
+use Rattle.std.specs.List.{All, Contains}
 use Rattle.ata_types.specs.declared.Port.{Port}
 use Rattle.ata_types.specs.declared.PortState.{PortState}
 use Rattle.ata_types.specs.declared.PortState.TheVariants.{Dead as DeadState, Ready as ReadyState}
+use Rattle.hba_regs.specs.Bits.{bit}
 use Rattle.adapter.specs.Access.{Access, DoesAll}
 use Rattle.adapter.specs.Access.Access.{Loading, Reading, Storing, Writing}
 use Rattle.adapter.specs.Device.{Device}
@@ -20,7 +21,6 @@ use Rattle.error_recovery.specs.declared.Next.{Next}
 use Rattle.error_recovery.specs.declared.Next.TheVariants as next
 use Rattle.error_recovery.specs.declared.Recovered.{Recovered}
 use Rattle.host_boot.specs.Taken.{IsServed, StillStandsBehind, found_of, wanted_of}
-use Rattle.hba_regs.specs.Bits.{bit}
 use Rattle.host_boot.specs.declared.Found.{Found}
 use Rattle.host_boot.specs.declared.Found.TheVariants.{Ready, Unready, Unserved}
 use Rattle.identify.specs.declared.DiskInfo.{DiskInfo}
@@ -139,7 +139,7 @@ stopped_its port (next.Running token) = All-cons (λ q. q ≡ port) port [] refl
 stopped_its port (next.Restart token) = All-cons (λ q. q ≡ port) port [] refl (All-nil (λ q. q ≡ port))
 stopped_its port next.Dead = All-nil (λ q. q ≡ port)
 
-interrupted : (wanted : Wanted) (port : Port) (then : Next) (old new : Device) (found : Found) → IsFoundAnew wanted port then old new found → IsInterrupted (evidence_tried (stopped_of port then) (stuck_if port found)) port
+pub interrupted : (wanted : Wanted) (port : Port) (then : Next) (old new : Device) (found : Found) → IsFoundAnew wanted port then old new found → IsInterrupted (evidence_tried (stopped_of port then) (stuck_if port found)) port
 interrupted wanted port (next.Running token) old new found none = absurd none
 interrupted wanted port (next.Restart token) old new found is = inl (first_here port [])
 interrupted wanted port next.Dead old new found is = inr (stuck_all port found is.0)

@@ -24,7 +24,8 @@ use Rattle.agreement.specs.Halting.{IsHaltedAsTaken}
 use Rattle.agreement.specs.Links.{SparesRegister}
 use Rattle.agreement.specs.Readying.{LeavesStored}
 use Rattle.agreement.specs.Slots.{Free, Own, Use, Uses, op_of, put}
-use Rattle.agreement.proofs.Driven.{by_none, by_then, followed_silent}
+use Rattle.agreement.proofs.Driven.{by_then, followed_silent}
+use Rattle.server_history.proofs.Driving.{by_none}
 use Rattle.block_machine.specs.Histories.{IsReached}
 use Rattle.block_machine.specs.Left.{after}
 use Rattle.block_machine.specs.State.{Machine}

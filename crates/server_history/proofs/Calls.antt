@@ -26,7 +26,7 @@ use Rattle.hba_regs.specs.declared.reg.Reg.TheVariants.{Ghc, Px}
 use Rattle.agreement.specs.Spares.{SparesBook}
 use Rattle.agreement.proofs.Adding.{device_adds, nothing_backed}
 use Rattle.agreement.proofs.Clients.{client_loads, client_stores}
-use Rattle.agreement.proofs.Driven.{by_one}
+use Rattle.server_history.proofs.Driving.{by_one}
 use Rattle.agreement.proofs.Lasting.{access_same}
 use Rattle.agreement.proofs.Paging.{access_sends_none}
 use Rattle.agreement.proofs.Permitting.{clients_are_free}

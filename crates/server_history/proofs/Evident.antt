@@ -40,6 +40,7 @@ use Rattle.request_queue.specs.declared.fate.Prospect.TheVariants.{DiskLost}
 use Rattle.slots.specs.Uses.{use_at}
 use Rattle.slots.specs.declared.Use.{Use as SlotUse}
 use Rattle.server_history.specs.Below.{LawsBelow}
+use Rattle.server_history.proofs.Showing.{grows_over}
 use Rattle.server_history.specs.Mended.{IsFailed, IsFoundAfter, IsFoundOut, IsProspect, IsMended, HasMetFates, MendsPort}
 use Rattle.server_history.specs.Served.{AnswersEach}
 use Rattle.server_history.specs.Server.{Server, IsKept, IsMachineOf, ports_of, slots_at, state_of, used_for, mode_in}
@@ -55,7 +56,7 @@ use Rattle.server_history.proofs.Placing.{freed_was}
 use Rattle.server_history.proofs.Recovering.{IsEarlyPart, IsPart}
 use Rattle.server_history.proofs.Recovery.{evidence_by, faults_of, stopped_of}
 use Rattle.server_history.proofs.Settling.{over_on, ready_on}
-use Rattle.server_history.proofs.Shown.{grown, had_disk, shows_device}
+use Rattle.server_history.proofs.Shown.{had_disk, shows_device}
 use Rattle.server_history.proofs.Slots.{AreOver, ready_found}
 use Rattle.server_history.proofs.Stretching.{TurnParts, accesses_in, done_over, found_is, found_kept, mid_device, turn_parts}
 use Rattle.server_history.proofs.Lists.{nowhere}
@@ -139,11 +140,11 @@ module _ (laws : LawsBelow) (port : Port) (replies : List Reply) (old new : Serv
   -- ---- the tape grows
 
   grown_late : Grows a.mid.device new.device
-  grown_late = laws.looks.grows_more a.mid.device a.device new.device (grown laws part a.mid.device a.device t.does) (grown laws t.late.accesses a.device new.device t.late.all)
+  grown_late = laws.looks.grows_more a.mid.device a.device new.device (grows_over laws part a.mid.device a.device t.does) (grows_over laws t.late.accesses a.device new.device t.late.all)
 
   grown_seen : Grows x.seen new.device
   grown_seen =
-      laws.looks.grows_more x.seen x.found new.device (grown laws x.reads.driven.accesses x.seen x.found x.reads.driven.all)
+      laws.looks.grows_more x.seen x.found new.device (grows_over laws x.reads.driven.accesses x.seen x.found x.reads.driven.all)
       (subst (λ (d : Device). Grows d new.device) (mid_device laws port replies old new k ready r looks kept) grown_late)
 
   -- ---- ports
@@ -223,7 +224,7 @@ module _ (laws : LawsBelow) (port : Port) (replies : List Reply) (old new : Serv
     told_so false is rests id = (rests.fault, stays_failed rests.fault rests.has_failed, rests.at ∙ sym rests.slot_is, rests.status_is, rests.error_is)
     told_so true is rests id = (
       (rests.fault, stays_failed rests.fault rests.has_failed),
-      (rests.page, laws.log_stays port old.device a.mid.device a.device new.device rests.page (grown laws t.early.accesses old.device a.mid.device t.early.all) (quiet_then is) rests.brings, rests.tells),
+      (rests.page, laws.log_stays port old.device a.mid.device a.device new.device rests.page (grows_over laws t.early.accesses old.device a.mid.device t.early.all) (quiet_then is) rests.brings, rests.tells),
     )
 
     tells_named : (used : SlotUse) → use_at (slots_at a.mid.slots port.0) its_failure.slot.0 ≡ Some used → TellsFault port (accesses_in t) old new (record { id = used.id; status = its_failure.status; error = its_failure.error })
@@ -267,7 +268,7 @@ module _ (laws : LawsBelow) (port : Port) (replies : List Reply) (old new : Serv
   had_at accesses d does shows grows m is steps backed = had_disk laws port old d new.device m accesses does (own_at accesses d does shows) is grows steps backed
 
   grown_issuing : Grows r.mid.device new.device
-  grown_issuing = let issued = each_driven laws port (due_ids (mode_in r.mid port) port (asks_of r.mid.book)) r.mid new r.issued in grown laws issued.accesses r.mid.device new.device issued.all
+  grown_issuing = let issued = each_driven laws port (due_ids (mode_in r.mid port) port (asks_of r.mid.book)) r.mid new r.issued in grows_over laws issued.accesses r.mid.device new.device issued.all
 
   -- a boot that finds a disk sees a device; so did the look that told of an error
   module _ (m : Machine) (stands : IsMachineOf old m) (steps : List Step) (backed : IsBacked old.device new.device m steps) where

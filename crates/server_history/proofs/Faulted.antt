@@ -53,7 +53,7 @@ is_fatal port (entry.Move x) = inr (λ is. is)
 is_fatal port (entry.Clear x) = inr (λ is. is)
 is_fatal port (entry.Done x) = inr (λ is. is)
 
-is_plugging : (port : ℕ) (e : Entry) → IsPlugging port e ⊎ (IsPlugging port e → ⊥)
+pub is_plugging : (port : ℕ) (e : Entry) → IsPlugging port e ⊎ (IsPlugging port e → ⊥)
 is_plugging port (entry.Unplug at) = cases_eq at.0 port
 is_plugging port (entry.Plug at name) = cases_eq at.0 port
 is_plugging port (entry.Fatal x) = inr (λ is. is)

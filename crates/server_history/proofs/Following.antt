@@ -1,9 +1,9 @@
 -- From a machine that stands for the server, a port's recovery, and what its requests meet then, lead to one that stands for the server after them.
-use Rattle.std.proofs.Common.{ℕ, ◌≡◌, ◌≢◌, ◌⊎◌, ◌<◌, ◌≤◌, ◌++◌, Bool, true, false, cond, eq-eqb, eqb-true, List, [], ◌∷◌, get_or, length, Option, None, inl, refl, sym, ap, ◌∙◌, subst, ⊎_elim, arith}
+use Rattle.std.proofs.Common.{ℕ, ◌≡◌, ◌≢◌, ◌⊎◌, ◌<◌, ◌++◌, Bool, true, false, cond, eq-eqb, eqb-true, List, [], ◌∷◌, get_or, length, Option, None, inl, refl, sym, ap, ◌∙◌, subst, ⊎_elim, arith}
 use Rattle.std.specs.List.{All, AllPairs, Contains}
 use Rattle.std.specs.Prelude.{filter}
-use Rattle.std.proofs.lemmas.Bool.{cases_eq, cases_lt, cond-true, false≢true}
-use Rattle.std.proofs.lemmas.List.{get_or-set_other, get_or-set_same, get_or_past}
+use Rattle.std.proofs.lemmas.Bool.{cases_eq, cond-true, false≢true}
+use Rattle.std.proofs.lemmas.List.{get_or-set_other, get_or-set_same}
 use Rattle.std.proofs.lemmas.List.Elements.{All-contains, All-contains_itself, All-filter, All-head, All-tail, Contains-append_cases, Contains-append_left, Contains-append_right, filter_passes}
 use Rattle.std.proofs.lemmas.List.Kept.{AllPairs-filter}
 use Rattle.ata_types.specs.declared.Port.{Port}
@@ -46,7 +46,7 @@ use Rattle.server_history.specs.Below.{LawsBelow}
 use Rattle.server_history.specs.Fates.{DecidesOn, MayMeet, MeetsInMachine, keeps_fate, loan_of, loans_of}
 use Rattle.server_history.specs.Mended.{AreUnused, IsFailed, IsFoundAfter, IsProspect, HasMetFates, holdings_of, requests_of, with_port}
 use Rattle.server_history.specs.Served.{answers_in}
-use Rattle.server_history.specs.Server.{AreKept, AreOfTwo, AreUsesOf, IsKept, IsMachineOf, Server, kept_at, no_slots, slots_at, state_of}
+use Rattle.server_history.specs.Server.{AreKept, AreOfTwo, AreUsesOf, IsKept, IsMachineOf, Server, is_served, kept_at, no_slots, slots_at, state_of}
 use Rattle.server_history.proofs.Going.{book_on, still_kept}
 use Rattle.server_history.proofs.Joined.{first_or_later}
 use Rattle.server_history.proofs.Keeping.{none_alive}
@@ -54,6 +54,7 @@ use Rattle.server_history.proofs.Looking.{finding_kept, found_over, looking_kept
 use Rattle.server_history.proofs.Meeting.{in_loans, loans_in, meet, tame}
 use Rattle.server_history.proofs.Leading.{IsPassed, devices_both, passed, uses_then}
 use Rattle.server_history.proofs.Recovery.{AddsFates}
+use Rattle.server_history.proofs.Replaced.{is_listed}
 use Rattle.server_history.proofs.Serving.{finds_serve, followed_steps, looks_serve}
 use Rattle.server_history.proofs.Settling.{AreAnswered, answers_kept, answers_settings, each_answered}
 use Rattle.server_history.proofs.Slots.{AreOver, not_dead, ready_found, served_request}
@@ -77,10 +78,7 @@ in_filter {X} p (y ∷ xs) x here passes = ⊎_elim
 
 -- a port that was found with a disk is in the list
 pub in_ports : (ports : List Found) (port : ℕ) (info : DiskInfo) → found_of ports port ≡ Ready info → port < length ports
-in_ports ports port info is = ⊎_elim
-    (λ (small : port < length ports). small)
-    (λ (high : length ports ≤ port). let z : Unserved ≡ Ready info = sym (get_or_past ports port Unserved high) ∙ is in absurd cc)
-    (cases_lt port (length ports))
+in_ports ports port info is = is_listed ports port (ap is_served is)
 
 -- ---- what fates leave
 

@@ -35,13 +35,13 @@ ShowsAsBefore Absent v = v % 16 ≢ 3
 ShowsAsBefore state v = v % 16 ≡ 3
 
 -- nothing is told of a change, and a device shows
-unchanged : (one other there : Bool) → (one || other || not there) ≡ false → there ≡ true
+pub unchanged : (one other there : Bool) → (one || other || not there) ≡ false → (one ≡ false) × (there ≡ true)
 unchanged true other there is = absurd (false≢true (sym is))
 unchanged false true there is = absurd (false≢true (sym is))
-unchanged false false true is = refl
+unchanged false false true is = (refl, refl)
 unchanged false false false is = absurd (false≢true (sym is))
 
-unequal : (m n : ℕ) → (m == n) ≡ false → m ≢ n
+pub unequal : (m n : ℕ) → (m == n) ≡ false → m ≢ n
 unequal m n is same = false≢true (sym is ∙ eq-eqb m n same)
 
 -- ---- a reading of PxSSTS
@@ -142,7 +142,7 @@ looked_stands laws wanted port state result old new on lives looks none same sil
     change its alive kind f behind =
         let first = laws.looking.seen port Is f.causes old f.seen f.reads on.no_reset in
         let there = laws.looks.access_on (Reading (Px port Is) f.causes) old f.seen on (λ v e. absurd cc) f.reads in
-        let link : (f.status % 16) ≡ 3 = eqb-true (f.status % 16) 3 (unchanged (bit f.causes 6) (bit f.causes 22) (f.status % 16 == 3) (sym f.tells ∙ none)) in
+        let link : (f.status % 16) ≡ 3 = eqb-true (f.status % 16) 3 (unchanged (bit f.causes 6) (bit f.causes 22) (f.status % 16 == 3) (sym f.tells ∙ none)).1 in
         stands laws wanted port old f.seen new f.status there same (record { keeps = first.keeps.port port.0; controls = first.keeps.on.controls port.0; notes = first.notes }) f.shows silent its alive (subst (λ (P : ℕ → Type 0). P f.status) (sym kind) link) behind
 
     by : (its : Shown) → its ≢ Dead → IsLookedAt its port result old new → StillStandsBehind wanted (Unready its) port.0 old → StillStandsBehind wanted (Unready its) port.0 new

@@ -18,7 +18,8 @@ use Rattle.agreement.specs.Driven.{IsDrivenBy, IsOf}
 use Rattle.agreement.specs.Errors.{IsFatalOf}
 use Rattle.agreement.specs.Facts.{IsFaultOf, ShowsNoTrouble}
 use Rattle.agreement.specs.Links.{IsPlugging, SparesRegister}
-use Rattle.agreement.proofs.Driven.{by_none, by_then, driven_as}
+use Rattle.agreement.proofs.Driven.{by_then}
+use Rattle.server_history.proofs.Driving.{by_none, driven_as}
 use Rattle.block_machine.specs.Histories.{Instant}
 use Rattle.block_machine.specs.Ports.{Evidence, Ports}
 use Rattle.driver_history.specs.Evidence.{Gains, ShowsChange, ShowsFailure}

@@ -28,7 +28,7 @@ use Rattle.agreement.specs.Driver.{EndsWith, IsBacked, serving}
 use Rattle.agreement.specs.Links.{SparesRegister}
 use Rattle.agreement.specs.Slots.{Free, Serves, Use, op_of, put}
 use Rattle.agreement.specs.Spares.{SparesBook}
-use Rattle.agreement.proofs.Driven.{driven_as}
+use Rattle.server_history.proofs.Driving.{driven_as}
 use Rattle.host_boot.specs.Taken.{found_of}
 use Rattle.host_boot.specs.declared.Found.TheVariants.{Unready}
 use Rattle.request_queue.specs.Entries.{Held, asks_of, at, has_id, issue}

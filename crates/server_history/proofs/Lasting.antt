@@ -12,7 +12,8 @@ use Rattle.adapter.specs.Access.Access.{Loading, Reading, Storing, Writing}
 use Rattle.adapter.specs.Device.{Device}
 use Rattle.adapter.specs.Rules.{IsOn}
 use Rattle.agreement.specs.Driven.{AnyUse, IsDrivenBy, IsFollowed, IsOf}
-use Rattle.agreement.proofs.Driven.{by_then, driven_as}
+use Rattle.agreement.proofs.Driven.{by_then}
+use Rattle.server_history.proofs.Driving.{driven_as}
 use Rattle.block_machine.specs.State.{Machine}
 use Rattle.disk_page.specs.Asking.{IsAsking}
 use Rattle.driver_history.specs.Histories.{LosesNoTrouble}
@@ -29,18 +30,18 @@ use Rattle.identify.specs.declared.DiskInfo.{DiskInfo}
 use Rattle.port_boot.specs.States.{GetsReady, IsOfBoot, told_causes}
 use Rattle.port_look.specs.Looks.{IsLooking}
 use Rattle.request_queue.specs.Entries.{asks_of, due_ids}
+use Rattle.identify.specs.declared.wanted.Wanted.{Wanted}
 use Rattle.server_history.specs.Below.{LawsBelow}
 use Rattle.server_history.specs.Mended.{IsFoundAfter, IsMended, HasMetFates, MendsPort}
 use Rattle.server_history.specs.Served.{IssuesIn}
 use Rattle.server_history.specs.Server.{Server, IsKept, mode_in, ports_of, state_of}
 use Rattle.server_history.specs.Turns.{instant_of}
 use Rattle.server_history.proofs.Becoming.{interrupted, next_dead, ready_info, state_new}
-use Rattle.server_history.proofs.Shown.{grown}
 use Rattle.server_history.proofs.Recovering.{IsEarlyPart, IsPart, start_part}
 use Rattle.server_history.proofs.Recovery.{evidence_by}
 use Rattle.server_history.proofs.Resetting.{up_driven}
 use Rattle.server_history.proofs.Rounds.{each_driven}
-use Rattle.server_history.proofs.Showing.{LeavesTrouble, shown_more, shown_since, shows_over}
+use Rattle.server_history.proofs.Showing.{LeavesTrouble, grows_over, shown_more, shown_since, shows_over}
 use Rattle.server_history.proofs.Stretching.{TurnParts}
 use Rattle.server_history.proofs.Starting.{boots_or_absent}
 use Rattle.server_history.proofs.Slots.{ready_found}
@@ -89,6 +90,33 @@ asking_leaves port (Writing r v) is = subst (λ (x : Reg). LeavesTrouble port (W
 asking_leaves port (Loading at bytes) is = (tt, tt, tt, tt, tt)
 asking_leaves port (Storing at bytes) is = (tt, tt, tt, tt, tt)
 
+-- ---- a port that is ready once it was booted
+
+module _ (laws : LawsBelow) (port : Port) (low : port.0 < 4) (wanted : Wanted) (info : DiskInfo) (booted : Booted) (old d mid new : Device) (on : IsOn d) (b : BootsAgain wanted port booted d mid) (found : booted.found ≡ Ready info)
+    (later : IsDrivenBy (LeavesTrouble port) mid new) where
+  pub boot_asked_on : IsOn b.asked
+  boot_asked_on = laws.of_on port d b.asked on (driven_as (IsOfStart port) (IsOf port) d b.asked (λ access s. (start_part laws port low access s).1) b.asks.driven)
+
+  pub boot_ends : EndsReady wanted port info b.asked mid
+  boot_ends = subst (λ (f : Found). BootsStopped wanted port f b.asked mid) found b.boots
+
+  abbrev boot_way : GetsReady port b.asked mid
+  boot_way = boot_ends.way
+
+  pub boot_up_on : IsOn boot_ends.way.up
+  boot_up_on = laws.of_on port b.asked boot_way.up boot_asked_on (driven_as (IsOfBoot port) (IsOf port) b.asked boot_way.up (λ access x. laws.booting_of port access x) (up_driven laws port b.asked boot_way.up boot_way.first))
+
+  -- what came since ST was set leaves what the port shows
+  pub boot_since : IsDrivenBy (LeavesTrouble port) boot_ends.way.up new
+  boot_since =
+      by_then (driven_as (IsAsking port) (LeavesTrouble port) boot_way.up boot_way.then.asked (asking_leaves port) boot_way.then.asks)
+      (by_then
+      (record { accesses = Writing (Px port Ie) told_causes ∷ []; all = (mid, boot_way.then.tells, refl); only = All-cons (LeavesTrouble port) (Writing (Px port Ie) told_causes) [] (ie_apart port told_causes) (All-nil (LeavesTrouble port)) })
+      later)
+
+  pub boot_shows : ShowsTrouble port.0 old new
+  boot_shows = shown_since port.0 old boot_way.up new (shows_over laws port boot_since.accesses boot_way.up new boot_up_on boot_since.only boot_since.all) boot_way.first.set
+
 -- ---- the whole
 
 module _ (laws : LawsBelow) (port : Port) (replies : List Reply) (old new : Server) (k : IsKept old) (ready : state_of (found_of old.ports port.0) ≡ ReadyState) (r : MendsPort port replies old new)
@@ -126,7 +154,7 @@ module _ (laws : LawsBelow) (port : Port) (replies : List Reply) (old new : Serv
     then_issuing = subst (λ (d : Device). IsDrivenBy (LeavesTrouble port) d new.device) again_is.1 issuing
 
     runs_shows : ShowsTrouble port.0 old.device new.device
-    runs_shows = shown_more port.0 old.device a.mid.device a.device new.device again.shows (grown laws x.mends.accesses a.mid.device a.device t.does) again.since
+    runs_shows = shown_more port.0 old.device a.mid.device a.device new.device again.shows (grows_over laws x.mends.accesses a.mid.device a.device t.does) again.since
         (shows_over laws port then_issuing.accesses a.device new.device recovered_on then_issuing.only then_issuing.all)
 
   -- one that was booted
@@ -149,34 +177,15 @@ module _ (laws : LawsBelow) (port : Port) (replies : List Reply) (old new : Serv
     abbrev pub asked : Device
     asked = again_booted.2.asked
 
-    pub asked_on : IsOn asked
-    asked_on = laws.of_on port a.device asked recovered_on (driven_as (IsOfStart port) (IsOf port) a.device asked (λ access s. (start_part laws port low access s).1) again_booted.2.asks.driven)
-
-    pub ends_ready : EndsReady (wanted_of old.wanted port.0) port info.0 asked r.mid.device
-    ends_ready = subst (λ (f : Found). BootsStopped (wanted_of old.wanted port.0) port f asked r.mid.device) (again_booted.1 ∙ info.1) again_booted.2.boots
-
-    abbrev pub way : GetsReady port asked r.mid.device
-    way = ends_ready.way
-
-    pub up_on : IsOn way.up
-    up_on = laws.of_on port asked way.up asked_on (driven_as (IsOfBoot port) (IsOf port) asked way.up (λ access b. laws.booting_of port access b) (up_driven laws port asked way.up way.first))
-
-    pub since_up : IsDrivenBy (LeavesTrouble port) way.up new.device
-    since_up =
-        by_then (driven_as (IsAsking port) (LeavesTrouble port) way.up way.then.asked (asking_leaves port) way.then.asks)
-        (by_then
-        (record { accesses = Writing (Px port Ie) told_causes ∷ []; all = (r.mid.device, way.then.tells, refl); only = All-cons (LeavesTrouble port) (Writing (Px port Ie) told_causes) [] (ie_apart port told_causes) (All-nil (LeavesTrouble port)) })
-        issuing)
-
-    boot_shows : ShowsTrouble port.0 old.device new.device
-    boot_shows = shown_since port.0 old.device way.up new.device (shows_over laws port since_up.accesses way.up new.device up_on since_up.only since_up.all) way.first.set
+    its_shows : ShowsTrouble port.0 old.device new.device
+    its_shows = boot_shows laws port low (wanted_of old.wanted port.0) info.0 again_booted.0 old.device a.device r.mid.device new.device recovered_on again_booted.2 (again_booted.1 ∙ info.1) issuing
 
   shows : (ports_of new).state port ≡ ReadyState → ShowsTrouble port.0 old.device new.device
   shows is_ready = by x.result.next refl
     where
       by : (n : Next) → x.result.next ≡ n → ShowsTrouble port.0 old.device new.device
       by (next.Running token) is = runs_shows token is
-      by (next.Restart token) is = boot_shows token is is_ready
+      by (next.Restart token) is = its_shows token is is_ready
       by next.Dead is =
           let dead = state_new laws port replies old new k ready r looks kept ∙ ap state_of (next_dead laws port replies old new k ready r looks kept is) in
           let z : DeadState ≡ ReadyState = sym dead ∙ is_ready in absurd cc

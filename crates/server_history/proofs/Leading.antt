@@ -1,19 +1,19 @@
 -- What the device's steps lead to while a port is recovered, and booted where it has to be.
-use Rattle.std.specs.Prelude.{slice_set}
+use Rattle.std.proofs.Common.{None, length, ◌<◌, ℕ, ◌≡◌, ◌≢◌, ◌++◌, List, [], ◌∷◌, inl, inr, refl, sym, ap, ◌∙◌, subst, ⊎_elim}
 use Rattle.std.proofs.lemmas.Bool.{cases_eq}
 use Rattle.std.proofs.lemmas.List.{get_or-set_other, get_or-set_same}
-use Rattle.std.proofs.Common.{None, length, ◌<◌, ℕ, ◌≡◌, ◌≢◌, ◌++◌, List, [], ◌∷◌, inl, inr, refl, sym, ap, ◌∙◌, subst, ⊎_elim}
-use Rattle.std.specs.List.{Contains}
 use Rattle.std.proofs.lemmas.List.Elements.{Contains-append_right}
+use Rattle.std.specs.List.{Contains}
+use Rattle.std.specs.Prelude.{slice_set}
 use Rattle.ata_types.specs.declared.Port.{Port}
 use Rattle.ata_types.specs.declared.PortState.{PortState}
 use Rattle.ata_types.specs.declared.PortState.TheVariants.{Absent, Dead, Foreign, Ready as ReadyState, Unfit}
 use Rattle.ata_types.specs.declared.request.RequestId.{RequestId}
 use Rattle.adapter.specs.Access.{Access}
 use Rattle.adapter.specs.Device.{Device}
+use Rattle.adapter.specs.Memory.{changed}
 use Rattle.adapter.specs.declared.command.Operation.{Operation}
 use Rattle.adapter.specs.declared.command.Operation.TheVariants.{Identify, ReadLog}
-use Rattle.adapter.specs.Memory.{changed}
 use Rattle.adapter.proofs.Changed.{changed_other, changed_same}
 use Rattle.agreement.specs.Acts.{AnySlots, ByDeviceAlone, InSlots, Performs, at, steps_of}
 use Rattle.agreement.specs.Agrees.{AreApart}
@@ -31,17 +31,17 @@ use Rattle.error_recovery.specs.Recovery.{LeavesSlots, with_own}
 use Rattle.error_recovery.specs.declared.Next.{Next}
 use Rattle.error_recovery.specs.declared.Next.TheVariants.{Running, Restart, Dead as Stuck}
 use Rattle.host_boot.specs.Again.{BootsAgain, BootsStopped, IsOfStart}
+use Rattle.host_boot.specs.Taken.{found_of}
 use Rattle.host_boot.specs.declared.Found.{Found}
 use Rattle.host_boot.specs.declared.Found.TheVariants.{Unserved, Ready, Unready}
 use Rattle.identify.specs.declared.DiskInfo.{DiskInfo}
 use Rattle.identify.specs.declared.wanted.Wanted.{Wanted}
 use Rattle.port_boot.specs.States.{IsBoot, IsBootTo, IsOfBoot, StopsOnWay}
 use Rattle.port_control.specs.Engines.{Sticks}
-use Rattle.server_history.specs.Below.{LawsBelow}
-use Rattle.host_boot.specs.Taken.{found_of}
 use Rattle.slots.specs.Uses.{Uses as PortSlots, use_at}
-use Rattle.server_history.specs.Server.{IsUsedAs, no_slots, use_of, used_for}
+use Rattle.server_history.specs.Below.{LawsBelow}
 use Rattle.server_history.specs.Mended.{IsFoundAfter}
+use Rattle.server_history.specs.Server.{IsUsedAs, no_slots, use_of, used_for}
 use Rattle.server_history.specs.declared.Trouble.{Trouble}
 use Rattle.server_history.proofs.Starting.{IsFoundAbsent, boots_or_absent}
 

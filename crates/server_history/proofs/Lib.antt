@@ -88,3 +88,6 @@ pub mod Glanced
 pub mod Trying
 pub mod Anew
 pub mod Tries
+pub mod Tending
+pub mod Tended
+pub mod Driving

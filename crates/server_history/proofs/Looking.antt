@@ -1,4 +1,4 @@
--- A server goes on while a ready port is looked at, and while its transfer is looked for.
+-- A server goes on while a port is looked at, and while the transfer of a ready one is looked for.
 use Rattle.std.proofs.Common.{ℕ, ◌≡◌, ◌≢◌, ◌<◌, true, false, None, inl, inr, refl, sym, ap, ◌∙◌, subst, List}
 use Rattle.std.proofs.lemmas.Bool.{and_parts}
 use Rattle.ata_types.specs.declared.Port.{Port}
@@ -15,7 +15,8 @@ use Rattle.agreement.specs.Agrees.{port_at}
 use Rattle.agreement.specs.Driven.{AnyUse, IsDrivenBy, IsFollowed, IsOf, LeavesPort, NoneWrites, SendsNone}
 use Rattle.agreement.specs.Halting.{IsHaltedAsTaken}
 use Rattle.agreement.specs.Slots.{IsOver, Uses, op_of}
-use Rattle.agreement.proofs.Driven.{along, driven_as, followed_adds, followed_silent}
+use Rattle.agreement.proofs.Driven.{along, followed_adds, followed_silent}
+use Rattle.server_history.proofs.Driving.{driven_as}
 use Rattle.agreement.proofs.Finished.{access_over, steps_over}
 use Rattle.host_boot.specs.Taken.{found_of}
 use Rattle.host_boot.specs.declared.Found.TheVariants.{Unready}
@@ -47,6 +48,14 @@ behind_served laws s new port k ready driven left silent halts q low =
     (λ unready. left q low (λ same. unready (ap (λ (n : ℕ). state_of (found_of s.ports n)) same ∙ ready))) (silent q) (halts q) (k.behind q low)
 
 -- ---- the server
+
+-- a look writes of a port's registers PxIS alone
+pub looking_spares : (port q : Port) (r : PortReg) → (Is ≡ r → ⊥) → NoneWrites (IsLooking port) (Px q r)
+looking_spares port q r other (Writing reg v) (inl e) = λ is. other (let x : Px port Is ≡ Px q r = sym e ∙ is in cc)
+looking_spares port q r other (Writing reg v) (inr e) = λ is. let x : _ ≡ Px q r = sym e.0 ∙ is in absurd cc
+looking_spares port q r other (Reading reg v) here = tt
+looking_spares port q r other (Loading at bytes) here = tt
+looking_spares port q r other (Storing at bytes) here = tt
 
 module _ (s : Server) (new : Device) (port : Port) (k : IsKept s) where
   -- in followed accesses that write neither PxCI nor PxSACT, no data comes for a command of the driver's own but on dead ports
@@ -81,13 +90,6 @@ module _ (s : Server) (new : Device) (port : Port) (k : IsKept s) where
       x.0 x.1
       (machine_on below s new k.machine x.0 k.stands x.3.only x.2)
 
-  looking_spares : (q : Port) (r : PortReg) → (Is ≡ r → ⊥) → NoneWrites (IsLooking port) (Px q r)
-  looking_spares q r other (Writing reg v) (inl e) = λ is. other (let x : Px port Is ≡ Px q r = sym e ∙ is in cc)
-  looking_spares q r other (Writing reg v) (inr e) = λ is. let x : _ ≡ Px q r = sym e.0 ∙ is in absurd cc
-  looking_spares q r other (Reading reg v) here = tt
-  looking_spares q r other (Loading at bytes) here = tt
-  looking_spares q r other (Storing at bytes) here = tt
-
   finding_spares : (q : Port) (r : PortReg) → NoneWrites (IsFinding port) (Px q r)
   finding_spares q r (Writing reg v) here = absurd here
   finding_spares q r (Reading reg v) here = tt
@@ -101,12 +103,12 @@ module _ (s : Server) (new : Device) (port : Port) (k : IsKept s) where
   finding_stores access at bytes is e = subst (IsFinding port) e is
 
   pub looking_silent : IsFollowed (IsLooking port) AnyUse s.device new → (q : ℕ) (o : Operation) → op_of o ≡ None → found_of s.ports q ≢ Unready Dead → SendsNone q o s.device new
-  looking_silent followed = silent_over (IsLooking port) (λ q. (looking_spares q Ci (λ e. absurd cc), looking_spares q Sact (λ e. absurd cc))) followed
+  looking_silent followed = silent_over (IsLooking port) (λ q. (looking_spares port q Ci (λ e. absurd cc), looking_spares port q Sact (λ e. absurd cc))) followed
 
   -- a look, whatever the port is, where what stands behind each port goes on
   pub looked_kept : LawsBelow → IsFollowed (IsLooking port) AnyUse s.device new → ((q : ℕ) → q < 4 → IsPortOf s.wanted s.ports q new) → IsKept (record s { device = new })
   looked_kept laws followed behind =
-      kept_by laws (IsLooking port) (laws.looking.looking_service port) looking_stores (λ q. (looking_spares q Ci (λ e. absurd cc), looking_spares q Sact (λ e. absurd cc))) (λ q. looking_spares q Cmd (λ e. absurd cc)) behind followed
+      kept_by laws (IsLooking port) (laws.looking.looking_service port) looking_stores (λ q. (looking_spares port q Ci (λ e. absurd cc), looking_spares port q Sact (λ e. absurd cc))) (λ q. looking_spares port q Cmd (λ e. absurd cc)) behind followed
 
 module _ (s : Server) (new : Device) (port : Port) (k : IsKept s) (ready : state_of (found_of s.ports port.0) ≡ ReadyState) where
   kept_over : LawsBelow → (May : Access → Type 0) → ((access : Access) → May access → IsService access) → ((access : Access) (at : ℕ) (bytes : List ℕ) → May access → access ≡ Storing at bytes → ⊥) → ((q : Port) → NoneWrites May (Px q Ci) × NoneWrites May (Px q Sact)) → ((q : Port) → NoneWrites May (Px q Cmd))
@@ -120,7 +122,7 @@ module _ (s : Server) (new : Device) (port : Port) (k : IsKept s) (ready : state
 
   pub looking_kept : LawsBelow → IsFollowed (IsLooking port) AnyUse s.device new → IsKept (record s { device = new })
   looking_kept laws followed =
-      kept_over laws (IsLooking port) (laws.looking.looking_service port) (looking_stores s new port k) (λ q. (looking_spares s new port k q Ci (λ e. absurd cc), looking_spares s new port k q Sact (λ e. absurd cc))) (λ q. looking_spares s new port k q Cmd (λ e. absurd cc)) (λ q low other. laws.looks.other_left port q s.device new other k.on (driven_as (IsLooking port) (IsOf port) s.device new (laws.looking.looking_of port) followed.driven)) followed
+      kept_over laws (IsLooking port) (laws.looking.looking_service port) (looking_stores s new port k) (λ q. (looking_spares port q Ci (λ e. absurd cc), looking_spares port q Sact (λ e. absurd cc))) (λ q. looking_spares port q Cmd (λ e. absurd cc)) (λ q low other. laws.looks.other_left port q s.device new other k.on (driven_as (IsLooking port) (IsOf port) s.device new (laws.looking.looking_of port) followed.driven)) followed
 
   module _ (laws : LawsBelow) (mask done : ℕ) (finds : ReadsDone port mask done s.device new) where
     pub finding_kept : IsKept (record s { device = new })

@@ -57,17 +57,19 @@ goes_on laws port later old new k ready a looks =
     let f = adds_fates laws port later old new k ready a looks k.machine k.reached k.stands in
     recovered_kept laws port later old new k ready a looks _ (laws.basic.reached k.machine _ k.reached f.may) f.stands
 
--- nothing is due on a port that isn't ready
+-- nothing is due on a port that isn't ready, of which no request is unanswered
+pub none_due_unready : (s : Server) → IsKept s → (port : Port) → state_of (found_of s.ports port.0) ≢ ReadyState → (mode : Mode) → NoneDue mode (asks_of s.book) port
+none_due_unready s k port unready mode r own due =
+    let y = map_in (λ (x : Held). asks x.entry) s.book r due.here in
+    unready (ap (λ (q : Port). state_of (found_of s.ports q.0)) (sym own ∙ ap (λ (u : Unanswered). u.port) y.2) ∙ of_ready s k y.0 y.1)
+
 pub unready_undue : LawsBelow → (s : Server) → IsKept s → (port : Port) → ((info : DiskInfo) → found_of s.ports port.0 ≡ Ready info → ⊥) → due_ids (mode_in s port) port (asks_of s.book) ≡ []
 unready_undue laws s k port unready = ap (map (λ (r : Unanswered). r.id)) (nobody (due_of (mode_in s port) port (asks_of s.book)) none)
   where
     none : (r : Unanswered) → Contains (due_of (mode_in s port) port (asks_of s.book)) r → ⊥
     none r here =
         let own = laws.own (mode_in s port) port (asks_of s.book) r here in
-        let y = map_in (λ (x : Held). asks x.entry) s.book r ((laws.exact (mode_in s port) port (asks_of s.book) r own).0 here).here in
-        let ready = ap (λ (q : Port). state_of (found_of s.ports q.0)) (sym own ∙ ap (λ (u : Unanswered). u.port) y.2) ∙ of_ready s k y.0 y.1 in
-        let found = (ready_found s port.0 k ready).1 in
-        unready found.0 found.1
+        none_due_unready s k port (λ ready. let found = (ready_found s port.0 k ready).1 in unready found.0 found.1) (mode_in s port) r own ((laws.exact (mode_in s port) port (asks_of s.book) r own).0 here)
 
 module _ (laws : LawsBelow) (port : Port) (replies : List Reply) (old new : Server) (t : IsSettled old) (ready : state_of (found_of old.ports port.0) ≡ ReadyState)
     (r : MendsPort port replies old new) (looks : IsFollowed (IsLooking port) AnyUse old.device r.settled.mended.seen) where

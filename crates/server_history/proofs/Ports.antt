@@ -12,7 +12,7 @@ use Rattle.agreement.specs.Driven.{IsDrivenBy, IsOf, LeavesPort, SendsNone}
 use Rattle.agreement.specs.Halting.{IsHaltedAsTaken}
 use Rattle.agreement.specs.Links.{SameAdapter}
 use Rattle.agreement.proofs.Controlled.{other_left}
-use Rattle.agreement.proofs.Driven.{by_one}
+use Rattle.server_history.proofs.Driving.{by_one}
 use Rattle.host_boot.specs.Taken.{StillStandsBehind, found_of, wanted_of}
 use Rattle.host_boot.specs.declared.Found.{Found}
 use Rattle.host_boot.specs.declared.Found.TheVariants.{Unserved, Ready, Unready}

@@ -1,19 +1,19 @@
 -- A server goes on once a port of it was recovered, booted where it had to be, and its requests met their fates.
 use Rattle.std.proofs.Common.{ℕ, ◌≡◌, ◌<◌, Bool, true, false, cond, List, [], ◌∷◌, Some, refl, sym, ◌∙◌, ap, subst, ⊎_elim, arith, eqb-true, eq-eqb}
-use Rattle.std.specs.List.{Contains}
 use Rattle.std.proofs.lemmas.Bool.{cond-true}
 use Rattle.std.proofs.lemmas.List.{length-set}
 use Rattle.std.proofs.lemmas.List.Elements.{All-contains, All-contains_itself, All-filter, filter_passes}
 use Rattle.std.proofs.lemmas.List.Kept.{AllPairs-filter}
-use Rattle.std.specs.Prelude.{filter}
+use Rattle.std.specs.List.{Contains}
+use Rattle.std.specs.Prelude.{filter, slice_set}
 use Rattle.ata_types.specs.declared.Port.{Port}
 use Rattle.ata_types.specs.declared.PortState.TheVariants.{Ready as ReadyState}
 use Rattle.ata_types.specs.declared.request.Reply.{Reply}
 use Rattle.hba_regs.specs.Bits.{bit}
 use Rattle.adapter.specs.Device.{Device}
 use Rattle.adapter.specs.declared.command.Operation.TheVariants.{Identify}
-use Rattle.agreement.specs.Driven.{AnyUse, IsFollowed}
 use Rattle.agreement.specs.Acts.{InSlots}
+use Rattle.agreement.specs.Driven.{AnyUse, IsFollowed}
 use Rattle.agreement.specs.Links.{SameAdapter}
 use Rattle.block_machine.specs.Histories.{IsReached}
 use Rattle.block_machine.specs.State.{Machine}
@@ -38,18 +38,16 @@ use Rattle.server_history.specs.Below.{LawsBelow}
 use Rattle.server_history.specs.Mended.{AreQueued, IsFoundAfter, IsProspect, IsMended, HasMetFates, holdings_of, requests_of}
 use Rattle.server_history.specs.Server.{Server, IsKept, IsMachineOf, is_served, mode_found, mode_in, slots_at, state_of, used_for}
 use Rattle.server_history.proofs.Behind.{ready_on}
+use Rattle.server_history.proofs.Beside.{Passes, PassesTo, recovery_passes, after_passes, passes_none, slots_of}
 use Rattle.server_history.proofs.Halting.{again_halts, works_plainly}
-use Rattle.server_history.proofs.Remaining.{IsLeft, WasIn, ends_of, fated}
+use Rattle.server_history.proofs.Lists.{nowhere}
 use Rattle.server_history.proofs.Looking.{finding_kept, found_over, looking_kept}
-use Rattle.server_history.proofs.Beside.{Passes, PassesTo, recovery_passes}
+use Rattle.server_history.proofs.Remaining.{IsLeft, WasIn, ends_of, fated}
+use Rattle.server_history.proofs.Replaced.{StandsAt, replaced_kept, same_over, stands_after, still_there}
+use Rattle.server_history.proofs.Seen.{saw_still}
 use Rattle.server_history.proofs.Settling.{answers_kept, answers_settings}
 use Rattle.server_history.proofs.Slots.{not_dead, not_own, ready_found}
-use Rattle.server_history.proofs.Lists.{nowhere}
-use Rattle.server_history.proofs.Seen.{saw_still}
 use Rattle.server_history.proofs.Stretching.{recovery_does}
-use Rattle.server_history.proofs.Replaced.{StandsAt, replaced_kept, same_over, stands_after, still_there}
-use Rattle.std.specs.Prelude.{slice_set}
-use Rattle.server_history.proofs.Beside.{after_passes, passes_none, slots_of}
 
 -- ---- lists
 

@@ -1,9 +1,10 @@
 -- A server goes on where one port of it is found to be something else, and the others are left to the device.
 use Rattle.std.proofs.Common.{ℕ, ◌≡◌, ◌≢◌, ◌<◌, ◌≤◌, ◌+◌, ◌*◌, Bool, true, false, not, List, Option, None, Some, get_or, length, refl, sym, ◌∙◌, ap, subst, ⊎_elim, arith}
-use Rattle.std.specs.List.{All, Contains}
-use Rattle.std.proofs.lemmas.Bool.{cases_eq, cases_lt}
+use Rattle.std.proofs.lemmas.Bool.{cases_eq, cases_lt, false≢true}
 use Rattle.std.proofs.lemmas.List.{get_or-set_other, get_or-set_same, get_or_past, length-set}
 use Rattle.std.proofs.lemmas.List.Elements.{All-contains, All-contains_itself, All-weaker}
+use Rattle.std.specs.List.{All, Contains}
+use Rattle.std.specs.Prelude.{slice_set}
 use Rattle.ata_types.specs.declared.Port.{Port}
 use Rattle.ata_types.specs.declared.PortState.{PortState}
 use Rattle.ata_types.specs.declared.PortState.TheVariants.{Absent as AbsentState, Ready as ReadyState, Dead as DeadState}
@@ -13,53 +14,48 @@ use Rattle.hba_regs.specs.Bits.{bit}
 use Rattle.adapter.specs.Device.{Device}
 use Rattle.adapter.specs.Rules.{HasPort, IsOn}
 use Rattle.adapter.specs.declared.command.Operation.TheVariants.{Identify}
-use Rattle.agreement.specs.Driven.{AnyAccess, IsDrivenBy, IsOf, LeavesPort, SendsNone}
 use Rattle.agreement.specs.Acts.{InSlots}
+use Rattle.agreement.specs.Agrees.{port_at}
+use Rattle.agreement.specs.Driven.{AnyAccess, IsDrivenBy, IsOf, LeavesPort, SendsNone}
 use Rattle.agreement.specs.Halting.{HaltsAsTaken, IsHaltedAsTaken}
 use Rattle.agreement.specs.Links.{HasDeviceOrNone, SameAdapter}
-use Rattle.agreement.specs.Agrees.{port_at}
-use Rattle.agreement.proofs.Driven.{driven_as}
 use Rattle.block_machine.specs.Due.{is_plain}
+use Rattle.block_machine.specs.Events.{ShowsDisk}
 use Rattle.block_machine.specs.Histories.{IsReached}
 use Rattle.block_machine.specs.State.{Machine}
 use Rattle.block_machine.specs.declared.due.Mode.{Mode}
+use Rattle.dma_frames.specs.Loan.{Lending}
+use Rattle.dma_frames.specs.Table.{Table}
 use Rattle.driver_history.specs.Holds.{Runs}
 use Rattle.error_recovery.specs.Recovery.{EndsIn}
 use Rattle.error_recovery.specs.declared.Next.{Next}
 use Rattle.error_recovery.specs.declared.Next.TheVariants as next
-use Rattle.host_boot.specs.Again.{BootsAgain, BootsStopped}
+use Rattle.host_boot.specs.Again.{BootsAgain, BootsStopped, IsOfStart}
 use Rattle.host_boot.specs.Taken.{FoundBadDisk, IsServed, StillStandsBehind, found_of, wanted_of}
 use Rattle.host_boot.specs.declared.Booted.{Booted}
 use Rattle.host_boot.specs.declared.Found.{Found}
 use Rattle.host_boot.specs.declared.Found.TheVariants.{Unserved, Ready, Unready}
 use Rattle.host_boot.proofs.Leaving.{boots_begin}
 use Rattle.identify.specs.Wanted.{serial_of}
+use Rattle.identify.specs.declared.DiskInfo.{DiskInfo}
 use Rattle.identify.specs.declared.wanted.Wanted.{Wanted}
 use Rattle.port_boot.specs.States.{EndsAs, ShowsOwnDisk}
+use Rattle.port_control.specs.Ports.{Shows}
+use Rattle.port_control.specs.declared.PortFault.TheVariants.{EngineStuck}
 use Rattle.port_control.specs.declared.Running as running_token
-use Rattle.request_queue.specs.Entries.{Held}
+use Rattle.request_queue.specs.Entries.{Held, IsAccepted, IsInOrder}
 use Rattle.slots.specs.Uses.{Uses as PortSlots, use_at}
 use Rattle.slots.specs.declared.Use.{Use as SlotUse}
 use Rattle.server_history.specs.Below.{LawsBelow}
-use Rattle.server_history.specs.Mended.{IsFoundAfter}
+use Rattle.server_history.specs.Mended.{IsFoundAfter, AreUnused}
 use Rattle.server_history.specs.Server.{HasSlots, Server, IsKept, IsMachineOf, IsPortOf, is_served, mode_at, mode_found, mode_in, no_slots, plain_mode, slots_at, state_of, usable_of, used_for}
-use Rattle.server_history.proofs.Behind.{left_on}
-use Rattle.server_history.proofs.Remaining.{WasIn}
-use Rattle.server_history.proofs.Beside.{Passes}
-use Rattle.server_history.proofs.Starting.{IsFoundAbsent, boots_or_absent}
-use Rattle.std.proofs.lemmas.Bool.{false≢true}
-use Rattle.std.specs.Prelude.{slice_set}
-use Rattle.dma_frames.specs.Loan.{Lending}
-use Rattle.dma_frames.specs.Table.{Table}
-use Rattle.identify.specs.declared.DiskInfo.{DiskInfo}
-use Rattle.block_machine.specs.Events.{ShowsDisk}
-use Rattle.request_queue.specs.Entries.{IsAccepted, IsInOrder}
-use Rattle.port_control.specs.Ports.{Shows}
-use Rattle.port_control.specs.declared.PortFault.TheVariants.{EngineStuck}
-use Rattle.host_boot.specs.Again.{IsOfStart}
-use Rattle.server_history.specs.Mended.{AreUnused}
-use Rattle.server_history.proofs.Sighted.{boot_sees}
 use Rattle.server_history.specs.declared.Trouble.{Trouble}
+use Rattle.server_history.proofs.Behind.{left_on}
+use Rattle.server_history.proofs.Beside.{Passes}
+use Rattle.server_history.proofs.Driving.{driven_as}
+use Rattle.server_history.proofs.Remaining.{WasIn}
+use Rattle.server_history.proofs.Sighted.{boot_sees}
+use Rattle.server_history.proofs.Starting.{IsFoundAbsent, boots_or_absent}
 
 -- ---- a port
 

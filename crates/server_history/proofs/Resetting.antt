@@ -14,7 +14,8 @@ use Rattle.adapter.specs.Access.Access.{Loading, Reading, Storing, Writing}
 use Rattle.adapter.specs.Device.{Device}
 use Rattle.agreement.specs.Driven.{IsControl, IsDrivenBy}
 use Rattle.agreement.specs.Links.{SparesRegister}
-use Rattle.agreement.proofs.Driven.{by_none, by_then, driven_as}
+use Rattle.agreement.proofs.Driven.{by_then}
+use Rattle.server_history.proofs.Driving.{by_none, driven_as}
 use Rattle.disk_page.specs.Asking.{IsAsking}
 use Rattle.driver_history.specs.Trace.{ResetsLink}
 use Rattle.error_recovery.specs.Recovery.{IsRecovered, IsRecovering}

@@ -12,7 +12,7 @@ use Rattle.adapter.specs.declared.command.Operation.{Operation}
 use Rattle.agreement.specs.Driven.{IsDrivenBy, SendsNone}
 use Rattle.agreement.specs.Slots.{op_of}
 use Rattle.agreement.specs.Driver.{IsBacked}
-use Rattle.agreement.proofs.Driven.{by_none, driven_as}
+use Rattle.server_history.proofs.Driving.{by_none, driven_as}
 use Rattle.block_machine.specs.Due.{AreDueInTurn, IsDue, NoneDue, due_of, mark_issued, of_port, with_issued}
 use Rattle.block_machine.specs.Events.{Ask, Moment, AllDevices, AllLawful, AllMay, Belong, IsIssuedIn, IsServers, IssuesLast, accepts_of, handles, issues_it}
 use Rattle.block_machine.specs.Histories.{IsReached}

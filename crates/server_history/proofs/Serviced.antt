@@ -59,8 +59,8 @@ module _ (laws : LawsBelow) (s new : Server) (replies : List Reply) (start : IsS
   other_part n c mid before state is p tries = ⊎_elim
       (λ (dead : state ≡ Dead).
       let its_state : tries.does.state ≡ Dead =
-          let found : Unready tries.does.state ≡ Unready state = sym tries.does.is ∙ p.found (port_at n) (λ served. let lt = served.0 in omega (arith, lt)) ∙ is in
-          (let one : tries.does.state ≡ state = cc in one) ∙ dead in
+      let found : Unready tries.does.state ≡ Unready state = sym tries.does.is ∙ p.found (port_at n) (λ served. let lt = served.0 in omega (arith, lt)) ∙ is in
+      (let one : tries.does.state ≡ state = cc in one) ∙ dead in
       let looks = subst (λ (of : PortState). IsLookedAt of (port_at n) tries.does.result c.device tries.does.seen) its_state tries.does.looks in
       inl (
         λ takes. takes.1 (ap state_of is ∙ dead),

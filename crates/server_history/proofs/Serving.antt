@@ -15,7 +15,8 @@ use Rattle.adapter.specs.declared.command.Operation.TheVariants.{ReadLog}
 use Rattle.agreement.specs.Driven.{AnyUse, IsDrivenBy, IsFollowed, SendsNone}
 use Rattle.agreement.specs.Driver.{IsBacked}
 use Rattle.agreement.specs.Slots.{IsOver, Serves, ServesRequest, Stage}
-use Rattle.agreement.proofs.Driven.{by_none, followed_as, followed_then, followed_adds}
+use Rattle.agreement.proofs.Driven.{followed_as, followed_then, followed_adds}
+use Rattle.server_history.proofs.Driving.{by_none}
 use Rattle.block_machine.specs.Events.{AllDevices, AllMay, issues_it}
 use Rattle.block_machine.specs.Histories.{IsReached}
 use Rattle.block_machine.specs.Left.{after}

@@ -10,28 +10,25 @@ use Rattle.hba_regs.specs.declared.reg.Reg.TheVariants as reg
 use Rattle.hba_regs.specs.declared.reg.Reg.TheVariants.{Ghc, Px}
 use Rattle.adapter.specs.Access.{Access, Does, DoesAll}
 use Rattle.adapter.specs.Access.Access.{Reading, Writing}
-use Rattle.adapter.specs.Device.{Device}
+use Rattle.adapter.specs.Device.{Device, PortState}
 use Rattle.adapter.specs.Rules.{IsOn}
 use Rattle.adapter.specs.declared.tape.Entry.{Entry}
 use Rattle.adapter.specs.declared.tape.Entry.TheVariants as entry
-use Rattle.agreement.specs.Driven.{AnyAccess, Grows}
+use Rattle.agreement.specs.Driven.{Grows}
 use Rattle.agreement.specs.Driver.{IsBacked}
 use Rattle.agreement.specs.Errors.{IsComing, NoneComes}
 use Rattle.agreement.specs.Links.{IsPlugging, PlugsNone, SparesRegister}
-use Rattle.agreement.proofs.Driven.{along, written_ghc}
+use Rattle.agreement.proofs.Driven.{written_ghc}
 use Rattle.block_machine.specs.Events.{changes_disk}
 use Rattle.block_machine.specs.State.{Machine}
 use Rattle.block_machine.specs.Steps.{Step}
 use Rattle.port_look.specs.Looks.{LooksAt}
 use Rattle.port_look.specs.declared.Look.{Look}
 use Rattle.server_history.specs.Below.{LawsBelow}
+use Rattle.server_history.proofs.Showing.{grows_over}
 use Rattle.server_history.specs.Server.{Server, IsMachineOf}
 use Rattle.server_history.proofs.Faulted.{one_or_none, shows_link}
 use Rattle.port_look.specs.declared.Look.TheVariants.{Lost}
-
--- the tape only grows
-pub grown : LawsBelow → (accesses : List Access) (one two : Device) → DoesAll accesses one two → Grows one two
-grown laws accesses one two does = along Grows laws.looks.grows_none laws.looks.grows_more AnyAccess (λ access d e may is. laws.looks.access_grows access d e is) accesses one two (λ i d small. tt) does
 
 -- ---- disks that come
 
@@ -61,27 +58,32 @@ none_comes port old new none = record {
   none = All-weaker (λ e. IsPlugging port e → ⊥) (λ e. IsComing port e → ⊥) (λ e plugs is. plugs (coming_plugs port e is)) none.gained none.none;
 }
 
--- where none comes, none is in then that wasn't before
-StaysOut : Port → Device → Device → Type 0
-StaysOut port old new = Grows old new × (NoneComes port.0 old new → (old.port port.0).present ≡ false → (new.port port.0).present ≡ false)
+-- where none comes, this goes on
+StaysSo : (PortState → Type 0) → Port → Device → Device → Type 0
+StaysSo P port old new = Grows old new × (NoneComes port.0 old new → P (old.port port.0) → P (new.port port.0))
 
-module _ (laws : LawsBelow) (port : Port) where
-  out_over : (access : Access) (old new : Device) → Does access old new → StaysOut port old new
-  unfolding StaysOut
-  out_over access old new does = (laws.looks.access_grows access old new does, λ none out. laws.out_on port access old new none does out)
+module _ (laws : LawsBelow) (port : Port) (P : PortState → Type 0) (one : (access : Access) (old new : Device) → NoneComes port.0 old new → Does access old new → P (old.port port.0) → P (new.port port.0)) where
+  so_over : (access : Access) (old new : Device) → Does access old new → StaysSo P port old new
+  unfolding StaysSo
+  so_over access old new does = (laws.looks.access_grows access old new does, λ none so. one access old new none does so)
 
-  out_more : (a b c : Device) → StaysOut port a b → StaysOut port b c → StaysOut port a c
-  unfolding StaysOut
-  out_more a b c p q = (
+  so_more : (a b c : Device) → StaysSo P port a b → StaysSo P port b c → StaysSo P port a c
+  unfolding StaysSo
+  so_more a b c p q = (
     laws.looks.grows_more a b c p.0 q.0,
-    λ none out. let parts = laws.looks.comes_parts port.0 a b c p.0.0 q.0.0 p.0.1 q.0.1 none in q.1 parts.1 (p.1 parts.0 out),
+    λ none so. let parts = laws.looks.comes_parts port.0 a b c p.0.0 q.0.0 p.0.1 q.0.1 none in q.1 parts.1 (p.1 parts.0 so),
   )
 
-  out_all : (accesses : List Access) (old new : Device) → DoesAll accesses old new → StaysOut port old new
-  unfolding StaysOut
-  out_all [] old new is = subst (StaysOut port old) (sym is) (laws.looks.grows_none old, λ none out. out)
-  out_all (access ∷ accesses) old new (mid, does, rest) = out_more old mid new (out_over access old mid does) (out_all accesses mid new rest)
+  so_all : (accesses : List Access) (old new : Device) → DoesAll accesses old new → StaysSo P port old new
+  unfolding StaysSo
+  so_all [] old new is = subst (StaysSo P port old) (sym is) (laws.looks.grows_none old, λ none so. so)
+  so_all (access ∷ accesses) old new (mid, does, rest) = so_more old mid new (so_over access old mid does) (so_all accesses mid new rest)
 
+  pub stays_so : (accesses : List Access) (old new : Device) → DoesAll accesses old new → NoneComes port.0 old new → P (old.port port.0) → P (new.port port.0)
+  unfolding StaysSo
+  stays_so accesses old new does = (so_all accesses old new does).1
+
+module _ (laws : LawsBelow) (port : Port) where
   module _ (old seen : Device) (look : Look) (l : LooksAt port look old seen) (on : IsOn old) (not_lost : look ≢ Lost) where
     on_over : (access : Access) (a b : Device) → SparesRegister Ghc access → Does access a b → IsOn a → IsOn b
     on_over access a b spares does here = laws.looks.access_on access a b here (written_ghc access spares) does
@@ -96,16 +98,15 @@ module _ (laws : LawsBelow) (port : Port) where
 
   -- where a disk is in at a moment, one was in before, or the tape tells that one came
   was_in : (accesses : List Access) (old seen : Device) → DoesAll accesses old seen → (seen.port port.0).present ≡ true → ((old.port port.0).present ≡ true) ⊎ ((gained : List Entry) × (seen.tape ≡ old.tape ++ gained) × ((e : Entry) × Contains gained e × IsComing port.0 e))
-  unfolding StaysOut
-  was_in accesses old seen does own = let out_in = out_all accesses old seen does in ⊎_elim
+  was_in accesses old seen does own = let grows = grows_over laws accesses old seen does in ⊎_elim
       (λ (is : (old.port port.0).present ≡ true). inl is)
       (λ (out : (old.port port.0).present ≡ false). inr (
-        out_in.0.0,
-        out_in.0.1,
+        grows.0,
+        grows.1,
         ⊎_elim
             (λ found. found)
-            (λ none. absurd (false≢true (sym (out_in.1 (record { gained = out_in.0.0; tape = out_in.0.1; none = none }) out) ∙ own)))
-            (one_or_none (IsComing port.0) (is_coming port.0) out_in.0.0),
+            (λ none. absurd (false≢true (sym (stays_so laws port (λ p. p.present ≡ false) (laws.out_on port) accesses old seen does (record { gained = grows.0; tape = grows.1; none = none }) out) ∙ own)))
+            (one_or_none (IsComing port.0) (is_coming port.0) grows.0),
       ))
       (cases_Bool ((old.port port.0).present))
 

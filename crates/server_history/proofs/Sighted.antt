@@ -1,9 +1,9 @@
 -- A boot that finds a disk has seen a device on its way: PxSSTS was read, and its DET was 3 (AHCI 1.3.1, 3.3.10).
+use Rattle.std.proofs.Common.{◌⊎◌, true, ◌≡◌, ◌≢◌, ◌∷◌, ◌++◌, [], inl, inr, refl, sym, ap, ◌∙◌, ⊎_elim, arith}
+use Rattle.std.proofs.lemmas.Bool.{cases_eq}
+use Rattle.std.proofs.lemmas.List.Elements.{All-append, All-weaker}
 use Rattle.std.specs.List.{All, list_any}
 use Rattle.std.specs.Prelude.{List}
-use Rattle.std.proofs.Common.{◌⊎◌, true, ◌≡◌, ◌≢◌, ◌∷◌, ◌++◌, [], inl, inr, refl, sym, ap, ◌∙◌, ⊎_elim, arith}
-use Rattle.std.proofs.lemmas.List.Elements.{All-append, All-weaker}
-use Rattle.std.proofs.lemmas.Bool.{cases_eq}
 use Rattle.ata_types.specs.declared.Port.{Port}
 use Rattle.ata_types.specs.declared.PortState.{PortState as Shown}
 use Rattle.ata_types.specs.declared.PortState.TheVariants.{Absent, Dead, Foreign, Ready as ReadyState, Unfit}
@@ -27,11 +27,12 @@ use Rattle.port_boot.specs.States.{EndsEarly, GetsUp, IsOfBoot, ShowsOwnDisk, Te
 use Rattle.port_control.specs.Ports.{FindsLink, HasLink, IsPlacing, Looks, ReadsUntil}
 use Rattle.port_control.specs.declared.PortFault.{PortFault}
 use Rattle.port_control.specs.declared.PortFault.TheVariants.{NoDevice, Busy, EngineStuck, NotAta}
-use Rattle.agreement.proofs.Driven.{driven_as}
 use Rattle.server_history.specs.Below.{LawsBelow}
 use Rattle.server_history.specs.Server.{IsMachineOf, Server, state_of}
-use Rattle.server_history.proofs.Shown.{grown, had_disk}
+use Rattle.server_history.proofs.Driving.{driven_as}
 use Rattle.server_history.proofs.Resetting.{IsBeside, cleared_then, late_then, linked_then, placing_boots, ready_then, resetting, started_then, until, without}
+use Rattle.server_history.proofs.Showing.{grows_over}
+use Rattle.server_history.proofs.Shown.{had_disk}
 
 -- At this moment of the way a device shows; and a disk is in then, since COMRESET has the port show no device until its link comes up.
 pub record SeesDevice (port : Port) (old new : Device) : Type 0 where
@@ -104,13 +105,29 @@ module _ (laws : LawsBelow) (port : Port) where
   boot_sees wanted (Ready info) old new on e shows = let g = e.way in started old g.up new on g.first (ready_then laws port old new g)
   boot_sees wanted (Unready state) old new on e shows = unready wanted state old new on e shows
 
--- So the machine had a disk in the port, or one went or came: where these accesses of the port led to the boot, and the device went on after it.
-pub booted_had : (laws : LawsBelow) (port : Port) (s : Server) (wanted : Wanted) (booted : Booted) (accesses : List Access) (d new end : Device) → IsOn s.device → DoesAll accesses s.device d → All (IsOf port) accesses
-    → (b : BootsAgain wanted port booted d new) → ShowsDisk (state_of booted.found) → Grows new end → (m : Machine) → IsMachineOf s m → (steps : List Step) → IsBacked s.device end m steps
-    → (m.present port ≡ true) ⊎ (list_any (changes_disk port) steps ≡ true)
-booted_had laws port s wanted booted accesses d new end on does of b shows later m stands steps backed =
-    had_disk laws port s sees.seen end m (until ++ sees.early.accesses) (laws.basic.does_append until sees.early.accesses s.device b.asked sees.seen asked sees.early.all) (sees.own sees.shows) stands
-    (laws.looks.grows_more sees.seen new end (grown laws sees.late.accesses sees.seen new sees.late.all) later) steps backed
+-- So it has since before the boot: by these accesses, of which some led to the boot.
+pub record SeesOver (port : Port) (old asked new : Device) : Type 0 where
+  pub seen : Device
+  pub accesses : List Access
+  pub does : DoesAll accesses old seen
+  pub shows : (seen.port port.0).ssts_det ≡ 3
+  pub own : ShowsOwnDisk (seen.port port.0)
+  pub before : Grows old asked
+  pub since : Grows asked new
+  pub later : Grows seen new
+
+pub booted_sees : (laws : LawsBelow) (port : Port) (wanted : Wanted) (booted : Booted) (accesses : List Access) (old d new : Device) → IsOn old → DoesAll accesses old d → All (IsOf port) accesses
+    → (b : BootsAgain wanted port booted d new) → ShowsDisk (state_of booted.found) → SeesOver port old b.asked new
+booted_sees laws port wanted booted accesses old d new on does of b shows = record {
+  seen = sees.seen;
+  accesses = until ++ sees.early.accesses;
+  does = laws.basic.does_append until sees.early.accesses old b.asked sees.seen asked sees.early.all;
+  shows = sees.shows;
+  own = sees.own;
+  before = grows_over laws until old b.asked asked;
+  since = laws.looks.grows_more b.asked sees.seen new (grows_over laws sees.early.accesses b.asked sees.seen sees.early.all) late;
+  later = late;
+}
   where
     made : IsDrivenBy (IsOfStart port) d b.asked
     made = b.asks.driven
@@ -118,10 +135,21 @@ booted_had laws port s wanted booted accesses d new end on does of b shows later
     until : List Access
     until = accesses ++ made.accesses
 
-    asked : DoesAll until s.device b.asked
-    asked = laws.basic.does_append accesses made.accesses s.device d b.asked does made.all
+    asked : DoesAll until old b.asked
+    asked = laws.basic.does_append accesses made.accesses old d b.asked does made.all
 
     sees : SeesDevice port b.asked new
     sees = boot_sees laws port wanted booted.found b.asked new
-        (laws.of_on port s.device b.asked on (record { accesses = until; all = asked; only = All-append (IsOf port) accesses made.accesses of (All-weaker (IsOfStart port) (IsOf port) (laws.recovery.start_of port) made.accesses made.only) }))
+        (laws.of_on port old b.asked on (record { accesses = until; all = asked; only = All-append (IsOf port) accesses made.accesses of (All-weaker (IsOfStart port) (IsOf port) (laws.recovery.start_of port) made.accesses made.only) }))
         b.boots shows
+
+    late : Grows sees.seen new
+    late = grows_over laws sees.late.accesses sees.seen new sees.late.all
+
+-- The machine had a disk in the port then, or one went or came, where the device went on after the boot.
+pub booted_had : (laws : LawsBelow) (port : Port) (s : Server) (wanted : Wanted) (booted : Booted) (accesses : List Access) (d new end : Device) → IsOn s.device → DoesAll accesses s.device d → All (IsOf port) accesses
+    → (b : BootsAgain wanted port booted d new) → ShowsDisk (state_of booted.found) → Grows new end → (m : Machine) → IsMachineOf s m → (steps : List Step) → IsBacked s.device end m steps
+    → (m.present port ≡ true) ⊎ (list_any (changes_disk port) steps ≡ true)
+booted_had laws port s wanted booted accesses d new end on does of b shows later m stands steps backed =
+    let sees = booted_sees laws port wanted booted accesses s.device d new on does of b shows in
+    had_disk laws port s sees.seen end m sees.accesses sees.does (sees.own sees.shows) stands (laws.looks.grows_more sees.seen new end sees.later later) steps backed

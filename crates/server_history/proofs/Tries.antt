@@ -1,18 +1,15 @@
 -- The turn of a port that isn't ready, in a service: it is looked at, and that is all; or it is booted then.
 use Rattle.std.proofs.Common.{ℕ, ◌≡◌, ◌≢◌, ◌<◌, ◌≤◌, ◌++◌, Bool, true, false, List, [], refl, sym, ap, ◌∙◌, subst, inl, inr, arith, ⊎_elim, ◌⊎◌}
-use Rattle.std.specs.List.{Contains, list_any}
 use Rattle.std.proofs.lemmas.Bool.{cases_Bool, cases_eq}
 use Rattle.std.proofs.lemmas.List.{get_or-set_other}
 use Rattle.std.proofs.lemmas.List.Elements.{All-nil, All-weaker, Contains-append_cases}
+use Rattle.std.specs.List.{Contains, list_any}
 use Rattle.ata_types.specs.declared.Port.{Port}
 use Rattle.ata_types.specs.declared.PortState.{PortState}
 use Rattle.ata_types.specs.declared.PortState.TheVariants.{Absent, Dead as DeadState, Foreign, Ready as ReadyState, Unfit}
 use Rattle.ata_types.specs.declared.request.RequestId.{RequestId}
 use Rattle.hba_regs.specs.declared.reg.PortReg.TheVariants.{Cmd, Is, Sctl}
-use Rattle.hba_regs.specs.declared.reg.Reg.TheVariants as registers
-use Rattle.hba_regs.specs.declared.reg.Reg.TheVariants.{Px}
 use Rattle.adapter.specs.Access.{Access}
-use Rattle.adapter.specs.Access.Access.{Loading, Reading, Storing, Writing}
 use Rattle.adapter.specs.Device.{Device}
 use Rattle.adapter.specs.declared.command.Operation.TheVariants.{Identify, ReadLog}
 use Rattle.agreement.specs.Agrees.{port_at}
@@ -20,7 +17,6 @@ use Rattle.agreement.specs.Driven.{AnyUse, IsDrivenBy, IsFollowed, IsOf}
 use Rattle.agreement.specs.Driver.{IsBacked}
 use Rattle.agreement.specs.Slots.{Free, Serves}
 use Rattle.agreement.specs.Spares.{SparesBook}
-use Rattle.agreement.proofs.Driven.{driven_as}
 use Rattle.block_machine.specs.Due.{NoneDue}
 use Rattle.block_machine.specs.Events.{AllDevices, AllMay, HadDisk, ShowsDisk, changes_disk}
 use Rattle.block_machine.specs.Histories.{IsReached}
@@ -28,8 +24,6 @@ use Rattle.block_machine.specs.Left.{after}
 use Rattle.block_machine.specs.State.{Machine, Pending}
 use Rattle.block_machine.specs.Steps.{Step}
 use Rattle.block_machine.specs.declared.due.Mode.{Mode}
-use Rattle.block_machine.specs.declared.due.Unanswered.{Unanswered}
-use Rattle.block_machine.proofs.Members.{map_in}
 use Rattle.driver_history.specs.Trace.{IsDriversOwn, LeavesEngine}
 use Rattle.error_recovery.specs.declared.Next.{Next}
 use Rattle.error_recovery.specs.declared.Next.TheVariants as next
@@ -37,30 +31,32 @@ use Rattle.host_boot.specs.Taken.{StillStandsBehind, found_of, wanted_of}
 use Rattle.host_boot.specs.declared.Found.{Found}
 use Rattle.host_boot.specs.declared.Found.TheVariants.{Unready, Unserved}
 use Rattle.port_look.specs.Looks.{IsLooking}
-use Rattle.request_queue.specs.Entries.{Held, asks, asks_of}
+use Rattle.port_look.specs.Services.{IsService}
+use Rattle.request_queue.specs.Entries.{asks_of}
 use Rattle.server_history.specs.Below.{LawsBelow}
 use Rattle.server_history.specs.Server.{AreKept, IsKept, IsMachineOf, IsPortOf, IsSettled, Server, is_served, mode_at, mode_in, plain_mode, state_of, usable_of, use_of}
 use Rattle.server_history.specs.Tried.{BootsOnce, IsFoundAnew, IsLookedAt, TriesPort}
 use Rattle.server_history.specs.Turns.{HasPart, InTry, TriesOther, moment_of}
 use Rattle.server_history.specs.declared.Trouble.TheVariants.{Hung}
 use Rattle.server_history.proofs.Anew.{accesses, after_it, book_left, does, found_then, its_stand, listed, looking_part, low, never_ready, no_disk, only, others, silent, stuck_if, tells, then_is, unready, until, until_of, whole}
+use Rattle.server_history.proofs.Driving.{driven_as}
 use Rattle.server_history.proofs.Glanced.{looked_stands}
 use Rattle.server_history.proofs.Going.{book_on, still_kept}
+use Rattle.server_history.proofs.Halting.{followed_halts}
 use Rattle.server_history.proofs.Leading.{IsPassed, devices_both, passed, uses_then}
 use Rattle.server_history.proofs.Lists.{nowhere}
-use Rattle.server_history.proofs.Looking.{looked_kept, looking_silent}
+use Rattle.server_history.proofs.Looking.{looked_kept, looking_silent, looking_spares}
 use Rattle.server_history.proofs.Meeting.{nobody}
-use Rattle.server_history.proofs.Halting.{followed_halts}
-use Rattle.server_history.proofs.Mending.{unlooked}
+use Rattle.server_history.proofs.Mending.{none_due_unready, unlooked}
 use Rattle.server_history.proofs.Ports.{port_on}
 use Rattle.server_history.proofs.Recovering.{IsPart}
 use Rattle.server_history.proofs.Recovery.{stopped_of}
 use Rattle.server_history.proofs.Replaced.{replaced_kept}
-use Rattle.port_look.specs.Services.{IsService}
 use Rattle.server_history.proofs.Running.{shown_on}
 use Rattle.server_history.proofs.Serving.{followed_steps, looks_serve}
 use Rattle.server_history.proofs.Sighted.{booted_had}
-use Rattle.server_history.proofs.Trying.{AddsTried, TellsTried, makes_try, none_held}
+use Rattle.server_history.proofs.Tended.{boot_does, rests_does}
+use Rattle.server_history.proofs.Trying.{AddsTried, TellsTried, makes_try}
 
 -- ---- it was booted
 
@@ -191,9 +187,8 @@ module _ (laws : LawsBelow) (s new : Server) (seen : Device) (port : Port) (stat
 
   none_due : (q : Port) → NoneDue (mode_in then q) (asks_of s.book) q
   none_due q = ⊎_elim
-      (λ (same : q.0 ≡ port.0) (r : Unanswered) (own : r.port ≡ q) due.
-      let h = map_in (λ (x : Held). asks x.entry) s.book r due.here in
-      absurd (none_held laws port s k (unready laws s new seen port state k is lives looks b) h.0 h.1 (ap (λ (u : Unanswered). u.port) (sym h.2) ∙ own ∙ ap (λ (x : ℕ). record { 0 = x }) same)))
+      (λ (same : q.0 ≡ port.0).
+      subst (λ (x : Port). NoneDue (mode_in then q) (asks_of s.book) x) (ap (λ (x : ℕ). record { 0 = x }) (sym same)) (none_due_unready s k port (unready laws s new seen port state k is lives looks b) (mode_in then q)))
       (λ (other : q.0 ≢ port.0). subst (λ (mode : Mode). NoneDue mode (asks_of s.book) q) (sym (get_or-set_other s.modes port.0 q.0 b.mode plain_mode other)) (t.issued q))
       (cases_eq q.0 port.0)
 
@@ -210,7 +205,7 @@ module _ (laws : LawsBelow) (s new : Server) (seen : Device) (port : Port) (stat
         own = All-weaker (IsPart port) IsDriversOwn (λ access x. x.0) _ its;
         others = others laws s new seen port state k is lives looks b;
         silent = silent laws s new seen port state k is lives looks b;
-        makes = λ m reached stood. makes_try laws port s k (unready laws s new seen port state k is lives looks b) then settled_then (stopped_of port b.result.next) (stuck_if port b.found) _ (tells laws s new seen port state k is lives looks b) m stood
+        makes = λ m reached stood. makes_try laws port s k (unready laws s new seen port state k is lives looks b) then settled_then (stopped_of port b.result.next) (stuck_if port b.found) _ (tells laws s new seen port state k is lives looks b) (boot_does laws s new seen port state k is lives looks b) m stood
             (adds m reached stood);
       }
 
@@ -221,11 +216,7 @@ module _ (laws : LawsBelow) (s new : Server) (seen : Device) (port : Port) (stat
 
 -- a look leaves the engine of each port
 leaving : (port q : Port) (access : Access) → IsLooking port access → LeavesEngine q access
-leaving port q (Reading r v) is = (tt, tt)
-leaving port q (Writing r v) (inl e) = (λ x. (let z : Px port Is ≡ Px q Cmd = sym e ∙ x in absurd cc), λ x. (let z : Px port Is ≡ Px q Sctl = sym e ∙ x in absurd cc))
-leaving port q (Writing r v) (inr e) = (λ x. (let z : registers.Is ≡ Px q Cmd = sym e.0 ∙ x in absurd cc), λ x. (let z : registers.Is ≡ Px q Sctl = sym e.0 ∙ x in absurd cc))
-leaving port q (Loading place bytes) is = absurd is
-leaving port q (Storing place bytes) is = absurd is
+leaving port q access its = (looking_spares port q Cmd (λ e. let z : Is ≡ Cmd = e in cc) access its, looking_spares port q Sctl (λ e. let z : Is ≡ Sctl = e in cc) access its)
 
 module _ (laws : LawsBelow) (s : Server) (seen : Device) (port : Port) (state : PortState) (t : IsSettled s) (is : found_of s.ports port.0 ≡ Unready state) (looks : IsFollowed (IsLooking port) AnyUse s.device seen) where
   abbrev rest : Server
@@ -281,7 +272,7 @@ module _ (laws : LawsBelow) (s : Server) (seen : Device) (port : Port) (state : 
         (λ (other : q ≢ port.0). other_port q small other)
         (cases_eq q port.0))
 
-  module _ (kept : IsKept rest) where
+  module _ (result : Bool) (l : IsLookedAt state port result s.device seen) (none : result ≡ false) (kept : IsKept rest) where
     rests_settled : IsSettled rest
     rests_settled = record { kept = kept; issued = t.issued }
 
@@ -296,7 +287,7 @@ module _ (laws : LawsBelow) (s : Server) (seen : Device) (port : Port) (state : 
         silent = λ q other alive. looking_silent s seen port t.kept looks q ReadLog refl (λ dead. alive (ap state_of dead));
         makes = λ m reached stood.
             let x = followed_steps laws s seen (looks_serve laws port s.device seen looks) m reached stood in
-            makes_try laws port s t.kept never rest rests_settled [] [] looks.driven.accesses rests_told m stood
+            makes_try laws port s t.kept never rest rests_settled [] [] looks.driven.accesses rests_told (rests_does s port state t.kept is laws seen result l none looks.driven.accesses looks.driven.only looks.driven.all) m stood
             (record { steps = x.0; only = x.4; may = x.1; stands = x.2; backed = x.3; disk = inl (refl, refl, refl, refl, refl, refl) });
       },
       rests_settled,
@@ -312,20 +303,20 @@ dead_or_not (Unfit n) = inr (λ is. let z : Unfit n ≡ DeadState = is in cc)
 dead_or_not DeadState = inl refl
 
 -- A dead port isn't looked at. Another one is, and booted where what it was looked at for was found.
-turns : LawsBelow → (s new : Server) (port : Port) → IsSettled s → (tries : TriesPort port s new) → (tries.state ≢ DeadState → IsFollowed (IsLooking port) AnyUse s.device tries.seen)
+pub turns : LawsBelow → (s new : Server) (port : Port) → IsSettled s → (tries : TriesPort port s new) → (tries.state ≢ DeadState → IsFollowed (IsLooking port) AnyUse s.device tries.seen)
     → HasPart InTry port [] s new × IsSettled new
 turns laws s new port t tries looks = ⊎_elim
     (λ (dead : tries.state ≡ DeadState).
     let l = subst (λ (state : PortState). IsLookedAt state port tries.result s.device tries.seen) dead tries.looks in
-    whole_rest l.0 (rests laws s tries.seen port tries.state t tries.is (unlooked port s.device tries.seen l.1) (subst (λ (d : Device). IsKept (record s { device = d })) (sym l.1) t.kept)))
+    whole_rest l.0 (unlooked port s.device tries.seen l.1) (subst (λ (d : Device). IsKept (record s { device = d })) (sym l.1) t.kept))
     (λ (lives : tries.state ≢ DeadState). ⊎_elim
     (λ (found : tries.result ≡ true). booted_turn laws s new tries.seen port tries.state t tries.is lives (looks lives) (tries.boots found))
-    (λ (none : tries.result ≡ false). whole_rest none (rests laws s tries.seen port tries.state t tries.is (looks lives) (rests_kept laws s tries.seen port tries.state t tries.is (looks lives) lives tries.result tries.looks none)))
+    (λ (none : tries.result ≡ false). whole_rest none (looks lives) (rests_kept laws s tries.seen port tries.state t tries.is (looks lives) lives tries.result tries.looks none))
     (cases_Bool tries.result))
     (dead_or_not tries.state)
   where
-    whole_rest : tries.result ≡ false → HasPart InTry port [] s (record s { device = tries.seen }) × IsSettled (record s { device = tries.seen }) → HasPart InTry port [] s new × IsSettled new
-    whole_rest none x = subst (λ (n : Server). HasPart InTry port [] s n × IsSettled n) (sym (tries.left none)) x
+    whole_rest : tries.result ≡ false → IsFollowed (IsLooking port) AnyUse s.device tries.seen → IsKept (record s { device = tries.seen }) → HasPart InTry port [] s new × IsSettled new
+    whole_rest none its kept = subst (λ (n : Server). HasPart InTry port [] s n × IsSettled n) (sym (tries.left none)) (rests laws s tries.seen port tries.state t tries.is its tries.result tries.looks none kept)
 
 pub tried : LawsBelow → (s new : Server) (port : Port) → IsSettled s → (tries : TriesPort port s new) → (tries.state ≢ DeadState → IsFollowed (IsLooking port) AnyUse s.device tries.seen) → TriesOther port s new × IsSettled new
 tried laws s new port t tries looks = let x = turns laws s new port t tries looks in (record { does = tries; part = x.0 }, x.1)

@@ -1,30 +1,32 @@
 -- A port that isn't ready is looked at, and booted where its disk may have come, or may be another: a part of a service, after which the server goes on.
 use Rattle.std.proofs.Common.{◌≡◌, ◌≢◌, List, [], refl, sym, ap, ◌∙◌, subst, inl, inr, arith, ◌⊎◌}
-use Rattle.std.specs.List.{All, Contains}
-use Rattle.std.specs.List.Sorted.{IsPermutation}
 use Rattle.std.proofs.lemmas.List.Elements.{All-cons, All-nil}
 use Rattle.std.proofs.lemmas.List.Sorted.{IsPermutation-refl}
+use Rattle.std.specs.List.{All, Contains}
+use Rattle.std.specs.List.Sorted.{IsPermutation}
 use Rattle.ata_types.specs.declared.Port.{Port}
-use Rattle.ata_types.specs.declared.PortState.TheVariants.{Ready as ReadyState}
+use Rattle.ata_types.specs.declared.PortState.TheVariants.{Absent, Dead, Ready as ReadyState}
 use Rattle.ata_types.specs.declared.request.Outcome.TheVariants.{Unplugged}
 use Rattle.adapter.specs.Access.{Access}
 use Rattle.adapter.specs.declared.access.DeviceStep.{DeviceStep}
 use Rattle.agreement.specs.Driver.{IsBacked}
+use Rattle.agreement.specs.Errors.{NoneComes}
 use Rattle.block_machine.specs.Events.{AllDevices, AllGrounded, AllMay, HadDisk, Served, Service, Tells, UnplugsAll}
 use Rattle.block_machine.specs.Left.{after}
 use Rattle.block_machine.specs.Ports.{Evidence, IsInterrupted, IsServiced, SamePort}
 use Rattle.block_machine.specs.State.{Machine}
 use Rattle.block_machine.specs.Steps.{Step}
 use Rattle.driver_history.specs.Evidence.{IsEvidencedOf}
+use Rattle.driver_history.specs.Histories.{LosesNoTrouble, RunsWellAnew, TriesDisk}
 use Rattle.driver_history.specs.Holds.{NoneWaits}
-use Rattle.driver_history.specs.Trace.{LeavesEngine}
+use Rattle.driver_history.specs.Trace.{LeavesEngine, ResetsLink}
 use Rattle.host_boot.specs.Taken.{found_of}
 use Rattle.port_control.specs.Engines.{Sticks, Stops}
 use Rattle.request_queue.specs.Entries.{Held}
 use Rattle.request_queue.specs.Machine.{IsEntry}
 use Rattle.server_history.specs.Below.{LawsBelow}
 use Rattle.server_history.specs.Server.{IsKept, IsMachineOf, IsSettled, Server, mode_in, ports_of, state_of}
-use Rattle.server_history.specs.Turns.{InService, InTry, IsOfTurn, MakesTurn, NamesOnly, OwesTurn, instant_of, moment_of}
+use Rattle.server_history.specs.Turns.{InService, InTry, IsOfTurn, MakesTurn, NamesOnly, OwesTurn, TiesTurn, instant_of, moment_of}
 use Rattle.server_history.proofs.Answered.{no_answer}
 use Rattle.server_history.proofs.Asks.{none_issued}
 use Rattle.server_history.proofs.Devices.{devices_belong, devices_last, devices_lawful}
@@ -56,6 +58,14 @@ pub record AddsTried (port : Port) (old new : Server) (m : Machine) : Type 0 whe
   pub backed : IsBacked old.device new.device m steps
   pub disk : SamePort (ports_of old) (ports_of new) port ⊎ HadDisk (moment_of old m) steps (moment_of new (after m steps)) port
 
+-- What the turn has done of the port besides: where no disk of it came, what is there was tried; it was booted anew, unless it is what it was, or dead or absent; and no trouble of it is
+-- lost.
+pub record DoesTried (port : Port) (evidence : Evidence) (accesses : List Access) (old new : Server) : Type 0 where
+  pub tries : (m : Machine) → NoneComes port.0 old.device new.device → TriesDisk accesses (instant_of old m) (ports_of new) new.device port
+  pub boots : SamePort (ports_of old) (ports_of new) port ⊎ (((ports_of new).state port ≡ Dead) ⊎ (((ports_of new).state port ≡ Absent) ⊎ ResetsLink port accesses))
+  pub trouble : (m : Machine) → LosesNoTrouble evidence (instant_of old m) (ports_of new) new.device port
+  pub well : (m : Machine) → RunsWellAnew evidence accesses (instant_of old m) (ports_of new) new.device port
+
 -- ---- what such a turn makes of a machine
 
 module _ (laws : LawsBelow) (port : Port) (old : Server) (k : IsKept old) (unready : state_of (found_of old.ports port.0) ≢ ReadyState) where
@@ -70,7 +80,8 @@ module _ (laws : LawsBelow) (port : Port) (old : Server) (k : IsKept old) (unrea
         let h = at_right IsEntry old.book m.book is.book b.0 b.1 in
         none_held h.0 h.1 (sym h.2.port ∙ ap (λ r. r.port) (sym b.2.request) ∙ same)
 
-  module _ (new : Server) (settled : IsSettled new) (stopped stuck : List Port) (accesses : List Access) (t : TellsTried port stopped stuck accesses old new) where
+  module _ (new : Server) (settled : IsSettled new) (stopped stuck : List Port) (accesses : List Access) (t : TellsTried port stopped stuck accesses old new)
+      (did : DoesTried port (evidence_tried stopped stuck) accesses old new) where
     abbrev its : Evidence
     its = evidence_tried stopped stuck
 
@@ -113,6 +124,17 @@ module _ (laws : LawsBelow) (port : Port) (old : Server) (k : IsKept old) (unrea
       owes : OwesTurn InTry port accesses old new m its x.steps
       owes = (devices_all (AllGrounded its) (device_grounded its) tt x.steps x.only, refl, refl)
 
+      ties : TiesTurn InTry port [] accesses old new m its x.steps
+      ties = record {
+        finds = λ ready. absurd (unready ready);
+        faults = λ alone. absurd (unready alone.ready);
+        tries = λ served comes. did.tries m comes;
+        boots = (λ ready. absurd (unready ready), did.boots);
+        trouble = did.trouble m;
+        well = did.well m;
+        heeds = λ ready. absurd (unready ready);
+      }
+
       pub makes_try : MakesTurn InTry port [] accesses old new m
       makes_try = record {
         steps = x.steps;
@@ -134,6 +156,6 @@ module _ (laws : LawsBelow) (port : Port) (old : Server) (k : IsKept old) (unrea
         issues = λ _. none_issued new (after m x.steps) x.stands x.steps (λ id. devices_issue_none id x.steps x.only) (mode_in new port) port (settled.issued port);
         evidenced = evidenced m;
         faults = λ told here. absurd (nowhere told here);
-        ties = tt;
+        ties = ties;
         finds = λ other. absurd (let z : InTry ≡ InService = other in cc);
       }

@@ -25,8 +25,13 @@ use Rattle.error_recovery.specs.Evidence.{GainsRunning}
 use Rattle.error_recovery.specs.declared.Next.{Next}
 use Rattle.error_recovery.specs.declared.Next.TheVariants as next
 use Rattle.host_boot.specs.Taken.{StillStandsBehind, found_of, wanted_of}
+use Rattle.host_boot.specs.Again.{BootsAgain}
+use Rattle.host_boot.specs.declared.Booted.{Booted}
 use Rattle.host_boot.specs.declared.Found.{Found}
-use Rattle.port_boot.specs.States.{told_causes}
+use Rattle.host_boot.specs.declared.Found.TheVariants.{Ready}
+use Rattle.identify.specs.declared.DiskInfo.{DiskInfo}
+use Rattle.identify.specs.declared.wanted.Wanted.{Wanted}
+use Rattle.port_boot.specs.States.{GetsReady, told_causes}
 use Rattle.port_look.specs.Looks.{IsLooking}
 use Rattle.server_history.specs.declared.Trouble.{Trouble}
 use Rattle.server_history.specs.declared.Trouble.TheVariants.{Failed}
@@ -39,7 +44,7 @@ use Rattle.server_history.proofs.Becoming.{next_dead, state_new}
 use Rattle.server_history.proofs.Evident.{IsEvident}
 use Rattle.server_history.proofs.Faulted.{given_up}
 use Rattle.server_history.proofs.Following.{mid_kept, mid_ready}
-use Rattle.server_history.proofs.Lasting.{again, again_booted, asked, ends_ready, issuing, recovered_on, since_up, then_issuing, up_on}
+use Rattle.server_history.proofs.Lasting.{again, again_booted, boot_ends, boot_since, boot_up_on, info, issuing, recovered_on, then_issuing}
 use Rattle.server_history.proofs.Recovering.{IsEarlyPart}
 use Rattle.server_history.proofs.Recovery.{evidence_by, gone_of}
 use Rattle.server_history.proofs.Resetting.{up_driven}
@@ -83,6 +88,30 @@ module _ (laws : LawsBelow) (port : Port) where
       (All-weaker (LeavesTrouble port) (SparesRegister (Px port Sctl)) (λ access is. is.3) driven.accesses driven.only)
       (All-weaker (LeavesTrouble port) (SparesRegister (Px port Cmd)) (λ access is. is.2) driven.accesses driven.only))
       calm well
+
+-- one that was booted runs well, where no disk went or came, and nothing went wrong since ST was set
+module _ (laws : LawsBelow) (port : Port) (low : port.0 < 4) (wanted : Wanted) (info : DiskInfo) (booted : Booted) (old d mid new : Device) (on : IsOn d) (b : BootsAgain wanted port booted d mid) (found : booted.found ≡ Ready info)
+    (later : IsDrivenBy (LeavesTrouble port) mid new) (mid_on : IsOn mid) (until : Grows old d) where
+  abbrev way : GetsReady port b.asked mid
+  way = (boot_ends laws port low wanted info booted old d mid new on b found later).way
+
+  abbrev since : IsDrivenBy (LeavesTrouble port) way.up new
+  since = boot_since laws port low wanted info booted old d mid new on b found later
+
+  pub booted_well : PlugsNone port.0 old new → (GainsRunning (IsFaultOf port.0) port.0 old new → ⊥) → (GainsRunning (IsFatalOf port.0) port.0 old new → ⊥) → RunsWell (new.port port.0)
+  booted_well none unfailed unbroken =
+      let first = laws.looks.grows_more old d b.asked until (grows_over laws b.asks.driven.accesses d b.asked b.asks.driven.all) in
+      let whole = (let x = (boot_ends laws port low wanted info booted old d mid new on b found later).boots.followed.driven in grows_over laws x.accesses b.asked mid x.all) in
+      let last = grows_over laws later.accesses mid new later.all in
+      let rest = laws.looks.grows_more b.asked mid new whole last in
+      let plugs = laws.trouble.plugs_parts port.0 b.asked mid new whole.0 last.0 whole.1 last.1 (laws.trouble.plugs_parts port.0 old b.asked new first.0 rest.0 first.1 rest.1 none).1 in
+      let up = (let x = up_driven laws port b.asked way.up way.first in grows_over laws x.accesses b.asked way.up x.all) in
+      let told = laws.looks.grows_more way.up way.then.asked mid (grows_over laws way.then.asks.accesses way.up way.then.asked way.then.asks.all) (laws.looks.access_grows (Writing (Px port Ie) told_causes) way.then.asked mid way.then.tells) in
+      let same = (shows_over laws port since.accesses way.up new (boot_up_on laws port low wanted info booted old d mid new on b found later) since.only since.all).same in
+      let set = way.first.set in
+      let calm = laws.calls.calm_since port.0 old way.up new (laws.looks.grows_more old b.asked way.up first up) (grows_over laws since.accesses way.up new since.all) (omega (arith, same, set)) none unfailed unbroken in
+      let parts = laws.looks.calm_parts port.0 way.up mid new told.0 last.0 told.1 last.1 calm in
+      well_over laws port mid new mid_on later parts.1 (way.well plugs.0 parts.0)
 
 -- a link wasn't reset where PxSCTL wasn't written
 never_reset : (port : Port) (accesses : List Access) → All (SparesRegister (Px port Sctl)) accesses → ResetsLink port accesses → ⊥
@@ -181,32 +210,13 @@ module _ (laws : LawsBelow) (port : Port) (replies : List Reply) (old new : Serv
   -- ---- one that was booted
 
   module _ (token : _) (is : x.result.next ≡ next.Restart token) (is_ready : (ports_of new).state port ≡ ReadyState) where
-    abbrev then_asked : Device
-    then_asked = asked laws port replies old new k ready r looks kept t token is is_ready
-
     boots_well : PlugsNone port.0 old.device new.device → (GainsRunning (IsFaultOf port.0) port.0 old.device new.device → ⊥) → (GainsRunning (IsFatalOf port.0) port.0 old.device new.device → ⊥)
         → RunsWell (new.device.port port.0)
-    boots_well none unfailed unbroken =
-        let ready_then = ends_ready laws port replies old new k ready r looks kept t token is is_ready in
-        let way = ready_then.way in
-        let issued = issuing laws port replies old new k ready r looks kept t in
-        let since = since_up laws port replies old new k ready r looks kept t token is is_ready in
-        let first = laws.looks.grows_more old.device a.device then_asked (laws.looks.grows_more old.device a.mid.device a.device early_grows part_grows)
-        (let asks = (again_booted laws port replies old new k ready r looks kept t token is is_ready).2.asks.driven in grows_over laws asks.accesses a.device then_asked asks.all) in
-        let booted = (let b = ready_then.boots.followed.driven in grows_over laws b.accesses then_asked r.mid.device b.all) in
-        let last = grows_over laws issued.accesses r.mid.device new.device issued.all in
-        let rest = laws.looks.grows_more then_asked r.mid.device new.device booted last in
-        let plugs = laws.trouble.plugs_parts port.0 then_asked r.mid.device new.device booted.0 last.0 booted.1 last.1
-        (laws.trouble.plugs_parts port.0 old.device then_asked new.device first.0 rest.0 first.1 rest.1 none).1 in
-        let up = (let b = up_driven laws port then_asked way.up way.first in grows_over laws b.accesses then_asked way.up b.all) in
-        let told = laws.looks.grows_more way.up way.then.asked r.mid.device (grows_over laws way.then.asks.accesses way.up way.then.asked way.then.asks.all)
-        (laws.looks.access_grows (Writing (Px port Ie) told_causes) way.then.asked r.mid.device way.then.tells) in
-        let same = (shows_over laws port since.accesses way.up new.device (up_on laws port replies old new k ready r looks kept t token is is_ready) since.only since.all).same in
-        let set = way.first.set in
-        let calm = laws.calls.calm_since port.0 old.device way.up new.device (laws.looks.grows_more old.device then_asked way.up first up) (grows_over laws since.accesses way.up new.device since.all)
-        (omega (arith, same, set)) none unfailed unbroken in
-        let parts = laws.looks.calm_parts port.0 way.up r.mid.device new.device told.0 last.0 told.1 last.1 calm in
-        well_over laws port r.mid.device new.device kept.on issued parts.1 (way.well plugs.0 parts.0)
+    boots_well =
+        let again = again_booted laws port replies old new k ready r looks kept t token is is_ready in
+        let its = info laws port replies old new k ready r looks kept t token is is_ready in
+        booted_well laws port low (wanted_of old.wanted port.0) its.0 again.0 old.device a.device r.mid.device new.device (recovered_on laws port replies old new k ready r looks kept t) again.2 (again.1 ∙ its.1)
+        (issuing laws port replies old new k ready r looks kept t) kept.on (laws.looks.grows_more old.device a.mid.device a.device early_grows part_grows)
 
   -- A port that runs again showed a device when the turn began, where no disk went or came: else the look would have told that its disk was lost.
   showed : (m : Machine) (token : _) → x.result.next ≡ next.Running token → PlugsNone port.0 old.device new.device → (old.device.port port.0).ssts_det ≡ 3

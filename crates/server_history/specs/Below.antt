@@ -1,5 +1,5 @@
 -- What laws of the crates below say of requests, of transfers, and of accesses that serve ports: the laws of this crate rest on them.
-use Rattle.std.specs.Prelude.{ℕ, true, false, ◌≡◌, ◌≢◌, ◌+◌, ◌≤◌, ◌<◌, ◌↔◌, List, [], ◌∷◌, ◌++◌, map, Option, None, All, Contains, length}
+use Rattle.std.specs.Prelude.{ℕ, true, false, ◌≡◌, ◌≢◌, ◌+◌, ◌%◌, ◌≤◌, ◌<◌, ◌↔◌, List, [], ◌∷◌, ◌++◌, map, Option, None, All, Contains, length}
 use Rattle.ata_types.specs.declared.Port.{Port}
 use Rattle.ata_types.specs.declared.grant.GrantRow.{GrantRow}
 use Rattle.ata_types.specs.declared.memory.TheConstants.{DRIVER_BYTES}
@@ -13,7 +13,7 @@ use Rattle.adapter.specs.declared.tape.Entry.{Entry as TapeEntry}
 use Rattle.adapter.specs.declared.tape.Fault.{Fault}
 use Rattle.adapter.specs.Rules.{IsOn}
 use Rattle.agreement.specs.Acts.{InSlots, at as at_slots}
-use Rattle.adapter.specs.Access.{Access, Does, DoesAll}
+use Rattle.adapter.specs.Access.{Access, Does, DoesAll, Writes}
 use Rattle.adapter.specs.Access.Access.{Loading, Storing}
 use Rattle.agreement.specs.Links.{IsPlugging, SparesRegister}
 use Rattle.agreement.specs.Tape.{TellsAmong}
@@ -23,6 +23,7 @@ use Rattle.hba_regs.specs.declared.reg.Reg.TheVariants.{Ghc, Px}
 use Rattle.agreement.specs.Driven.{AnyUse, IsDrivenBy, IsFollowed, IsOf, LeavesPort, SendsNone, Grows}
 use Rattle.agreement.specs.Driver.{EndsWith, IsBacked, Knows}
 use Rattle.agreement.specs.Slots.{Own, op_of}
+use Rattle.agreement.specs.Vacant.{IsFreshIfShown, IsVacant}
 use Rattle.block_machine.specs.Due.{AreDueInTurn, IsDue, IsInOrder as machine_in_order, due_of, of_port, with_issued, with_none, with_waiting}
 use Rattle.agreement.specs.Errors.{NoneComes}
 use Rattle.block_machine.specs.State.{Machine, Pending}
@@ -143,5 +144,8 @@ pub record LawsBelow : Type 0 where
   pub asks_requeued : (entries : List Held) (id : RequestId) → asks_of (map (at id requeued_entry) entries) ≡ with_waiting id (asks_of entries)
   -- a disk that comes, or goes
   pub out_on : (port : Port) (access : Access) (old new : Device) → NoneComes port.0 old new → Does access old new → (old.port port.0).present ≡ false → (new.port port.0).present ≡ false
+  pub vacant_on : (port : Port) (access : Access) (old new : Device) → NoneComes port.0 old new → Does access old new → IsVacant (old.port port.0) → IsVacant (new.port port.0)
+  pub fresh_on : (port : Port) (access : Access) (old new : Device) → NoneComes port.0 old new → Does access old new → IsFreshIfShown (old.port port.0) → IsFreshIfShown (new.port port.0)
+  pub fresh_reset : (port : Port) (v : ℕ) (old new : Device) → v % 16 ≡ 1 → Writes (Px port Sctl) v old new → IsFreshIfShown (new.port port.0)
   pub disks_told : (port : Port) (m : Machine) (gained : List TapeEntry) (steps : List Step) → TellsAmong m gained steps → (e : TapeEntry) → Contains gained e → IsPlugging port.0 e
       → list_any (changes_disk port) steps ≡ true

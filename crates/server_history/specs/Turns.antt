@@ -102,18 +102,19 @@ turn_of turn replies new evidence steps = record {
   device = new.device;
 }
 
--- What a call does of a port's trouble: none is lost, and a port that was stopped runs well anew.
+-- What a call does of a port's trouble: none is lost unless the port was stopped, and then it runs well anew.
 pub record HeedsTrouble (port : Port) (accesses : List Access) (old : Instant Device) (evidence : Evidence) (ports : Ports) (new : Device) : Type 0 where
   pub trouble : LosesNoTrouble evidence old ports new port
   pub well : RunsWellAnew evidence accesses old ports new port
 
--- As such a call it has done of its port what a service does of a ready port; where it restarts the port, what a call does of trouble.
+-- As such a call it has done of its port what a service does of one; where it restarts the port, what a call does of trouble.
 abbrev pub TiesTurn : Turn → Port → List Reply → List Access → Server → Server → Machine → Evidence → List Step → Type 0
 TiesTurn InService port replies accesses old new m evidence steps =
     TiesPort (instant_of old m) (turn_of InService replies new evidence steps) accesses port
 TiesTurn InRestart port replies accesses old new m evidence steps =
     HeedsTrouble port accesses (instant_of old m) evidence (ports_of new) new.device
-TiesTurn InTry port replies accesses old new m evidence steps = Unit {0}
+TiesTurn InTry port replies accesses old new m evidence steps =
+    TiesPort (instant_of old m) (turn_of InTry replies new evidence steps) accesses port
 TiesTurn AtRest port replies accesses old new m evidence steps = Unit {0}
 
 -- What was done was found by a reading of the masks, in which the bits of each slot that wasn't used when the turn began were clear. (The bytes of such a slot may say

@@ -62,5 +62,8 @@ returns c = record {
   log_stays = c.what_stands_behind_a_fault_stays.ensures.log;
   asks_requeued = c.operations_change_what_is_due.ensures.requeue;
   out_on = c.none_comes_in.ensures.out_access;
+  vacant_on = c.none_comes_in.ensures.vacant_access;
+  fresh_on = c.none_comes_in.ensures.fresh_access;
+  fresh_reset = c.none_comes_in.ensures.fresh_comreset;
   disks_told = c.disks_are_told.ensures.steps;
 }
