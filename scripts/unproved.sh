@@ -18,7 +18,7 @@ echo "$name: $below" >>"$scratch/crates.txt"
 
 # The interpreter would take minutes for what the compiled run does in a second.
 status=0
-(cd "$scratch/crates/$name" && rt try --steps 1 --seconds 600 </dev/null) >"$scratch/printed" 2>"$scratch/told" || status=$?
+(cd "$scratch/crates/$name" && rt try --steps 1 --seconds 1500 </dev/null) >"$scratch/printed" 2>"$scratch/told" || status=$?
 cat "$scratch/printed"
 if [[ $status != 0 ]]; then
     cat "$scratch/told" >&2

@@ -46,7 +46,7 @@ abbrev pub Submits : {A : Type 0} → (A → Device) → ServerView A → Server
 Submits device old new r (Ok id) = AcceptsRequest device old new r id
 Submits device old new r (Err refusal) = IsFirstRefusal (situation_of (server_of device old)) r refusal × (new ≡ old)
 
--- each ready port was served, in rising number
+-- each ready port was served, and each other one that is served was tried, in rising number
 abbrev pub Services : {A : Type 0} → (A → Device) → ServerView A → ServerView A → List Reply → Type 0
 Services device old new replies = ServePorts 0 old.ports replies (server_of device old) (server_of device new)
 

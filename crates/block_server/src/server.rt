@@ -417,12 +417,12 @@ impl<A: Adapter> Server<A> {
         if !finds_news(&mut self.adapter, port, state) {
             return;
         }
-        let place = usize::from(port.0);
-        let wanted = self.wanted[place];
+        let number = usize::from(port.0);
+        let wanted = self.wanted[number];
         let (found, mode) = find_anew(&mut self.adapter, port, &wanted);
-        self.ports[place] = found;
-        self.modes[place] = mode;
-        self.slots[place] = Slots::new(mode.usable);
+        self.ports[number] = found;
+        self.modes[number] = mode;
+        self.slots[number] = Slots::new(mode.usable);
     }
 
     /// Serves each ready port, in rising number: requests that are done are answered, in order of acceptance, their frames are given back, and

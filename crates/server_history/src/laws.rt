@@ -286,7 +286,7 @@ pub fn acceptances_add()
     the_laws_below_hold();
 }
 
-/// Ready ports that are served one after another add an event.
+/// Ports that have their turns in a service one after another add an event: ready ones are served, and others tried.
 pub fn services_add()
     ensures { (s new : Server) (replies : List Reply) → IsSettled s → ServePorts 0 s.ports replies s new
         → Adds s new Service (Served replies) }

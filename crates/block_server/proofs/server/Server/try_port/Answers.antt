@@ -67,7 +67,7 @@ invariant_of-self-2 g c =
     let places : length c.new.result.places ≡ 32 = search rules in
     (anew.booted_settles c.an_unready_port_is_tried.ensures.tried (server_of device v) c.args.port c.args.state (subst U (sym c.self.view_is) c.requires.unready) c.self.invariant
     (device c.finds_news.new.adapter) c.if-not-finds_news.ensures.looks c.if-not-finds_news.ensures.followed (device c.find_anew-found.new.adapter) c.find_anew-found.result.0 c.find_anew-found.result.1 c.new.result
-    (subst F c.from-place.ensures c.find_anew-found.ensures.finds) (record { usable = c.new.ensures.usable; places = places; free = c.new.ensures.free }) c.from-place.result c.from-place.ensures).1
+    (subst F c.from-number.ensures c.find_anew-found.ensures.finds) (record { usable = c.new.ensures.usable; places = places; free = c.new.ensures.free }) c.from-number.result c.from-number.ensures).1
 
 pub returns-clause-tries : goal.returns-clause-tries
 returns-clause-tries g c =
@@ -76,12 +76,12 @@ returns-clause-tries g c =
     let v = seen c.self.inside in
     let F : ℕ → Type 0 = λ n. FindsAnew (wanted_of v.wanted n) c.args.port c.find_anew-found.result.0 c.find_anew-found.result.1 (device c.finds_news.new.adapter) (device c.find_anew-found.new.adapter) in
     let places : length c.new.result.places ≡ 32 = search rules in
-    let new = anew.found_anew (server_of device v) (device c.find_anew-found.new.adapter) c.find_anew-found.result.0 c.find_anew-found.result.1 c.new.result c.from-place.result in
+    let new = anew.found_anew (server_of device v) (device c.find_anew-found.new.adapter) c.find_anew-found.result.0 c.find_anew-found.result.1 c.new.result c.from-number.result in
     let T : ServerView g.row.A.Denot → Type 0 = λ x. TriesOther c.args.port (server_of device x) new in
     subst T c.self.view_is
     (anew.booted_settles c.an_unready_port_is_tried.ensures.tried (server_of device v) c.args.port c.args.state (subst U (sym c.self.view_is) c.requires.unready) c.self.invariant
     (device c.finds_news.new.adapter) c.if-not-finds_news.ensures.looks c.if-not-finds_news.ensures.followed (device c.find_anew-found.new.adapter) c.find_anew-found.result.0 c.find_anew-found.result.1 c.new.result
-    (subst F c.from-place.ensures c.find_anew-found.ensures.finds) (record { usable = c.new.ensures.usable; places = places; free = c.new.ensures.free }) c.from-place.result c.from-place.ensures).0
+    (subst F c.from-number.ensures c.find_anew-found.ensures.finds) (record { usable = c.new.ensures.usable; places = places; free = c.new.ensures.free }) c.from-number.result c.from-number.ensures).0
 
 pub returns-clause-settled : goal.returns-clause-settled
 returns-clause-settled g c = invariant_of-self-2 g c
