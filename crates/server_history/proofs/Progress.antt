@@ -85,26 +85,29 @@ bad_tends (Unready state) (inr (cause, is)) = (refl, λ dead. let z : Unfit caus
 -- nothing is done of a port that had no turn
 rested_ties : (plan : Plan) (s : Server) (old : Moment) (port : Port) (accesses : List Access) (c : Server) (evidence : Evidence) (steps : List Step) → old.ports ≡ ports_of s → (TakesTurn plan (found_of s.ports port.0) → ⊥) → HasRested old port accesses c evidence steps
     → TiesSoFar plan s old port accesses c evidence steps
-rested_ties AService s old port accesses c evidence steps ports_are not rests = (record {
-  finds = λ ready. absurd (unready ready);
-  faults = λ alone. absurd (unready alone.ready);
-  tries = λ served comes. record {
-    shown = λ absent. absurd (not (sym (ap (λ (ports : Ports). ports.served port) ports_are) ∙ served, λ dead. let z : Absent ≡ Dead = sym absent ∙ state_was ∙ dead in cc));
-    absent = λ absent. absurd (not (sym (ap (λ (ports : Ports). ports.served port) ports_are) ∙ served, λ dead. let z : Absent ≡ Dead = sym absent ∙ state_was ∙ dead in cc));
-    missing = λ bad. absurd (no_bad bad);
-    changed = λ bad. absurd (no_bad bad);
-  };
-  boots = (λ ready. absurd (unready ready), inl rests.same);
-  trouble = record {
-    errors = λ ready. absurd (unready ready);
-    changes = λ tends. absurd (not (sym (ap (λ (ports : Ports). ports.served port) ports_are) ∙ tends.0, λ dead. tends.1 (state_was ∙ dead)));
-    fault = λ ready. absurd (unready (sym rests.same.1 ∙ ready));
-    fatal = λ ready. absurd (unready (sym rests.same.1 ∙ ready));
-    disk = λ ready. absurd (unready (sym rests.same.1 ∙ ready));
-  };
-  well = λ i. absurd (rests.uninterrupted i);
-  heeds = λ ready. absurd (unready ready);
-}, λ bad. absurd (no_bad bad))
+rested_ties AService s old port accesses c evidence steps ports_are not rests = (
+  record {
+    finds = λ ready. absurd (unready ready);
+    faults = λ alone. absurd (unready alone.ready);
+    tries = λ served comes. record {
+      shown = λ absent. absurd (not (sym (ap (λ (ports : Ports). ports.served port) ports_are) ∙ served, λ dead. let z : Absent ≡ Dead = sym absent ∙ state_was ∙ dead in cc));
+      absent = λ absent. absurd (not (sym (ap (λ (ports : Ports). ports.served port) ports_are) ∙ served, λ dead. let z : Absent ≡ Dead = sym absent ∙ state_was ∙ dead in cc));
+      missing = λ bad. absurd (no_bad bad);
+      changed = λ bad. absurd (no_bad bad);
+    };
+    boots = (λ ready. absurd (unready ready), inl rests.same);
+    trouble = record {
+      errors = λ ready. absurd (unready ready);
+      changes = λ tends. absurd (not (sym (ap (λ (ports : Ports). ports.served port) ports_are) ∙ tends.0, λ dead. tends.1 (state_was ∙ dead)));
+      fault = λ ready. absurd (unready (sym rests.same.1 ∙ ready));
+      fatal = λ ready. absurd (unready (sym rests.same.1 ∙ ready));
+      disk = λ ready. absurd (unready (sym rests.same.1 ∙ ready));
+    };
+    well = λ i. absurd (rests.uninterrupted i);
+    heeds = λ ready. absurd (unready ready);
+  },
+  λ bad. absurd (no_bad bad),
+)
   where
     state_was : old.ports.state port ≡ state_of (found_of s.ports port.0)
     state_was = ap (λ (ports : Ports). ports.state port) ports_are

@@ -122,17 +122,20 @@ module _ (laws : LawsBelow) (s : Server) (start : IsSettled s) (old : Moment) (r
           (λ ready trouble. ⊎_elim (λ before. absurd (never_then before)) stopped ready) (λ ready. inr (resets ready)) (record { trouble = did.trouble; well = did.well })
 
       pub tried_whole : TiesPort began (turn_of InService [] mid evidence all) accesses (port_at n) × EndsLinked (port_at n) began (ports_of mid) mid.device
-      tried_whole = (record {
-        finds = λ ready. absurd (never ready);
-        faults = λ alone. absurd (never alone.ready);
-        tries = λ served comes. subst (λ (list : List Access). TriesDisk (p.accesses ++ list) began (ports_of mid) mid.device (port_at n)) (append-nil part.accesses)
-            (laws.calls.call_tries (port_at n) began (moment_of c m) (ports_of mid) (ports_of mid) mid.device kept.on t on_mid same_self same_n (there (port_at n)) its_ties.1 (λ none. did.tries (same_n.0 ∙ served) none) comes);
-        boots = subst (λ (list : List Access). BootsAnew Service (Served []) (p.accesses ++ list) began (ports_of mid) mid.device (port_at n)) (append-nil part.accesses)
-            (laws.calls.call_boots (port_at n) began (moment_of c m) (ports_of mid) (ports_of mid) mid.device (Served its) (Served []) kept.on (λ ready. absurd (never ready)) t on_mid same_self same_n did.boots);
-        trouble = heeds.trouble;
-        well = heeds.well;
-        heeds = λ ready. absurd (never ready);
-      }, laws.calls.call_linked (port_at n) began (moment_of c m) (ports_of mid) (ports_of mid) mid.device kept.on t on_mid same_self same_n its_ties.1)
+      tried_whole = (
+        record {
+          finds = λ ready. absurd (never ready);
+          faults = λ alone. absurd (never alone.ready);
+          tries = λ served comes. subst (λ (list : List Access). TriesDisk (p.accesses ++ list) began (ports_of mid) mid.device (port_at n)) (append-nil part.accesses)
+              (laws.calls.call_tries (port_at n) began (moment_of c m) (ports_of mid) (ports_of mid) mid.device kept.on t on_mid same_self same_n (there (port_at n)) its_ties.1 (λ none. did.tries (same_n.0 ∙ served) none) comes);
+          boots = subst (λ (list : List Access). BootsAnew Service (Served []) (p.accesses ++ list) began (ports_of mid) mid.device (port_at n)) (append-nil part.accesses)
+              (laws.calls.call_boots (port_at n) began (moment_of c m) (ports_of mid) (ports_of mid) mid.device (Served its) (Served []) kept.on (λ ready. absurd (never ready)) t on_mid same_self same_n did.boots);
+          trouble = heeds.trouble;
+          well = heeds.well;
+          heeds = λ ready. absurd (never ready);
+        },
+        laws.calls.call_linked (port_at n) began (moment_of c m) (ports_of mid) (ports_of mid) mid.device kept.on t on_mid same_self same_n its_ties.1,
+      )
 
   -- ---- another port's turn after it
 
@@ -179,12 +182,15 @@ module _ (laws : LawsBelow) (s : Server) (start : IsSettled s) (old : Moment) (r
         (λ ready trouble. ⊎_elim (λ before. absurd (unready before)) stopped_so_far ready) (λ ready. inr (reset_so_far ready)) (record { trouble = so_far.trouble; well = so_far.well })
 
     pub tried_still : TiesPort began (turn_of InService [] mid evidence steps_then) accesses_then q × EndsLinked q began (ports_of mid) mid.device
-    tried_still = (record {
-      finds = λ ready. absurd (unready ready);
-      faults = λ alone. absurd (unready alone.ready);
-      tries = λ served comes. laws.calls.call_tries q began old (ports_of c) (ports_of mid) mid.device kept.on turn p.on same same_old (there q) d.ties.1 (λ none. so_far.tries served none) comes;
-      boots = laws.calls.call_boots q began old (ports_of c) (ports_of mid) mid.device (Served []) (Served []) kept.on (λ ready. absurd (unready ready)) turn p.on same same_old so_far.boots;
-      trouble = heeds_still.trouble;
-      well = heeds_still.well;
-      heeds = λ ready. absurd (unready ready);
-    }, laws.calls.call_linked q began old (ports_of c) (ports_of mid) mid.device kept.on turn p.on same same_old d.ties.1)
+    tried_still = (
+      record {
+        finds = λ ready. absurd (unready ready);
+        faults = λ alone. absurd (unready alone.ready);
+        tries = λ served comes. laws.calls.call_tries q began old (ports_of c) (ports_of mid) mid.device kept.on turn p.on same same_old (there q) d.ties.1 (λ none. so_far.tries served none) comes;
+        boots = laws.calls.call_boots q began old (ports_of c) (ports_of mid) mid.device (Served []) (Served []) kept.on (λ ready. absurd (unready ready)) turn p.on same same_old so_far.boots;
+        trouble = heeds_still.trouble;
+        well = heeds_still.well;
+        heeds = λ ready. absurd (unready ready);
+      },
+      laws.calls.call_linked q began old (ports_of c) (ports_of mid) mid.device kept.on turn p.on same same_old d.ties.1,
+    )
