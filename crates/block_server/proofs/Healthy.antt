@@ -22,7 +22,6 @@ use Rattle.block_machine.specs.State.{Pending}
 use Rattle.block_machine.specs.Steps.{Answer}
 use Rattle.driver_history.specs.Claims.{AnswerRests, GoesWellFor, HeedsFailure, IsHealthyFor}
 use Rattle.driver_history.specs.Evidence.{ShowsFailure, StaysHealthy}
-use Rattle.driver_history.specs.Guard.{IsAskedOf}
 use Rattle.driver_history.specs.Histories.{IsHistory}
 use Rattle.driver_history.specs.Moves.{KeepsMoves}
 use Rattle.configuration.specs.declared.Config.{Config}
@@ -46,12 +45,12 @@ use Rattle.block_server.proofs.Running.{run_adds}
 -- What the laws of histories say, each of every history.
 pub record HistoryLaws : Type 0 where
   pub seen : (wanted : List Wanted) (first : Instant Device) (past : List (Happening Device DeviceStep)) (h : Happening Device DeviceStep) (port : Port) (slot : ℕ) (id : RequestId)
-      → IsHistory wanted first (h ∷ past) → h.event.ask ≡ AskService → IsAskedOf port (now first past)
+      → IsHistory wanted first (h ∷ past) → h.event.ask ≡ AskService → (now first past).moment.ports.state port ≡ Ready
       → ServesRequest (now first past).moment.machine (now first past).device.memory ((now first past).device.port port.0) port.0 slot id
       → ((now first past).device.port port.0).ci slot ≡ false → ((now first past).device.port port.0).sact slot ≡ false
       → (done : Pending) × (done.request.id ≡ id) × Contains h.event.steps (Answer done Ok)
   pub heeded : (wanted : List Wanted) (first : Instant Device) (past : List (Happening Device DeviceStep)) (h : Happening Device DeviceStep) (port : Port)
-      → IsHistory wanted first (h ∷ past) → h.event.ask ≡ AskService → IsAskedOf port (now first past)
+      → IsHistory wanted first (h ∷ past) → h.event.ask ≡ AskService → (now first past).moment.ports.state port ≡ Ready
       → ShowsFailure ((now first past).device.port port.0) → HeedsFailure port (now first past) h
   pub well : (wanted : List Wanted) (first : Instant Device) (past : List (Happening Device DeviceStep)) (h : Happening Device DeviceStep) (port : Port)
       → IsHistory wanted first (h ∷ past) → IsHealthyFor (now first past) h port → GoesWellFor (now first past) h port
@@ -130,7 +129,7 @@ module _ (laws : HistoryLaws) where
   served_well wanted first past h port history healthy =
       let goes = laws.well wanted first past h port history healthy in
       let old = now first past in
-      let heeds = (history.2.port port healthy.ready).heeds in (
+      let heeds = (history.2.port port).heeds in (
         goes,
         record {
           same = goes.spared.same;
@@ -151,9 +150,9 @@ module _ (laws : HistoryLaws) where
       (record {
         moves = laws.moves wanted first past h history;
         served = λ port healthy. served_well wanted first past h port history healthy;
-        part = λ port asked. (history.2.accesses, history.2.came, history.2.port port asked);
-        seen = λ port slot id asks asked serves clear inactive. laws.seen wanted first past h port slot id history asks asked serves clear inactive;
-        heeded = λ port asks asked failure. laws.heeded wanted first past h port history asks asked failure;
+        part = λ port. (history.2.accesses, history.2.came, history.2.port port);
+        seen = λ port slot id asks ready serves clear inactive. laws.seen wanted first past h port slot id history asks ready serves clear inactive;
+        heeded = λ port asks ready failure. laws.heeded wanted first past h port history asks ready failure;
       })
 
   module _ {A : Type 0} (device : A → Device) (first : Instant Device) where

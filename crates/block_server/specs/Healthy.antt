@@ -17,7 +17,6 @@ use Rattle.block_machine.specs.State.{Pending}
 use Rattle.block_machine.specs.Steps.{Answer, AllTouched}
 use Rattle.driver_history.specs.Claims.{GoesWellFor, HeedsFailure, IsHealthyFor}
 use Rattle.driver_history.specs.Evidence.{ShowsFailure, StaysHealthy}
-use Rattle.driver_history.specs.Guard.{IsAskedOf}
 use Rattle.driver_history.specs.Histories.{CameBy, Issues, TiesPort}
 use Rattle.driver_history.specs.Moves.{KeepsMoves}
 use Rattle.host_boot.specs.Taken.{found_of}
@@ -55,19 +54,19 @@ abbrev pub DoesItsPart : Port → Instant Device → Happening Device DeviceStep
 DoesItsPart port old h =
     (accesses : List Access) × CameBy old.moment h.event.ask h.event.said accesses old.device h.device × TiesPort old h accesses port
 
--- In a call after these ones, moves and clears keep to their places; and each port is served well that the call is healthy for. On each port that is ready when the
--- call begins (IsAskedOf), the call does its part, whether or not commands fail, fatal errors come, or its disk is lost; and a service answers each request of such a
--- port of which the bits of PxCI and PxSACT were clear when it began, and heeds the failure that the port showed then, a fault or a fatal error. (That it heeds the loss
--- of a disk that the port showed then is in its part.)
+-- In a call after these ones, moves and clears keep to their places; and each port is served well that the call is healthy for. On each port the call does its part,
+-- whether or not it is ready, commands fail, fatal errors come, or its disk is lost; and a service answers each request of a port that is ready when it begins of which
+-- the bits of PxCI and PxSACT were clear then, and heeds the failure that such a port showed then, a fault or a fatal error. (That it heeds the loss of a disk that the
+-- port showed then is in its part.)
 pub record IsSound (first : Instant Device) (past : List (Happening Device DeviceStep)) (h : Happening Device DeviceStep) : Type 0 where
   pub moves : KeepsMoves first.moment.machine (steps_of (events_of past)) h.event.steps (now first past).device h.device
   pub served : (port : Port) → IsHealthyFor (now first past) h port → IsServedWell port (now first past) h
-  pub part : (port : Port) → IsAskedOf port (now first past) → DoesItsPart port (now first past) h
-  pub seen : (port : Port) (slot : ℕ) (id : RequestId) → h.event.ask ≡ Service → IsAskedOf port (now first past)
+  pub part : (port : Port) → DoesItsPart port (now first past) h
+  pub seen : (port : Port) (slot : ℕ) (id : RequestId) → h.event.ask ≡ Service → (now first past).moment.ports.state port ≡ Ready
       → ServesRequest (now first past).moment.machine (now first past).device.memory ((now first past).device.port port.0) port.0 slot id
       → ((now first past).device.port port.0).ci slot ≡ false → ((now first past).device.port port.0).sact slot ≡ false
       → (done : Pending) × (done.request.id ≡ id) × Contains h.event.steps (Answer done outcome.Ok)
-  pub heeded : (port : Port) → h.event.ask ≡ Service → IsAskedOf port (now first past) → ShowsFailure ((now first past).device.port port.0)
+  pub heeded : (port : Port) → h.event.ask ≡ Service → (now first past).moment.ports.state port ≡ Ready → ShowsFailure ((now first past).device.port port.0)
       → HeedsFailure port (now first past) h
 
 -- What a list of calls is that said this, after a history that leads to the server before them. Each call adds an event with what was asked and

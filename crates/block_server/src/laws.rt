@@ -43,8 +43,8 @@ pub fn runs_are_histories<A: Stepped>()
 /// A list of calls serves the ports on which nothing goes wrong. To every history that leads to the server before them, they add theirs, one
 /// after another; and on a port that is ready and runs well, while it tells of no fault and no fatal error, and no disk of it goes or comes,
 /// each call issues exactly what is due, each service answers what has ended, with Ok, and nothing else, and the port stays as it is, unless a tick
-/// restarts it. And on each port that is ready when a call begins the call does its part, what was seen done is answered, and a service heeds commands that failed, fatal errors and lost
-/// disks that the port showed when it began.
+/// restarts it. And on each port, ready or not, each call does its part; and on one that is ready when a service begins, what was seen done is answered, and the service heeds commands that
+/// failed, fatal errors and lost disks that the port showed then.
 pub fn runs_serve_healthy_ports<A: Stepped>()
     ensures { (old new : ServerView A) (events : List Event) (said : List Said) (first : Instant Device)
         (past : List (Happening Device DeviceStep)) → Ran A.device old new events said → Leads first past (server_of A.device old)

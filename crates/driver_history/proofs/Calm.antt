@@ -149,7 +149,7 @@ module _ (told : EntryIsTold) (wanted : List Wanted) (old : Instant Device) (h :
     serves : ServesReady old.moment h.event.evidence h.event.steps (moment_after old.moment h.event) port
     serves =
         let Heeded : Ask DeviceStep → Type 0 = λ ask. HeedsAt port ask old.moment h.event.evidence h.event.steps (moment_after old.moment h.event) in
-        let its : Heeded Service = subst Heeded asks (t.port port ready).heeds in
+        let its : Heeded Service = subst Heeded asks (t.port port).heeds in
         its ready
 
     alone : IsLeftAlone old.moment.ports h.event.evidence h.event.steps h.event.ports port
@@ -175,7 +175,7 @@ module _ (told : EntryIsTold) (wanted : List Wanted) (old : Instant Device) (h :
   no_interrupt (Told step) heeds other spares ready i = heeds i
 
   pub engine_left : h.event.ask ≢ Reset → (h.event.ask ≡ Tick → IsInterrupted h.event.evidence port → ⊥) → old.moment.ports.state port ≡ Ready → All (LeavesEngine port) t.accesses
-  engine_left other spares ready = ⊎_elim (λ a. a) (λ i. absurd (no_interrupt h.event.ask (t.port port ready).heeds other spares ready i)) ev.stopped_all
+  engine_left other spares ready = ⊎_elim (λ a. a) (λ i. absurd (no_interrupt h.event.ask (t.port port).heeds other spares ready i)) ev.stopped_all
 
 tick_restarts : (said : Said) (old : Moment) (evidence : Evidence) (steps : List Step) (new : Moment) → IsAnswered {D = DeviceStep} Tick said old evidence steps new → RestartsHung old evidence steps new
 tick_restarts (Served replies) old evidence steps new a = a.restarts

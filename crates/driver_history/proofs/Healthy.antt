@@ -99,6 +99,6 @@ module _ (told : EntryIsTold) (steps : KeepsWell) (wanted : List Wanted) (first 
       came = t.came;
       spared = left_alone (kind_of h.event.ask);
       well = left_well told steps wanted first past h port history healthy.ready healthy.no_reset healthy.young healthy.healthy;
-      finds = (t.port port healthy.ready).finds;
+      finds = (t.port port).finds;
       issues = t.issues port;
     }

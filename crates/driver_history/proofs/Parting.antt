@@ -79,6 +79,11 @@ is_fatal port (entry.Clear x) = inr (λ is. is)
 is_fatal port (entry.Done x) = inr (λ is. is)
 is_fatal port (entry.Fault x) = inr (λ is. is)
 
+-- a disk of the port went or came, or none did
+pub plugged_or_not : (port : ℕ) (old new : Device) → Grows old new → Gains (IsPlugging port) old new ⊎ PlugsNone port old new
+unfolding GainsOrNone
+plugged_or_not port old new grows = ⊎_elim (λ g. inl g) (λ none. inr (record { gained = none.0; tape = none.1; none = none.2 })) (gains_or_none (IsPlugging port) (is_plugging port) old new grows)
+
 -- what a part of a call gained, the call did
 pub gains_within : (Is : Entry → Type 0) (old start end new : Device) → Grows old start → Grows end new → Gains Is start end → Gains Is old new
 gains_within Is old start end new first last g = record {
@@ -102,6 +107,7 @@ module _ (laws : Laws) (port : Port) where
     pub undue : (old.port port.0).link_due ≡ false → (new.port port.0).link_due ≡ false
     pub disks : (old.port port.0).link_due ≡ false → ChangesByDisks port.0 old new
     pub shows : (old.port port.0).link_due ≡ false → PlugsNone port.0 old new → (new.port port.0).ssts_det ≡ (old.port port.0).ssts_det
+    pub shown : PlugsNone port.0 old new → (old.port port.0).ssts_det ≡ 3 → (new.port port.0).ssts_det ≡ 3
     pub fresh : (old.port port.0).link_due ≡ false → PlugsNone port.0 old new → (new.port port.0).fresh ≡ (old.port port.0).fresh
     pub trouble_shown : (kind : TroubleKind) → AreShown kind port.0 old new
 
@@ -132,6 +138,10 @@ module _ (laws : Laws) (port : Port) where
             (λ (same : SameLink (old.port port.0) (new.port port.0)). same.det)
             (λ (up : ComesUp (old.port port.0) (new.port port.0)). absurd (false≢true (sym undue ∙ up.due)))
             (laws.link port access old new on.no_reset (laws.spares other port Sctl apart access of) does none);
+        shown = λ none shows. ⊎_elim
+            (λ (same : SameLink (old.port port.0) (new.port port.0)). same.det ∙ shows)
+            (λ (up : ComesUp (old.port port.0) (new.port port.0)). up.det)
+            (laws.link port access old new on.no_reset (laws.spares other port Sctl apart access of) does none);
         fresh = λ undue none. ⊎_elim
             (λ (same : SameLink (old.port port.0) (new.port port.0)). same.fresh)
             (λ (up : ComesUp (old.port port.0) (new.port port.0)). absurd (false≢true (sym undue ∙ up.due)))
@@ -148,6 +158,7 @@ module _ (laws : Laws) (port : Port) where
     undue = λ undue. undue;
     disks = λ undue. laws.disks_none port.0 old;
     shows = λ undue none. refl;
+    shown = λ none shows. shows;
     fresh = λ undue none. refl;
     trouble_shown = λ kind. shown_none kind port.0 old;
   })
@@ -164,6 +175,9 @@ module _ (laws : Laws) (port : Port) where
         shows = λ undue none.
             let parts = laws.plugs_parts port.0 old mid new a.grows.0 b.grows.0 a.grows.1 b.grows.1 none in
             b.shows (a.undue undue) parts.1 ∙ a.shows undue parts.0;
+        shown = λ none shows.
+            let parts = laws.plugs_parts port.0 old mid new a.grows.0 b.grows.0 a.grows.1 b.grows.1 none in
+            b.shown parts.1 (a.shown parts.0 shows);
         fresh = λ undue none.
             let parts = laws.plugs_parts port.0 old mid new a.grows.0 b.grows.0 a.grows.1 b.grows.1 none in
             b.fresh (a.undue undue) parts.1 ∙ a.fresh undue parts.0;
@@ -226,8 +240,7 @@ module _ (laws : Laws) (port : Port) where
 
     -- a disk went or came before the turn, or none did
     plugged : Gains (IsPlugging port.0) old.device t.start ⊎ PlugsNone port.0 old.device t.start
-    unfolding GainsOrNone
-    plugged = ⊎_elim (λ g. inl g) (λ none. inr (record { gained = none.0; tape = none.1; none = none.2 })) (gains_or_none (IsPlugging port.0) (is_plugging port.0) old.device t.start first.grows)
+    plugged = plugged_or_not port.0 old.device t.start first.grows
 
     Plugs : Type 0
     Plugs = Gains (IsPlugging port.0) old.device new

@@ -27,7 +27,6 @@ use Rattle.block_machine.specs.Steps.{Answer}
 use Rattle.block_machine.proofs.HistoryLemmas.{history_reaches}
 use Rattle.identify.specs.declared.wanted.Wanted.{Wanted}
 use Rattle.driver_history.specs.Evidence.{Gains, ShowsChange}
-use Rattle.driver_history.specs.Guard.{IsAskedOf}
 use Rattle.driver_history.specs.Histories.{Begins, IsHistory, Ties}
 use Rattle.driver_history.proofs.Instants.{fit_at, holds_at, ready_at}
 use Rattle.driver_history.proofs.Resting.{answer_rests}
@@ -62,7 +61,7 @@ ended_of memory p port slot e c places (inr (inr (inl ended))) st ci sact = ende
 ended_of memory p port slot e c places (inr (inr (inr dropped))) st ci sact = absurd (false≢true (sym dropped.stopped ∙ st))
 
 pub seen_answered : (wanted : List Wanted) (first : Instant Device) (past : List (Happening Device DeviceStep)) (h : Happening Device DeviceStep) (port : Port) (slot : ℕ) (id : RequestId)
-    → IsHistory wanted first (h ∷ past) → h.event.ask ≡ Service → IsAskedOf port (now first past)
+    → IsHistory wanted first (h ∷ past) → h.event.ask ≡ Service → (now first past).moment.ports.state port ≡ Ready
     → ServesRequest (now first past).moment.machine (now first past).device.memory ((now first past).device.port port.0) port.0 slot id
     → ((now first past).device.port port.0).ci slot ≡ false → ((now first past).device.port port.0).sact slot ≡ false
     → (done : Pending) × (done.request.id ≡ id) × Contains h.event.steps (Answer done outcome.Ok)
@@ -75,7 +74,7 @@ seen_answered wanted first past h port slot id history asks asked serves ci sact
     let booked : Contains old.moment.machine.book serves.pending = ⊎_elim (λ b. b.0) (λ k. absurd (at.kept serves.pending k same_port)) serves.moves in
     let ended : serves.pending.ended ≡ true = ended_of old.device.memory (old.device.port port.0) port.0 slot serves.pending serves.command serves.places serves.stage at.runs.st ci sact in
     let Heeded : Ask DeviceStep → Type 0 = λ ask. HeedsAt port ask old.moment h.event.evidence h.event.steps (moment_after old.moment h.event) in
-    let served : Heeded Service = subst Heeded asks (t.port port asked).heeds in
+    let served : Heeded Service = subst Heeded asks (t.port port).heeds in
     let answer = (served asked).ended serves.pending booked same_port ended in
     (answer.0, ap (λ (r : Accepted). r.id) answer.1 ∙ serves.id_is, answer.2)
 

@@ -1,33 +1,34 @@
--- A ready port's turn in a call: what its trouble then is in the whole.
-use Rattle.std.proofs.Common.{◌≡◌, ◌⊎◌, ◌<◌, ◌≤◌, ◌+◌, ◌++◌, true, false, List, ◌∷◌, length, refl, sym, ap, ◌∙◌, inl, inr, ⊎_elim, append_assoc, length-append, arith}
+-- A port's turn in a call: what its trouble then is in the whole, and what was done of its disk.
+use Rattle.std.proofs.Common.{◌≡◌, ◌≢◌, ◌⊎◌, ◌<◌, ◌≤◌, ◌+◌, ◌++◌, true, false, List, [], ◌∷◌, subst, length, refl, sym, ap, ◌∙◌, inl, inr, ⊎_elim, append_assoc, length-append, arith}
 use Rattle.std.specs.List.{All}
-use Rattle.std.proofs.lemmas.Bool.{cases_Bool, false≢true}
+use Rattle.std.proofs.lemmas.Bool.{cases_Bool, cases_eq, false≢true}
 use Rattle.std.proofs.lemmas.List.{append_cancel_left}
 use Rattle.std.proofs.lemmas.List.Elements.{All-weaker, Contains-append_right}
 use Rattle.ata_types.specs.declared.Port.{Port}
 use Rattle.ata_types.specs.declared.PortState.TheVariants.{Absent, Dead, Ready}
 use Rattle.hba_regs.specs.declared.reg.Reg.TheVariants.{Ghc, Px}
 use Rattle.hba_regs.specs.declared.reg.PortReg.TheVariants.{Cmd, Sctl}
-use Rattle.adapter.specs.Access.{Access}
-use Rattle.adapter.specs.Device.{Device}
+use Rattle.adapter.specs.Access.{Access, Does, DoesAll}
+use Rattle.adapter.specs.Device.{Device, PortState}
 use Rattle.adapter.specs.Rules.{IsOn}
 use Rattle.adapter.specs.declared.tape.Entry.{Entry}
 use Rattle.agreement.specs.Driven.{Grows}
-use Rattle.agreement.specs.Errors.{ChangesByErrors, IsFatalOf, NoneFatal}
+use Rattle.agreement.specs.Errors.{ChangesByErrors, IsFatalOf, NoneComes, NoneFatal}
 use Rattle.agreement.specs.Facts.{IsFaultOf}
-use Rattle.agreement.specs.Links.{PlugsNone, SparesRegister}
+use Rattle.agreement.specs.Links.{HasDeviceOrNone, IsPlugging, PlugsNone, SparesRegister}
+use Rattle.agreement.specs.Vacant.{IsFreshIfShown, IsVacant}
 use Rattle.block_machine.specs.Events.{Moment, Said, Service}
 use Rattle.block_machine.specs.Histories.{Instant}
 use Rattle.block_machine.specs.Ports.{Evidence, IsInterrupted, Ports, SamePort}
 use Rattle.error_recovery.specs.Evidence.{GainsRunning, ShowsFatal}
 use Rattle.driver_history.specs.Evidence.{Gains, ShowsChange, ShowsFailure}
-use Rattle.driver_history.specs.Histories.{BootsAnew, HasFaultAlone, LosesNoTrouble, RunsWellAnew}
+use Rattle.driver_history.specs.Histories.{BootsAnew, HasBadDisk, HasFaultAlone, IsFreshOrGone, LosesNoTrouble, RunsWellAnew, TendsPort, TriesDisk}
 use Rattle.driver_history.specs.Laws.{Laws}
-use Rattle.driver_history.specs.Parts.{HasTurnIn, IsOfOther, NamesAlike, all_of}
+use Rattle.driver_history.specs.Parts.{EndsLinked, HasTurnIn, IsOfOther, NamesAlike, all_of}
 use Rattle.driver_history.specs.Trace.{ResetsLink}
-use Rattle.driver_history.proofs.Parting.{IsLeft, grows_over, loss_then, others_leave}
+use Rattle.driver_history.proofs.Parting.{IsLeft, gains_within, grows_over, loss_then, others_leave, plugged_or_not}
 use Rattle.driver_history.proofs.Since.{calm_since, running_in_part}
-use Rattle.driver_history.proofs.Errors.{IsOne, Shows, Tells, TroubleKind, change_still, disks, failure_still, faults, fatals, in_parts, is_trouble, tells_still, told}
+use Rattle.driver_history.proofs.Errors.{IsOne, Shows, Tells, TroubleKind, change_still, disks, failure_still, faults, fatals, in_parts, is_trouble, links, tells_still, told}
 use Rattle.driver_history.proofs.Within.{parts_at, reset_after, reset_before, reset_within}
 
 -- what the tape gained, as a list in two parts or three
@@ -40,7 +41,23 @@ gained_at Such old new before e later tape is = record {
   is = is;
 }
 
+fresh_or_gone : (p : PortState) → IsFreshIfShown p → IsFreshOrGone p
+fresh_or_gone p fresh = ⊎_elim (λ (shows : p.ssts_det ≡ 3). inl (fresh shows)) (λ gone. inr gone) (cases_eq p.ssts_det 3)
+
+fresh_if_shown : (p : PortState) → IsFreshOrGone p → IsFreshIfShown p
+fresh_if_shown p fresh shows = ⊎_elim (λ came. came) (λ gone. absurd (gone shows)) fresh
+
 module _ (laws : Laws) (port : Port) where
+  -- what each access leaves of the port where no disk of it comes, accesses one after another do
+  stays_over : (P : PortState → Type 0) → ((access : Access) (old new : Device) → NoneComes port.0 old new → Does access old new → P (old.port port.0) → P (new.port port.0))
+      → (accesses : List Access) (old new : Device) → DoesAll accesses old new → NoneComes port.0 old new → P (old.port port.0) → P (new.port port.0)
+  stays_over P one [] old new same none so = subst (λ (d : Device). P (d.port port.0)) (sym same) so
+  stays_over P one (access ∷ accesses) old new (mid, does, rest) none so =
+      let early = laws.grows_access access old mid does in
+      let late = grows_over laws port accesses mid new rest in
+      let parts = laws.comes_parts port.0 old mid new early.0 late.0 early.1 late.1 none in
+      stays_over P one accesses mid new rest parts.1 (one access old mid parts.0 does so)
+
   -- where none was shown, and none came, none is shown
   no_fatal_then : (old new : Device) → ChangesByErrors port.0 old new → NoneFatal port.0 old new → (ShowsFatal (old.port port.0) → ⊥) → ShowsFatal (new.port port.0) → ⊥
   no_fatal_then old new rises none clear shown =
@@ -88,12 +105,12 @@ module _ (laws : Laws) (port : Port) where
       reset_in_turn : ResetsLink port (all_of t) → ResetsLink port t.turn
       reset_in_turn r = reset_before port t.turn t.later (spares_other t.later t.others_later) (reset_after port t.before (t.turn ++ t.later) (spares_other t.before t.others) r)
 
-      pub boots_are_the_calls : (one other : Said) → (old.device.port port.0).link_due ≡ false → SamePort old.moment.ports begun.ports port → BootsAnew Service one t.turn began ended t.end port
+      pub boots_are_the_calls : (one other : Said) → (old.moment.ports.state port ≡ Ready → (old.device.port port.0).link_due ≡ false) → SamePort old.moment.ports begun.ports port → BootsAnew Service one t.turn began ended t.end port
           → BootsAnew Service other (all_of t) old ports new port
       boots_are_the_calls one other undue was its = (
         λ ready trouble. booted (its.0 (was.1 ∙ ready) (⊎_elim
             (λ fatal. inl ((first.trouble_shown fatals).still fatal))
-            (λ loss. inr (loss_then laws port old.device new on undue t loss))
+            (λ loss. inr (loss_then laws port old.device new on (undue ready) t loss))
             trouble)),
         ⊎_elim
             (λ (same : SamePort begun.ports ended port). inl (
@@ -110,6 +127,83 @@ module _ (laws : Laws) (port : Port) where
         where
           booted : (ended.state port ≡ Dead) ⊎ ((ended.state port ≡ Absent) ⊎ ResetsLink port t.turn) → (ports.state port ≡ Dead) ⊎ ((ports.state port ≡ Absent) ⊎ ResetsLink port (all_of t))
           booted anew = ⊎_elim (λ dead. inl (stays.1 ∙ dead)) (λ rest. inr (⊎_elim (λ absent. inl (stays.1 ∙ absent)) (λ r. inr (reset_in_call r)) rest)) anew
+
+      -- a disk that is tried
+
+      -- no disk came in the parts
+      comes : NoneComes port.0 old.device new → NoneComes port.0 old.device t.start × NoneComes port.0 t.start t.end × NoneComes port.0 t.end new
+      comes none =
+          let a = laws.comes_parts port.0 old.device t.start new first.grows.0 since.0 first.grows.1 since.1 none in
+          let b = laws.comes_parts port.0 t.start t.end new middle.0 last.grows.0 middle.1 last.grows.1 a.1 in
+          (a.0, b.0, b.1)
+
+      bad_then : SamePort old.moment.ports begun.ports port → HasBadDisk old.moment.ports port → HasBadDisk begun.ports port
+      bad_then was bad = ⊎_elim (λ foreign. inl (was.1 ∙ foreign)) (λ unfit. inr (unfit.0, was.1 ∙ unfit.1)) bad
+
+      -- X that was shown is shown still
+      x_then : (old.device.port port.0).serr_x ≡ true → (t.start.port port.0).serr_x ≡ true
+      x_then x = (first.trouble_shown links).still x
+
+      pub linked_is_the_calls : SamePort old.moment.ports begun.ports port → EndsLinked port began ended t.end → EndsLinked port old ports new
+      linked_is_the_calls was linked bad x none =
+          let parts = comes none in
+          ⊎_elim
+          (λ absent. inl (stays.1 ∙ absent))
+          (λ rest. inr (⊎_elim (λ dead. inl (stays.1 ∙ dead)) (λ undue. inr (last.undue undue)) rest))
+          (linked (bad_then was bad) (x_then x) parts.1)
+
+      -- the disk's first FIS has come, or no device shows, at the call's end, where it has at the turn's
+      fresh_still : NoneComes port.0 t.end new → IsFreshOrGone (t.end.port port.0) → IsFreshOrGone (new.port port.0)
+      fresh_still none fresh = fresh_or_gone (new.port port.0) (stays_over IsFreshIfShown (laws.fresh port) t.later t.end new t.last none (fresh_if_shown (t.end.port port.0) fresh))
+
+      pub tries_are_the_calls : SamePort old.moment.ports begun.ports port → (HasBadDisk old.moment.ports port → HasDeviceOrNone (old.device.port port.0)) → EndsLinked port began ended t.end
+          → (NoneComes port.0 t.start t.end → TriesDisk t.turn began ended t.end port) → NoneComes port.0 old.device new → TriesDisk (all_of t) old ports new port
+      tries_are_the_calls was there linked tried none = record {
+        shown = λ absent shows. ⊎_elim
+            (λ gained. inr (inr (gains_within (IsPlugging port.0) old.device old.device t.start new (laws.grows_none old.device) since gained)))
+            (λ still. ⊎_elim
+            (λ dead. inl (stays.1 ∙ dead))
+            (λ rest. inr (⊎_elim (λ r. inl (reset_in_call r)) (λ gained. inr (gains_within (IsPlugging port.0) old.device t.start t.end new first.grows last.grows gained)) rest))
+            (its.shown (was.1 ∙ absent) (first.shown still shows)))
+            (plugged_or_not port.0 old.device t.start first.grows);
+        absent = λ absent shows stale. ⊎_elim
+            (λ (shows_then : (t.start.port port.0).ssts_det ≡ 3). ⊎_elim
+            (λ (fresh : (t.start.port port.0).fresh ≡ true). inr (from_start (λ _. fresh)))
+            (λ (stale_then : (t.start.port port.0).fresh ≡ false). ⊎_elim (λ dead. inl (stays.1 ∙ dead)) (λ fresh. inr (fresh_still parts.2 fresh)) (its.absent (was.1 ∙ absent) shows_then stale_then))
+            (cases_Bool (t.start.port port.0).fresh))
+            (λ (gone : (t.start.port port.0).ssts_det ≢ 3). inr (from_start (λ shows_then. absurd (gone shows_then))))
+            (cases_eq (t.start.port port.0).ssts_det 3);
+        missing = λ bad out. ⊎_elim (λ absent. inl (stays.1 ∙ absent)) (λ dead. inr (stays.1 ∙ dead)) (its.missing (bad_then was bad) (vacant_then bad out).det);
+        changed = λ bad x. ⊎_elim
+            (λ absent. inl (stays.1 ∙ absent))
+            (λ rest. ⊎_elim
+            (λ dead. inr (inl (stays.1 ∙ dead)))
+            (λ anew. ⊎_elim
+            (λ absent. inl (stays.1 ∙ absent))
+            (λ more. inr (⊎_elim
+            (λ dead. inl (stays.1 ∙ dead))
+            (λ undue. inr (reset_in_call anew.0, (last.disks undue).serr_x parts.2 anew.1, fresh_still parts.2 anew.2))
+            more))
+            (linked (bad_then was bad) (x_then x) parts.1))
+            rest)
+            (its.changed (bad_then was bad) (x_then x));
+      }
+        where
+          parts : NoneComes port.0 old.device t.start × NoneComes port.0 t.start t.end × NoneComes port.0 t.end new
+          parts = comes none
+
+          its : TriesDisk t.turn began ended t.end port
+          its = tried parts.1
+
+          -- what is so of the disk's first FIS when the turn begins is so at the call's end
+          from_start : IsFreshIfShown (t.start.port port.0) → IsFreshOrGone (new.port port.0)
+          from_start fresh = fresh_or_gone (new.port port.0)
+              (stays_over IsFreshIfShown (laws.fresh port) t.later t.end new t.last parts.2 (stays_over IsFreshIfShown (laws.fresh port) t.turn t.start t.end t.then parts.1 fresh))
+
+          -- where no disk was in, none is when the turn begins
+          vacant_then : HasBadDisk old.moment.ports port → (old.device.port port.0).ssts_det ≢ 3 → IsVacant (t.start.port port.0)
+          vacant_then bad out = stays_over IsVacant (laws.vacant port) t.before old.device t.start t.first parts.0
+              (⊎_elim (λ (shows : (old.device.port port.0).ssts_det ≡ 3). absurd (out shows)) (λ gone. record { out = gone; det = out }) (there bad))
 
       module _ (turn call : Evidence) (alike : NamesAlike port turn call) where
         named : IsInterrupted turn port → IsInterrupted call port
@@ -147,18 +241,22 @@ module _ (laws : Laws) (port : Port) where
               (parts_at first.grows.0 (middle.0 ++ last.grows.0) before later e (append_cancel_left old.device.tape (first.grows.0 ++ (middle.0 ++ last.grows.0)) (before ++ e ∷ later) (sym whole_tape ∙ tape)))
 
         module _ (was : SamePort old.moment.ports begun.ports port) (set_since : ended.state port ≡ Ready → IsInterrupted turn port → length t.start.tape ≤ (t.end.port port.0).notes.st_set_at)
-            (stops : ShowsFailure (t.start.port port.0) ⊎ ShowsChange (t.start.port port.0) → IsInterrupted turn port) (its : LosesNoTrouble turn began ended t.end port) where
-          -- trouble that came before the turn stopped the port in it
-          stopped : (kind : TroubleKind) → Gains (IsOne kind port.0) old.device t.start → IsInterrupted turn port
-          stopped kind early = stops (is_trouble kind (t.start.port port.0) (told kind (t.start.port port.0) ((first.trouble_shown kind).came early)))
+            (stops : (begun.ports.state port ≡ Ready) ⊎ (ended.state port ≡ Ready) → ShowsFailure (t.start.port port.0) ⊎ ShowsChange (t.start.port port.0) → IsInterrupted turn port) (its : LosesNoTrouble turn began ended t.end port) where
+          -- trouble that came before the turn stopped a ready port in it
+          stopped : (begun.ports.state port ≡ Ready) ⊎ (ended.state port ≡ Ready) → (kind : TroubleKind) → Gains (IsOne kind port.0) old.device t.start → IsInterrupted turn port
+          stopped ready kind early = stops ready (is_trouble kind (t.start.port port.0) (told kind (t.start.port port.0) ((first.trouble_shown kind).came early)))
 
-          -- what came in the call is shown at its end, where what came in the turn is shown at the end of that, unless the port was stopped
-          came : (kind : TroubleKind) → (Gains (IsOne kind port.0) t.start t.end → IsInterrupted turn port ⊎ Tells kind (t.end.port port.0)) → Gains (IsOne kind port.0) old.device new
+          -- what is told at the turn's end is so at the call's, unless the port was stopped
+          still : (kind : TroubleKind) → IsInterrupted turn port ⊎ Tells kind (t.end.port port.0) → IsInterrupted call port ⊎ Tells kind (new.port port.0)
+          still kind it = ⊎_elim (λ i. inl (named i)) (λ tells. inr (tells_still kind port.0 t.end new last.trouble_shown tells)) it
+
+          -- what came in the call is shown at its end, where what was told, or came, in the turn is told at the end of that, unless the port was stopped
+          came : (kind : TroubleKind) → (Tells kind (t.start.port port.0) ⊎ Gains (IsOne kind port.0) t.start t.end → IsInterrupted turn port ⊎ Tells kind (t.end.port port.0)) → Gains (IsOne kind port.0) old.device new
               → IsInterrupted call port ⊎ Tells kind (new.port port.0)
           came kind then g = ⊎_elim
-              (λ early. inl (named (stopped kind early)))
+              (λ early. still kind (then (inl (told kind (t.start.port port.0) ((first.trouble_shown kind).came early)))))
               (λ rest. ⊎_elim
-              (λ within. ⊎_elim (λ i. inl (named i)) (λ tells. inr (tells_still kind port.0 t.end new last.trouble_shown tells)) (then within))
+              (λ within. still kind (then (inr within)))
               (λ late. inr (told kind (new.port port.0) ((last.trouble_shown kind).came late)))
               (in_parts (IsOne kind port.0) t.start t.end new middle last.grows rest))
               (in_parts (IsOne kind port.0) old.device t.start new first.grows since g)
@@ -171,7 +269,7 @@ module _ (laws : Laws) (port : Port) where
               let least = g.since in
               let is_ready : ended.state port ≡ Ready = sym stays.1 ∙ ready in
               by_parts (IsOne kind port.0) (Shows kind (new.port port.0)) g.before g.entry g.later g.tape g.is
-              (λ early small. let set = set_since is_ready (stopped kind early) in absurd (omega (arith, at, least, set, small)))
+              (λ early small. let set = set_since is_ready (stopped (inr is_ready) kind early) in absurd (omega (arith, at, least, set, small)))
               (λ ahead rest tape place.
               (last.trouble_shown kind).still (its_own is_ready (record { before = ahead; entry = g.entry; later = rest; tape = tape; is = g.is; since = omega (arith, at, least, place) })))
               (last.trouble_shown kind).came
@@ -179,26 +277,31 @@ module _ (laws : Laws) (port : Port) where
           pub trouble_is_the_calls : LosesNoTrouble call old ports new port
           trouble_is_the_calls = record {
             errors = λ ready trouble. ⊎_elim
-                (λ shown. inl (named (stops (inl (failure_still port.0 old.device t.start first.trouble_shown shown)))))
-                (λ g. ⊎_elim (came faults (λ g. its.errors (was.1 ∙ ready) (inr (inl g)))) (came fatals (λ g. its.errors (was.1 ∙ ready) (inr (inr g)))) g)
+                (λ shown. still faults (its.errors (was.1 ∙ ready) (inl (failure_still port.0 old.device t.start first.trouble_shown shown))))
+                (λ g. ⊎_elim
+                (came faults (λ it. its.errors (was.1 ∙ ready) (⊎_elim (λ tells. inl tells) (λ g. inr (inl g)) it)))
+                (came fatals (λ it. its.errors (was.1 ∙ ready) (⊎_elim (λ tells. inl tells) (λ g. inr (inr g)) it)))
+                g)
                 trouble;
-            changes = λ tends trouble. ⊎_elim
-                (λ shown. inl (named (stops (inr (change_still port.0 old.device t.start first.trouble_shown shown)))))
-                (came disks (λ g. its.changes (was.0 ∙ tends.0, λ dead. tends.1 (sym was.1 ∙ dead)) (inr g)))
+            changes = λ tends trouble.
+                let tends_then : TendsPort begun.ports port = (was.0 ∙ tends.0, λ dead. tends.1 (sym was.1 ∙ dead)) in
+                ⊎_elim
+                (λ shown. still disks (its.changes tends_then (inl (change_still port.0 old.device t.start first.trouble_shown shown))))
+                (came disks (its.changes tends_then))
                 trouble;
             fault = came_since faults its.fault;
             fatal = came_since fatals its.fatal;
             disk = came_since disks its.disk;
           }
 
-        pub well_is_the_calls : (old.device.port port.0).link_due ≡ false → (ended.state port ≡ Ready → (t.end.port port.0).notes.st_set_at ≤ length t.end.tape) → RunsWellAnew turn t.turn began ended t.end port
+        pub well_is_the_calls : (ended.state port ≡ Ready → ((old.device.port port.0).link_due ≡ false) ⊎ ResetsLink port t.turn) → (ended.state port ≡ Ready → (t.end.port port.0).notes.st_set_at ≤ length t.end.tape) → RunsWellAnew turn t.turn began ended t.end port
             → RunsWellAnew call (all_of t) old ports new port
-        well_is_the_calls undue known its i ready plugs unfailed unbroken how =
+        well_is_the_calls linked known its i ready plugs unfailed unbroken how =
             let is_ready : ended.state port ≡ Ready = sym stays.1 ∙ ready in
             let same : (new.port port.0).notes.st_set_at ≡ (t.end.port port.0).notes.st_set_at = ap (λ n. n.st_set_at) last.leaves.notes in
             let small = known is_ready in
             let parts = plug_parts plugs in
-            let up : ResetsLink port t.turn ⊎ ((t.start.port port.0).fresh ≡ true) = ⊎_elim (λ r. inl (reset_in_turn r)) (λ fresh. inr (first.fresh undue parts.0 ∙ fresh)) how in
+            let up : ResetsLink port t.turn ⊎ ((t.start.port port.0).fresh ≡ true) = ⊎_elim (λ r. inl (reset_in_turn r)) (λ fresh. ⊎_elim (λ undue. inr (first.fresh undue parts.0 ∙ fresh)) (λ r. inl r) (linked is_ready)) how in
             laws.well port.0 t.end new
             (laws.runs port t.later t.end new on_then t.last
             (All-weaker (IsOfOther port) (SparesRegister Ghc) (λ access x. laws.spares_host x.0 access x.2) t.later t.others_later)

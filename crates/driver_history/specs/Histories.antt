@@ -34,7 +34,6 @@ use Rattle.block_machine.specs.declared.due.Unanswered.{Unanswered}
 use Rattle.identify.specs.declared.wanted.Wanted.{Wanted}
 use Rattle.error_recovery.specs.Evidence.{GainsRunning, ShowsFatal}
 use Rattle.driver_history.specs.Evidence.{Gains, ShowsChange, ShowsFailure, ShowsLoss, IsEvidenced}
-use Rattle.driver_history.specs.Guard.{IsAskedOf}
 use Rattle.driver_history.specs.Holds.{HoldsAt}
 use Rattle.driver_history.specs.Trace.{ReadsMasks, ResetsLink, IsServing, IsDriversOwn, IsOfPorts, AwaitsReset, BeginsReset}
 
@@ -241,14 +240,14 @@ pub record TiesPort (old : Instant Device) (h : Happening Device DeviceStep) (ac
   pub heeds : HeedsAt port h.event.ask old.moment h.event.evidence h.event.steps (moment_after old.moment h.event)
 
 -- The device's part in a call. Its accesses led there, and the tape backs the machine's steps. What stands behind the evidence is so. It has
--- issued what is due. Of each port of which that is asked it has done its part. And after it there holds what holds at each instant.
+-- issued what is due. Of each port it has done its part. And after it there holds what holds at each instant.
 pub record Ties (wanted : List Wanted) (old : Instant Device) (h : Happening Device DeviceStep) : Type 0 where
   pub accesses : List Access
   pub came : CameBy old.moment h.event.ask h.event.said accesses old.device h.device
   pub backed : IsBacked old.device h.device old.moment.machine h.event.steps
   pub evidenced : IsEvidenced h.event.ask h.event.said accesses old h.event.ports h.device h.event.evidence
   pub issues : (port : Port) → Issues h.event.ask h.event.steps (moment_after old.moment h.event).machine h.event.ports port
-  pub port : (port : Port) → IsAskedOf port old → TiesPort old h accesses port
+  pub port : (port : Port) → TiesPort old h accesses port
   pub holds : HoldsAt wanted (record { device = h.device; moment = moment_after old.moment h.event })
 
 -- What a new server leaves is what holds at each instant, with the adapter on. (Its book is empty, since the machine is a start.)

@@ -3,7 +3,6 @@ pub mod Evidence
 pub mod Parts
 pub mod Laws
 pub mod Holds
-pub mod Guard
 pub mod Histories
 pub mod Moves
 pub mod Claims

@@ -1,10 +1,14 @@
 -- A port's turn in a call, between accesses that leave the port to its device (this project's own).
-use Rattle.std.specs.Prelude.{◌≢◌, ◌↔◌, ◌++◌, List, All, Contains}
+use Rattle.std.specs.Prelude.{true, false, ◌≡◌, ◌≢◌, ◌⊎◌, ◌↔◌, ◌++◌, List, All, Contains}
 use Rattle.ata_types.specs.declared.Port.{Port}
+use Rattle.ata_types.specs.declared.PortState.TheVariants.{Absent, Dead}
 use Rattle.adapter.specs.Access.{Access, DoesAll}
 use Rattle.adapter.specs.Device.{Device}
 use Rattle.agreement.specs.Driven.{IsOf}
-use Rattle.block_machine.specs.Ports.{Evidence}
+use Rattle.agreement.specs.Errors.{NoneComes}
+use Rattle.block_machine.specs.Histories.{Instant}
+use Rattle.block_machine.specs.Ports.{Evidence, Ports}
+use Rattle.driver_history.specs.Histories.{HasBadDisk}
 
 -- the access is of another port: of ports' registers it touches that one's alone, and of IS that one's bit
 abbrev pub IsOfOther : Port → Access → Type 0
@@ -35,3 +39,9 @@ pub record NamesAlike (port : Port) (one other : Evidence) : Type 0 where
   pub fatal : Contains one.fatal port ↔ Contains other.fatal port
   pub stopped : Contains one.stopped port ↔ Contains other.stopped port
   pub stuck : Contains one.stuck port ↔ Contains other.stuck port
+
+-- Where a port with a disk that isn't served showed X, and no disk of it came since, no link of it is due any more, unless it is absent or dead. (While one is
+-- due, X rises when it comes up, and the tape tells of no disk.)
+abbrev pub EndsLinked : Port → Instant Device → Ports → Device → Type 0
+EndsLinked port old ports new = HasBadDisk old.moment.ports port → (old.device.port port.0).serr_x ≡ true → NoneComes port.0 old.device new
+    → (ports.state port ≡ Absent) ⊎ ((ports.state port ≡ Dead) ⊎ ((new.port port.0).link_due ≡ false))

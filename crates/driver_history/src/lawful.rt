@@ -2,6 +2,7 @@
 ghost use Rattle.driver_history.specs.Laws.{Laws};
 
 use adapter::laws::{accesses_compose, steps_keep};
+use agreement::disks::none_comes_in;
 use agreement::facts::{
     adapter_stays, calm_composes, cleared_stays, coming_composes, controls_are_set, controls_stay,
     errors_are_kept, errors_are_shown, errors_rise_by_disks, fatal_errors_compose, faults_compose,
@@ -35,6 +36,7 @@ pub fn laws_hold()
     plugging_is_found();
     other_ports_are_left();
     tapes_grow();
+    none_comes_in();
     a_port_runs_on();
     what_is_told_of_engines_stays();
 }

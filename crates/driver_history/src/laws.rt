@@ -25,7 +25,6 @@ ghost use Rattle.identify.specs.declared.wanted.Wanted.{Wanted};
 ghost use Rattle.driver_history.specs.Claims.{AnswerRests, GoesWellFor, IsHealthyFor, IsSpared};
 ghost use Rattle.driver_history.specs.Evidence.{HasErrors, HasFatalErrors, IsEvidencedOf, IsGone, ShowsChange, StaysHealthy};
 ghost use Rattle.error_recovery.specs.Evidence.{BringsLog, HasFailed};
-ghost use Rattle.driver_history.specs.Guard.{IsAskedOf};
 ghost use Rattle.driver_history.specs.Histories.{IsHistory, Issues, LosesNoTrouble};
 ghost use Rattle.driver_history.specs.Holds.{HoldsAt};
 ghost use Rattle.driver_history.specs.Moves.{KeepsMoves};
@@ -141,7 +140,7 @@ pub fn false_unplugged_is_refused()
 pub fn seen_are_answered()
     ensures { (wanted : List Wanted) (first : Instant Device) (past : List (Happening Device DeviceStep)) (h : Happening Device DeviceStep)
         (port : Port) (slot : ℕ) (id : RequestId) → IsHistory wanted first (h ∷ past) → h.event.ask ≡ Service
-        → IsAskedOf port (now first past)
+        → (now first past).moment.ports.state port ≡ Ready
         → ServesRequest (now first past).moment.machine (now first past).device.memory ((now first past).device.port port.0) port.0 slot id
         → ((now first past).device.port port.0).ci slot ≡ false → ((now first past).device.port port.0).sact slot ≡ false
         → (done : Pending) × (done.request.id ≡ id) × Contains h.event.steps (Answer done outcome.Ok) }

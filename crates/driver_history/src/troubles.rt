@@ -9,19 +9,18 @@ ghost use Rattle.adapter.specs.Rules.{IsOn};
 ghost use Rattle.adapter.specs.Steps.{Steps};
 ghost use Rattle.adapter.specs.declared.access.DeviceStep.{DeviceStep};
 ghost use Rattle.agreement.specs.Driven.{Grows};
-ghost use Rattle.agreement.specs.Errors.{IsFatalOf};
+ghost use Rattle.agreement.specs.Errors.{IsFatalOf, NoneComes};
 ghost use Rattle.agreement.specs.Facts.{IsFaultOf, Undisturbed};
-ghost use Rattle.agreement.specs.Links.{PlugsNone, SparesRegister};
+ghost use Rattle.agreement.specs.Links.{HasDeviceOrNone, PlugsNone, SparesRegister};
 ghost use Rattle.block_machine.specs.Events.{Moment, Said, Service};
 ghost use Rattle.block_machine.specs.Histories.{Happening, Instant, now};
 ghost use Rattle.block_machine.specs.Ports.{Evidence, IsInterrupted, Ports, SamePort};
 ghost use Rattle.error_recovery.specs.Evidence.{GainsRunning};
 ghost use Rattle.driver_history.specs.Claims.{HeedsFailure};
 ghost use Rattle.driver_history.specs.Evidence.{ShowsChange, ShowsFailure};
-ghost use Rattle.driver_history.specs.Guard.{IsAskedOf};
-ghost use Rattle.driver_history.specs.Histories.{BootsAnew, HasFaultAlone, IsHistory, LosesNoTrouble, RunsWellAnew};
-ghost use Rattle.driver_history.specs.Parts.{HasTurnIn, NamesAlike, all_of};
-ghost use Rattle.driver_history.specs.Trace.{ClearsNone};
+ghost use Rattle.driver_history.specs.Histories.{BootsAnew, HasBadDisk, HasFaultAlone, IsHistory, LosesNoTrouble, RunsWellAnew, TriesDisk};
+ghost use Rattle.driver_history.specs.Parts.{EndsLinked, HasTurnIn, NamesAlike, all_of};
+ghost use Rattle.driver_history.specs.Trace.{ClearsNone, ResetsLink};
 ghost use Rattle.identify.specs.declared.wanted.Wanted.{Wanted};
 ghost use Rattle.port_control.specs.Engines.{Stops};
 
@@ -32,7 +31,7 @@ use super::lawful::laws_hold;
 /// and no disk that goes or comes, a plain request always is.
 pub fn shown_faults_are_heeded()
     ensures { (wanted : List Wanted) (first : Instant Device) (past : List (Happening Device DeviceStep)) (h : Happening Device DeviceStep)
-        (port : Port) → IsHistory wanted first (h ∷ past) → h.event.ask ≡ Service → IsAskedOf port (now first past)
+        (port : Port) → IsHistory wanted first (h ∷ past) → h.event.ask ≡ Service → (now first past).moment.ports.state port ≡ Ready
         → ShowsFailure ((now first past).device.port port.0) → HeedsFailure port (now first past) h }
 {}
 
@@ -58,26 +57,45 @@ pub fn a_fault_alone_in_a_call_is_alone_in_a_turn()
 }
 
 /// What a port's turn owes of trouble the whole call does, where the turn's and the call's evidence name the port in the same lists, ST was set in the turn if it
-/// stopped the port and left it ready, and it stopped the port if that showed a failure, or a change of its link, when it began. Where no link is due when the call
-/// begins, so it is with boots; and with a port that runs well anew, where ST of one that is left ready was set by the turn's end.
+/// stopped the port and left it ready, and it stopped the port if that showed a failure, or a change of its link, when it began, and was ready then, or is at its end. So it is
+/// with boots, where no link of a ready port is due when the call begins; and with a port that runs well anew, where ST of one that is left ready was set by the turn's end,
+/// and no link of it was due when the call began, or the turn reset it.
 pub fn a_turns_trouble_is_the_calls()
     ensures trouble { (port : Port) (old : Instant Device) (begun : Moment) (ended ports : Ports) (new : Device) (turn call : Evidence) → IsOn old.device
         → (t : HasTurnIn port old.device new) → IsOn t.end → SamePort ended ports port → NamesAlike port turn call
         → SamePort old.moment.ports begun.ports port
         → (ended.state port ≡ Ready → IsInterrupted turn port → length t.start.tape ≤ (t.end.port port.0).notes.st_set_at)
-        → (ShowsFailure (t.start.port port.0) ⊎ ShowsChange (t.start.port port.0) → IsInterrupted turn port)
+        → ((begun.ports.state port ≡ Ready) ⊎ (ended.state port ≡ Ready) → ShowsFailure (t.start.port port.0) ⊎ ShowsChange (t.start.port port.0)
+        → IsInterrupted turn port)
         → LosesNoTrouble turn (record { device = t.start; moment = begun }) ended t.end port → LosesNoTrouble call old ports new port }
     ensures boots { (port : Port) (old : Instant Device) (begun : Moment) (ended ports : Ports) (new : Device) (one other : Said) → IsOn old.device
-        → (old.device.port port.0).link_due ≡ false → (t : HasTurnIn port old.device new) → IsOn t.end
+        → (old.moment.ports.state port ≡ Ready → (old.device.port port.0).link_due ≡ false) → (t : HasTurnIn port old.device new) → IsOn t.end
         → SamePort ended ports port → SamePort old.moment.ports begun.ports port
         → BootsAnew Service one t.turn (record { device = t.start; moment = begun }) ended t.end port
         → BootsAnew Service other (all_of t) old ports new port }
     ensures well { (port : Port) (old : Instant Device) (begun : Moment) (ended ports : Ports) (new : Device) (turn call : Evidence) → IsOn old.device
-        → (old.device.port port.0).link_due ≡ false → (t : HasTurnIn port old.device new) → IsOn t.end
+        → (t : HasTurnIn port old.device new) → IsOn t.end
+        → (ended.state port ≡ Ready → ((old.device.port port.0).link_due ≡ false) ⊎ ResetsLink port t.turn)
         → SamePort ended ports port → NamesAlike port turn call
         → (ended.state port ≡ Ready → (t.end.port port.0).notes.st_set_at ≤ length t.end.tape)
         → RunsWellAnew turn t.turn (record { device = t.start; moment = begun }) ended t.end port
         → RunsWellAnew call (all_of t) old ports new port }
+{
+    laws_hold();
+}
+
+/// Where a port's turn in a call tries its disk, the call does, if no disk was in a port with one that isn't served when the call began, or a device showed; and if no link is
+/// due at the turn's end of one that showed X. That is so at the call's end, too.
+pub fn a_turn_that_tries_a_disk_is_the_calls()
+    ensures tries { (port : Port) (old : Instant Device) (begun : Moment) (ended ports : Ports) (new : Device) → IsOn old.device
+        → (t : HasTurnIn port old.device new) → IsOn t.end → SamePort ended ports port → SamePort old.moment.ports begun.ports port
+        → (HasBadDisk old.moment.ports port → HasDeviceOrNone (old.device.port port.0))
+        → EndsLinked port (record { device = t.start; moment = begun }) ended t.end
+        → (NoneComes port.0 t.start t.end → TriesDisk t.turn (record { device = t.start; moment = begun }) ended t.end port)
+        → NoneComes port.0 old.device new → TriesDisk (all_of t) old ports new port }
+    ensures linked { (port : Port) (old : Instant Device) (begun : Moment) (ended ports : Ports) (new : Device) → IsOn old.device
+        → (t : HasTurnIn port old.device new) → IsOn t.end → SamePort ended ports port → SamePort old.moment.ports begun.ports port
+        → EndsLinked port (record { device = t.start; moment = begun }) ended t.end → EndsLinked port old ports new }
 {
     laws_hold();
 }

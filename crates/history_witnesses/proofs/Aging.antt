@@ -159,6 +159,6 @@ module _ (age : ℕ) where
       backed = backed;
       evidenced = record { faults = λ f here. absurd (nowhere f here); port = λ port. evidenced port.0 };
       issues = λ port is. issues port;
-      port = λ port asked. tick_part port.0;
+      port = λ port. tick_part port.0;
       holds = (first_slots, holds_issued (suc age));
     }

@@ -365,7 +365,7 @@ service_ties = record {
   backed = service_backed;
   evidenced = record { faults = λ f here. absurd (nowhere f here); port = λ port. service_evidenced port.0 };
   issues = λ port is r here. absurd (nowhere r here);
-  port = λ port healthy. service_part port.0;
+  port = λ port. service_part port.0;
   holds = (no_slots, holds_lost);
 }
 

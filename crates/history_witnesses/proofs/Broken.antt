@@ -151,7 +151,7 @@ ties = record {
   backed = backed restart is_restart;
   evidenced = record { faults = λ f here. absurd (nowhere f here); port = λ port. evidenced restart is_restart port.0 };
   issues = λ port is r here. absurd (nowhere r here);
-  port = λ port healthy. part_of port.0;
+  port = λ port. part_of port.0;
   holds = (no_slots, holds_booted outset (unpaged 1));
 }
 

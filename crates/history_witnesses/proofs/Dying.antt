@@ -197,7 +197,7 @@ reset_ties = record {
   backed = reset_backed;
   evidenced = record { faults = λ f here. absurd (nowhere f here); port = λ port. reset_evidenced port.0 };
   issues = λ port is. absurd (not_ready port.0 is);
-  port = λ port healthy. reset_part port.0;
+  port = λ port. reset_part port.0;
   holds = (first_slots, holds_dead issuing (still_knows issuing holds_submitted.knows) waits_first (λ n ne e kept. absurd (nowhere e kept)));
 }
 
@@ -354,7 +354,7 @@ service_ties = record {
   backed = service_backed;
   evidenced = record { faults = λ f here. absurd (nowhere f here); port = λ port. service_evidenced port.0 };
   issues = λ port is. absurd (not_ready port.0 is);
-  port = λ port healthy. service_part port.0;
+  port = λ port. service_part port.0;
   holds = (first_slots, holds_dead answered knows_kept (λ n ne e here. absurd (nowhere e here)) kept_first);
 }
 

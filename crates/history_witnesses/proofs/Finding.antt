@@ -299,6 +299,6 @@ module _ (c : Discovery) where
         λ issued. absurd (true≢false (sym issued)),
         λ due. absurd (is.none_due port r at_port (subst (λ (book : List Unanswered). IsDue (mode_of queueing_cap c.disk.info) book r) is.none_issued due)),
       );
-      port = λ port healthy. service_part port.0;
+      port = λ port. service_part port.0;
       holds = (c.slots_then, holds c.disk c.slots_then answered (c.more ++ gained) memory_then c.port_then is.agreeing);
     }

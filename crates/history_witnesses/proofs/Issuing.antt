@@ -233,6 +233,6 @@ module _ (c : Submission) where
       backed = backed;
       evidenced = record { faults = λ f here. absurd (nowhere f here); port = λ port. evidenced port.0 };
       issues = λ port ready. is.due port;
-      port = λ port healthy. submit_part port.0;
+      port = λ port. submit_part port.0;
       holds = (c.slots_then, holds c.disk c.slots_then issuing [] c.memory_then c.port_then is.agreeing);
     }

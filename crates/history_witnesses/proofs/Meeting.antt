@@ -206,6 +206,6 @@ meeting_ties = record {
   backed = backed;
   evidenced = record { faults = λ f here. absurd (nowhere f here); port = λ port. evidenced port.0 };
   issues = λ port. tt;
-  port = λ port healthy. meeting_part port.0;
+  port = λ port. meeting_part port.0;
   holds = (first_slots, holds_broken);
 }

@@ -330,7 +330,7 @@ ties = record {
     port = λ port. evidenced_of port.0;
   };
   issues = λ port is r here. absurd (nowhere r here);
-  port = λ port healthy. part_of port.0;
+  port = λ port. part_of port.0;
   holds = (no_slots, holds_recovered);
 }
 

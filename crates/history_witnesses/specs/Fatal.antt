@@ -38,7 +38,7 @@ abbrev pub fatal_evidence : Evidence
 fatal_evidence = restart_evidence (port_at 0 ∷ [])
 
 -- A read of port 0 is accepted and issued. The device is told to meet a fatal error of the port's link, and the port shows it. The service finds it, gives the
--- port up, and boots it anew, which finds no ATA disk: the port is unfit, and the read is answered Unplugged. The port was ready, so that this part is asked of it. The service's
+-- port up, and boots it anew, which finds no ATA disk: the port is unfit, and the read is answered Unplugged. The service's
 -- accesses keep to the adapter's rules. Each port's part in the three calls is done, whether it stays healthy or not.
 pub record FatalErrorIsAHistory : Type 0 where
   pub first : Instant Device

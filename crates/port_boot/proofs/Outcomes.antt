@@ -155,6 +155,7 @@ module _ (laws : Laws) where
       first = up.way;
       then = stops.way;
       clear = clear_since stops.goes;
+      undue = stops.goes.undue linked;
       linked = λ calm. let s = started_then calm in stops.up s.0 s.1;
     }
 

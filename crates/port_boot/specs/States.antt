@@ -210,12 +210,14 @@ pub record GetsHalted (port : Port) (old new : Device) : Type 0 where
   pub asks : IsDrivenBy (IsAsking port) old asked
   pub stops : IsDrivenBy (IsControl WritesCommand port) asked new
 
--- A port that was started, asked, and stopped again: PxSERR tells no disk of before COMRESET; and where nothing went wrong, its link is up.
+-- A port that was started, asked, and stopped again: PxSERR tells no disk of before COMRESET; its link isn't due
+-- to come up any more; and where nothing went wrong, it is up.
 pub record EndsLate (port : Port) (old new : Device) : Type 0 where
   pub up : Device
   pub first : GetsUp port old up
   pub then : GetsHalted port up new
   pub clear : HasClearErrors port.0 old new
+  pub undue : (new.port port.0).link_due ≡ false
   pub linked : Undisturbed port.0 old new → IsUp (new.port port.0)
 
 -- ---- the parts of a boot

@@ -184,7 +184,7 @@ module _ (laws : LawsBelow) where
           (refl, asked)
           (λ port. All-nil (LeavesEngine port))
           (λ port. tt)
-          (λ port _. record { finds = tt; faults = tt; tries = tt; boots = tt; trouble = laws.calls.ordinary_steps port (with_device s.device old) new (told_by s.device old.moment.ports) (ports_of s) k.kept.on moves; well = λ i. absurd (uninterrupted s.device old.moment.ports port i); heeds = uninterrupted s.device old.moment.ports port })
+          (λ port. record { finds = tt; faults = tt; tries = tt; boots = tt; trouble = laws.calls.ordinary_steps port (with_device s.device old) new (told_by s.device old.moment.ports) (ports_of s) k.kept.on moves; well = λ i. absurd (uninterrupted s.device old.moment.ports port i); heeds = uninterrupted s.device old.moment.ports port })
           x.3.backed
           (machine_on laws s new old.moment.machine steps m x.3.only x.2)
 
@@ -202,7 +202,7 @@ module _ (laws : LawsBelow) where
       adds first past leads =
           let old : Instant Device = now first past in
           lead_by laws first past s s ask said [] refl refl leads k.kept tt tt tt tt (answered old leads.stands (told_by s.device old.moment.ports)) [] (came old.moment)
-          (λ port. All-nil (LeavesEngine port)) (issues old (reached laws first past s leads) leads.stands) (λ port _. parts old.moment port) (nothing_backed s.device old.moment.machine) leads.stands.machine
+          (λ port. All-nil (LeavesEngine port)) (issues old (reached laws first past s leads) leads.stands) (λ port. parts old.moment port) (nothing_backed s.device old.moment.machine) leads.stands.machine
 
   pub undone_adds : (s : Server) (step : DeviceStep) → IsSettled s → Adds s s (Told step) (Stepped false)
   undone_adds s step k =
@@ -326,7 +326,7 @@ module _ (laws : LawsBelow) where
             ((new, loads, refl), refl)
             (λ port. All-cons (LeavesEngine port) (Loading (4096 * frame.0 + offset) bytes) [] (tt, tt) (All-nil (LeavesEngine port)))
             (λ port. tt)
-            (λ port _. record { finds = tt; faults = tt; tries = tt; boots = tt; trouble = one_untroubled s k new (Loading (4096 * frame.0 + offset) bytes) tt loads old.moment port; well = λ i. absurd (uninterrupted s.device old.moment.ports port i); heeds = uninterrupted s.device old.moment.ports port })
+            (λ port. record { finds = tt; faults = tt; tries = tt; boots = tt; trouble = one_untroubled s k new (Loading (4096 * frame.0 + offset) bytes) tt loads old.moment port; well = λ i. absurd (uninterrupted s.device old.moment.ports port i); heeds = uninterrupted s.device old.moment.ports port })
             x.0.backed x.1
 
     pub store_adds : Stores (4096 * frame.0 + offset) bytes s.device new → Adds s (record s { device = new }) (StoreAt client frame offset bytes) (store_said (Ok tt))
@@ -346,7 +346,7 @@ module _ (laws : LawsBelow) where
             ((new, stores, refl), refl)
             (λ port. All-cons (LeavesEngine port) (Storing (4096 * frame.0 + offset) bytes) [] (tt, tt) (All-nil (LeavesEngine port)))
             (λ port. tt)
-            (λ port _. record { finds = tt; faults = tt; tries = tt; boots = tt; trouble = one_untroubled s k new (Storing (4096 * frame.0 + offset) bytes) tt stores old.moment port; well = λ i. absurd (uninterrupted s.device old.moment.ports port i); heeds = uninterrupted s.device old.moment.ports port })
+            (λ port. record { finds = tt; faults = tt; tries = tt; boots = tt; trouble = one_untroubled s k new (Storing (4096 * frame.0 + offset) bytes) tt stores old.moment port; well = λ i. absurd (uninterrupted s.device old.moment.ports port i); heeds = uninterrupted s.device old.moment.ports port })
             x.0.backed x.1
 
   -- of so many bytes

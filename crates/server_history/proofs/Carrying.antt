@@ -1,5 +1,5 @@
 -- What a call has found and answered of a port so far it has still when another port has had its turn.
-use Rattle.std.proofs.Common.{ℕ, ◌≡◌, ◌≢◌, ◌<◌, ◌≤◌, true, false, List, [], ◌∷◌, ◌++◌, length, refl, sym, ap, ◌∙◌, subst, inl, inr, ⊎_elim, append_assoc, ◌⊎◌}
+use Rattle.std.proofs.Common.{ℕ, ◌≡◌, ◌≢◌, ◌≤◌, true, false, List, [], ◌∷◌, ◌++◌, length, refl, sym, ap, ◌∙◌, subst, inl, inr, ⊎_elim, append_assoc, ◌⊎◌}
 use Rattle.std.specs.List.{Contains, list_any}
 use Rattle.std.proofs.lemmas.Bool.{or_right}
 use Rattle.std.proofs.lemmas.List.Elements.{All-nil, All-weaker, Contains-append_cases, Contains-append_right}
@@ -27,7 +27,8 @@ use Rattle.host_boot.specs.Taken.{found_of}
 use Rattle.driver_history.specs.Evidence.{ShowsChange, ShowsFailure}
 use Rattle.driver_history.specs.Histories.{FindsDone}
 use Rattle.driver_history.specs.Parts.{HasTurnIn, IsOfOther, NamesAlike}
-use Rattle.driver_history.specs.Trace.{IsServing}
+use Rattle.driver_history.specs.Trace.{IsServing, ResetsLink}
+use Rattle.driver_history.specs.Holds.{Runs}
 use Rattle.server_history.specs.Below.{LawsBelow}
 use Rattle.server_history.specs.Turns.{HasPart, HeedsTrouble, MakesTurn, moment_of}
 use Rattle.server_history.specs.Server.{Server, IsKept, IsMachineOf, IsSettled, ports_of, state_of}
@@ -37,6 +38,7 @@ use Rattle.server_history.proofs.Progress as progress
 use Rattle.server_history.proofs.Rounds.{any_append, issued_early}
 use Rattle.server_history.proofs.Slots.{ready_found}
 use Rattle.server_history.proofs.Turns.{again_of, answered_of}
+use Rattle.server_history.proofs.Joined.{dead_or_not}
 
 module _ (plan : Plan) (laws : LawsBelow) (s : Server) (start : IsSettled s) (old : Moment) (reached : IsReached old.machine) (at : IsMachineOf s old.machine) (ports_are : old.ports ≡ ports_of s) where
   abbrev kept : IsKept s
@@ -152,36 +154,41 @@ module _ (plan : Plan) (laws : LawsBelow) (s : Server) (start : IsSettled s) (ol
 
       -- ---- trouble
 
-      module _ (d : IsDone c p.accesses p.steps p.evidence q) (was_ready : old.ports.state q ≡ ReadyState) where
-        ready : state_at q.0 ≡ ReadyState
-        ready = sym (ap (λ (ports : Ports). ports.state q) ports_are) ∙ was_ready
-
-        pub low : q.0 < 4
-        low = (ready_found s q.0 kept ready).0
-
-        pub undue : (s.device.port q.0).link_due ≡ false
-        undue = ((kept.behind q.0 low).runs ready).recorded.linked
+      module _ (d : IsDone c p.accesses p.steps p.evidence q) where
+        -- one that is left ready so far runs
+        runs_so_far : state_of (found_of c.ports q.0) ≡ ReadyState → Runs q.0 c.device
+        runs_so_far ready_c = (p.settled.kept.behind q.0 (ready_found c q.0 p.settled.kept ready_c).0).runs ready_c
 
         -- where it was stopped so far and left ready, ST was set since the call began
         set_since : state_of (found_of c.ports q.0) ≡ ReadyState → IsInterrupted p.evidence q → length s.device.tape ≤ (c.device.port q.0).notes.st_set_at
         set_since ready_c i = ⊎_elim
             (λ stopped. ⊎_elim
             (λ stops. laws.calls.set_since q p.accesses s.device c.device kept.on
-            (All-weaker (IsServing (Uses plan old.ports)) (SparesRegister Ghc) (λ access serving. serving.1) p.accesses p.serving) p.does stops ((p.settled.kept.behind q.0 low).runs ready_c).st)
+            (All-weaker (IsServing (Uses plan old.ports)) (SparesRegister Ghc) (λ access serving. serving.1) p.accesses p.serving) p.does stops (runs_so_far ready_c).st)
             (λ (reset : _ × _). absurd (no_reset plan [] reset.0))
             (d.evidenced.stopped_only stopped))
-            (λ stuck.
-            let lives = d.becomes.1 (λ dead. let z : ReadyState ≡ Dead = sym was_ready ∙ dead in absurd cc) in
-            let dead = lives.0.dies stuck in
-            let z : ReadyState ≡ Dead = sym ready_c ∙ dead in absurd cc)
+            (λ stuck. ⊎_elim
+            (λ (dead : old.ports.state q ≡ Dead). let z : ReadyState ≡ Dead = sym ready_c ∙ (d.becomes.0 dead).1 ∙ dead in absurd cc)
+            (λ (lives : old.ports.state q ≢ Dead). let z : ReadyState ≡ Dead = sym ready_c ∙ (d.becomes.1 lives).0.dies stuck in absurd cc)
+            (dead_or_not (old.ports.state q)))
             i
 
         pub same_self : SamePort old.ports old.ports q
         same_self = (refl, refl, refl, refl, refl, refl)
 
-        pub trouble_still : (evidence : Evidence) → NamesAlike q p.evidence evidence → SamePort (ports_of c) (ports_of mid) q → (ShowsFailure (s.device.port q.0) ⊎ ShowsChange (s.device.port q.0) → IsInterrupted p.evidence q)
+        pub trouble_still : (evidence : Evidence) → NamesAlike q p.evidence evidence → SamePort (ports_of c) (ports_of mid) q
+            → ((old.ports.state q ≡ ReadyState) ⊎ (state_of (found_of c.ports q.0) ≡ ReadyState) → ShowsFailure (s.device.port q.0) ⊎ ShowsChange (s.device.port q.0) → IsInterrupted p.evidence q)
+            → (state_of (found_of c.ports q.0) ≡ ReadyState → ((s.device.port q.0).link_due ≡ false) ⊎ ResetsLink q p.accesses)
             → HeedsTrouble q p.accesses began p.evidence (ports_of c) c.device → HeedsTrouble q accesses began evidence (ports_of mid) mid.device
-        trouble_still evidence alike same stops_troubled did = record {
+        trouble_still evidence alike same stops_troubled linked did = record {
           trouble = laws.calls.call_trouble q began old (ports_of c) (ports_of mid) mid.device p.evidence evidence kept.on t p.on same alike same_self set_since stops_troubled did.trouble;
-          well = laws.calls.call_well q began old (ports_of c) (ports_of mid) mid.device p.evidence evidence kept.on undue t p.on same alike (λ ready_c. ((p.settled.kept.behind q.0 low).runs ready_c).recorded.known) did.well;
+          well = laws.calls.call_well q began old (ports_of c) (ports_of mid) mid.device p.evidence evidence kept.on t p.on linked same alike (λ ready_c. (runs_so_far ready_c).recorded.known) did.well;
         }
+
+        -- a ready port
+        module _ (was_ready : old.ports.state q ≡ ReadyState) where
+          ready : state_at q.0 ≡ ReadyState
+          ready = sym (ap (λ (ports : Ports). ports.state q) ports_are) ∙ was_ready
+
+          pub undue : (s.device.port q.0).link_due ≡ false
+          undue = ((kept.behind q.0 (ready_found s q.0 kept ready).0).runs ready).recorded.linked

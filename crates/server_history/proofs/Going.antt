@@ -24,7 +24,6 @@ use Rattle.dma_frames.specs.Table.{Table}
 use Rattle.host_boot.specs.Taken.{found_of}
 use Rattle.host_boot.specs.declared.Found.{Found}
 use Rattle.driver_history.specs.Evidence.{IsEvidenced}
-use Rattle.driver_history.specs.Guard.{IsAskedOf}
 use Rattle.driver_history.specs.Histories.{Begins, CameBy, Issues, Ties, TiesPort}
 use Rattle.driver_history.specs.Trace.{LeavesEngine}
 use Rattle.driver_history.proofs.Instants.{history_fit, ready_low}
@@ -180,8 +179,7 @@ pub lead_with : LawsBelow → (first : Instant Device) (past : List (Happening D
     → (accesses : List Access) → CameBy (now first past).moment ask said accesses s.device new.device
     → IsEvidenced ask said accesses (with_device s.device (now first past)) (ports_of new) new.device evidence
     → ((port : Port) → Issues ask steps (after (now first past).moment.machine steps) (ports_of new) port)
-    → ((port : Port) → IsAskedOf port (with_device s.device (now first past))
-    → TiesPort (with_device s.device (now first past)) (happening_with evidence new.device ask said steps (ports_of new)) accesses port)
+    → ((port : Port) → TiesPort (with_device s.device (now first past)) (happening_with evidence new.device ask said steps (ports_of new)) accesses port)
     → IsBacked s.device new.device (now first past).moment.machine steps
     → IsMachineOf new (after (now first past).moment.machine steps)
     → (h : Happening Device DeviceStep) × (h.event.ask ≡ ask) × (h.event.said ≡ said) × Leads first (h ∷ past) new
@@ -231,8 +229,7 @@ pub lead_by : LawsBelow → (first : Instant Device) (past : List (Happening Dev
     → (accesses : List Access) → CameBy (now first past).moment ask said accesses s.device new.device
     → ((port : Port) → All (LeavesEngine port) accesses)
     → ((port : Port) → Issues ask steps (after (now first past).moment.machine steps) (ports_of new) port)
-    → ((port : Port) → IsAskedOf port (with_device s.device (now first past))
-    → TiesPort (with_device s.device (now first past)) (happening (with_device s.device (now first past)) new.device ask said steps (ports_of new)) accesses port)
+    → ((port : Port) → TiesPort (with_device s.device (now first past)) (happening (with_device s.device (now first past)) new.device ask said steps (ports_of new)) accesses port)
     → IsBacked s.device new.device (now first past).moment.machine steps
     → IsMachineOf new (after (now first past).moment.machine steps)
     → (h : Happening Device DeviceStep) × (h.event.ask ≡ ask) × (h.event.said ≡ said) × Leads first (h ∷ past) new

@@ -42,6 +42,7 @@ pub mod Clear
 pub mod Masked
 pub mod Lifting
 pub mod Plans
+pub mod Unready
 pub mod Ties
 pub mod Owing
 pub mod Staying

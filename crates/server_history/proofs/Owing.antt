@@ -74,34 +74,34 @@ module _ (laws : LawsBelow) (s : Server) (start : IsSettled s) (old : Moment) (r
     its_ties = subst (λ (turn : Turn). TiesTurn turn (port_at n) its part.accesses c mid m x.evidence x.steps) is_service x.ties
 
     low : n < 4
-    low = lifting.low AService laws s start old reached at ports_are n c mid before its ready p next part m_reached on_mid
+    low = lifting.low AService laws s start old reached at ports_are n c mid before its p next part m_reached on_mid ready
 
     ready_c : state_of (found_of c.ports n) ≡ ReadyState
-    ready_c = lifting.ready_c AService laws s start old reached at ports_are n c mid before its ready p next part m_reached on_mid
+    ready_c = lifting.ready_c AService laws s start old reached at ports_are n c mid before its p next part m_reached on_mid ready
 
     was_ready : old.ports.state (port_at n) ≡ ReadyState
-    was_ready = lifting.was_ready AService laws s start old reached at ports_are n c mid before its ready p next part m_reached on_mid
+    was_ready = lifting.was_ready AService laws s start old reached at ports_are n c mid before its p next part m_reached on_mid ready
 
     not_early : (e : Pending) (o : Outcome) → Contains p.steps (Answer e o) → e.request.port ≢ port_at n
-    not_early = lifting.not_early AService laws s start old reached at ports_are n c mid before its ready p next part m_reached on_mid
+    not_early = lifting.not_early AService laws s start old reached at ports_are n c mid before its p next part m_reached on_mid
 
     abbrev t : HasTurnIn (port_at n) s.device mid.device
-    t = lifting.t AService laws s start old reached at ports_are n c mid before its ready p next part m_reached on_mid
+    t = lifting.t AService laws s start old reached at ports_are n c mid before its p next part m_reached on_mid
 
     undue : (s.device.port n).link_due ≡ false
-    undue = lifting.undue AService laws s start old reached at ports_are n c mid before its ready p next part m_reached on_mid
+    undue = lifting.undue AService laws s start old reached at ports_are n c mid before its p next part m_reached on_mid ready
 
     abbrev IsLeading : Pending → Type 0
-    IsLeading e = lifting.IsLeading AService laws s start old reached at ports_are n c mid before its ready p next part m_reached on_mid e
+    IsLeading e = lifting.IsLeading AService laws s start old reached at ports_are n c mid before its p next part m_reached on_mid ready e
 
     leading : (e : Pending) → IsIssuedOn (port_at n) old.machine e → IsLeading e
-    leading = lifting.leading AService laws s start old reached at ports_are n c mid before its ready p next part m_reached on_mid
+    leading = lifting.leading AService laws s start old reached at ports_are n c mid before its p next part m_reached on_mid ready
 
     then_issued : (e : Pending) → IsIssuedOn (port_at n) old.machine e → (h : IsLeading e) → IsIssuedOn (port_at n) m h.now_is
-    then_issued = lifting.then_issued AService laws s start old reached at ports_are n c mid before its ready p next part m_reached on_mid
+    then_issued = lifting.then_issued AService laws s start old reached at ports_are n c mid before its p next part m_reached on_mid ready
 
     whole_is : after old.machine all ≡ after m x.steps
-    whole_is = lifting.whole_is AService laws s start old reached at ports_are n c mid before its ready p next part m_reached on_mid
+    whole_is = lifting.whole_is AService laws s start old reached at ports_are n c mid before its p next part m_reached on_mid
 
     module _ (evidence : Evidence) (alike : NamesAlike (port_at n) x.evidence evidence) (same_n : SamePort old.ports (ports_of c) (port_at n)) where
       abbrev did : TiesPort (instant_of c m) (turn_of InService its mid x.evidence x.steps) part.accesses (port_at n)
@@ -111,7 +111,7 @@ module _ (laws : LawsBelow) (s : Server) (start : IsSettled s) (old : Moment) (r
       serves = did.heeds ready_c
 
       finding : (e : Pending) → IsIssuedOn (port_at n) old.machine e → FindsDone (port_at n) accesses began all
-      finding e leads = lifting.finding AService laws s start old reached at ports_are n c mid before its ready p next part m_reached on_mid (x.finds is_service (leading e leads).now_is (then_issued e leads (leading e leads))) serves.ended
+      finding e leads = lifting.finding AService laws s start old reached at ports_are n c mid before its p next part m_reached on_mid ready (x.finds is_service (leading e leads).now_is (then_issued e leads (leading e leads))) serves.ended
 
       -- ---- a plain request's fault
 
@@ -123,19 +123,19 @@ module _ (laws : LawsBelow) (s : Server) (start : IsSettled s) (old : Moment) (r
         -- it is in its slot, which was used when the call began
         its_slot : slot ≡ it.has.slot
         unfolding leading
-        its_slot = ⊎_elim (λ same. same) (λ apart. absurd (false≢true (sym unended ∙ lifting.has_ended AService laws s start old reached at ports_are n c mid before its ready p next part m_reached on_mid e own slot apart says))) (cases_eq slot it.has.slot)
+        its_slot = ⊎_elim (λ same. same) (λ apart. absurd (false≢true (sym unended ∙ lifting.has_ended AService laws s start old reached at ports_are n c mid before its p next part m_reached on_mid ready e own slot apart says))) (cases_eq slot it.has.slot)
 
         -- whose command is a plain one
         used_plain : it.has.used.queued ≡ false
         used_plain =
-            let k = subst (HasCommand it.has.used.queued s.device n) (sym its_slot) (kept.commands n it.has.slot it.has.used (sym (lifting.used_then AService laws s start old reached at ports_are n c mid before its ready p next part m_reached on_mid it.has.slot) ∙ it.has.used_is)) in
+            let k = subst (HasCommand it.has.used.queued s.device n) (sym its_slot) (kept.commands n it.has.slot it.has.used (sym (lifting.used_then AService laws s start old reached at ports_are n c mid before its p next part m_reached on_mid ready it.has.slot) ∙ it.has.used_is)) in
             let same = laws.slots.one_said s.device.memory (s.device.port n).bases.clb slot says.command k.command says.places k.places says.told.says k.stored.told.says in
             sym k.kind ∙ sym (ap (λ (y : Meaning). is_queued y.operation) same.0) ∙ plain
 
-        plain_now : is_queued (lifting.by AService laws s start old reached at ports_are n c mid before its ready p next part m_reached on_mid e it).serves.command.operation ≡ false
+        plain_now : is_queued (lifting.by AService laws s start old reached at ports_are n c mid before its p next part m_reached on_mid ready e it).serves.command.operation ≡ false
         plain_now =
             let k = p.settled.kept.commands n it.has.slot it.has.used it.has.used_is in
-            let its = (lifting.by AService laws s start old reached at ports_are n c mid before its ready p next part m_reached on_mid e it).serves in
+            let its = (lifting.by AService laws s start old reached at ports_are n c mid before its p next part m_reached on_mid ready e it).serves in
             let same = laws.slots.one_said c.device.memory (c.device.port n).bases.clb it.has.slot its.command k.command its.places k.places its.told.says k.stored.told.says in
             ap (λ (y : Meaning). is_queued y.operation) same.0 ∙ k.kind ∙ used_plain
 
@@ -160,7 +160,7 @@ module _ (laws : LawsBelow) (s : Server) (start : IsSettled s) (old : Moment) (r
         unended_now : it.now_is.ended ≡ false
         unended_now = ⊎_elim
             (λ (is : it.now_is.ended ≡ true).
-            let over = (ended_is_clear p.stands.uses m c.device (port_at n) it.has.slot it.now_is m_reached p.stands.knows.agrees (inl (it.here, it.issued_now)) is (lifting.slot_serves AService laws s start old reached at ports_are n c mid before its ready p next part m_reached on_mid e it)).0.over in
+            let over = (ended_is_clear p.stands.uses m c.device (port_at n) it.has.slot it.now_is m_reached p.stands.knows.agrees (inl (it.here, it.issued_now)) is (lifting.slot_serves AService laws s start old reached at ports_are n c mid before its p next part m_reached on_mid ready e it)).0.over in
             absurd (⊎_elim (λ issued. false≢true (sym over.issued ∙ issued)) (λ (taken : _ × _). let z : None ≡ Some taken.0 = sym over.free ∙ taken.1 in cc) used_still))
             (λ no. no)
             (cases_Bool it.now_is.ended)
@@ -169,7 +169,7 @@ module _ (laws : LawsBelow) (s : Server) (start : IsSettled s) (old : Moment) (r
         fault_told = ⊎_elim
             (λ (a : IsAnsweredFaulty it.now_is x.steps). inl (a.0, a.1, a.2, a.3 ∙ it.same_as.request, Contains-append_left x.steps p.steps (Answer a.0 (DeviceError a.1 a.2)) a.4))
             (λ dead. inr dead)
-            (did.faults alone_now it.now_is it.has.slot (then_issued e own it) unended_now (lifting.by AService laws s start old reached at ports_are n c mid before its ready p next part m_reached on_mid e it).serves plain_now)
+            (did.faults alone_now it.now_is it.has.slot (then_issued e own it) unended_now (lifting.by AService laws s start old reached at ports_are n c mid before its p next part m_reached on_mid ready e it).serves plain_now)
 
       -- ---- what it heeds
 
@@ -189,18 +189,18 @@ module _ (laws : LawsBelow) (s : Server) (start : IsSettled s) (old : Moment) (r
           omega (arith, whole, none)
 
       changed_whole : list_any (changes_disk (port_at n)) x.steps ≡ true → list_any (changes_disk (port_at n)) all ≡ true
-      changed_whole = lifting.changed_whole AService laws s start old reached at ports_are n c mid before its ready p next part m_reached on_mid
+      changed_whole = lifting.changed_whole AService laws s start old reached at ports_are n c mid before its p next part m_reached on_mid
 
       heeds_whole : ServesReady old evidence all (record { machine = after old.machine all; ports = ports_of mid }) (port_at n)
       heeds_whole = record {
-        ended = lifting.ended_whole AService laws s start old reached at ports_are n c mid before its ready p next part m_reached on_mid serves.ended;
+        ended = lifting.ended_whole AService laws s start old reached at ports_are n c mid before its p next part m_reached on_mid ready serves.ended;
         emptied = λ gone e here. serves.emptied (alike.gone.1 gone) e (subst (λ (k : Machine). Contains k.book e) whole_is here);
         told = λ gone. ⊎_elim (λ a. inl (told_whole _ a)) (λ b. inr (told_whole _ b)) (serves.told (alike.gone.1 gone));
-        interrupts = λ trouble. lifting.named AService laws s start old reached at ports_are n c mid before its ready p next part m_reached on_mid evidence alike (serves.interrupts (⊎_elim (λ failed. inl (alike.failed.1 failed)) (λ gone. inr (alike.gone.1 gone)) trouble));
-        anew = λ trouble. lifting.anew_whole AService laws s start old reached at ports_are n c mid before its ready p next part m_reached on_mid (serves.anew (⊎_elim (λ failed. inl (alike.failed.1 failed)) (λ stopped. inr (alike.stopped.1 stopped)) trouble));
+        interrupts = λ trouble. lifting.named AService laws s start old reached at ports_are n c mid before its p next part m_reached on_mid evidence alike (serves.interrupts (⊎_elim (λ failed. inl (alike.failed.1 failed)) (λ gone. inr (alike.gone.1 gone)) trouble));
+        anew = λ trouble. lifting.anew_whole AService laws s start old reached at ports_are n c mid before its p next part m_reached on_mid (serves.anew (⊎_elim (λ failed. inl (alike.failed.1 failed)) (λ stopped. inr (alike.stopped.1 stopped)) trouble));
         single = let one = serves.single in omega (arith, counted, one);
         fatal = λ here. let y = serves.fatal (alike.fatal.1 here) in (alike.failed.0 y.0, counted ∙ y.1);
-        disk = lifting.disk_whole AService laws s start old reached at ports_are n c mid before its ready p next part m_reached on_mid serves.disk;
+        disk = lifting.disk_whole AService laws s start old reached at ports_are n c mid before its p next part m_reached on_mid serves.disk;
         calm = ⊎_elim
             (λ disturbed. inl (⊎_elim (λ failed. inl (alike.failed.0 failed)) (λ rest. inr (⊎_elim (λ gone. inl (alike.gone.0 gone)) (λ changed. inr (changed_whole changed)) rest)) disturbed))
             (λ (a : IsLeftAlone (ports_of c) x.evidence x.steps (ports_of mid) (port_at n)). inr (record {
@@ -230,7 +230,7 @@ module _ (laws : LawsBelow) (s : Server) (start : IsSettled s) (old : Moment) (r
       not_absent absent = let z : Absent ≡ ReadyState = sym absent ∙ was_ready in absurd cc
 
       heeds_trouble : HeedsTrouble (port_at n) accesses began evidence (ports_of mid) mid.device
-      heeds_trouble = lifting.trouble_whole AService laws s start old reached at ports_are n c mid before its ready p next part m_reached on_mid evidence alike same_n stops_troubled (record { trouble = did.trouble; well = did.well })
+      heeds_trouble = lifting.trouble_whole AService laws s start old reached at ports_are n c mid before its p next part m_reached on_mid evidence alike same_n (λ _. stops_troubled) (λ _. inl undue) (record { trouble = did.trouble; well = did.well })
 
       pub ties_whole : TiesPort began (turn_of InService [] mid evidence all) accesses (port_at n)
       ties_whole = record {
@@ -243,7 +243,7 @@ module _ (laws : LawsBelow) (s : Server) (start : IsSettled s) (old : Moment) (r
           changed = λ bad. absurd (not_bad bad);
         };
         boots = subst (λ (list : List Access). BootsAnew Service (Served []) (p.accesses ++ list) began (ports_of mid) mid.device (port_at n)) (append-nil part.accesses)
-            (laws.calls.call_boots (port_at n) began (moment_of c m) (ports_of mid) (ports_of mid) mid.device (Served its) (Served []) kept.on undue t on_mid same_self same_n did.boots);
+            (laws.calls.call_boots (port_at n) began (moment_of c m) (ports_of mid) (ports_of mid) mid.device (Served its) (Served []) kept.on (λ _. undue) t on_mid same_self same_n did.boots);
         trouble = heeds_trouble.trouble;
         well = heeds_trouble.well;
         heeds = λ _. heeds_whole;

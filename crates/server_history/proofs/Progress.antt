@@ -1,5 +1,5 @@
 -- What was done so far in a call, in which ports have their turns one after another.
-use Rattle.std.proofs.Common.{Bool, ◌⊎◌, ℕ, ◌≡◌, ◌≢◌, ◌≤◌, ◌<◌, ◌+◌, true, List, [], map, refl, sym, ap, ◌∙◌, subst, inl, ⊎_elim, arith}
+use Rattle.std.proofs.Common.{Bool, ◌⊎◌, ℕ, ◌≡◌, ◌≢◌, ◌≤◌, ◌<◌, ◌+◌, true, List, [], map, refl, sym, ap, ◌∙◌, subst, inl, ⊎_elim, arith, inr}
 use Rattle.std.specs.List.{All, AllPairs, Contains}
 use Rattle.std.specs.List.Sorted.{IsPermutation}
 use Rattle.std.proofs.lemmas.Bool.{cases_lt}
@@ -7,7 +7,7 @@ use Rattle.std.proofs.lemmas.List.Elements.{All-nil, All-contains, All-weaker}
 use Rattle.std.proofs.lemmas.List.Sorted.{IsPermutation-refl}
 use Rattle.ata_types.specs.declared.Port.{Port}
 use Rattle.ata_types.specs.declared.PortState.{PortState}
-use Rattle.ata_types.specs.declared.PortState.TheVariants.{Dead, Ready as ReadyState}
+use Rattle.ata_types.specs.declared.PortState.TheVariants.{Absent, Dead, Foreign, Ready as ReadyState, Unfit}
 use Rattle.ata_types.specs.declared.request.Outcome.{Outcome}
 use Rattle.ata_types.specs.declared.request.Outcome.TheVariants.{Unplugged}
 use Rattle.ata_types.specs.declared.request.Reply.{Reply}
@@ -24,16 +24,17 @@ use Rattle.block_machine.specs.Ports.{Evidence, Fault, IsInterrupted, IsServiced
 use Rattle.block_machine.specs.State.{Pending}
 use Rattle.block_machine.specs.Steps.{Step, Again, Answer}
 use Rattle.host_boot.specs.Taken.{found_of}
+use Rattle.host_boot.specs.declared.Found.{Found}
+use Rattle.host_boot.specs.declared.Found.TheVariants.{Ready, Unready, Unserved}
 use Rattle.driver_history.specs.Evidence.{IsEvidencedOf, IsFaultTold}
-use Rattle.driver_history.specs.Guard.{IsAskedOf}
-use Rattle.driver_history.specs.Histories.{FindsDone, IssuesDue, TiesPort}
+use Rattle.driver_history.specs.Histories.{FindsDone, HasBadDisk, IssuesDue, TiesPort}
 use Rattle.driver_history.specs.Holds.{NoneWaits}
-use Rattle.driver_history.specs.Parts.{IsOfOther}
+use Rattle.driver_history.specs.Parts.{EndsLinked, IsOfOther}
 use Rattle.driver_history.specs.Trace.{IsServing, LeavesEngine, ResetsLink}
 use Rattle.server_history.specs.Below.{LawsBelow}
 use Rattle.server_history.specs.Turns.{HeedsTrouble, InService, IsStepOf, moment_of, turn_of}
 use Rattle.server_history.proofs.Plans.{AService, ATick, OwesBy, Plan, TakesTurn, Uses, asks_for, owes_nothing, ready_takes}
-use Rattle.server_history.specs.Server.{Server, IsKept, IsMachineOf, IsSettled, mode_at, mode_in, ports_of, remembered_at, slots_at, state_of}
+use Rattle.server_history.specs.Server.{Server, IsKept, IsMachineOf, IsSettled, is_served, mode_at, mode_in, ports_of, remembered_at, slots_at, state_of}
 use Rattle.server_history.proofs.Asks.{none_issued}
 use Rattle.server_history.proofs.Told.{no_evidence}
 use Rattle.server_history.proofs.Turns.{AreTurns, again_of, all_of_ports, answered_of, no_turns, turns_more}
@@ -69,15 +70,55 @@ pub record HasTicked (hung : ℕ → Bool) (s : Server) (old : Moment) (port : P
 
 abbrev pub TiesSoFar : Plan → Server → Moment → Port → List Access → Server → Evidence → List Step → Type 0
 TiesSoFar AService s old port accesses c evidence steps =
-    IsAskedOf port (record { device = s.device; moment = old }) → TiesPort (record { device = s.device; moment = old }) (turn_of InService [] c evidence steps) accesses port
+    TiesPort (record { device = s.device; moment = old }) (turn_of InService [] c evidence steps) accesses port × EndsLinked port (record { device = s.device; moment = old }) (ports_of c) c.device
 TiesSoFar (ATick hung) s old port accesses c evidence steps = HasTicked hung s old port accesses c evidence steps
 
--- nothing is done of a port that isn't ready, and that had no turn
-unready_ties : (plan : Plan) (s : Server) (old : Moment) (port : Port) (accesses : List Access) (c : Server) (evidence : Evidence) (steps : List Step) → old.ports.state port ≢ ReadyState → HasRested old port accesses c evidence steps
+-- a port with a disk that isn't served is served, and isn't dead
+pub bad_tends : (found : Found) → (state_of found ≡ Foreign) ⊎ ((cause : ℕ) × (state_of found ≡ Unfit cause)) → (is_served found ≡ true) × (state_of found ≢ Dead)
+bad_tends Unserved (inl is) = let z : Absent ≡ Foreign = is in absurd cc
+bad_tends Unserved (inr (cause, is)) = let z : Absent ≡ Unfit cause = is in absurd cc
+bad_tends (Ready info) (inl is) = let z : ReadyState ≡ Foreign = is in absurd cc
+bad_tends (Ready info) (inr (cause, is)) = let z : ReadyState ≡ Unfit cause = is in absurd cc
+bad_tends (Unready state) (inl is) = (refl, λ dead. let z : Foreign ≡ Dead = sym is ∙ dead in cc)
+bad_tends (Unready state) (inr (cause, is)) = (refl, λ dead. let z : Unfit cause ≡ Dead = sym is ∙ dead in cc)
+
+-- nothing is done of a port that had no turn
+rested_ties : (plan : Plan) (s : Server) (old : Moment) (port : Port) (accesses : List Access) (c : Server) (evidence : Evidence) (steps : List Step) → old.ports ≡ ports_of s → (TakesTurn plan (found_of s.ports port.0) → ⊥) → HasRested old port accesses c evidence steps
     → TiesSoFar plan s old port accesses c evidence steps
-unready_ties AService s old port accesses c evidence steps unready rests = λ asked. absurd (unready asked)
-unready_ties (ATick hung) s old port accesses c evidence steps unready rests = record {
-  restarted = λ ready. absurd (unready ready);
+rested_ties AService s old port accesses c evidence steps ports_are not rests = (
+  record {
+    finds = λ ready. absurd (unready ready);
+    faults = λ alone. absurd (unready alone.ready);
+    tries = λ served comes. record {
+      shown = λ absent. absurd (not (sym (ap (λ (ports : Ports). ports.served port) ports_are) ∙ served, λ dead. let z : Absent ≡ Dead = sym absent ∙ state_was ∙ dead in cc));
+      absent = λ absent. absurd (not (sym (ap (λ (ports : Ports). ports.served port) ports_are) ∙ served, λ dead. let z : Absent ≡ Dead = sym absent ∙ state_was ∙ dead in cc));
+      missing = λ bad. absurd (no_bad bad);
+      changed = λ bad. absurd (no_bad bad);
+    };
+    boots = (λ ready. absurd (unready ready), inl rests.same);
+    trouble = record {
+      errors = λ ready. absurd (unready ready);
+      changes = λ tends. absurd (not (sym (ap (λ (ports : Ports). ports.served port) ports_are) ∙ tends.0, λ dead. tends.1 (state_was ∙ dead)));
+      fault = λ ready. absurd (unready (sym rests.same.1 ∙ ready));
+      fatal = λ ready. absurd (unready (sym rests.same.1 ∙ ready));
+      disk = λ ready. absurd (unready (sym rests.same.1 ∙ ready));
+    };
+    well = λ i. absurd (rests.uninterrupted i);
+    heeds = λ ready. absurd (unready ready);
+  },
+  λ bad. absurd (no_bad bad),
+)
+  where
+    state_was : old.ports.state port ≡ state_of (found_of s.ports port.0)
+    state_was = ap (λ (ports : Ports). ports.state port) ports_are
+
+    unready : old.ports.state port ≢ ReadyState
+    unready ready = not (ready_takes AService (found_of s.ports port.0) (sym state_was ∙ ready))
+
+    no_bad : HasBadDisk old.ports port → ⊥
+    no_bad bad = not (bad_tends (found_of s.ports port.0) (⊎_elim (λ foreign. inl (sym state_was ∙ foreign)) (λ unfit. inr (unfit.0, sym state_was ∙ unfit.1)) bad))
+rested_ties (ATick hung) s old port accesses c evidence steps ports_are not rests = record {
+  restarted = λ ready. absurd (not (sym (ap (λ (ports : Ports). ports.state port) ports_are) ∙ ready));
   rested = λ _. rests;
 }
 
@@ -245,7 +286,7 @@ module _ (plan : Plan) (laws : LawsBelow) (s : Server) (start : IsSettled s) (ol
         disk = inl same;
         keeps = inl (same.2, same.3);
         evidenced = none_evidenced p.accesses c.device (ports_of c) p.evidence q not (names_more (HadTurn n) Takes (λ r served. served.1) p.evidence p.names) (p.others q none);
-        ties = unready_ties plan s old q p.accesses c p.evidence p.steps (λ is. not (ready_takes plan (found_of s.ports q.0) (sym (ap (λ (ports : Ports). ports.state q) ports_are) ∙ is))) (record {
+        ties = rested_ties plan s old q p.accesses c p.evidence p.steps ports_are not (record {
           others = p.others q none;
           same = same;
           uninterrupted = λ i. ⊎_elim un.4 un.5 i;

@@ -19,7 +19,6 @@ use Rattle.host_boot.specs.declared.Found.{Found}
 use Rattle.host_boot.specs.declared.Found.TheVariants.{Unready}
 use Rattle.server_history.proofs.Joined.{dead_or_not}
 use Rattle.driver_history.specs.Evidence.{IsEvidenced}
-use Rattle.driver_history.specs.Guard.{IsAskedOf}
 use Rattle.driver_history.specs.Histories.{TiesPort}
 use Rattle.request_queue.specs.Machine.{IsEntry}
 use Rattle.server_history.specs.Histories.{Adds, Leads}
@@ -136,10 +135,10 @@ module _ (laws : LawsBelow) (s new : Server) (replies : List Reply) (start : IsS
         };
   }
 
-  -- what the service has done of each port of which that is asked
-  port_part : (port : Port) → IsAskedOf port began → TiesPort began (happening_with p.evidence new.device Service (Served replies) p.steps (ports_of new)) p.accesses port
-  port_part port asked =
-      let did = (done port).ties asked in
+  -- what the service has done of each port
+  port_part : (port : Port) → TiesPort began (happening_with p.evidence new.device Service (Served replies) p.steps (ports_of new)) p.accesses port
+  port_part port =
+      let did = (done port).ties.0 in
       record { finds = did.finds; faults = did.faults; tries = did.tries; boots = did.boots; trouble = did.trouble; well = did.well; heeds = did.heeds }
 
   pub service_event : (h : Happening Device DeviceStep) × (h.event.ask ≡ Service) × (h.event.said ≡ Served replies) × Leads first (h ∷ past) new

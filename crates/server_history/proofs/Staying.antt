@@ -20,7 +20,6 @@ use Rattle.block_machine.specs.Steps.{Step, Answer}
 use Rattle.block_machine.proofs.Counting.{count_append}
 use Rattle.host_boot.specs.Taken.{found_of}
 use Rattle.driver_history.specs.Evidence.{ShowsChange, ShowsFailure}
-use Rattle.driver_history.specs.Guard.{IsAskedOf}
 use Rattle.driver_history.specs.Histories.{HasBadDisk, HasFaultAlone, IsAnsweredFaulty, TiesPort}
 use Rattle.driver_history.specs.Parts.{HasTurnIn, NamesAlike}
 use Rattle.server_history.specs.Below.{LawsBelow}
@@ -66,7 +65,7 @@ module _ (laws : LawsBelow) (s : Server) (start : IsSettled s) (old : Moment) (r
     whole_is = laws.basic.joined old.machine x.steps p.steps
 
     module _ (q : Port) (apart : q ≢ port_at n) (d : IsDone c p.accesses p.steps p.evidence q) (evidence : Evidence) (alike : NamesAlike q p.evidence evidence) (same : SamePort (ports_of c) (ports_of mid) q)
-        (asked : IsAskedOf q began) where
+        (asked : old.ports.state q ≡ ReadyState) where
       undue : (s.device.port q.0).link_due ≡ false
       undue = carrying.undue AService laws s start old reached at ports_are n c mid before its p part m_reached q apart d asked
 
@@ -74,7 +73,7 @@ module _ (laws : LawsBelow) (s : Server) (start : IsSettled s) (old : Moment) (r
       t = carrying.t AService laws s start old reached at ports_are n c mid before its p part m_reached q apart
 
       abbrev did : TiesPort began (turn_of InService [] c p.evidence p.steps) p.accesses q
-      did = d.ties asked
+      did = d.ties.0
 
       abbrev serves : ServesReady old p.evidence p.steps (record { machine = m; ports = ports_of c }) q
       serves = did.heeds asked
@@ -140,7 +139,7 @@ module _ (laws : LawsBelow) (s : Server) (start : IsSettled s) (old : Moment) (r
       not_absent absent = let z : Absent ≡ ReadyState = sym absent ∙ asked in absurd cc
 
       heeds_trouble : HeedsTrouble q accesses began evidence (ports_of mid) mid.device
-      heeds_trouble = carrying.trouble_still AService laws s start old reached at ports_are n c mid before its p part m_reached q apart d asked evidence alike same stops_troubled (record { trouble = did.trouble; well = did.well })
+      heeds_trouble = carrying.trouble_still AService laws s start old reached at ports_are n c mid before its p part m_reached q apart d evidence alike same (λ _. stops_troubled) (λ _. inl undue) (record { trouble = did.trouble; well = did.well })
 
       pub ties_still : TiesPort began (turn_of InService [] mid evidence all) accesses q
       ties_still = record {
@@ -155,7 +154,7 @@ module _ (laws : LawsBelow) (s : Server) (start : IsSettled s) (old : Moment) (r
           missing = λ bad. absurd (not_bad bad);
           changed = λ bad. absurd (not_bad bad);
         };
-        boots = laws.calls.call_boots q began old (ports_of c) (ports_of mid) mid.device (Served []) (Served []) kept.on undue t p.on same same_self did.boots;
+        boots = laws.calls.call_boots q began old (ports_of c) (ports_of mid) mid.device (Served []) (Served []) kept.on (λ _. undue) t p.on same same_self did.boots;
         trouble = heeds_trouble.trouble;
         well = heeds_trouble.well;
         heeds = λ _. heeds_whole;

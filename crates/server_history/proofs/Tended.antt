@@ -22,6 +22,7 @@ use Rattle.block_machine.specs.Ports.{Evidence, IsInterrupted}
 use Rattle.block_machine.specs.State.{Machine}
 use Rattle.driver_history.specs.Histories.{HasBadDisk, IsFreshOrGone, TriesDisk}
 use Rattle.driver_history.specs.Trace.{ResetsLink}
+use Rattle.driver_history.specs.Parts.{EndsLinked}
 use Rattle.error_recovery.specs.Evidence.{GainsRunning, ShowsTrouble}
 use Rattle.error_recovery.specs.declared.Next.{Next}
 use Rattle.error_recovery.specs.declared.Next.TheVariants as next
@@ -31,7 +32,6 @@ use Rattle.host_boot.specs.declared.Booted.{Booted}
 use Rattle.host_boot.specs.declared.Found.{Found}
 use Rattle.host_boot.specs.declared.Found.TheVariants.{Ready, Unready}
 use Rattle.identify.specs.declared.DiskInfo.{DiskInfo}
-use Rattle.port_control.specs.Ports.{HasClearErrors}
 use Rattle.port_control.specs.declared.Stopped.{Stopped}
 use Rattle.port_look.specs.Glances.{FindsChange, FindsDevice}
 use Rattle.port_look.specs.Looks.{IsLooking}
@@ -48,7 +48,7 @@ use Rattle.server_history.proofs.Recovery.{stopped_of}
 use Rattle.server_history.proofs.Resetting.{resets_since}
 use Rattle.server_history.proofs.Showing.{LeavesTrouble, grows_over}
 use Rattle.server_history.proofs.Sighted.{SeesOver, booted_sees}
-use Rattle.server_history.proofs.Tending.{boot_clear, boot_ready, change_shown, has_gone, none_parts, reset_fresh_or_gone, shows_or_not, stays_vacant}
+use Rattle.server_history.proofs.Tending.{LeavesClear, boot_clear, boot_ready, change_shown, has_gone, none_parts, reset_fresh_or_gone, shows_or_not, stays_vacant}
 use Rattle.server_history.proofs.Trying.{DoesTried, evidence_tried}
 use Rattle.server_history.proofs.Welling.{booted_well}
 
@@ -109,6 +109,7 @@ module _ (s : Server) (port : Port) (state : PortState) (k : IsKept s) (is : fou
     pub rests_does : (made : List Access) → All (IsLooking port) made → DoesAll made s.device seen → DoesTried port (evidence_tried [] []) made s (record s { device = seen })
     rests_does made only did = record {
       tries = λ m comes. rests_tries comes made m;
+      linked = λ m bad came comes. absurd (still_same bad came);
       boots = inl (refl, refl, refl, refl, refl, refl);
       trouble = λ m. record {
         errors = λ ready. absurd (never ready);
@@ -196,22 +197,28 @@ module _ (laws : LawsBelow) (s new : Server) (seen : Device) (port : Port) (stat
       (λ absent. absent)
       f.shows
 
+  clear : (f : FindsSome) → ShowsDisk (state_of f.booted.found) → LeavesClear (wanted_of s.wanted port.0) port f.boots.asked new.device
+  clear f shows = boot_clear (wanted_of s.wanted port.0) port f.boots.asked new.device f.booted.found f.boots.boots shows
+
+  since : (f : FindsSome) → ShowsDisk (state_of f.booted.found) → NoneComes port.0 s.device new.device → NoneComes port.0 f.boots.asked new.device
+  since f shows comes = let x = sees f shows in (none_parts laws port s.device f.boots.asked new.device x.before x.since comes).1
+
+  boot_linked : (m : Machine) → EndsLinked port (instant_of s m) (ports_of then) new.device
+  boot_linked m bad came comes = ⊎_elim
+      (λ dead. inr (inl dead))
+      (λ f. ⊎_elim (λ shows. inr (inr ((clear f shows).undue (since f shows comes)))) (λ absent. inl absent) f.shows)
+      finds
+
   boot_tries : (m : Machine) → NoneComes port.0 s.device new.device → TriesDisk made (instant_of s m) (ports_of then) new.device port
   boot_tries m comes = record {
     shown = λ absent shows. ⊎_elim (λ dead. inl dead) (λ f. inr (inl f.resets)) finds;
     absent = λ absent shows fresh. ⊎_elim (λ dead. inl dead) (λ f. inr (fresh_then f)) finds;
     missing = λ bad out. ⊎_elim (λ dead. inr dead) (λ f. inl (saw_none comes f bad out)) finds;
-    changed = λ bad came. ⊎_elim (λ dead. inr (inl dead)) (λ f. ⊎_elim (λ shows. inr (inr (f.resets, (clear f shows).serr_x (since f shows), fresh_then f))) (λ absent. inl absent) f.shows) finds;
+    changed = λ bad came. ⊎_elim (λ dead. inr (inl dead)) (λ f. ⊎_elim (λ shows. inr (inr (f.resets, (clear f shows).clear.serr_x (since f shows comes), fresh_then f))) (λ absent. inl absent) f.shows) finds;
   }
     where
       fresh_then : (f : FindsSome) → IsFreshOrGone (new.device.port port.0)
       fresh_then f = reset_fresh_or_gone laws port made s.device new.device f.resets (does laws s new seen port state k is lives looks b) comes
-
-      clear : (f : FindsSome) → ShowsDisk (state_of f.booted.found) → HasClearErrors port.0 f.boots.asked new.device
-      clear f shows = boot_clear (wanted_of s.wanted port.0) port f.boots.asked new.device f.booted.found f.boots.boots shows
-
-      since : (f : FindsSome) → ShowsDisk (state_of f.booted.found) → NoneComes port.0 f.boots.asked new.device
-      since f shows = let x = sees f shows in (none_parts laws port s.device f.boots.asked new.device x.before x.since comes).1
 
   -- ---- trouble
 
@@ -246,6 +253,7 @@ module _ (laws : LawsBelow) (s new : Server) (seen : Device) (port : Port) (stat
   pub boot_does : DoesTried port evidence made s then
   boot_does = record {
     tries = boot_tries;
+    linked = boot_linked;
     boots = inr (⊎_elim (λ dead. inl dead) (λ f. inr (inr f.resets)) finds);
     trouble = λ m. record {
       errors = λ _ _. inl stops;

@@ -26,7 +26,7 @@ use Rattle.host_boot.specs.declared.Found.TheVariants.{Ready, Unready, Unserved}
 use Rattle.identify.specs.Wanted.{serial_of}
 use Rattle.identify.specs.declared.DiskInfo.{DiskInfo}
 use Rattle.identify.specs.declared.wanted.Wanted.{Wanted}
-use Rattle.port_boot.specs.States.{EndsAs, EndsEarly, TellsFault}
+use Rattle.port_boot.specs.States.{EndsAs, EndsEarly, EndsLate, TellsFault}
 use Rattle.port_control.specs.Ports.{HasClearErrors}
 use Rattle.port_look.specs.Looks.{IsLooking}
 use Rattle.server_history.specs.Below.{LawsBelow}
@@ -131,27 +131,34 @@ module _ (wanted : Wanted) (port : Port) (old new : Device) where
   boot_ready (Ready info) e is = (info, refl)
   boot_ready (Unready state) e is = absurd (subst (λ (its : Shown). EndsAs (serial_of wanted) its port.0 new) is e.ended)
 
-  early_clear : (state : Shown) → state ≢ Absent → EndsEarly port state old new → HasClearErrors port.0 old new
-  early_clear state other e = (e.found (λ none. other (subst (TellsFault state) none e.told))).clear
+  -- A boot that finds a disk leaves nothing of before in PxSERR; and where no disk came, no link is due.
+  pub record LeavesClear : Type 0 where
+    pub clear : HasClearErrors port.0 old new
+    pub undue : NoneComes port.0 old new → (new.port port.0).link_due ≡ false
 
-  unready_clear : (state : Shown) → EndsUnready wanted port state old new → ShowsDisk state → HasClearErrors port.0 old new
+  early_clear : (state : Shown) → state ≢ Absent → EndsEarly port state old new → LeavesClear
+  early_clear state other e = let f = e.found (λ none. other (subst (TellsFault state) none e.told)) in record { clear = f.clear; undue = f.undue }
+
+  late_clear : EndsLate port old new → LeavesClear
+  late_clear e = record { clear = e.clear; undue = λ none. e.undue }
+
+  unready_clear : (state : Shown) → EndsUnready wanted port state old new → ShowsDisk state → LeavesClear
   unready_clear Absent x shows = absurd shows
   unready_clear Dead x shows = absurd shows
   unready_clear ReadyState x shows = absurd x.ended
-  unready_clear Foreign x shows = (x.late tt).clear
+  unready_clear Foreign x shows = late_clear (x.late tt)
   unready_clear (Unfit n) x shows = ⊎_elim
       (λ (seven : n ≡ 7). early_clear (Unfit n) no (x.early (inl seven)))
       (λ (not_seven : n ≢ 7). ⊎_elim
       (λ (eight : n ≡ 8). early_clear (Unfit n) no (x.early (inr eight)))
-      (λ (not_eight : n ≢ 8). (x.late (not_seven, not_eight)).clear)
+      (λ (not_eight : n ≢ 8). late_clear (x.late (not_seven, not_eight)))
       (cases_eq n 8))
       (cases_eq n 7)
     where
       no : Unfit n ≢ Absent
       no is = let z : Unfit n ≡ Absent = is in cc
 
-  -- one that finds a disk leaves nothing of before in PxSERR
-  pub boot_clear : (found : Found) → BootsStopped wanted port found old new → ShowsDisk (state_of found) → HasClearErrors port.0 old new
+  pub boot_clear : (found : Found) → BootsStopped wanted port found old new → ShowsDisk (state_of found) → LeavesClear
   boot_clear Unserved none shows = absurd none
-  boot_clear (Ready info) e shows = e.news.clear
+  boot_clear (Ready info) e shows = record { clear = e.news.clear; undue = λ none. (e.news.recorded e.ready.runs.st).linked }
   boot_clear (Unready state) e shows = unready_clear state e shows

@@ -34,7 +34,6 @@ use Rattle.block_machine.specs.State.{Machine, Pending, unanswered}
 use Rattle.block_machine.specs.Steps.{Step, Age, Again, Answer, after_step, older}
 use Rattle.block_machine.proofs.Members.{contains_cases, contains_here, into_map, map_in, none_of}
 use Rattle.driver_history.specs.Evidence.{IsEvidenced}
-use Rattle.driver_history.specs.Guard.{IsAskedOf}
 use Rattle.driver_history.specs.Histories.{FindsDone, IssuesDue, TiesPort}
 use Rattle.driver_history.specs.Parts.{IsOfOther}
 use Rattle.driver_history.specs.Trace.{ClearsNone, IsDriversOwn, IsServing, LeavesEngine}
@@ -498,8 +497,8 @@ module _ (laws : LawsBelow) (s new : Server) (replies : List Reply) (start : IsS
       })
       (restarted_or_not port)
 
-  port_part : (port : Port) → IsAskedOf port (with_device s.device (now first past)) → TiesPort (with_device s.device (now first past)) (happening_with p.evidence new.device Tick (Served replies) steps (ports_of new)) p.accesses port
-  port_part port asked =
+  port_part : (port : Port) → TiesPort (with_device s.device (now first past)) (happening_with p.evidence new.device Tick (Served replies) steps (ports_of new)) p.accesses port
+  port_part port =
       let t = trouble_of port in
       record {
         finds = λ h. finds_before port (restart port h).finds;

@@ -31,13 +31,14 @@ use Rattle.server_history.specs.Below.{LawsBelow}
 use Rattle.server_history.specs.Server.{Server, IsMachineOf, IsSettled, is_served, ports_of, state_of}
 use Rattle.server_history.specs.Turns.{AtRest, HasPart, InRestart, MakesTurn, OwesTurn, RestartsPort, TiesTurn}
 use Rattle.server_history.proofs.Carrying as carrying
-use Rattle.server_history.proofs.Joined.{same_then}
+use Rattle.server_history.proofs.Joined.{ready_or_not, same_then}
 use Rattle.server_history.proofs.Lifting as lifting
 use Rattle.server_history.proofs.Owing.{ties_whole}
 use Rattle.server_history.proofs.Plans.{AService, ATick, Plan, TakesTurn, Uses, turn_at}
 use Rattle.server_history.proofs.Progress as progress
 use Rattle.server_history.proofs.Progress.{HasRested, HasTicked, IsRestarted, TiesSoFar, others_leave}
 use Rattle.server_history.proofs.Staying.{ties_still}
+use Rattle.server_history.proofs.Unready.{ready_fits, tried_still, tried_whole}
 
 -- ---- accesses
 
@@ -128,19 +129,19 @@ module _ (hung : ℕ → Bool) (laws : LawsBelow) (s : Server) (start : IsSettle
     accesses = p.accesses ++ part.accesses
 
     not_early : (e : Pending) (o : Outcome) → Contains p.steps (Answer e o) → e.request.port ≢ port_at n
-    not_early = lifting.not_early plan laws s start old reached at ports_are n c mid before its ready p next part m_reached on_mid
+    not_early = lifting.not_early plan laws s start old reached at ports_are n c mid before its p next part m_reached on_mid
 
     not_again : (e : Pending) → Contains p.steps (Again e) → e.request.port ≢ port_at n
-    not_again = lifting.not_again plan laws s start old reached at ports_are n c mid before its ready p next part m_reached on_mid
+    not_again = lifting.not_again plan laws s start old reached at ports_are n c mid before its p next part m_reached on_mid
 
     module _ (alike : NamesAlike (port_at n) x.evidence evidence) (same_n : SamePort old.ports (ports_of c) (port_at n)) where
       restarted : hung n ≡ true → IsRestarted began (port_at n) accesses mid evidence all
       restarted so = record {
-        finds = lifting.finding plan laws s start old reached at ports_are n c mid before its ready p next part m_reached on_mid r.finds r.ended;
+        finds = lifting.finding plan laws s start old reached at ports_are n c mid before its p next part m_reached on_mid ready r.finds r.ended;
         boots = ⊎_elim (λ dead. inl dead) (λ resets. inr (resets_since (port_at n) p.accesses part.accesses resets)) r.boots;
-        ended = lifting.ended_whole plan laws s start old reached at ports_are n c mid before its ready p next part m_reached on_mid r.ended;
-        interrupts = lifting.named plan laws s start old reached at ports_are n c mid before its ready p next part m_reached on_mid evidence alike r.interrupts;
-        anew = lifting.anew_whole plan laws s start old reached at ports_are n c mid before its ready p next part m_reached on_mid r.anew;
+        ended = lifting.ended_whole plan laws s start old reached at ports_are n c mid before its p next part m_reached on_mid ready r.ended;
+        interrupts = lifting.named plan laws s start old reached at ports_are n c mid before its p next part m_reached on_mid evidence alike r.interrupts;
+        anew = lifting.anew_whole plan laws s start old reached at ports_are n c mid before its p next part m_reached on_mid r.anew;
         another = λ e here own. ⊎_elim
             (λ late.
             let w = r.another e late in
@@ -151,8 +152,8 @@ module _ (hung : ℕ → Bool) (laws : LawsBelow) (s : Server) (start : IsSettle
             ))
             (λ early. absurd (not_early e Unplugged early own))
             (Contains-append_cases x.steps p.steps (Answer e Unplugged) here);
-        disk = lifting.disk_whole plan laws s start old reached at ports_are n c mid before its ready p next part m_reached on_mid r.disk;
-        heeds = lifting.trouble_whole plan laws s start old reached at ports_are n c mid before its ready p next part m_reached on_mid evidence alike same_n (λ _. r.interrupts) ties;
+        disk = lifting.disk_whole plan laws s start old reached at ports_are n c mid before its p next part m_reached on_mid r.disk;
+        heeds = lifting.trouble_whole plan laws s start old reached at ports_are n c mid before its p next part m_reached on_mid evidence alike same_n (λ _ _. r.interrupts) (λ _. inl (lifting.undue plan laws s start old reached at ports_are n c mid before its p next part m_reached on_mid ready)) ties;
       }
         where
           r : RestartsPort (port_at n) part.accesses c mid m x.evidence x.steps
@@ -164,11 +165,11 @@ module _ (hung : ℕ → Bool) (laws : LawsBelow) (s : Server) (start : IsSettle
       rested : hung n ≡ false → HasRested old (port_at n) accesses mid evidence all
       rested not_so = record {
         others = subst (λ (list : List Access). All (IsOfOther (port_at n)) (p.accesses ++ list)) (sym rests.0) (subst (All (IsOfOther (port_at n))) (sym (append-nil p.accesses))
-            (p.others (port_at n) (lifting.not_yet plan laws s start old reached at ports_are n c mid before its ready p next part m_reached on_mid)));
+            (p.others (port_at n) (lifting.not_yet plan laws s start old reached at ports_are n c mid before its p next part m_reached on_mid)));
         same = ⊎_elim
             (λ same. same_then old.ports (ports_of c) (ports_of mid) (port_at n) same_n same)
             (λ interrupted. absurd (rests.3 interrupted))
-            (x.becomes.1 (λ dead. let z : ReadyState ≡ Dead = sym (lifting.ready_c plan laws s start old reached at ports_are n c mid before its ready p next part m_reached on_mid) ∙ dead in absurd cc)).1;
+            (x.becomes.1 (λ dead. let z : ReadyState ≡ Dead = sym (lifting.ready_c plan laws s start old reached at ports_are n c mid before its p next part m_reached on_mid ready) ∙ dead in absurd cc)).1;
         uninterrupted = λ i. rests.3 (⊎_elim (λ stopped. inl (alike.stopped.1 stopped)) (λ stuck. inr (alike.stuck.1 stuck)) i);
         again = λ e here. not_again e (subst (λ (list : List Step). Contains (list ++ p.steps) (Again e)) rests.1 here);
         answer = λ e o here. not_early e o (subst (λ (list : List Step). Contains (list ++ p.steps) (Answer e o)) rests.1 here);
@@ -181,7 +182,7 @@ module _ (hung : ℕ → Bool) (laws : LawsBelow) (s : Server) (start : IsSettle
       ticked = record {
         restarted = λ _ so. restarted so;
         rested = λ not. ⊎_elim
-            (λ (so : hung n ≡ true). absurd (not (lifting.was_ready plan laws s start old reached at ports_are n c mid before its ready p next part m_reached on_mid) so))
+            (λ (so : hung n ≡ true). absurd (not (lifting.was_ready plan laws s start old reached at ports_are n c mid before its p next part m_reached on_mid ready) so))
             (λ (not_so : hung n ≡ false). rested not_so)
             (cases_Bool (hung n));
       }
@@ -224,7 +225,7 @@ module _ (hung : ℕ → Bool) (laws : LawsBelow) (s : Server) (start : IsSettle
                 (λ early. let w = r.another e early own in (λ dead. w.0 (sym same.1 ∙ dead), λ is_ready disk. w.1 (sym same.1 ∙ is_ready) (sym same.2 ∙ disk.0, sym same.3 ∙ disk.1)))
                 (Contains-append_cases y.steps p.steps (Answer e Unplugged) here);
             disk = carrying.disk_still plan laws s start old reached at ports_are n c mid before its p part m_reached q apart same r.disk;
-            heeds = carrying.trouble_still plan laws s start old reached at ports_are n c mid before its p part m_reached q apart d was_ready evidence alike same (λ _. r.interrupts) r.heeds;
+            heeds = carrying.trouble_still plan laws s start old reached at ports_are n c mid before its p part m_reached q apart d evidence alike same (λ _ _. r.interrupts) (λ _. inl (carrying.undue plan laws s start old reached at ports_are n c mid before its p part m_reached q apart d was_ready)) r.heeds;
           };
       rested = λ not.
           let r = d.ties.rested not in
@@ -245,18 +246,29 @@ module _ (hung : ℕ → Bool) (laws : LawsBelow) (s : Server) (start : IsSettle
 
 -- ---- both
 
--- of a port that isn't ready a service has nothing to show
 pub ties_turned : (plan : Plan) (laws : LawsBelow) (s : Server) (start : IsSettled s) (old : Moment) (reached : IsReached old.machine) (at : IsMachineOf s old.machine) (ports_are : old.ports ≡ ports_of s) (n : ℕ) (c mid : Server) (before its : List Reply)
     (takes : TakesTurn plan (found_of s.ports n)) (p : progress.Progress plan laws s start old reached at ports_are n c before) (next : IsSettled mid) (part : HasPart (turn_at plan (found_of s.ports n) n) (port_at n) its c mid)
     (m_reached : IsReached (after old.machine p.steps)) (on_mid : IsOn mid.device) (evidence : Evidence) → NamesAlike (port_at n) (part.makes (after old.machine p.steps) m_reached p.stands).evidence evidence → SamePort old.ports (ports_of c) (port_at n)
     → TiesSoFar plan s old (port_at n) (p.accesses ++ part.accesses) mid evidence ((part.makes (after old.machine p.steps) m_reached p.stands).steps ++ p.steps)
 ties_turned AService laws s start old reached at ports_are n c mid before its takes p next part m_reached on_mid evidence alike same_n =
-    λ asked. ties_whole laws s start old reached at ports_are n c mid before its (sym (ap (λ (ports : Ports). ports.state (port_at n)) ports_are) ∙ asked) p next part m_reached on_mid evidence alike same_n
+    ⊎_elim
+    (λ ready. (
+      ties_whole laws s start old reached at ports_are n c mid before its ready p next part m_reached on_mid evidence alike same_n,
+      λ bad. absurd (ready_fits (old.ports.state (port_at n)) (ap (λ (ports : Ports). ports.state (port_at n)) ports_are ∙ ready) bad),
+    ))
+    (λ unready. tried_whole laws s start old reached at ports_are n c mid before its unready p next part m_reached on_mid evidence alike same_n)
+    (ready_or_not (state_of (found_of s.ports n)))
 ties_turned (ATick hung) laws s start old reached at ports_are n c mid before its takes p next part m_reached on_mid evidence alike same_n = ticked hung laws s start old reached at ports_are n c mid before its takes p next part m_reached on_mid evidence alike same_n
 
 pub ties_carried : (plan : Plan) (laws : LawsBelow) (s : Server) (start : IsSettled s) (old : Moment) (reached : IsReached old.machine) (at : IsMachineOf s old.machine) (ports_are : old.ports ≡ ports_of s) (n : ℕ) (c mid : Server) (before its : List Reply)
     (p : progress.Progress plan laws s start old reached at ports_are n c before) (part : HasPart (turn_at plan (found_of s.ports n) n) (port_at n) its c mid) (m_reached : IsReached (after old.machine p.steps)) (q : Port) (apart : q ≢ port_at n)
     (d : progress.IsDone plan laws s start old reached at ports_are c p.accesses p.steps p.evidence q) (evidence : Evidence) (alike : NamesAlike q p.evidence evidence) (same : SamePort (ports_of c) (ports_of mid) q)
     → TiesSoFar plan s old q (p.accesses ++ part.accesses) mid evidence ((part.makes (after old.machine p.steps) m_reached p.stands).steps ++ p.steps)
-ties_carried AService laws s start old reached at ports_are n c mid before its p part m_reached q apart d evidence alike same = λ asked. ties_still laws s start old reached at ports_are n c mid before its p part m_reached q apart d evidence alike same asked
+ties_carried AService laws s start old reached at ports_are n c mid before its p part m_reached q apart d evidence alike same = ⊎_elim
+    (λ ready. (
+      ties_still laws s start old reached at ports_are n c mid before its p part m_reached q apart d evidence alike same ready,
+      λ bad. absurd (ready_fits (old.ports.state q) ready bad),
+    ))
+    (λ unready. tried_still laws s start old reached at ports_are n c mid before its p part m_reached q apart d evidence alike same unready)
+    (ready_or_not (old.ports.state q))
 ties_carried (ATick hung) laws s start old reached at ports_are n c mid before its p part m_reached q apart d evidence alike same = still_ticked hung laws s start old reached at ports_are n c mid before its p part m_reached q apart d evidence alike same

@@ -20,6 +20,7 @@ use Rattle.driver_history.specs.Evidence.{IsEvidencedOf}
 use Rattle.driver_history.specs.Histories.{LosesNoTrouble, RunsWellAnew, TriesDisk}
 use Rattle.driver_history.specs.Holds.{NoneWaits}
 use Rattle.driver_history.specs.Trace.{LeavesEngine, ResetsLink}
+use Rattle.driver_history.specs.Parts.{EndsLinked}
 use Rattle.host_boot.specs.Taken.{found_of}
 use Rattle.port_control.specs.Engines.{Sticks, Stops}
 use Rattle.request_queue.specs.Entries.{Held}
@@ -58,10 +59,11 @@ pub record AddsTried (port : Port) (old new : Server) (m : Machine) : Type 0 whe
   pub backed : IsBacked old.device new.device m steps
   pub disk : SamePort (ports_of old) (ports_of new) port ⊎ HadDisk (moment_of old m) steps (moment_of new (after m steps)) port
 
--- What the turn has done of the port besides: where no disk of it came, what is there was tried; it was booted anew, unless it is what it was, or dead or absent; and no trouble of it is
--- lost.
+-- What the turn has done of the port besides: where no disk of it came, what is there was tried, after which no link is due; it was booted anew, unless it is what it was, or dead or
+-- absent; and no trouble of it is lost.
 pub record DoesTried (port : Port) (evidence : Evidence) (accesses : List Access) (old new : Server) : Type 0 where
   pub tries : (m : Machine) → NoneComes port.0 old.device new.device → TriesDisk accesses (instant_of old m) (ports_of new) new.device port
+  pub linked : (m : Machine) → EndsLinked port (instant_of old m) (ports_of new) new.device
   pub boots : SamePort (ports_of old) (ports_of new) port ⊎ (((ports_of new).state port ≡ Dead) ⊎ (((ports_of new).state port ≡ Absent) ⊎ ResetsLink port accesses))
   pub trouble : (m : Machine) → LosesNoTrouble evidence (instant_of old m) (ports_of new) new.device port
   pub well : (m : Machine) → RunsWellAnew evidence accesses (instant_of old m) (ports_of new) new.device port
@@ -125,15 +127,18 @@ module _ (laws : LawsBelow) (port : Port) (old : Server) (k : IsKept old) (unrea
       owes = (devices_all (AllGrounded its) (device_grounded its) tt x.steps x.only, refl, refl)
 
       ties : TiesTurn InTry port [] accesses old new m its x.steps
-      ties = record {
-        finds = λ ready. absurd (unready ready);
-        faults = λ alone. absurd (unready alone.ready);
-        tries = λ served comes. did.tries m comes;
-        boots = (λ ready. absurd (unready ready), did.boots);
-        trouble = did.trouble m;
-        well = did.well m;
-        heeds = λ ready. absurd (unready ready);
-      }
+      ties = (
+        record {
+          finds = λ ready. absurd (unready ready);
+          faults = λ alone. absurd (unready alone.ready);
+          tries = λ served comes. did.tries m comes;
+          boots = (λ ready. absurd (unready ready), did.boots);
+          trouble = did.trouble m;
+          well = did.well m;
+          heeds = λ ready. absurd (unready ready);
+        },
+        did.linked m,
+      )
 
       pub makes_try : MakesTurn InTry port [] accesses old new m
       makes_try = record {

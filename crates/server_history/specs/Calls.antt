@@ -10,7 +10,7 @@ use Rattle.adapter.specs.declared.tape.Fault.{Fault}
 use Rattle.adapter.specs.Rules.{IsOn}
 use Rattle.adapter.specs.Steps.{Steps}
 use Rattle.adapter.specs.Access.{Access, DoesAll, Reads}
-use Rattle.agreement.specs.Links.{PlugsNone, SparesRegister, SameAdapter}
+use Rattle.agreement.specs.Links.{PlugsNone, SparesRegister, SameAdapter, HasDeviceOrNone}
 use Rattle.hba_regs.specs.Bits.{bit}
 use Rattle.hba_regs.specs.declared.reg.PortReg.{PortReg}
 use Rattle.hba_regs.specs.declared.reg.PortReg.TheVariants.{Ssts}
@@ -23,9 +23,9 @@ use Rattle.block_machine.specs.Histories.{Instant}
 use Rattle.block_machine.specs.Ports.{Evidence, IsInterrupted, Ports, SamePort}
 use Rattle.driver_history.specs.Evidence.{IsEvidencedOf, ShowsChange, ShowsFailure}
 use Rattle.error_recovery.specs.Evidence.{BringsLog, HasFailed, GainsRunning}
-use Rattle.driver_history.specs.Histories.{BootsAnew, HasFaultAlone, LosesNoTrouble, RunsWellAnew}
-use Rattle.driver_history.specs.Parts.{HasTurnIn, NamesAlike, all_of}
-use Rattle.driver_history.specs.Trace.{ClearsNone}
+use Rattle.driver_history.specs.Histories.{BootsAnew, HasFaultAlone, LosesNoTrouble, RunsWellAnew, HasBadDisk, TriesDisk}
+use Rattle.driver_history.specs.Parts.{HasTurnIn, NamesAlike, all_of, EndsLinked}
+use Rattle.driver_history.specs.Trace.{ClearsNone, ResetsLink}
 use Rattle.port_control.specs.Engines.{Stops}
 use Rattle.port_look.specs.Looks.{LooksAt, look_of, IsLooking}
 use Rattle.port_look.specs.Services.{HasLoss, IsOrdinary, IsService, ShowsDisks, ShowsFatals, ShowsFaults}
@@ -92,15 +92,22 @@ pub record CallLaws : Type 0 where
   pub call_trouble : (port : Port) (old : Instant Device) (begun : Moment) (ended ports : Ports) (new : Device) (turn call : Evidence) → IsOn old.device
       → (t : HasTurnIn port old.device new) → IsOn t.end → SamePort ended ports port → NamesAlike port turn call → SamePort old.moment.ports begun.ports port
       → (ended.state port ≡ Ready → IsInterrupted turn port → length t.start.tape ≤ (t.end.port port.0).notes.st_set_at)
-      → (ShowsFailure (t.start.port port.0) ⊎ ShowsChange (t.start.port port.0) → IsInterrupted turn port)
+      → ((begun.ports.state port ≡ Ready) ⊎ (ended.state port ≡ Ready) → ShowsFailure (t.start.port port.0) ⊎ ShowsChange (t.start.port port.0) → IsInterrupted turn port)
       → LosesNoTrouble turn (record { device = t.start; moment = begun }) ended t.end port → LosesNoTrouble call old ports new port
-  pub call_boots : (port : Port) (old : Instant Device) (begun : Moment) (ended ports : Ports) (new : Device) (one other : Said) → IsOn old.device → (old.device.port port.0).link_due ≡ false
+  pub call_boots : (port : Port) (old : Instant Device) (begun : Moment) (ended ports : Ports) (new : Device) (one other : Said) → IsOn old.device → (old.moment.ports.state port ≡ Ready → (old.device.port port.0).link_due ≡ false)
       → (t : HasTurnIn port old.device new) → IsOn t.end → SamePort ended ports port → SamePort old.moment.ports begun.ports port
       → BootsAnew Service one t.turn (record { device = t.start; moment = begun }) ended t.end port → BootsAnew Service other (all_of t) old ports new port
-  pub call_well : (port : Port) (old : Instant Device) (begun : Moment) (ended ports : Ports) (new : Device) (turn call : Evidence) → IsOn old.device → (old.device.port port.0).link_due ≡ false
-      → (t : HasTurnIn port old.device new) → IsOn t.end → SamePort ended ports port → NamesAlike port turn call
+  pub call_well : (port : Port) (old : Instant Device) (begun : Moment) (ended ports : Ports) (new : Device) (turn call : Evidence) → IsOn old.device
+      → (t : HasTurnIn port old.device new) → IsOn t.end → (ended.state port ≡ Ready → ((old.device.port port.0).link_due ≡ false) ⊎ ResetsLink port t.turn) → SamePort ended ports port → NamesAlike port turn call
       → (ended.state port ≡ Ready → (t.end.port port.0).notes.st_set_at ≤ length t.end.tape)
       → RunsWellAnew turn t.turn (record { device = t.start; moment = begun }) ended t.end port → RunsWellAnew call (all_of t) old ports new port
+  -- a disk that is tried in a port's turn
+  pub call_tries : (port : Port) (old : Instant Device) (begun : Moment) (ended ports : Ports) (new : Device) → IsOn old.device → (t : HasTurnIn port old.device new) → IsOn t.end
+      → SamePort ended ports port → SamePort old.moment.ports begun.ports port → (HasBadDisk old.moment.ports port → HasDeviceOrNone (old.device.port port.0))
+      → EndsLinked port (record { device = t.start; moment = begun }) ended t.end → (NoneComes port.0 t.start t.end → TriesDisk t.turn (record { device = t.start; moment = begun }) ended t.end port)
+      → NoneComes port.0 old.device new → TriesDisk (all_of t) old ports new port
+  pub call_linked : (port : Port) (old : Instant Device) (begun : Moment) (ended ports : Ports) (new : Device) → IsOn old.device → (t : HasTurnIn port old.device new) → IsOn t.end
+      → SamePort ended ports port → SamePort old.moment.ports begun.ports port → EndsLinked port (record { device = t.start; moment = begun }) ended t.end → EndsLinked port old ports new
   pub set_since : (port : Port) (accesses : List Access) (old new : Device) → IsOn old → All (SparesRegister Ghc) accesses → DoesAll accesses old new → Stops port accesses → (new.port port.0).st ≡ true
       → length old.tape ≤ (new.port port.0).notes.st_set_at
   -- what came since ST was set

@@ -25,6 +25,7 @@ use Rattle.error_log.specs.Log.{TellsError}
 use Rattle.driver_history.specs.Histories.{FindsDone, IsIssuedOn, IssuesDue, LosesNoTrouble, RunsWellAnew, TiesPort}
 use Rattle.driver_history.specs.Holds.{NoneWaits}
 use Rattle.driver_history.specs.Trace.{IsDriversOwn, ResetsLink}
+use Rattle.driver_history.specs.Parts.{EndsLinked}
 use Rattle.host_boot.specs.Taken.{found_of}
 use Rattle.host_boot.specs.declared.Found.{Found}
 use Rattle.host_boot.specs.declared.Found.TheVariants.{Ready, Unready, Unserved}
@@ -107,14 +108,14 @@ pub record HeedsTrouble (port : Port) (accesses : List Access) (old : Instant De
   pub trouble : LosesNoTrouble evidence old ports new port
   pub well : RunsWellAnew evidence accesses old ports new port
 
--- As such a call it has done of its port what a service does of one; where it restarts the port, what a call does of trouble.
+-- As such a call it has done of its port what a service does of one, and where it tried the port's disk, no link is due any more; where it restarts the port, what a call does of trouble.
 abbrev pub TiesTurn : Turn → Port → List Reply → List Access → Server → Server → Machine → Evidence → List Step → Type 0
 TiesTurn InService port replies accesses old new m evidence steps =
     TiesPort (instant_of old m) (turn_of InService replies new evidence steps) accesses port
 TiesTurn InRestart port replies accesses old new m evidence steps =
     HeedsTrouble port accesses (instant_of old m) evidence (ports_of new) new.device
 TiesTurn InTry port replies accesses old new m evidence steps =
-    TiesPort (instant_of old m) (turn_of InTry replies new evidence steps) accesses port
+    TiesPort (instant_of old m) (turn_of InTry replies new evidence steps) accesses port × EndsLinked port (instant_of old m) (ports_of new) new.device
 TiesTurn AtRest port replies accesses old new m evidence steps = Unit {0}
 
 -- What was done was found by a reading of the masks, in which the bits of each slot that wasn't used when the turn began were clear. (The bytes of such a slot may say

@@ -27,8 +27,9 @@ use block_machine::laws::{
 use driver_history::laws::{a_turns_evidence_is_the_calls, histories_reach_their_machines};
 use driver_history::troubles::{
     a_fatal_error_of_a_part_is_of_the_whole, a_fault_alone_in_a_call_is_alone_in_a_turn,
-    a_port_that_was_stopped_was_set_since, a_turns_trouble_is_the_calls,
-    ordinary_accesses_lose_no_trouble, what_is_untroubled_since_st_was_set_is_calm,
+    a_port_that_was_stopped_was_set_since, a_turn_that_tries_a_disk_is_the_calls,
+    a_turns_trouble_is_the_calls, ordinary_accesses_lose_no_trouble,
+    what_is_untroubled_since_st_was_set_is_calm,
 };
 use error_recovery::laws::{recovery_is_of_its_port, what_stands_behind_a_fault_stays};
 use host_boot::laws::what_was_booted_again_may_be_served;
@@ -136,6 +137,7 @@ fn call_laws_hold()
     ordinary_accesses_lose_no_trouble();
     a_fault_alone_in_a_call_is_alone_in_a_turn();
     a_turns_trouble_is_the_calls();
+    a_turn_that_tries_a_disk_is_the_calls();
     a_port_that_was_stopped_was_set_since();
     a_fatal_error_of_a_part_is_of_the_whole();
     what_is_untroubled_since_st_was_set_is_calm();

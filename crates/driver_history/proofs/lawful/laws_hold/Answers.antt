@@ -42,6 +42,8 @@ returns c = record {
   command = c.controls_are_set.ensures.command;
   start = c.controls_are_set.ensures.start;
   calm_parts = c.calm_composes.ensures.parts;
+  vacant = c.none_comes_in.ensures.vacant_access;
+  fresh = c.none_comes_in.ensures.fresh_access;
   runs = c.a_port_runs_on.ensures.runs;
   well = c.a_port_runs_on.ensures.well;
 }

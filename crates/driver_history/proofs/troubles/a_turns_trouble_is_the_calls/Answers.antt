@@ -10,5 +10,5 @@ returns-clause-boots c port old begun ended ports new one other on undue t on_th
     boots_are_the_calls c.laws_hold.ensures port old begun new on t on_then ended ports stays one other undue was its
 
 pub returns-clause-well : goal.returns-clause-well
-returns-clause-well c port old begun ended ports new turn call on undue t on_then stays alike known its =
-    well_is_the_calls c.laws_hold.ensures port old begun new on t on_then ended ports stays turn call alike undue known its
+returns-clause-well c port old begun ended ports new turn call on t on_then linked stays alike known its =
+    well_is_the_calls c.laws_hold.ensures port old begun new on t on_then ended ports stays turn call alike linked known its

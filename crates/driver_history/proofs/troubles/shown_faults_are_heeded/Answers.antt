@@ -3,21 +3,21 @@ use Rattle.std.proofs.Common.{inl, subst}
 use Rattle.adapter.specs.Device.{Device}
 use Rattle.adapter.specs.declared.access.DeviceStep.{DeviceStep}
 use Rattle.ata_types.specs.declared.Port.{Port}
+use Rattle.ata_types.specs.declared.PortState.TheVariants.{Ready}
 use Rattle.block_machine.specs.Events.{Ask, HeedsAt, Service, ServesReady, moment_after}
 use Rattle.block_machine.specs.Histories.{Happening, Instant, now}
 use Rattle.identify.specs.declared.wanted.Wanted.{Wanted}
 use Rattle.driver_history.specs.Claims.{HeedsFailure}
 use Rattle.driver_history.specs.Evidence.{ShowsFailure}
-use Rattle.driver_history.specs.Guard.{IsAskedOf}
 use Rattle.driver_history.specs.Histories.{IsHistory, TellsPlainFaults}
 use Rattle.driver_history.proofs.troubles.shown_faults_are_heeded.Goals as goal
 
 heeds_fault : (wanted : List Wanted) (first : Instant Device) (past : List (Happening Device DeviceStep)) (h : Happening Device DeviceStep) (port : Port)
-    → IsHistory wanted first (h ∷ past) → h.event.ask ≡ Service → IsAskedOf port (now first past) → ShowsFailure ((now first past).device.port port.0)
+    → IsHistory wanted first (h ∷ past) → h.event.ask ≡ Service → (now first past).moment.ports.state port ≡ Ready → ShowsFailure ((now first past).device.port port.0)
     → HeedsFailure port (now first past) h
 heeds_fault wanted first past h port history asks asked failure =
     let old = now first past in
-    let ties = history.2.port port asked in
+    let ties = history.2.port port in
     let evidenced = history.2.evidenced.port port in
     let failed = evidenced.failed_all asked failure in
     let serves : ServesReady old.moment h.event.evidence h.event.steps (moment_after old.moment h.event) port =
