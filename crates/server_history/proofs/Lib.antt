@@ -89,6 +89,7 @@ pub mod Glanced
 pub mod Trying
 pub mod Anew
 pub mod Tries
+pub mod Fitting
 pub mod Tending
 pub mod Tended
 pub mod Driving

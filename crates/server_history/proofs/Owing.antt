@@ -4,7 +4,7 @@ use Rattle.std.specs.List.{Contains, count_by, list_any}
 use Rattle.std.proofs.lemmas.Bool.{cases_Bool, cases_eq, false≢true}
 use Rattle.std.proofs.lemmas.List.Elements.{Contains-append_cases, Contains-append_left}
 use Rattle.ata_types.specs.declared.PortState.{PortState}
-use Rattle.ata_types.specs.declared.PortState.TheVariants.{Absent, Dead, Foreign, Ready as ReadyState, Unfit}
+use Rattle.ata_types.specs.declared.PortState.TheVariants.{Absent, Dead, Ready as ReadyState}
 use Rattle.ata_types.specs.declared.request.Outcome.{Outcome}
 use Rattle.ata_types.specs.declared.request.Outcome.TheVariants.{DeviceError}
 use Rattle.ata_types.specs.declared.request.Reply.{Reply}
@@ -38,6 +38,7 @@ use Rattle.server_history.proofs.Lifting.{counts_apart}
 use Rattle.server_history.proofs.Plans.{AService, turn_at}
 use Rattle.server_history.proofs.Progress as progress
 use Rattle.server_history.proofs.Slots.{ready_found, free_unused}
+use Rattle.server_history.proofs.Fitting.{ready_fits}
 
 module _ (laws : LawsBelow) (s : Server) (start : IsSettled s) (old : Moment) (reached : IsReached old.machine) (at : IsMachineOf s old.machine) (ports_are : old.ports ≡ ports_of s) where
   abbrev kept : IsKept s
@@ -223,8 +224,7 @@ module _ (laws : LawsBelow) (s : Server) (start : IsSettled s) (old : Moment) (r
       -- ---- the whole
 
       not_bad : HasBadDisk old.ports (port_at n) → ⊥
-      not_bad (inl foreign) = let z : Foreign ≡ ReadyState = sym foreign ∙ was_ready in absurd cc
-      not_bad (inr (cause, unfit)) = let z : Unfit cause ≡ ReadyState = sym unfit ∙ was_ready in absurd cc
+      not_bad bad = ready_fits (old.ports.state (port_at n)) was_ready bad
 
       not_absent : old.ports.state (port_at n) ≡ Absent → ⊥
       not_absent absent = let z : Absent ≡ ReadyState = sym absent ∙ was_ready in absurd cc

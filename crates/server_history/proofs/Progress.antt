@@ -7,7 +7,7 @@ use Rattle.std.proofs.lemmas.List.Elements.{All-nil, All-contains, All-weaker}
 use Rattle.std.proofs.lemmas.List.Sorted.{IsPermutation-refl}
 use Rattle.ata_types.specs.declared.Port.{Port}
 use Rattle.ata_types.specs.declared.PortState.{PortState}
-use Rattle.ata_types.specs.declared.PortState.TheVariants.{Absent, Dead, Foreign, Ready as ReadyState, Unfit}
+use Rattle.ata_types.specs.declared.PortState.TheVariants.{Absent, Dead, Ready as ReadyState}
 use Rattle.ata_types.specs.declared.request.Outcome.{Outcome}
 use Rattle.ata_types.specs.declared.request.Outcome.TheVariants.{Unplugged}
 use Rattle.ata_types.specs.declared.request.Reply.{Reply}
@@ -24,8 +24,6 @@ use Rattle.block_machine.specs.Ports.{Evidence, Fault, IsInterrupted, IsServiced
 use Rattle.block_machine.specs.State.{Pending}
 use Rattle.block_machine.specs.Steps.{Step, Again, Answer}
 use Rattle.host_boot.specs.Taken.{found_of}
-use Rattle.host_boot.specs.declared.Found.{Found}
-use Rattle.host_boot.specs.declared.Found.TheVariants.{Ready, Unready, Unserved}
 use Rattle.driver_history.specs.Evidence.{IsEvidencedOf, IsFaultTold}
 use Rattle.driver_history.specs.Histories.{FindsDone, HasBadDisk, IssuesDue, TiesPort}
 use Rattle.driver_history.specs.Holds.{NoneWaits}
@@ -34,12 +32,13 @@ use Rattle.driver_history.specs.Trace.{IsServing, LeavesEngine, ResetsLink}
 use Rattle.server_history.specs.Below.{LawsBelow}
 use Rattle.server_history.specs.Turns.{HeedsTrouble, InService, IsStepOf, moment_of, turn_of}
 use Rattle.server_history.proofs.Plans.{AService, ATick, OwesBy, Plan, TakesTurn, Uses, asks_for, owes_nothing, ready_takes}
-use Rattle.server_history.specs.Server.{Server, IsKept, IsMachineOf, IsSettled, is_served, mode_at, mode_in, ports_of, remembered_at, slots_at, state_of}
+use Rattle.server_history.specs.Server.{Server, IsKept, IsMachineOf, IsSettled, mode_at, mode_in, ports_of, remembered_at, slots_at, state_of}
 use Rattle.server_history.proofs.Asks.{none_issued}
 use Rattle.server_history.proofs.Told.{no_evidence}
 use Rattle.server_history.proofs.Turns.{AreTurns, again_of, all_of_ports, answered_of, no_turns, turns_more}
 use Rattle.server_history.proofs.Joined.{NamesSome, names_more, same_at}
 use Rattle.server_history.proofs.Lists.{nowhere}
+use Rattle.server_history.proofs.Fitting.{bad_tends}
 
 -- ---- what was done so far of a port
 
@@ -72,15 +71,6 @@ abbrev pub TiesSoFar : Plan → Server → Moment → Port → List Access → S
 TiesSoFar AService s old port accesses c evidence steps =
     TiesPort (record { device = s.device; moment = old }) (turn_of InService [] c evidence steps) accesses port × EndsLinked port (record { device = s.device; moment = old }) (ports_of c) c.device
 TiesSoFar (ATick hung) s old port accesses c evidence steps = HasTicked hung s old port accesses c evidence steps
-
--- a port with a disk that isn't served is served, and isn't dead
-pub bad_tends : (found : Found) → (state_of found ≡ Foreign) ⊎ ((cause : ℕ) × (state_of found ≡ Unfit cause)) → (is_served found ≡ true) × (state_of found ≢ Dead)
-bad_tends Unserved (inl is) = let z : Absent ≡ Foreign = is in absurd cc
-bad_tends Unserved (inr (cause, is)) = let z : Absent ≡ Unfit cause = is in absurd cc
-bad_tends (Ready info) (inl is) = let z : ReadyState ≡ Foreign = is in absurd cc
-bad_tends (Ready info) (inr (cause, is)) = let z : ReadyState ≡ Unfit cause = is in absurd cc
-bad_tends (Unready state) (inl is) = (refl, λ dead. let z : Foreign ≡ Dead = sym is ∙ dead in cc)
-bad_tends (Unready state) (inr (cause, is)) = (refl, λ dead. let z : Unfit cause ≡ Dead = sym is ∙ dead in cc)
 
 -- nothing is done of a port that had no turn
 rested_ties : (plan : Plan) (s : Server) (old : Moment) (port : Port) (accesses : List Access) (c : Server) (evidence : Evidence) (steps : List Step) → old.ports ≡ ports_of s → (TakesTurn plan (found_of s.ports port.0) → ⊥) → HasRested old port accesses c evidence steps

@@ -4,7 +4,7 @@ use Rattle.std.specs.List.{count_by, list_any}
 use Rattle.std.proofs.lemmas.List.Elements.{Contains-append_cases, Contains-append_right}
 use Rattle.ata_types.specs.declared.Port.{Port}
 use Rattle.ata_types.specs.declared.PortState.{PortState}
-use Rattle.ata_types.specs.declared.PortState.TheVariants.{Absent, Foreign, Ready as ReadyState, Unfit}
+use Rattle.ata_types.specs.declared.PortState.TheVariants.{Absent, Ready as ReadyState}
 use Rattle.ata_types.specs.declared.request.Outcome.{Outcome}
 use Rattle.ata_types.specs.declared.request.Outcome.TheVariants.{DeviceError}
 use Rattle.ata_types.specs.declared.request.Reply.{Reply}
@@ -31,6 +31,7 @@ use Rattle.server_history.proofs.Carrying as carrying
 use Rattle.server_history.proofs.Plans.{AService, turn_at}
 use Rattle.server_history.proofs.Progress as progress
 use Rattle.server_history.proofs.Lifting.{counts_apart}
+use Rattle.server_history.proofs.Fitting.{ready_fits}
 
 module _ (laws : LawsBelow) (s : Server) (start : IsSettled s) (old : Moment) (reached : IsReached old.machine) (at : IsMachineOf s old.machine) (ports_are : old.ports ≡ ports_of s) where
   abbrev kept : IsKept s
@@ -132,8 +133,7 @@ module _ (laws : LawsBelow) (s : Server) (start : IsSettled s) (old : Moment) (r
       -- ---- the whole
 
       not_bad : HasBadDisk old.ports q → ⊥
-      not_bad (inl foreign) = let z : Foreign ≡ ReadyState = sym foreign ∙ asked in absurd cc
-      not_bad (inr (cause, unfit)) = let z : Unfit cause ≡ ReadyState = sym unfit ∙ asked in absurd cc
+      not_bad bad = ready_fits (old.ports.state q) asked bad
 
       not_absent : old.ports.state q ≡ Absent → ⊥
       not_absent absent = let z : Absent ≡ ReadyState = sym absent ∙ asked in absurd cc

@@ -51,12 +51,13 @@ use Rattle.server_history.proofs.Sighted.{SeesOver, booted_sees}
 use Rattle.server_history.proofs.Tending.{LeavesClear, boot_clear, boot_ready, change_shown, has_gone, none_parts, reset_fresh_or_gone, shows_or_not, stays_vacant}
 use Rattle.server_history.proofs.Trying.{DoesTried, evidence_tried}
 use Rattle.server_history.proofs.Welling.{booted_well}
+use Rattle.server_history.proofs.Fitting.{found_bad}
 
 -- ---- a port in which a disk was found that isn't served
 
 module _ (s : Server) (port : Port) (state : PortState) (k : IsKept s) (is : found_of s.ports port.0 ≡ Unready state) where
   bad_found : HasBadDisk (ports_of s) port → FoundBadDisk (state_of (found_of s.ports port.0))
-  bad_found bad = ⊎_elim (λ foreign. subst FoundBadDisk (sym foreign) tt) (λ unfit. subst FoundBadDisk (sym unfit.1) tt) bad
+  bad_found bad = found_bad (state_of (found_of s.ports port.0)) bad
 
   -- no disk is in then, where none shows
   vacant : HasBadDisk (ports_of s) port → (s.device.port port.0).ssts_det ≢ 3 → IsVacant (s.device.port port.0)

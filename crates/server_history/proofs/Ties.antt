@@ -38,7 +38,8 @@ use Rattle.server_history.proofs.Plans.{AService, ATick, Plan, TakesTurn, Uses, 
 use Rattle.server_history.proofs.Progress as progress
 use Rattle.server_history.proofs.Progress.{HasRested, HasTicked, IsRestarted, TiesSoFar, others_leave}
 use Rattle.server_history.proofs.Staying.{ties_still}
-use Rattle.server_history.proofs.Unready.{ready_fits, tried_still, tried_whole}
+use Rattle.server_history.proofs.Unready.{tried_still, tried_whole}
+use Rattle.server_history.proofs.Fitting.{ready_fits}
 
 -- ---- accesses
 

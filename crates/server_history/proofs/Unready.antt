@@ -1,8 +1,7 @@
 -- What a service does of a port that isn't ready: its turn in the whole so far, and what was so of it before another port's turn.
-use Rattle.std.proofs.Common.{ℕ, ◌≡◌, ◌≢◌, ◌⊎◌, List, [], ◌++◌, refl, sym, ap, ◌∙◌, subst, inl, inr, ⊎_elim, append-nil}
+use Rattle.std.proofs.Common.{ℕ, ◌≡◌, ◌≢◌, List, [], ◌++◌, refl, sym, ap, ◌∙◌, subst, inl, inr, ⊎_elim, append-nil}
 use Rattle.ata_types.specs.declared.Port.{Port}
-use Rattle.ata_types.specs.declared.PortState.{PortState}
-use Rattle.ata_types.specs.declared.PortState.TheVariants.{Absent, Dead, Foreign, Ready as ReadyState, Unfit}
+use Rattle.ata_types.specs.declared.PortState.TheVariants.{Absent, Dead, Ready as ReadyState}
 use Rattle.ata_types.specs.declared.request.Reply.{Reply}
 use Rattle.adapter.specs.Access.{Access}
 use Rattle.adapter.specs.Device.{Device}
@@ -18,7 +17,7 @@ use Rattle.block_machine.specs.Steps.{Step}
 use Rattle.driver_history.specs.Histories.{BootsAnew, HasBadDisk, TiesPort, TriesDisk}
 use Rattle.driver_history.specs.Parts.{EndsLinked, HasTurnIn, NamesAlike}
 use Rattle.driver_history.specs.Trace.{ResetsLink}
-use Rattle.host_boot.specs.Taken.{FoundBadDisk, found_of}
+use Rattle.host_boot.specs.Taken.{found_of}
 use Rattle.host_boot.specs.declared.Found.{Found}
 use Rattle.host_boot.specs.declared.Found.TheVariants.{Ready, Unready, Unserved}
 use Rattle.server_history.specs.Below.{LawsBelow}
@@ -29,18 +28,13 @@ use Rattle.server_history.proofs.Joined.{dead_or_not}
 use Rattle.server_history.proofs.Lifting as lifting
 use Rattle.server_history.proofs.Plans.{AService, turn_at}
 use Rattle.server_history.proofs.Progress as progress
-use Rattle.server_history.proofs.Progress.{bad_tends}
+use Rattle.server_history.proofs.Fitting.{bad_tends, found_bad}
 
 -- its turn in a service is one in which it is tried
 is_tried : (found : Found) (n : ℕ) → state_of found ≢ ReadyState → turn_at AService found n ≡ InTry
 is_tried Unserved n unready = refl
 is_tried (Ready info) n unready = absurd (unready refl)
 is_tried (Unready state) n unready = refl
-
--- in one that is ready no disk was found that isn't served
-pub ready_fits : (state : PortState) → state ≡ ReadyState → (state ≡ Foreign) ⊎ ((cause : ℕ) × (state ≡ Unfit cause)) → ⊥
-ready_fits state ready (inl foreign) = let z : Foreign ≡ ReadyState = sym foreign ∙ ready in absurd cc
-ready_fits state ready (inr (cause, unfit)) = let z : Unfit cause ≡ ReadyState = sym unfit ∙ ready in absurd cc
 
 module _ (laws : LawsBelow) (s : Server) (start : IsSettled s) (old : Moment) (reached : IsReached old.machine) (at : IsMachineOf s old.machine) (ports_are : old.ports ≡ ports_of s) where
   abbrev kept : IsKept s
@@ -63,7 +57,7 @@ module _ (laws : LawsBelow) (s : Server) (start : IsSettled s) (old : Moment) (r
   there q bad =
       let found = ⊎_elim (λ foreign. inl (sym (state_was q) ∙ foreign)) (λ unfit. inr (unfit.0, sym (state_was q) ∙ unfit.1)) bad in
       (kept.behind q.0 (kept.there q.0 (bad_tends (found_of s.ports q.0) found).0).0).shown
-      (⊎_elim (λ foreign. subst FoundBadDisk (sym foreign) tt) (λ unfit. subst FoundBadDisk (sym unfit.1) tt) found)
+      (found_bad (state_of (found_of s.ports q.0)) found)
 
   -- ---- its turn
 
