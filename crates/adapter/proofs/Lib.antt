@@ -12,3 +12,4 @@ pub mod Going
 pub mod OneCommand
 pub mod ReadDone
 pub mod FirstRead
+pub mod Switching

@@ -37,6 +37,11 @@ pub fn steps_keep()
     ensures { (old new : Device) → Steps old new → Keeps old new }
 {}
 
+/// By itself the device doesn't switch an adapter on that isn't: as its reset ends, AE falls.
+pub fn steps_switch_nothing_on()
+    ensures { (old new : Device) → Steps old new → IsOn new → IsOn old }
+{}
+
 /// The bytes of a slot say one command at most, with one list of places.
 pub fn saying_is_one()
     ensures { (memory : ℕ → ℕ) (list slot : ℕ) (m n : Meaning) (xs ys : List ℕ) → Says memory list slot m xs

@@ -72,6 +72,12 @@ pub fn one_id_is_in_the_book_once()
         → a.request.id.0 ≡ b.request.id.0 → a ≡ b }
 {}
 
+/// A request that is kept was answered: none of the book has its id.
+pub fn what_is_kept_was_answered()
+    ensures { (m : Machine) (a b : Pending) → IsReached m → Contains m.book a → Contains m.kept b
+        → a.request.id.0 ≢ b.request.id.0 }
+{}
+
 /// An unanswered request that has ended is issued.
 pub fn ended_is_issued()
     ensures { (m : Machine) (e : Pending) → IsReached m → Contains m.book e → e.ended ≡ true
