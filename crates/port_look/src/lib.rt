@@ -94,8 +94,8 @@ pub fn finds_device<A: Adapter>(adapter: &mut A, port: Port) -> bool
     shows_device(status)
 }
 
-/// Looks at a port for a change of its device: whether it went or came since PxIS was last cleared (PCS or PRCS of PxIS), or isn't there (DET of PxSSTS
-/// isn't 3; AHCI 1.3.1, 3.3.5 and 3.3.10). PxIS is read, and then PxSSTS; neither is written, so that a change is told until the port is booted.
+/// Looks at a port for a change of its device: whether it went, or its link came up, since PxSERR was last cleared (PRCS and PCS of PxIS show N and X of PxSERR), or isn't there (DET of
+/// PxSSTS isn't 3; AHCI 1.3.1, 3.3.5, 3.3.10 and 3.3.12). PxIS is read, and then PxSSTS; neither is written, so that a change is told until the port is booted.
 pub fn finds_change<A: Adapter>(adapter: &mut A, port: Port) -> bool
     requires on { IsOn (A.device adapter.old) }
     requires there { HasPort (A.device adapter.old) port.0 }
