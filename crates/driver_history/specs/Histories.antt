@@ -32,10 +32,11 @@ use Rattle.block_machine.specs.Steps.{Step, Answer}
 use Rattle.block_machine.specs.declared.due.Mode.{Mode}
 use Rattle.block_machine.specs.declared.due.Unanswered.{Unanswered}
 use Rattle.identify.specs.declared.wanted.Wanted.{Wanted}
+use Rattle.host_boot.specs.Resets.{AwaitsReset, BeginsReset}
 use Rattle.error_recovery.specs.Evidence.{GainsRunning, ShowsFatal}
 use Rattle.driver_history.specs.Evidence.{Gains, ShowsChange, ShowsFailure, ShowsLoss, IsEvidenced}
 use Rattle.driver_history.specs.Holds.{HoldsAt}
-use Rattle.driver_history.specs.Trace.{ReadsMasks, ResetsLink, IsServing, IsDriversOwn, IsOfPorts, AwaitsReset, BeginsReset}
+use Rattle.driver_history.specs.Trace.{ReadsMasks, ResetsLink, IsServing, IsDriversOwn, IsOfPorts}
 
 -- ---- how a call came from the one device to the other
 
@@ -63,7 +64,7 @@ IsOnAndTells d = IsOn d × (d.ie ≡ true)
 -- request that is accepted requests of its port are issued, if any. A service, a tick and a reset make accesses: what the driver stores and
 -- loads in them lies in its own frames, and of ports' registers they use those of served ports alone, a service of those that aren't dead, and a
 -- tick of those that are hung. Neither a service nor a tick writes GHC. A reset that ends leaves the adapter on; of one that doesn't, no more is
--- seen than that. Each other call makes none, a refused one among them.
+-- seen than that (how often HR was read is the server's own contract). Each other call makes none, a refused one among them.
 abbrev pub CameBy : Moment → Ask DeviceStep → Said → List Access → Device → Device → Type 0
 CameBy now (Told step) (Stepped true) accesses old new = (accesses ≡ []) × Asked step old new
 CameBy now (Submit r) (Submitted (Ok id)) accesses old new =
@@ -167,9 +168,9 @@ IsFreshOrGone p = (p.fresh ≡ true) ⊎ (p.ssts_det ≢ 3)
 abbrev pub HasBadDisk : Ports → Port → Type 0
 HasBadDisk ports port = (ports.state port ≡ Foreign) ⊎ ((cause : ℕ) × (ports.state port ≡ Unfit cause))
 
--- A service in which no disk of a served port comes boots what is there: an absent port that shows a device, unless that goes meanwhile;
--- and an unfit or foreign one with X set; one without a device is absent from then on. After a boot the disk's first FIS has come, or there
--- is no disk.
+-- A service in which no disk of a served port comes boots what is there, unless the port ends dead: an absent port that shows a device, unless a disk of it goes in the call;
+-- and an unfit or foreign one with X set, unless it ends absent. One of these without a device ends absent, or dead. Where the link was reset so, the disk's first FIS has
+-- come when the call ends, or no device shows.
 pub record TriesDisk (accesses : List Access) (old : Instant Device) (ports : Ports) (new : Device) (port : Port) : Type 0 where
   pub shown : old.moment.ports.state port ≡ Absent → (old.device.port port.0).ssts_det ≡ 3
       → (ports.state port ≡ Dead) ⊎ (ResetsLink port accesses ⊎ Gains (IsPlugging port.0) old.device new)

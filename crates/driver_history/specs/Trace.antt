@@ -1,8 +1,7 @@
 -- What stands in the list of a call's accesses, the first access first (this project's own).
-use Rattle.std.specs.Prelude.{ℕ, true, ◌≡◌, ◌+◌, ◌%◌, ◌≤◌, ◌++◌, List, [], ◌∷◌, length, All}
+use Rattle.std.specs.Prelude.{ℕ, ◌≡◌, ◌+◌, ◌%◌, ◌≤◌, ◌++◌, List, ◌∷◌, length, All}
 use Rattle.ata_types.specs.declared.Port.{Port}
 use Rattle.ata_types.specs.declared.memory.TheConstants.{DRIVER_BYTES}
-use Rattle.hba_regs.specs.Bits.{bit}
 use Rattle.hba_regs.specs.declared.reg.Reg.TheVariants.{Ghc, Px}
 use Rattle.hba_regs.specs.declared.reg.PortReg.TheVariants.{Cmd, Sctl, Sact, Ci}
 use Rattle.adapter.specs.Access.{Access}
@@ -42,11 +41,6 @@ IsOfPorts Such access = Unit {0}
 abbrev pub IsServing : (Port → Type 0) → Access → Type 0
 IsServing Such access = IsDriversOwn access × SparesRegister Ghc access × IsOfPorts Such access
 
--- GHC is read
-abbrev pub AsksReset : Access → Type 0
-AsksReset (Reading Ghc v) = Unit {0}
-AsksReset access = ⊥
-
 -- ---- what the list shows
 
 -- PxCI was read, and right after it PxSACT, at a moment when PxCMD hadn't been written: what both show is of commands that were not given up.
@@ -68,16 +62,3 @@ pub record ResetsLink (port : Port) (accesses : List Access) : Type 0 where
   pub ends : ending % 16 ≡ 0
   pub held : All (SparesRegister (Px port Sctl)) between
   pub left : All (SparesRegister (Px port Sctl)) later
-
--- The adapter was reset first of all (AHCI 1.3.1, 3.1.2 and 10.4.3).
-pub record BeginsReset (accesses : List Access) : Type 0 where
-  pub rest : List Access
-  pub here : accesses ≡ Writing Ghc 0x80000001 ∷ rest
-
--- It was reset, and then GHC alone was read, at last with HR still one.
-pub record AwaitsReset (accesses : List Access) : Type 0 where
-  pub asked : List Access
-  pub shown : ℕ
-  pub here : accesses ≡ Writing Ghc 0x80000001 ∷ (asked ++ Reading Ghc shown ∷ [])
-  pub only : All AsksReset asked
-  pub pending : bit shown 0 ≡ true

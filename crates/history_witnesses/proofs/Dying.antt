@@ -26,7 +26,8 @@ use Rattle.identify.specs.declared.wanted.Wanted.TheVariants.{Any}
 use Rattle.driver_history.specs.Evidence.{IsEvidencedOf}
 use Rattle.driver_history.specs.Histories.{Ties, TiesPort, TriesDisk, HasBadDisk, TendsPort}
 use Rattle.driver_history.specs.Holds.{HoldsOf, HoldsWith, NoneWaits}
-use Rattle.driver_history.specs.Trace.{LeavesEngine, IsServing, AsksReset}
+use Rattle.driver_history.specs.Trace.{LeavesEngine, IsServing}
+use Rattle.host_boot.specs.Resets.{ReadsGlobalControl}
 use Rattle.history_witnesses.specs.Dead.{reset_accesses, DeathIsAHistory}
 use Rattle.history_witnesses.specs.Scene.{having, showing}
 use Rattle.hba_regs.specs.declared.reg.Reg.TheVariants.{Ghc}
@@ -193,7 +194,7 @@ reset_part n = record {
 reset_ties : Ties (Any ∷ Any ∷ []) submitted_at reset
 reset_ties = record {
   accesses = reset_accesses;
-  came = (resets, record { asked = []; shown = 0x80000001; here = refl; only = All-nil AsksReset; pending = refl });
+  came = (resets, record { asked = []; shown = 0x80000001; here = refl; only = All-nil ReadsGlobalControl; pending = refl });
   backed = reset_backed;
   evidenced = record { faults = λ f here. absurd (nowhere f here); port = λ port. reset_evidenced port.0 };
   issues = λ port is. absurd (not_ready port.0 is);

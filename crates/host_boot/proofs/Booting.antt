@@ -1,6 +1,7 @@
 -- A stopped port is booted, when its adapter is taken over or later.
 use Rattle.std.proofs.Common.{ℕ, ◌≡◌, ◌≢◌, ◌+◌, inl, inr, length, sym, ◌∙◌, ap, subst}
 use Rattle.ata_types.specs.declared.Port.{Port}
+use Rattle.ata_types.specs.declared.PortState.{PortState as ShownState}
 use Rattle.ata_types.specs.declared.PortState.TheVariants.{Absent}
 use Rattle.hba_regs.specs.Bits.{bit, field}
 use Rattle.hba_regs.specs.declared.reg.Reg.TheVariants.{Cap, Px}
@@ -12,10 +13,10 @@ use Rattle.agreement.specs.Driven.{AnyUse, IsControl, IsDrivenBy, IsFollowed, Is
 use Rattle.agreement.specs.Driver.{AllFree}
 use Rattle.identify.specs.declared.wanted.Wanted.{Wanted}
 use Rattle.identify.specs.declared.wanted.Wanted.TheVariants.{Nothing}
-use Rattle.port_control.specs.Engines.{Stops}
+use Rattle.port_control.specs.Engines.{Stops, StopsBoth}
 use Rattle.port_control.specs.Ports.{IsClearing, IsStopped, Shows, WritesCommand}
 use Rattle.port_control.specs.declared.PortFault.TheVariants.{NoDevice}
-use Rattle.port_boot.specs.States.{IsBootable, IsOfBoot}
+use Rattle.port_boot.specs.States.{IsBootTo, IsBootable, IsOfBoot}
 use Rattle.host_boot.specs.Again.{BootsAgain, BootsIfThere, BootsStopped, IsOfStart}
 use Rattle.host_boot.specs.Laws.{Laws}
 use Rattle.host_boot.specs.Laws.Stretch.{Clearing, Starting, Surveying}
@@ -24,7 +25,7 @@ use Rattle.host_boot.specs.declared.Booted.{Booted}
 use Rattle.host_boot.specs.declared.Found.{Found}
 use Rattle.host_boot.specs.declared.Found.TheVariants.{Unserved, Ready, Unready}
 use Rattle.host_boot.proofs.Hosting.{cap_on}
-use Rattle.host_boot.proofs.Stopping.{bootable_over, ended_since, since_stop, still_there, then_boot, then_boot_to}
+use Rattle.host_boot.proofs.Stopping.{boot_sticks, bootable_over, ended_since, since_stop, still_there, then_boot, then_boot_to}
 use Rattle.host_boot.proofs.Stretching.{by_then, driven_as, same_over}
 use Rattle.host_boot.proofs.Taking.{boots_same}
 
@@ -92,7 +93,14 @@ module _ (laws : Laws) where
     pub found_way : (found : Found) → BootsStopped wanted port found mid new → GoesThrough port found old new
     found_way Unserved b = absurd b
     found_way (Ready info) b = (mid, stops.followed.driven, b.boots.followed.driven, b.way, b.news)
-    found_way (Unready state) b = (mid, stops.followed.driven, laws.boots_driven port state mid new b.boots, b.early, b.late)
+    found_way (Unready state) b = (
+      mid,
+      stops.followed.driven,
+      laws.boots_driven port state mid new b.boots,
+      b.early,
+      b.late,
+      λ dead. boot_sticks (StopsBoth port) port old new (subst (λ (s : ShownState). IsBootTo (StopsBoth port) port s old new) dead (then_boot_to laws port old mid stops new state b.boots)),
+    )
 
   -- ---- later: CAP is read before
 

@@ -9,3 +9,4 @@ pub mod Running
 pub mod Showing
 pub mod Beginning
 pub mod Served
+pub mod Awaiting

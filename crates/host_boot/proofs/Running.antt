@@ -60,7 +60,7 @@ module _ (laws : Laws) where
   through_driven port Unserved old new same = subst (λ (d : Device). IsDrivenBy (IsOf port) old d) (sym same) (by_none (IsOf port) old)
   through_driven port (Ready info) old new (stopped, stop, boot, ready, news) =
       by_then laws (stop_driven laws port old stopped stop) (driven_as (IsOfBoot port) (IsOf port) stopped new (laws.of_boot port) boot)
-  through_driven port (Unready state) old new (stopped, stop, boot, early, late) =
+  through_driven port (Unready state) old new (stopped, stop, boot, early, late, sticks) =
       by_then laws (stop_driven laws port old stopped stop) (driven_as (IsOfBoot port) (IsOf port) stopped new (laws.of_boot port) boot)
 
   through_well : (port : Port) (info : DiskInfo) (old new : Device) → GoesThrough port (Ready info) old new → Undisturbed port.0 old new → RunsWell (new.port port.0)

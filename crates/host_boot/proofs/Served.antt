@@ -2,7 +2,7 @@
 use Rattle.std.proofs.Common.{ℕ, ◌≡◌, ◌≢◌, ◌∙◌, inl, inr, sym, ap, subst}
 use Rattle.ata_types.specs.declared.Port.{Port}
 use Rattle.ata_types.specs.declared.PortState.{PortState}
-use Rattle.ata_types.specs.declared.PortState.TheVariants.{Absent}
+use Rattle.ata_types.specs.declared.PortState.TheVariants.{Absent, Dead}
 use Rattle.hba_regs.specs.Bits.{bit}
 use Rattle.hba_regs.specs.declared.reg.PortReg.TheVariants.{Sctl}
 use Rattle.hba_regs.specs.declared.reg.Reg.TheVariants.{Cap, Pi}
@@ -14,7 +14,7 @@ use Rattle.agreement.specs.Driven.{IsControl, IsDrivenBy, IsOf}
 use Rattle.agreement.specs.Links.{HasDeviceOrNone}
 use Rattle.identify.specs.declared.wanted.Wanted.{Wanted}
 use Rattle.port_control.specs.Ports.{WritesCommand}
-use Rattle.port_boot.specs.States.{IsOfBoot}
+use Rattle.port_boot.specs.States.{IsBootTo, IsOfBoot, StopsOnWay}
 use Rattle.host_boot.specs.Again.{BootsAgain, BootsIfThere, BootsStopped, IsOfStart}
 use Rattle.host_boot.specs.Laws.{Laws}
 use Rattle.host_boot.specs.Taken.{FoundBadDisk, IsServed, IsSurvey, StandsBehind}
@@ -23,6 +23,7 @@ use Rattle.host_boot.specs.declared.Found.{Found}
 use Rattle.host_boot.specs.declared.Found.TheVariants.{Unserved, Ready, Unready}
 use Rattle.host_boot.proofs.Booting.{booted_driven}
 use Rattle.host_boot.proofs.Showing.{gently, way_shown}
+use Rattle.host_boot.proofs.Stopping.{boot_sticks}
 use Rattle.host_boot.proofs.Stretching.{by_none, by_then, driven_as, on_over, same_over}
 
 -- what is read of CAP and PI touches no port
@@ -71,8 +72,14 @@ module _ (laws : Laws) where
     again_shown state on bad is =
         let boots : BootsStopped wanted port (Unready state) b.asked new = subst (λ (found : Found). BootsStopped wanted port found b.asked new) is b.boots in
         let asked : IsOn b.asked = on_over laws (IsOf port) old b.asked surveyed (laws.of_spares_ghc port) on in
-        way_shown laws port state b.asked new bad asked
-        (b.asked, by_none (IsControl WritesCommand port) b.asked, booted_driven laws wanted port (Unready state) b.asked new boots, boots.early, boots.late)
+        way_shown laws port state b.asked new bad asked (
+          b.asked,
+          by_none (IsControl WritesCommand port) b.asked,
+          booted_driven laws wanted port (Unready state) b.asked new boots,
+          boots.early,
+          boots.late,
+          λ dead. boot_sticks (StopsOnWay port Dead) port b.asked new (subst (λ (s : PortState). IsBootTo (StopsOnWay port s) port s b.asked new) dead boots.boots),
+        )
 
   -- ---- or it is booted only if a device shows
 

@@ -141,9 +141,9 @@ module _ (laws : Laws) where
 
     -- where a disk was found that isn't served, its way ends so
     pub way_shown : (state : PortState) (old new : Device) → FoundBadDisk state → IsOn old → GoesThrough port (Unready state) old new → Shown new
-    way_shown Foreign old new bad on (stopped, stop, boot, early, late) =
+    way_shown Foreign old new bad on (stopped, stop, boot, early, late, sticks) =
         late_shown stopped new (on_over laws (IsOf port) old stopped (stop_driven laws port old stopped stop) (laws.of_spares_ghc port) on) (late tt)
-    way_shown (Unfit n) old new bad on (stopped, stop, boot, early, late) = ⊎_elim
+    way_shown (Unfit n) old new bad on (stopped, stop, boot, early, late, sticks) = ⊎_elim
         (λ (seven : n ≡ 7). early_shown (Unfit n) stopped new (λ e. let z : Unfit n ≡ Absent = e in absurd cc) begun (early (inl seven)))
         (λ (a : n ≢ 7). ⊎_elim
         (λ (eight : n ≡ 8). early_shown (Unfit n) stopped new (λ e. let z : Unfit n ≡ Absent = e in absurd cc) begun (early (inr eight)))

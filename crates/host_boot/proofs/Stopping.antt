@@ -16,7 +16,7 @@ use Rattle.agreement.specs.Links.{SameAdapter}
 use Rattle.port_control.specs.Engines.{FailsToStop, Stops, StopsBoth, StopsReceiving, Sticks}
 use Rattle.port_control.specs.Ports.{WritesCommand}
 use Rattle.port_boot.specs.States.{IsBoot, IsBootTo, IsBootable, IsOfBoot, StopsOnWay}
-use Rattle.host_boot.specs.Taken.{TellsEngines, WroteControl}
+use Rattle.host_boot.specs.Taken.{SticksOnWay, TellsEngines, WroteControl}
 use Rattle.host_boot.specs.declared.Found.{Found}
 use Rattle.host_boot.specs.declared.Found.TheVariants.{Unserved, Ready, Unready}
 use Rattle.host_boot.specs.Laws.{Laws, Stretch, fits_of, may_of}
@@ -26,6 +26,11 @@ use Rattle.host_boot.specs.Laws.Stretch.{Booting, Commanding}
 
 pub still_there : (port : Port) (old new : Device) → SameAdapter old new → HasPort old port.0 → HasPort new port.0
 still_there port old new same there = (there.0, ap (λ (pi : ℕ). bit pi port.0) same.pi ∙ there.1)
+
+-- a boot to a dead port tells of the engine that is stuck
+pub boot_sticks : (Tells : List Access → Type 0) (port : Port) (old new : Device) → IsBootTo Tells port Dead old new → SticksOnWay port old new
+boot_sticks Tells port old new (inl b) = record { driven = b.followed.driven; sticks = b.tells }
+boot_sticks Tells port old new (inr b) = record { driven = b.followed.driven; sticks = b.tells }
 
 module _ (laws : Laws) where
   -- a port may be booted after accesses that leave its slots as they are

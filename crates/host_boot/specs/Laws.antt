@@ -22,6 +22,7 @@ use Rattle.block_machine.specs.State.{Machine}
 use Rattle.adapter.specs.declared.command.Operation.TheVariants.{Identify}
 use Rattle.adapter.specs.Idle.{IsIdle, TellsDisks}
 use Rattle.host_boot.specs.Again.{IsOfStart}
+use Rattle.host_boot.specs.Resets.{IsOfReset}
 use Rattle.host_boot.specs.Taken.{IsOfHost, IsOfTaking, IsSurvey}
 use Rattle.adapter.specs.Rules.{IsOn, MayWrite, Stays}
 use Rattle.port_control.specs.Ports.{IsClearing, IsPlacing, WritesCommand}
@@ -49,7 +50,7 @@ uses_of (PortUnused port) = λ uses. AllFree uses port.0
 uses_of (Only uses) = IsUse uses
 
 -- a port is stopped, or booted, with none of its slots used; registers of the adapter's own are read and written, or CAP and PI alone are read; a port is
--- looked at, or all of this is done for its boot; or all ports are taken over
+-- looked at, or all of this is done for its boot; or all ports are taken over; or the adapter is reset
 pub data Stretch : Type 0 where
   Commanding : Port → Stretch
   Booting : Port → Stretch
@@ -58,6 +59,7 @@ pub data Stretch : Type 0 where
   Clearing : Port → Stretch
   Starting : Port → Stretch
   Taking : List Wanted → Fitting → Stretch
+  Resetting : Stretch
 
 abbrev pub may_of : Stretch → Access → Type 0
 may_of (Commanding port) = IsControl WritesCommand port
@@ -67,6 +69,7 @@ may_of Surveying = IsSurvey
 may_of (Clearing port) = IsControl IsClearing port
 may_of (Starting port) = IsOfStart port
 may_of (Taking wanted fitting) = IsOfTaking wanted
+may_of Resetting = IsOfReset
 
 abbrev pub fits_of : Stretch → Uses → Type 0
 fits_of (Commanding port) = AnyUse
@@ -76,6 +79,7 @@ fits_of Surveying = AnyUse
 fits_of (Clearing port) = AnyUse
 fits_of (Starting port) = λ uses. AllFree uses port.0
 fits_of (Taking wanted fitting) = uses_of fitting
+fits_of Resetting = AnyUse
 
 -- ---- laws
 
@@ -93,6 +97,9 @@ pub record Laws : Type 0 where
   pub access_same : (access : Access) (old new : Device) → Does access old new → SameAdapter old new
   pub access_grows : (access : Access) (old new : Device) → Does access old new → Grows old new
   pub switches_on : (v : ℕ) (old new : Device) → old.hr ≡ false → bit v 31 ≡ true → bit v 0 ≡ false → Writes Ghc v old new → IsOn new
+  pub hr_begins : (v : ℕ) (old new : Device) → bit v 0 ≡ true → Writes Ghc v old new → new.hr ≡ true
+  pub hr_told : (v : ℕ) (old new : Device) → Reads Ghc v old new → (new.hr ≡ bit v 0) × (new.ae ≡ bit v 31)
+  pub reset_idle : (v : ℕ) (old new : Device) → old.hr ≡ true → Reads Ghc v old new → bit v 0 ≡ false → IsIdle new
   pub keeps_device : (port : Port) (access : Access) (old new : Device) → old.hr ≡ false → SparesRegister (Px port Sctl) access → Does access old new → HasDeviceOrNone (old.port port.0) → HasDeviceOrNone (new.port port.0)
   pub own_access : (port : ℕ) (access : Access) (old new : Device) → Does access old new → ShowsOwnDisk (old.port port) → ShowsOwnDisk (new.port port)
   pub own_all : (port : ℕ) (accesses : List Access) (old new : Device) → DoesAll accesses old new → ShowsOwnDisk (old.port port) → ShowsOwnDisk (new.port port)

@@ -1,3 +1,4 @@
 pub mod Laws
 pub mod Taken
 pub mod Again
+pub mod Resets

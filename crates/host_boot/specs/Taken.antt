@@ -114,15 +114,20 @@ LeavesPorts old new = (port : ℕ) → LeavesPort (old.port port) (new.port port
 
 -- ---- the way
 
+-- By accesses of a boot of this port alone 64 readings in a row showed one of its engines that was cleared, and runs still.
+pub record SticksOnWay (port : Port) (old new : Device) : Type 0 where
+  pub driven : IsDrivenBy (IsOfBoot port) old new
+  pub sticks : Sticks port driven.accesses
+
 -- The port was stopped, and then booted, by accesses of a boot of this port alone: it is ready, and each access of that is told, with what
--- it shows of trouble; or it isn't, and what was seen is told. One that was dead before that was stopped alone.
+-- it shows of trouble; or it isn't, and what was seen is told. Of each dead one the engine that is stuck is told.
 abbrev pub GoesThrough : Port → Found → Device → Device → Type 0
 GoesThrough port Unserved old new = new ≡ old
 GoesThrough port (Ready info) old new = (stopped : Device) × IsDrivenBy (IsControl WritesCommand port) old stopped
     × IsDrivenBy (IsOfBoot port) stopped new × GetsReady port stopped new × ShowsNews port.0 stopped new
 GoesThrough port (Unready state) old new = (stopped : Device) × IsDrivenBy (IsControl WritesCommand port) old stopped
     × IsDrivenBy (IsOfBoot port) stopped new × (IsEarly state → EndsEarly port state stopped new)
-    × (IsLate state → EndsLate port stopped new)
+    × (IsLate state → EndsLate port stopped new) × (state ≡ Dead → SticksOnWay port old new)
 
 -- so it was with these ports, one after another, of which the first has this number
 abbrev pub GoThrough : ℕ → List Found → Device → Device → Type 0

@@ -2,8 +2,10 @@
 ghost use Rattle.host_boot.specs.Laws.{Laws, Stretch, fits_of, may_of};
 
 use adapter::laws::{accesses_compose, steps_keep};
-use agreement::disks::none_comes_in;
-use agreement::facts::{adapter_stays, calm_composes, device_or_none_stays, switching_on};
+use agreement::disks::{none_comes_in, reset_is_idle};
+use agreement::facts::{
+    adapter_stays, calm_composes, device_or_none_stays, reset_is_found, switching_on,
+};
 use agreement::kinds::{
     Kinds, accesses_are_followed, followed_stretches_give, stretches_are_followed,
 };
@@ -37,6 +39,8 @@ pub fn laws_hold()
     adapter_stays();
     calm_composes();
     device_or_none_stays();
+    reset_is_found();
+    reset_is_idle();
     switching_on();
     accesses_are_followed::<Boots>();
     followed_stretches_give::<Boots>();

@@ -1,5 +1,5 @@
 //! Taking a host adapter over: it is switched on, each of its ports that is wanted is booted, and then it may interrupt (AHCI 1.3.1,
-//! 10.1.2; which ports are served is this project's own).
+//! 10.1.2; which ports are served is this project's own). And resetting it, which makes it idle again (10.4.3).
 #![tactic(auto)]
 
 ghost use Rattle.std.specs.Prelude.{ℕ, ◌≡◌, ◌≢◌, ◌<◌, ◌≤◌, length, true};
@@ -27,6 +27,9 @@ use port_control::{Stopped, shows_device, stop};
 
 mod lawful;
 pub mod laws;
+mod resetting;
+
+pub use resetting::{AdapterStuck, reset};
 
 /// How many ports the driver has memory for.
 pub const PORTS: usize = 4;

@@ -3,6 +3,7 @@ use adapter::{Adapter, DeviceStep, DiskNumber, DiskPage, Entry, FatalError, Step
 use ata_types::{Port, Slot};
 use device_model::{Model, ModelConfig, NoMemory, Trim};
 use hba_regs::Reg;
+use host_boot::{AdapterStuck, reset};
 use sector_store::MemStore;
 use std::alloc::Global;
 use std::test::Fail;
@@ -34,6 +35,8 @@ enum Act {
     Reads(u32),
     /// GHC is written.
     Writes(u32),
+    /// The adapter is reset.
+    Resets(Result<(), AdapterStuck>),
     /// These are the changes that the tape tells, and it tells nothing else.
     Tape(&'static [Change]),
 }
@@ -50,7 +53,7 @@ const PLUGGED: Change = Change::Plugged(Port(0), 0);
 
 const OTHER_PLUGGED: Change = Change::Plugged(Port(0), 1);
 
-const CASES: [(&str, &[Act]); 9] = [
+const CASES: [(&str, &[Act]); 12] = [
     (
         "ports, slots, disks and bytes that aren't there",
         &[
@@ -177,6 +180,34 @@ const CASES: [(&str, &[Act]); 9] = [
             Act::Reads(0),
         ],
     ),
+    (
+        "a driver's reset ends, and another one",
+        &[Act::Resets(Ok(())), Act::Reads(0), Act::Resets(Ok(()))],
+    ),
+    // GHC is written first, and then read 64 times.
+    (
+        "a driver's reset ends with the last reading",
+        &[
+            Act::Does(DeviceStep::Hold(Port(0))),
+            Act::Does(DeviceStep::Hold(Port(1))),
+            Act::Does(DeviceStep::Hold(Port(2))),
+            Act::Does(DeviceStep::Hold(Port(3))),
+            Act::Queue(65, DeviceStep::Release(Port(0))),
+            Act::Resets(Ok(())),
+        ],
+    ),
+    (
+        "a driver's reset is given up after the last reading",
+        &[
+            Act::Does(DeviceStep::Hold(Port(0))),
+            Act::Does(DeviceStep::Hold(Port(1))),
+            Act::Does(DeviceStep::Hold(Port(2))),
+            Act::Does(DeviceStep::Hold(Port(3))),
+            Act::Queue(66, DeviceStep::Release(Port(0))),
+            Act::Resets(Err(AdapterStuck)),
+            Act::Reads(0),
+        ],
+    ),
 ];
 
 fn is_told(entry: &Entry, change: Change) -> bool {
@@ -221,6 +252,7 @@ fn goes(model: &mut Model<MemStore>, act: Act) -> bool {
             write(model, value);
             true
         }
+        Act::Resets(result) => reset(model) == result,
         Act::Tape(changes) => are_told(model.tape(), changes),
     }
 }

@@ -22,7 +22,14 @@ pub returns-in_default-clause-boots : goal.returns-in_default-clause-boots
 returns-in_default-clause-boots g c = inl (stuck_boots c.laws_hold.ensures c.args.port _ _ c.in_default.ensures.fails.told)
 
 pub returns-in_default-clause-way : goal.returns-in_default-clause-way
-returns-in_default-clause-way g c = (g.A.Adapter.device c.stop.new.adapter, c.in_default.ensures.fails.told.followed.driven, by_none (IsOfBoot c.args.port) _, λ none. absurd none, λ none. absurd none)
+returns-in_default-clause-way g c = (
+  g.A.Adapter.device c.stop.new.adapter,
+  c.in_default.ensures.fails.told.followed.driven,
+  by_none (IsOfBoot c.args.port) _,
+  λ none. absurd none,
+  λ none. absurd none,
+  λ dead. let b = stuck_boots c.laws_hold.ensures c.args.port _ _ c.in_default.ensures.fails.told in record { driven = b.followed.driven; sticks = b.tells },
+)
 
 pub boot_stopped-requires-clause-bootable : goal.boot_stopped-requires-clause-bootable
 boot_stopped-requires-clause-bootable g c =

@@ -1,0 +1,92 @@
+-- The adapter is reset, and GHC is read until the reset is done.
+use Rattle.std.proofs.Common.{ℕ, Bool, true, false, ◌≡◌, ◌+◌, ◌<◌, ◌++◌, List, [], ◌∷◌, refl, ◌∙◌, ap, arith}
+use Rattle.std.specs.Prelude.{All, length}
+use Rattle.std.proofs.lemmas.List.{length-append}
+use Rattle.std.proofs.lemmas.List.Elements.{All-append, All-cons, All-nil}
+use Rattle.hba_regs.specs.Bits.{bit}
+use Rattle.hba_regs.specs.declared.reg.Reg.TheVariants.{Ghc}
+use Rattle.adapter.specs.Access.{Access, Reads, Writes}
+use Rattle.adapter.specs.Access.Access.{Reading, Writing}
+use Rattle.adapter.specs.Device.{Device}
+use Rattle.agreement.specs.Driven.{AnyUse, IsTold}
+use Rattle.agreement.specs.Links.{SameAdapter}
+use Rattle.host_boot.specs.Resets.{ReadsGlobalControl, AwaitsHr, AwaitsReset, IsOfReset, Resets, StaysReset}
+use Rattle.host_boot.specs.Laws.{Laws}
+use Rattle.host_boot.specs.Laws.Stretch.{Resetting}
+use Rattle.host_boot.proofs.Stretching.{told_both, told_more}
+
+-- HR was set, and GHC alone was read so many times, at last with HR still one
+pub record AsksAgain (n : ℕ) (accesses : List Access) : Type 0 where
+  pub asked : List Access
+  pub here : accesses ≡ Writing Ghc 0x80000001 ∷ asked
+  pub only : All ReadsGlobalControl asked
+  pub long : length asked ≡ n
+  pub last : 0 < n → AwaitsReset accesses
+
+-- the reset is pending after so many readings
+pub record IsResetting (start : Device) (n : ℕ) (d : Device) : Type 0 where
+  pub told : IsTold (AsksAgain n) IsOfReset AnyUse start d
+  pub pending : d.hr ≡ true
+  pub same : SameAdapter start d
+
+asks_none : (accesses : List Access) → accesses ≡ Writing Ghc 0x80000001 ∷ [] → AsksAgain 0 accesses
+asks_none accesses is = record { asked = []; here = is; only = All-nil ReadsGlobalControl; long = refl; last = λ none. absurd (omega (arith, none)) }
+
+-- one more reading
+module _ (n v : ℕ) (early late : List Access) (a : AsksAgain n early) (is : late ≡ Reading Ghc v ∷ []) where
+  joined : early ++ late ≡ Writing Ghc 0x80000001 ∷ (a.asked ++ Reading Ghc v ∷ [])
+  joined = ap (λ (l : List Access). l ++ late) a.here ∙ ap (λ (l : List Access). Writing Ghc 0x80000001 ∷ (a.asked ++ l)) is
+
+  asks_shown : (hr : Bool) → bit v 0 ≡ hr → AwaitsHr hr (early ++ late)
+  asks_shown hr shows = record { asked = a.asked; shown = v; here = joined; only = a.only; pending = shows }
+
+  asks_more : bit v 0 ≡ true → AsksAgain (n + 1) (early ++ late)
+  asks_more shows = record {
+    asked = a.asked ++ Reading Ghc v ∷ [];
+    here = joined;
+    only = All-append ReadsGlobalControl a.asked (Reading Ghc v ∷ []) a.only (All-cons ReadsGlobalControl (Reading Ghc v) [] tt (All-nil ReadsGlobalControl));
+    long = length-append a.asked (Reading Ghc v ∷ []) ∙ ap (λ (k : ℕ). k + 1) a.long;
+    last = λ some. asks_shown true shows;
+  }
+
+module _ (laws : Laws) (start : Device) where
+  -- HR is set
+  pub resetting_begins : (d : Device) → Writes Ghc 0x80000001 start d → IsResetting start 0 d
+  resetting_begins d call = record {
+    told = told_more (λ accesses. accesses ≡ Writing Ghc 0x80000001 ∷ []) (AsksAgain 0) IsOfReset AnyUse (λ uses. uses) start d asks_none
+        (laws.writes Resetting Ghc 0x80000001 start d refl (λ mid steps. tt) (λ uses is. tt) call);
+    pending = laws.hr_begins 0x80000001 start d refl call;
+    same = laws.access_same (Writing Ghc 0x80000001) start d call;
+  }
+
+  module _ (n v : ℕ) (d e : Device) (w : IsResetting start n d) (call : Reads Ghc v d e) where
+    same : SameAdapter start e
+    same = laws.same_more start d e w.same (laws.access_same (Reading Ghc v) d e call)
+
+    -- what is told with one more reading
+    with_reading : (Tells : List Access → Type 0) → ((early late : List Access) → AsksAgain n early → late ≡ Reading Ghc v ∷ [] → Tells (early ++ late)) → IsTold Tells IsOfReset AnyUse start e
+    with_reading Tells join =
+        told_both laws (AsksAgain n) (λ accesses. accesses ≡ Reading Ghc v ∷ []) Tells join Resetting Resetting (λ uses. uses) (λ uses. uses) (λ access may. may) (λ uses any. tt) start d e w.told
+        (laws.reads Resetting Ghc v d e tt call)
+
+    pub resetting_goes_on : bit v 0 ≡ true → IsResetting start (n + 1) e
+    resetting_goes_on shows = record {
+      told = with_reading (AsksAgain (n + 1)) (λ early late a is. asks_more n v early late a is shows);
+      pending = (laws.hr_told v d e call).0 ∙ shows;
+      same = same;
+    }
+
+    pub resetting_ends : bit v 0 ≡ false → Resets start e
+    resetting_ends clear =
+        let told = with_reading (AwaitsHr false) (λ early late a is. asks_shown n v early late a is false clear) in
+        record { followed = told.followed; awaited = told.tells; idle = laws.reset_idle v d e w.pending call clear; same = same }
+
+  -- it was read 64 times
+  pub resetting_sticks : (n : ℕ) (d : Device) → n ≡ 64 → IsResetting start n d → StaysReset start d
+  resetting_sticks n d all w = record {
+    followed = w.told.followed;
+    awaited = w.told.tells.last (omega (arith, all));
+    often = let here = ap length w.told.tells.here in let long = w.told.tells.long in omega (arith, here, long, all);
+    pending = w.pending;
+    same = w.same;
+  }

@@ -1,0 +1,17 @@
+use Rattle.std.proofs.Common.{◌≡◌, sym, ◌∙◌, arith}
+use Rattle.host_boot.proofs.Awaiting.{resetting_begins, resetting_ends, resetting_goes_on, resetting_sticks}
+use Rattle.host_boot.proofs.resetting.reset.Goals as goal
+
+pub loop-reading-init : goal.loop-reading-init
+loop-reading-init g c = resetting_begins c.laws_hold.ensures _ _ c.write.ensures
+
+pub returns-then-not-is_resetting-clause-reset : goal.returns-then-not-is_resetting-clause-reset
+returns-then-not-is_resetting-clause-reset g c = resetting_ends c.laws_hold.ensures _ _ _ _ _ c.loop-reading.invariant c.read.ensures (sym c.is_resetting.ensures ∙ c.if-not-is_resetting.true)
+
+pub loop-reading-preserved : goal.loop-reading-preserved
+loop-reading-preserved g c = resetting_goes_on c.laws_hold.ensures _ _ _ _ _ c.loop-reading.invariant c.read.ensures (sym c.is_resetting.ensures ∙ c.if-not-is_resetting.false)
+
+pub returns-clause-stuck : goal.returns-clause-stuck
+returns-clause-stuck g c =
+    let all : c.loop-reading._reading ≡ 64 = omega arith in
+    resetting_sticks c.laws_hold.ensures _ _ _ all c.loop-reading.invariant

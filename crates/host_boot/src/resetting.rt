@@ -1,0 +1,29 @@
+// The adapter is reset (AHCI 1.3.1, 3.1.2 and 10.4.3).
+ghost use Rattle.std.specs.Prelude.{IfErr, IfOk};
+ghost use Rattle.host_boot.specs.Resets.{Resets, StaysReset};
+
+use super::lawful::laws_hold;
+use adapter::Adapter;
+use hba_regs::{GlobalControl, Reg};
+use port_control::READINGS;
+
+/// The adapter didn't end its reset.
+#[derive(Clone, Copy, PartialEq, Eq, Debug)]
+pub struct AdapterStuck;
+
+/// Resets the adapter, and waits until the reset is done, for 64 readings of GHC at most (that many are this project's own). Once it is done the adapter is idle; `AdapterStuck` is told where HR is
+/// one still. It may be reset in whatever state it is, also while a reset is pending.
+pub fn reset<A: Adapter>(adapter: &mut A) -> Result<(), AdapterStuck>
+    ensures reset { IfOk result (λ done. Resets (A.device adapter.old) (A.device adapter.new)) }
+    ensures stuck { IfErr result (λ why. StaysReset (A.device adapter.old) (A.device adapter.new)) }
+{
+    laws_hold();
+    adapter.write(Reg::Ghc, GlobalControl::AE.0 | GlobalControl::HR.0);
+    for _reading in 0..READINGS {
+        let shown = GlobalControl(adapter.read(Reg::Ghc));
+        if !shown.is_resetting() {
+            return Ok(());
+        }
+    }
+    Err(AdapterStuck)
+}
