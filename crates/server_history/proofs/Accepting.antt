@@ -25,7 +25,7 @@ use Rattle.block_machine.specs.State as machine
 use Rattle.block_machine.specs.State.{Machine}
 use Rattle.block_machine.specs.Steps.{Step, Accept, IsNew, after_step, lend}
 use Rattle.block_machine.specs.declared.due.Unanswered.{Unanswered}
-use Rattle.block_machine.proofs.Members.{append_in, contains_there, some_in}
+use Rattle.server_history.proofs.Members.{append_in, contains_there, some_in}
 use Rattle.agreement.specs.Driven.{IsDrivenBy, known}
 use Rattle.agreement.proofs.Deciding.{accept_knows}
 use Rattle.agreement.proofs.Lasting.{same_refl}
@@ -50,7 +50,7 @@ use Rattle.block_machine.specs.declared.due.Mode.{Mode}
 use Rattle.server_history.proofs.Asks.{none_due}
 use Rattle.server_history.proofs.Calls.{reached, situation_is}
 use Rattle.server_history.proofs.Coming.{issuing_is, issuing_leaves}
-use Rattle.server_history.proofs.Going.{kept_then, lead_by, ports_same, with_device}
+use Rattle.server_history.proofs.Going.{holding, kept_then, lead_by, ports_same, with_device}
 use Rattle.server_history.proofs.Granting.{has_room, is_accepted, is_new, on_ready, request_in, entry_in, unlent}
 use Rattle.server_history.proofs.Rounds.{AreIssued, accepts_on, any_append, belong_on, dues, dues_carried, each_driven, each_issued, each_settings, last_on, lawful_on, or_none, settled}
 use Rattle.server_history.proofs.Slots.{ready_found, served_request, serves_used, used_ready}
@@ -203,7 +203,7 @@ module _ (laws : LawsBelow) (s : Server) (k : IsKept s) (r : Request) (acc : IsA
     pub event : (first : Instant Device) (past : List (Happening Device DeviceStep)) → Leads first past s
         → (h : Happening Device DeviceStep) × (h.event.ask ≡ Submit r) × (h.event.said ≡ Submitted (Ok id)) × Leads first (h ∷ past) new
     event first past leads =
-        lead_by laws first past s new (Submit r) (Submitted (Ok id)) (x.steps ++ early) (ap (λ (n : Server). n.wanted) same) (ap ports_of same) leads settles.kept
+        lead_by laws first past s new (Submit r) (Submitted (Ok id)) (x.steps ++ early) (ap (λ (n : Server). n.wanted) same) (ap ports_of same) leads (holding new settles.kept)
         (laws.basic.may m x.steps early (tt, fresh m was is) x.may)
         (belong_on mode port {D = DeviceStep} (Submit r) (ports_of new) (λ p own. (its_ready p own, its_mode p own)) x.steps early x.only (tt, inr refl))
         (last_on mode port x.steps early x.only x.last (tt, λ other h i. false≢true h) (λ other i j. false≢true j))

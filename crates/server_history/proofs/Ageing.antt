@@ -15,7 +15,7 @@ use Rattle.block_machine.specs.Due.{NoneDue, is_plain}
 use Rattle.block_machine.specs.State.{Machine, Pending}
 use Rattle.block_machine.specs.Steps.{Age, after_step, older}
 use Rattle.block_machine.specs.declared.due.Unanswered.{Unanswered}
-use Rattle.block_machine.proofs.Members.{into_map, map_in}
+use Rattle.server_history.proofs.Members.{into_map, map_in}
 use Rattle.host_boot.specs.Taken.{found_of}
 use Rattle.request_queue.specs.Entries as entries
 use Rattle.request_queue.specs.Entries.{Held}
@@ -145,6 +145,7 @@ module _ (laws : LawsBelow) (s : Server) where
       four_modes = k.four_modes;
       four_remembered = k.four_remembered;
       four_kept = k.four_kept;
+      few_kept = k.few_kept;
       modes = k.modes;
       slots = k.slots;
       kinds = λ port slot used e its here id.

@@ -11,7 +11,7 @@ use Rattle.block_machine.specs.Events.{AllDevices, AllMay, IsDevices, answers_of
 use Rattle.block_machine.specs.Left.{after}
 use Rattle.block_machine.specs.State.{Pending, Machine}
 use Rattle.block_machine.specs.Steps.{Step, Issue, Answer, May, after_step}
-use Rattle.block_machine.proofs.Members.{contains_cases, contains_here, contains_there, without_in}
+use Rattle.server_history.proofs.Members.{contains_cases, contains_here, contains_there, without_in}
 use Rattle.request_queue.specs.Entries.{Held}
 use Rattle.server_history.specs.Served.{HasEnded, IssuesOnly, answers_in, done_reply}
 use Rattle.server_history.specs.Below.{LawsBelow}

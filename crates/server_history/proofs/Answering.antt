@@ -16,7 +16,7 @@ use Rattle.block_machine.specs.Histories.{IsReached}
 use Rattle.block_machine.specs.State.{Machine, Pending}
 use Rattle.block_machine.specs.Steps.{Answer, IsLiving, after_step, is_lent_to, unlend}
 use Rattle.block_machine.proofs.Lending.{lent_own}
-use Rattle.block_machine.proofs.Members.{contains_cases}
+use Rattle.server_history.proofs.Members.{contains_cases}
 use Rattle.agreement.specs.Driven.{known}
 use Rattle.agreement.specs.Driver.{Forgets, HasNoSlot, Known, parking}
 use Rattle.agreement.specs.Slots.{Free, Serves, Uses, put, IsDropped, IsEnded, IsOver, ServesRequest}

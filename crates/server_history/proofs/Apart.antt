@@ -9,7 +9,7 @@ use Rattle.ata_types.specs.declared.request.Reply.{Reply}
 use Rattle.ata_types.specs.declared.request.RequestId.{RequestId}
 use Rattle.block_machine.specs.Due.{mark_waiting, of_port, with_none, with_waiting}
 use Rattle.block_machine.specs.declared.due.Unanswered.{Unanswered}
-use Rattle.block_machine.proofs.Members.{map_in}
+use Rattle.server_history.proofs.Members.{map_in}
 use Rattle.host_boot.specs.declared.Found.TheVariants.{Unserved}
 use Rattle.request_queue.specs.Entries.{Held, IsInOrder, asks, asks_of, due_ids, is_of}
 use Rattle.request_queue.specs.Fates.{Holdings, MeetFates, MeetsFate, fate_of}

@@ -1,5 +1,5 @@
 -- A new server keeps what a server keeps, and a history without calls leads to it.
-use Rattle.std.proofs.Common.{ℕ, zero, suc, ◌≡◌, ◌+◌, ◌*◌, ◌<◌, ◌≤◌, true, false, List, [], ◌∷◌, length, Option, Some, None, slice_index, refl, sym, ◌∙◌, ap, subst, arith, inl, inr, ⊎_elim}
+use Rattle.std.proofs.Common.{ℕ, ◌≡◌, ◌+◌, ◌*◌, ◌<◌, ◌≤◌, true, false, List, [], length, Option, Some, None, slice_index, refl, sym, ◌∙◌, ap, subst, arith, inl, inr, ⊎_elim}
 use Rattle.std.specs.List.{All, AllPairs, Contains}
 use Rattle.std.proofs.lemmas.Bool.{false≢true, cases_lt}
 use Rattle.std.proofs.lemmas.List.Elements.{All-contains, All-nil}
@@ -10,7 +10,6 @@ use Rattle.ata_types.specs.declared.grant.GrantRow.{GrantRow}
 use Rattle.ata_types.specs.declared.request.ClientId.{ClientId}
 use Rattle.ata_types.specs.declared.request.Frame.{Frame}
 use Rattle.ata_types.specs.declared.request.RequestId.{RequestId}
-use Rattle.hba_regs.specs.Bits.{bit}
 use Rattle.adapter.specs.Device.{Device}
 use Rattle.adapter.specs.Idle.{IsIdle, TellsDisks}
 use Rattle.agreement.specs.Agrees.{SameSectors}
@@ -20,7 +19,6 @@ use Rattle.agreement.specs.Slots.{Free, Uses}
 use Rattle.agreement.specs.Spares.{AllFurther, SparesBook}
 use Rattle.agreement.proofs.Idling.{idle_knows}
 use Rattle.agreement.proofs.Sparing.{steps_spare}
-use Rattle.agreement.specs.Links.{HasDeviceOrNone}
 use Rattle.block_machine.specs.Histories.{IsReached}
 use Rattle.block_machine.specs.Left.{after, IsRow, IsStart}
 use Rattle.block_machine.specs.Ports.{AreFit, IsMode}
@@ -29,7 +27,7 @@ use Rattle.block_machine.specs.Rules.{DifferInName}
 use Rattle.block_machine.proofs.HistoryLemmas.{reached_more}
 use Rattle.dma_frames.specs.Loan.{Lending}
 use Rattle.dma_frames.specs.Table.{owner_of}
-use Rattle.host_boot.specs.Taken.{StillStandsBehind, FoundBadDisk, IsLeft, StandsBehind, TakesOver, found_of, wanted_of}
+use Rattle.host_boot.specs.Taken.{StillStandsBehind, IsLeft, StandsBehind, TakesOver, found_of, wanted_of}
 use Rattle.host_boot.specs.declared.Found.{Found}
 use Rattle.host_boot.specs.declared.Found.TheVariants.{Unserved, Ready, Unready}
 use Rattle.host_boot.specs.declared.Host.{Host}
@@ -38,21 +36,19 @@ use Rattle.identify.specs.declared.Unfit.{Unfit as Fault}
 use Rattle.identify.specs.declared.Unfit.TheVariants as fault
 use Rattle.identify.specs.Wanted.{serial_of}
 use Rattle.identify.specs.declared.wanted.Wanted.{Wanted}
-use Rattle.port_boot.specs.States.{EndsAs, IsUnfit, ShowsOwnDisk}
-use Rattle.driver_history.specs.Holds.{Runs}
-use Rattle.agreement.specs.Facts.{IsRecorded, RunsWell, Undisturbed}
-use Rattle.agreement.specs.Halting.{HaltsAsTaken}
+use Rattle.port_boot.specs.States.{EndsAs, IsUnfit}
+use Rattle.agreement.specs.Facts.{RunsWell, Undisturbed}
 use Rattle.server_history.proofs.Slots.{its_mode, ready_found, stood_mode}
-use Rattle.identify.specs.declared.DiskInfo.{DiskInfo}
 use Rattle.server_history.proofs.Standing.{holds_with, slots}
+use Rattle.server_history.specs.Ended.{TakenLaws}
 use Rattle.server_history.specs.Histories.{HasBegun}
 use Rattle.block_machine.specs.Due.{NoneDue}
 use Rattle.request_queue.specs.Entries.{Held, IsAccepted, IsInOrder, asks_of}
 use Rattle.request_queue.specs.Machine.{IsBook}
 use Rattle.slots.specs.Uses.{Uses as PortSlots}
 use Rattle.server_history.specs.Server.{Server, AreUsesOf, IsKept, IsMachineOf, IsNewServer, IsPortOf, IsSettled, IsUsedAs, is_served, AreKept, AreOfTwo, kept_at, mode_in, ports_of, state_of, use_of, used_for}
-use Rattle.host_boot.proofs.Leaving.{boots_begin}
 use Rattle.agreement.proofs.Driven.{followed_adds}
+use Rattle.server_history.proofs.Overtaken.{behind, found_is, four, none_past, ports_on, served_there}
 use Rattle.server_history.proofs.Lists.{nowhere}
 
 -- ---- the machine of an idle device
@@ -147,45 +143,16 @@ kept_fit s k = record {
         cause_is (wanted_of s.wanted port.0) (Unready state) port.0 cause s.device
         (subst (λ (f : Found). StillStandsBehind (wanted_of s.wanted port.0) f port.0 s.device) e (k.behind port.0 (k.there port.0 (ap is_served e)).0).behind) is
 
--- ports past the fourth aren't served
-none_past : (ports : List Found) (port : ℕ) → length ports ≤ port → found_of ports port ≡ Unserved
-none_past [] port long = refl
-none_past (f ∷ rest) zero long = absurd (omega (arith, long))
-none_past (f ∷ rest) (suc n) long = none_past rest n (omega (arith, long))
-
--- what a ready port's boot leaves runs, with nothing queued
-ready_runs : (wanted : Wanted) (found : Found) (port : ℕ) (d : Device) → StandsBehind wanted found port d → ((info : DiskInfo) → found ≡ Ready info → IsRecorded d.tape (d.port port) port) → state_of found ≡ ReadyState
-    → Runs port d × ((slot : ℕ) → (d.port port).sact slot ≡ false)
-ready_runs wanted Unserved port d s recorded is = absurd (let z : Absent ≡ ReadyState = is in cc)
-ready_runs wanted (Ready info) port d s recorded is = (
-  record {
-    st = s.1.runs.st;
-    cr = s.1.runs.cr;
-    fre = s.1.runs.fre;
-    bases = s.1.runs.bases;
-    saw = s.1.saw.1;
-    recorded = recorded info refl s.1.runs.st;
-  },
-  s.1.runs.sact,
-)
-ready_runs wanted (Unready state) port d s recorded is = absurd (subst (λ (x : PortState). EndsAs (serial_of wanted) x port d) is s.1)
-
--- a port that is served is there
-served_there : (wanted : Wanted) (found : Found) (port : ℕ) (d : Device) → StandsBehind wanted found port d → is_served found ≡ true → bit d.pi port ≡ true
-served_there wanted Unserved port d s served = absurd (false≢true served)
-served_there wanted (Ready info) port d s served = s.0.1
-served_there wanted (Unready state) port d s served = s.0.1
-
 -- ---- slots
 
 -- a slot that was left as it was is used as a server without requests has it
-left_as : (ports found : List Found) (slots : List PortSlots) (uses : Uses) (port slot : ℕ) → found_of found port ≡ found_of ports port → used_for slots port slot ≡ None → IsLeft ports uses port slot
+pub left_as : (ports found : List Found) (slots : List PortSlots) (uses : Uses) (port slot : ℕ) → found_of found port ≡ found_of ports port → used_for slots port slot ≡ None → IsLeft ports uses port slot
     → IsUsedAs (found_of found port) (used_for slots port slot) (uses port slot)
 left_as ports found list uses port slot same none (inl free) = λ _. free ∙ sym (ap use_of none)
 left_as ports found list uses port slot same none (inr (zero_is, own, dead)) = λ alive. absurd (alive (same ∙ dead))
 
 -- where no request is kept, no loan is
-none_are_kept : (found : List Found) (kept : List (List Lending)) (requests : List Pending) → requests ≡ [] → ((port : ℕ) → kept_at kept port ≡ []) → AreKept found kept requests
+pub none_are_kept : (found : List Found) (kept : List (List Lending)) (requests : List Pending) → requests ≡ [] → ((port : ℕ) → kept_at kept port ≡ []) → AreKept found kept requests
 none_are_kept found kept requests none empty = record {
   dead = λ e here. absurd (nobody e here);
   loan = λ e here. absurd (nobody e here);
@@ -207,14 +174,19 @@ none_in_order = record {
 
 -- ---- the whole
 
--- what a law says of an adapter that was taken over
-pub record TakenLaws : Type 0 where
-  pub well : (wanted : List Wanted) (host : Host) (port : ℕ) (info : DiskInfo) (old new : Device) → IsIdle old → TakesOver wanted host old new → found_of host.ports port ≡ Ready info → Undisturbed port old new → RunsWell (new.port port)
-  pub recorded : (wanted : List Wanted) (host : Host) (port : ℕ) (info : DiskInfo) (old new : Device) → IsIdle old → TakesOver wanted host old new → found_of host.ports port ≡ Ready info → IsRecorded new.tape (new.port port) port
-  pub own : (wanted : List Wanted) (host : Host) (port : ℕ) (info : DiskInfo) (old new : Device) → IsIdle old → TakesOver wanted host old new → found_of host.ports port ≡ Ready info → ShowsOwnDisk (new.port port)
-  pub shown : (wanted : List Wanted) (host : Host) (port : ℕ) (state : PortState) (old new : Device) → IsIdle old → TakesOver wanted host old new → FoundBadDisk state → found_of host.ports port ≡ Unready state → HasDeviceOrNone (new.port port)
-
 module _ (laws : TakenLaws) (s : Server) (host : Host) (d : Device) (is : IsIdle d) (told : TellsDisks d) (taken : TakesOver s.wanted host d s.device) (n : IsNewServer host s) where
+  ports_as : (port : ℕ) → port < 4 → IsPortOf s.wanted s.ports port s.device
+  ports_as port low = ports_on laws s host d is taken n.ports n.four port low
+
+  stood : (port : ℕ) → port < 4 → StandsBehind (wanted_of s.wanted port) (found_of s.ports port) port s.device
+  stood port low = behind laws s host d is taken n.ports n.four port low
+
+  found_as : (port : ℕ) → found_of s.ports port ≡ found_of host.ports port
+  found_as port = found_is laws s host d is taken n.ports n.four port
+
+  low_as : (port : ℕ) → is_served (found_of s.ports port) ≡ true → port < 4
+  low_as port served = four laws s host d is taken n.ports n.four port served
+
   abbrev first_machine : Machine
   first_machine = machine_of d s.grants (owner_of s.table)
 
@@ -233,54 +205,8 @@ module _ (laws : TakenLaws) (s : Server) (host : Host) (d : Device) (is : IsIdle
   reached_first : IsReached first_machine
   reached_first = record { first = first_machine; past = []; starts = start; legal = tt; is = refl }
 
-  found_is : (port : ℕ) → found_of s.ports port ≡ found_of host.ports port
-  found_is port = ap (λ (ports : List Found). found_of ports port) n.ports
-
-  behind : (port : ℕ) → port < 4 → StandsBehind (wanted_of s.wanted port) (found_of s.ports port) port s.device
-  behind port below = subst (λ (f : Found). StandsBehind (wanted_of s.wanted port) f port s.device) (sym (found_is port)) (taken.stands port below)
-
-  four : (port : ℕ) → is_served (found_of s.ports port) ≡ true → port < 4
-  four port served = ⊎_elim
-      (λ (low : port < 4). low)
-      (λ (high : 4 ≤ port). absurd (false≢true (sym (ap is_served (found_is port ∙ none_past host.ports port (let l = n.four in omega (arith, l, high)))) ∙ served)))
-      (cases_lt port 4)
-
-  shown_as : (port : ℕ) (f : Found) → found_of s.ports port ≡ f → FoundBadDisk (state_of f) → HasDeviceOrNone (s.device.port port)
-  shown_as port Unserved e bad = absurd bad
-  shown_as port (Ready info) e bad = absurd bad
-  shown_as port (Unready state) e bad = laws.shown s.wanted host port state d s.device is taken bad (sym (found_is port) ∙ e)
-
-  own_as : (port : ℕ) (f : Found) → found_of s.ports port ≡ f → state_of f ≡ ReadyState → ShowsOwnDisk (s.device.port port)
-  own_as port Unserved e ready = let z : Absent ≡ ReadyState = ready in absurd cc
-  own_as port (Ready info) e ready = laws.own s.wanted host port info d s.device is taken (sym (found_is port) ∙ e)
-  own_as port (Unready state) e ready = absurd (not_ready state ready (subst (λ (f : Found). StandsBehind (wanted_of s.wanted port) f port s.device) e (behind port (four port (ap is_served e)))))
-    where
-      not_ready : (state : PortState) → state ≡ ReadyState → StandsBehind (wanted_of s.wanted port) (Unready state) port s.device → ⊥
-      not_ready state same stands = (subst (λ (t : PortState). StandsBehind (wanted_of s.wanted port) (Unready t) port s.device) same stands).1
-
-  halts_as : (port : ℕ) → port < 4 → (f : Found) → found_of s.ports port ≡ f → state_of f ≡ ReadyState → HaltsAsTaken (s.device.port port)
-  halts_as port below Unserved e ready = let z : Absent ≡ ReadyState = ready in absurd cc
-  halts_as port below (Ready info) e ready = taken.halts port below info (sym (found_is port) ∙ e)
-  halts_as port below (Unready state) e ready = absurd (not_ready state ready (subst (λ (f : Found). StandsBehind (wanted_of s.wanted port) f port s.device) e (behind port below)))
-    where
-      not_ready : (state : PortState) → state ≡ ReadyState → StandsBehind (wanted_of s.wanted port) (Unready state) port s.device → ⊥
-      not_ready state same stands = (subst (λ (t : PortState). StandsBehind (wanted_of s.wanted port) (Unready t) port s.device) same stands).1
-
-  running : (port : ℕ) → port < 4 → state_of (found_of s.ports port) ≡ ReadyState → Runs port s.device × ((slot : ℕ) → (s.device.port port).sact slot ≡ false)
-  running port below =
-      ready_runs (wanted_of s.wanted port) (found_of s.ports port) port s.device (behind port below) (λ info found. laws.recorded s.wanted host port info d s.device is taken (sym (found_is port) ∙ found))
-
-  ports_on : (port : ℕ) → port < 4 → IsPortOf s.wanted s.ports port s.device
-  ports_on port below = record {
-    behind = boots_begin (wanted_of s.wanted port) (found_of s.ports port) port s.device (behind port below);
-    runs = λ ready. (running port below ready).0;
-    shown = shown_as port (found_of s.ports port) refl;
-    own = own_as port (found_of s.ports port) refl;
-    halts = halts_as port below (found_of s.ports port) refl;
-  }
-
   uses_are : AreUsesOf s taken.uses
-  uses_are port slot = left_as host.ports s.ports s.slots taken.uses port slot (found_is port) (n.unused port slot) (taken.left port slot)
+  uses_are port slot = left_as host.ports s.ports s.slots taken.uses port slot (found_as port) (n.unused port slot) (taken.left port slot)
 
   stands_for : (m : Machine) → IsStart m → SparesBook first_machine m → Knows m (known taken.uses (λ port. []) s.device) → IsMachineOf s m
   stands_for m begun spares knows = record {
@@ -299,15 +225,15 @@ module _ (laws : TakenLaws) (s : Server) (host : Host) (d : Device) (is : IsIdle
 
   ports_fit : AreFit (ports_of s)
   ports_fit = record {
-    few = λ port served. four port.0 served;
+    few = λ port served. low_as port.0 served;
     absent = λ port other. absent_is (found_of s.ports port.0) other;
     slots = λ port ready. ⊎_elim
-        (λ (low : port.0 < 4). subst IsMode (sym (n.modes port.0 low)) (stood_mode (wanted_of s.wanted port.0) (found_of s.ports port.0) port.0 s.device (ports_on port.0 low).behind).0)
-        (λ (high : 4 ≤ port.0). absurd (let z : Absent ≡ ReadyState = sym (ap state_of (found_is port.0 ∙ none_past host.ports port.0 (let l = n.four in omega (arith, l, high)))) ∙ ready in cc))
+        (λ (low : port.0 < 4). subst IsMode (sym (n.modes port.0 low)) (stood_mode (wanted_of s.wanted port.0) (found_of s.ports port.0) port.0 s.device (ports_as port.0 low).behind).0)
+        (λ (high : 4 ≤ port.0). absurd (let z : Absent ≡ ReadyState = sym (ap state_of (found_as port.0 ∙ none_past host.ports port.0 (let l = n.four in omega (arith, l, high)))) ∙ ready in cc))
         (cases_lt port.0 4);
     causes = λ port cause is. ⊎_elim
-        (λ (low : port.0 < 4). cause_is (wanted_of s.wanted port.0) (found_of s.ports port.0) port.0 cause s.device (behind port.0 low) is)
-        (λ (high : 4 ≤ port.0). absurd (let z : Absent ≡ Unfit cause = sym (ap state_of (found_is port.0 ∙ none_past host.ports port.0 (let l = n.four in omega (arith, l, high)))) ∙ is in cc))
+        (λ (low : port.0 < 4). cause_is (wanted_of s.wanted port.0) (found_of s.ports port.0) port.0 cause s.device (stood port.0 low) is)
+        (λ (high : 4 ≤ port.0). absurd (let z : Absent ≡ Unfit cause = sym (ap state_of (found_as port.0 ∙ none_past host.ports port.0 (let l = n.four in omega (arith, l, high)))) ∙ is in cc))
         (cases_lt port.0 4);
   }
     where
@@ -320,14 +246,15 @@ module _ (laws : TakenLaws) (s : Server) (host : Host) (d : Device) (is : IsIdle
   kept_by m reached stands = record {
     on = taken.on;
     room = n.room;
-    there = λ port served. let low = four port served in (low, served_there (wanted_of s.wanted port) (found_of s.ports port) port s.device (behind port low) served);
-    behind = ports_on;
+    there = λ port served. let low = low_as port served in (low, served_there (wanted_of s.wanted port) (found_of s.ports port) port s.device (stood port low) served);
+    behind = ports_as;
     rows = n.rows;
     owners = n.owners;
     four = n.four_slots;
     four_modes = n.four_modes;
     four_remembered = n.four_remembered;
     four_kept = n.four_kept;
+    few_kept = λ port. let none = ap length (n.unkept port) in omega (arith, none);
     slots = λ port low. record { places = n.places port low; usable = n.usable port low; unused = λ slot high. n.unused port slot };
     modes = n.modes;
     kinds = λ port slot used e is. absurd (let z : None ≡ Some used = sym (n.unused port.0 slot) ∙ is in cc);

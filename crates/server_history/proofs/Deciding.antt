@@ -23,7 +23,7 @@ use Rattle.block_machine.specs.State.{Machine, Pending}
 use Rattle.block_machine.specs.Steps.{Step, Again, Answer, Issue}
 use Rattle.block_machine.specs.declared.due.Mode.{Mode}
 use Rattle.block_machine.specs.declared.due.Unanswered.{Unanswered}
-use Rattle.block_machine.proofs.Members.{contains_here, map_in}
+use Rattle.server_history.proofs.Members.{contains_here, map_in}
 use Rattle.block_machine.specs.Due.{due_of}
 use Rattle.driver_history.specs.Histories.{IssuesDue}
 use Rattle.driver_history.specs.Holds.{NoneWaits}

@@ -21,7 +21,7 @@ use Rattle.block_machine.specs.Left.{after}
 use Rattle.block_machine.specs.Ports.{Fault, IsServiced}
 use Rattle.block_machine.specs.State.{Machine}
 use Rattle.block_machine.specs.Steps.{Step}
-use Rattle.block_machine.proofs.Members.{contains_cases}
+use Rattle.server_history.proofs.Members.{contains_cases}
 use Rattle.driver_history.specs.Evidence.{IsEvidencedOf}
 use Rattle.driver_history.specs.Trace.{IsDriversOwn}
 use Rattle.error_recovery.specs.Evidence.{HasFailed}

@@ -18,7 +18,7 @@ use Rattle.agreement.specs.Driven.{Grows}
 use Rattle.agreement.specs.Errors.{IsFatalOf, NoneComes}
 use Rattle.agreement.specs.Facts.{IsFaultOf}
 use Rattle.agreement.specs.Links.{IsPlugging, SparesRegister}
-use Rattle.block_machine.proofs.Members.{contains_there}
+use Rattle.server_history.proofs.Members.{contains_there}
 use Rattle.driver_history.specs.Evidence.{Gains, ShowsChange, ShowsFailure}
 use Rattle.error_recovery.specs.Evidence.{ShowsFatal}
 use Rattle.error_recovery.specs.declared.Recovered.{Recovered}

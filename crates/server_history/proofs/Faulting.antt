@@ -22,7 +22,7 @@ use Rattle.block_machine.specs.Histories.{IsReached}
 use Rattle.block_machine.specs.Left.{after}
 use Rattle.block_machine.specs.State.{Machine, Pending}
 use Rattle.block_machine.specs.Steps.{Answer, May, Step}
-use Rattle.block_machine.proofs.Members.{contains_cases, contains_here, map_in}
+use Rattle.server_history.proofs.Members.{contains_cases, contains_here, map_in}
 use Rattle.driver_history.specs.Histories.{IsAnsweredFaulty, IsIssuedOn}
 use Rattle.error_log.specs.declared.Failure.{Failure}
 use Rattle.error_recovery.specs.Recovery.{MayRecover, Rests, TellsRecovery}

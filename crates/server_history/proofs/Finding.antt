@@ -23,7 +23,7 @@ use Rattle.block_machine.specs.Histories.{IsReached}
 use Rattle.block_machine.specs.Left.{after}
 use Rattle.block_machine.specs.State.{Machine, Pending}
 use Rattle.block_machine.specs.Steps.{Step, Answer}
-use Rattle.block_machine.proofs.Members.{contains_cases, contains_there}
+use Rattle.server_history.proofs.Members.{contains_cases, contains_there}
 use Rattle.driver_history.specs.Histories.{FindsDone, IsAnsweredOk, IsIssuedOn}
 use Rattle.driver_history.specs.Trace.{ReadsMasks}
 use Rattle.host_boot.specs.Taken.{found_of}

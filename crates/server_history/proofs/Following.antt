@@ -1,6 +1,6 @@
 -- From a machine that stands for the server, a port's recovery, and what its requests meet then, lead to one that stands for the server after them.
-use Rattle.std.proofs.Common.{ℕ, ◌≡◌, ◌≢◌, ◌⊎◌, ◌<◌, ◌++◌, Bool, true, false, cond, eq-eqb, eqb-true, List, [], ◌∷◌, get_or, length, Option, None, inl, refl, sym, ap, ◌∙◌, subst, ⊎_elim, arith}
-use Rattle.std.specs.List.{All, AllPairs, Contains}
+use Rattle.std.proofs.Common.{ℕ, ◌≡◌, ◌≢◌, ◌<◌, ◌++◌, Bool, true, false, cond, eq-eqb, eqb-true, List, [], ◌∷◌, get_or, length, Option, None, inl, refl, sym, ap, ◌∙◌, subst, ⊎_elim, arith}
+use Rattle.std.specs.List.{All, Contains}
 use Rattle.std.specs.Prelude.{filter}
 use Rattle.std.proofs.lemmas.Bool.{cases_eq, cond-true, false≢true}
 use Rattle.std.proofs.lemmas.List.{get_or-set_other, get_or-set_same}
@@ -43,15 +43,15 @@ use Rattle.request_queue.specs.declared.fate.Prospect.{Prospect}
 use Rattle.request_queue.specs.declared.fate.Prospect.TheVariants.{SameDisk, DiskLost, Dead as NoEnd}
 use Rattle.slots.specs.Uses.{Uses as PortSlots}
 use Rattle.server_history.specs.Below.{LawsBelow}
-use Rattle.server_history.specs.Fates.{DecidesOn, MayMeet, MeetsInMachine, keeps_fate, loan_of, loans_of}
+use Rattle.server_history.specs.Fates.{DecidesOn, MayMeet, MeetsInMachine, keeps_fate}
 use Rattle.server_history.specs.Mended.{AreUnused, IsFailed, IsFoundAfter, IsProspect, HasMetFates, holdings_of, requests_of, with_port}
 use Rattle.server_history.specs.Served.{answers_in}
-use Rattle.server_history.specs.Server.{AreKept, AreOfTwo, AreUsesOf, IsKept, IsMachineOf, Server, is_served, kept_at, no_slots, slots_at, state_of}
+use Rattle.server_history.specs.Server.{AreKept, AreUsesOf, IsKept, IsMachineOf, Server, is_served, kept_at, no_slots, slots_at, state_of}
 use Rattle.server_history.proofs.Going.{book_on, still_kept}
 use Rattle.server_history.proofs.Joined.{first_or_later}
 use Rattle.server_history.proofs.Keeping.{none_alive}
 use Rattle.server_history.proofs.Looking.{finding_kept, found_over, looking_kept}
-use Rattle.server_history.proofs.Meeting.{in_loans, loans_in, meet, tame}
+use Rattle.server_history.proofs.Meeting.{meet, tame}
 use Rattle.server_history.proofs.Leading.{IsPassed, devices_both, passed, uses_then}
 use Rattle.server_history.proofs.Recovery.{AddsFates}
 use Rattle.server_history.proofs.Replaced.{is_listed}
@@ -59,6 +59,7 @@ use Rattle.server_history.proofs.Serving.{finds_serve, followed_steps, looks_ser
 use Rattle.server_history.proofs.Settling.{AreAnswered, answers_kept, answers_settings, each_answered}
 use Rattle.server_history.proofs.Slots.{AreOver, not_dead, ready_found, served_request}
 use Rattle.server_history.proofs.Zips.{at_left}
+use Rattle.server_history.proofs.Lending.{more_kept}
 use Rattle.server_history.proofs.Lists.{nowhere}
 use Rattle.server_history.specs.declared.Trouble.{Trouble}
 
@@ -268,51 +269,20 @@ module _ (laws : LawsBelow) (port : Port) (mid : Server) (k : IsKept mid) (ready
       was_kept : AreKept mid.ports mid.kept w.kept
       was_kept = still_kept laws mid.ports mid.kept n.kept w.kept spares.kept is.kept
 
-      loans_are : kept_at new.kept port.0 ≡ loans_of met.held
-      loans_are = kept_same ∙ met.loans ∙ ap (λ (loans : List Lending). loans ++ loans_of met.held) (none_alive mid k port.0 alive (kept_at mid.kept port.0) refl)
-
       -- one that was kept is of another port
       elsewhere : (e : Pending) → Contains w.kept e → e.request.port.0 ≢ port.0
       elsewhere e here same = alive (ap (found_of mid.ports) (sym same) ∙ was_kept.dead e here)
 
-      either : (e : Pending) → Contains z.kept e → Contains met.held e ⊎ Contains w.kept e
-      either e here = Contains-append_cases met.held w.kept e (subst (λ (list : List Pending). Contains list e) met.kept here)
-
-      held_here : (e : Pending) → Contains met.held e → Contains z.kept e
-      held_here e here = subst (λ (list : List Pending). Contains list e) (sym met.kept) (Contains-append_left met.held w.kept e here)
-
-      was_here : (e : Pending) → Contains w.kept e → Contains z.kept e
-      was_here e here = subst (λ (list : List Pending). Contains list e) (sym met.kept) (Contains-append_right met.held w.kept e here)
+      none_kept_here : kept_at mid.kept port.0 ≡ []
+      none_kept_here = none_alive mid k port.0 alive (kept_at mid.kept port.0) refl
 
       are_kept : AreKept new.ports new.kept z.kept
-      are_kept = record {
-        dead = λ e here. ⊎_elim
-            (λ held. let d = dies e held in ap (λ (q : Port). found_of new.ports q.0) d.0 ∙ found_same ∙ d.1)
-            (λ old. found_other e.request.port.0 (elsewhere e old) ∙ was_kept.dead e old)
-            (either e here);
-        loan = λ e here. ⊎_elim
-            (λ held. (
-              loan_of e,
-              subst (λ (loans : List Lending). Contains loans (loan_of e)) (sym (ap (λ (q : Port). kept_at new.kept q.0) (dies e held).0 ∙ loans_are)) (in_loans met.held e held),
-              (refl, refl),
-            ))
-            (λ old.
-            let l = was_kept.loan e old in
-            (l.0, subst (λ (loans : List Lending). Contains loans l.0) (sym (kept_other e.request.port.0 (elsewhere e old))) l.1, l.2))
-            (either e here);
-        whose = λ q loan here. ⊎_elim
-            (λ (same : q ≡ port.0).
-            let x = loans_in met.held loan (subst (λ (loans : List Lending). Contains loans loan) (ap (kept_at new.kept) same ∙ loans_are) here) in
-            (x.0, held_here x.0 x.1, ap (λ (p : Port). p.0) (dies x.0 x.1).0 ∙ sym same, (ap (λ (l : Lending). l.request) x.2, ap (λ (l : Lending). l.frames) x.2)))
-            (λ (ne : q ≢ port.0).
-            let x = was_kept.whose q loan (subst (λ (loans : List Lending). Contains loans loan) (kept_other q ne) here) in
-            (x.0, was_here x.0 x.1, x.2, x.3))
-            (cases_eq q port.0);
-        apart = λ q. ⊎_elim
-            (λ (same : q ≡ port.0). subst (AllPairs AreOfTwo) (sym (ap (kept_at new.kept) same ∙ loans_are)) met.two)
-            (λ (ne : q ≢ port.0). subst (AllPairs AreOfTwo) (sym (kept_other q ne)) (was_kept.apart q))
-            (cases_eq q port.0);
-      }
+      are_kept = subst (AreKept new.ports new.kept) (sym met.kept)
+          (more_kept port mid.ports new.ports mid.kept new.kept met.held w.kept was_kept (kept_same ∙ met.loans) kept_other
+          (λ e here. found_other e.request.port.0 (elsewhere e here) ∙ was_kept.dead e here)
+          (λ e here. let d = dies e here in (d.0, found_same ∙ d.1))
+          met.two
+          (λ a b here there. absurd (nowhere a (subst (λ (loans : List Lending). Contains loans a) none_kept_here here))))
 
       leaves : (z.rows ≡ w.rows) × ((frame : Frame) → z.owner frame ≡ w.owner frame) × (z.next ≡ w.next)
       leaves = deciding_leaves port w met.steps met.own

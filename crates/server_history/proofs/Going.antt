@@ -26,6 +26,7 @@ use Rattle.host_boot.specs.declared.Found.{Found}
 use Rattle.driver_history.specs.Evidence.{IsEvidenced}
 use Rattle.driver_history.specs.Histories.{Begins, CameBy, Issues, Ties, TiesPort}
 use Rattle.driver_history.specs.Trace.{LeavesEngine}
+use Rattle.driver_history.specs.Holds.{HoldsAt}
 use Rattle.driver_history.proofs.Instants.{history_fit, ready_low}
 use Rattle.server_history.specs.Histories.{Leads}
 use Rattle.request_queue.specs.Entries.{Held, IsAccepted, IsInOrder}
@@ -123,6 +124,7 @@ kept_then s device table used_now book last k on same behind owners four used ki
   four_modes = k.four_modes;
   four_remembered = k.four_remembered;
   four_kept = k.four_kept;
+  few_kept = k.few_kept;
   modes = λ port low. k.modes port low ∙ ap (λ (cap : ℕ). mode_found cap (found_of s.ports port)) (sym same.cap);
   slots = used;
   kinds = kinds;
@@ -169,9 +171,16 @@ happening old new ask said steps ports = happening_with (told_by old.device old.
 abbrev pub with_device : Device → Instant Device → Instant Device
 with_device d i = record { device = d; moment = i.moment }
 
+-- whatever machine stands for the server, there holds what holds at each instant
+abbrev pub IsHolding : Server → Type 0
+IsHolding s = (m : Machine) → IsReached m → IsMachineOf s m → HoldsAt s.wanted (record { device = s.device; moment = record { machine = m; ports = ports_of s } })
+
+pub holding : (s : Server) → IsKept s → IsHolding s
+holding s k m reached is = (slots s k m reached is, holds_with s k m reached is)
+
 -- a call, with what its event needs
 pub lead_with : LawsBelow → (first : Instant Device) (past : List (Happening Device DeviceStep)) (s new : Server) (ask : Ask DeviceStep) (said : Said) (evidence : Evidence) (steps : List Step)
-    → new.wanted ≡ s.wanted → Leads first past s → IsKept new → AreFit (ports_of new)
+    → new.wanted ≡ s.wanted → Leads first past s → IsHolding new → AreFit (ports_of new)
     → AllMay (now first past).moment.machine steps → Belong ask (ports_of new) steps → IssuesLast steps
     → AllLawful (now first past).moment evidence (ports_of new) steps
     → KeepsDisks (now first past).moment (record { machine = after (now first past).moment.machine steps; ports = ports_of new })
@@ -183,7 +192,7 @@ pub lead_with : LawsBelow → (first : Instant Device) (past : List (Happening D
     → IsBacked s.device new.device (now first past).moment.machine steps
     → IsMachineOf new (after (now first past).moment.machine steps)
     → (h : Happening Device DeviceStep) × (h.event.ask ≡ ask) × (h.event.said ≡ said) × Leads first (h ∷ past) new
-lead_with laws first past s new ask said evidence steps wanted_is leads kept fit may belong last lawful disks answered accesses came evidenced issues parts backed stands = (
+lead_with laws first past s new ask said evidence steps wanted_is leads holds fit may belong last lawful disks answered accesses came evidenced issues parts backed stands = (
   h,
   refl,
   refl,
@@ -217,12 +226,12 @@ lead_with laws first past s new ask said evidence steps wanted_is leads kept fit
       evidenced = evidenced;
       issues = issues;
       port = parts;
-      holds = (slots new kept later reached stands, holds_with new kept later reached stands);
+      holds = holds later reached stands;
     }
 
 -- one in which no port is stopped, and each is what it was
 pub lead_by : LawsBelow → (first : Instant Device) (past : List (Happening Device DeviceStep)) (s new : Server) (ask : Ask DeviceStep) (said : Said) (steps : List Step)
-    → new.wanted ≡ s.wanted → ports_of new ≡ ports_of s → Leads first past s → IsKept new
+    → new.wanted ≡ s.wanted → ports_of new ≡ ports_of s → Leads first past s → IsHolding new
     → AllMay (now first past).moment.machine steps → Belong ask (ports_of new) steps → IssuesLast steps
     → AllLawful (now first past).moment no_evidence (ports_of new) steps
     → IsAnswered ask said (now first past).moment (told_by s.device (now first past).moment.ports) steps (record { machine = after (now first past).moment.machine steps; ports = ports_of new })
@@ -233,8 +242,8 @@ pub lead_by : LawsBelow → (first : Instant Device) (past : List (Happening Dev
     → IsBacked s.device new.device (now first past).moment.machine steps
     → IsMachineOf new (after (now first past).moment.machine steps)
     → (h : Happening Device DeviceStep) × (h.event.ask ≡ ask) × (h.event.said ≡ said) × Leads first (h ∷ past) new
-lead_by laws first past s new ask said steps wanted_is ports_is leads kept may belong last lawful answered accesses came leaves issues parts backed stands =
-    lead_with laws first past s new ask said (told_by s.device old.moment.ports) steps wanted_is leads kept (subst AreFit ports fit) may belong last
+lead_by laws first past s new ask said steps wanted_is ports_is leads holds may belong last lawful answered accesses came leaves issues parts backed stands =
+    lead_with laws first past s new ask said (told_by s.device old.moment.ports) steps wanted_is leads holds (subst AreFit ports fit) may belong last
     (lawful_told s.device old.moment.ports old.moment (ports_of new) steps lawful)
     (λ e o here i same. disks_same old.moment.ports (ports_of new) ports e.request.port)
     answered accesses came

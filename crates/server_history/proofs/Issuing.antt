@@ -22,7 +22,7 @@ use Rattle.block_machine.specs.State.{Machine, Pending, unanswered}
 use Rattle.block_machine.specs.Steps.{Step, Issue, May}
 use Rattle.block_machine.specs.declared.due.Mode.{Mode}
 use Rattle.block_machine.specs.declared.due.Unanswered.{Unanswered}
-use Rattle.block_machine.proofs.Members.{into_map, map_in}
+use Rattle.server_history.proofs.Members.{into_map, map_in}
 use Rattle.agreement.specs.Driven.{IsDrivenBy, IsOf, SendsNone, known}
 use Rattle.agreement.specs.Driver.{EndsWith, IsBacked, serving}
 use Rattle.agreement.specs.Links.{SparesRegister}

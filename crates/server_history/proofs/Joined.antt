@@ -1,15 +1,20 @@
 -- Answers and evidence of two parts of a call, joined.
-use Rattle.std.proofs.Common.{get_or, ◌⊎◌, suc, ◌≡◌, ◌≢◌, not, List, [], ◌∷◌, ◌++◌, refl, sym, ap, ◌∙◌, subst, inl, inr, ⊎_elim, arith, append_assoc, append-nil}
+use Rattle.std.proofs.Common.{ℕ, ◌+◌, ◌<◌, map, get_or, ◌⊎◌, suc, ◌≡◌, ◌≢◌, not, List, [], ◌∷◌, ◌++◌, refl, sym, ap, ◌∙◌, subst, inl, inr, ⊎_elim, arith, append_assoc, append-nil}
 use Rattle.std.specs.List.{All, AllPairs, Contains}
 use Rattle.std.specs.Prelude.{◌↔◌}
 use Rattle.std.proofs.lemmas.List.Elements.{All-append, All-cons, All-contains, All-contains_itself, All-weaker, Contains-append_cases, Contains-append_left, Contains-append_right}
+use Rattle.std.proofs.lemmas.List.{map-append}
 use Rattle.std.proofs.lemmas.List.Quantifiers.{all_pairs_push}
+use Rattle.std.proofs.lemmas.List.Sorted.{Contains-permutation, IsPermutation-append, IsPermutation-append_comm, IsPermutation-trans}
+use Rattle.std.specs.List.Sorted.{IsPermutation}
 use Rattle.ata_types.specs.declared.Port.{Port}
 use Rattle.ata_types.specs.declared.PortState.{PortState}
 use Rattle.ata_types.specs.declared.PortState.TheVariants.{Absent, Dead, Foreign, Ready as ReadyState, Unfit}
 use Rattle.ata_types.specs.declared.request.Outcome.{Outcome}
 use Rattle.ata_types.specs.declared.request.Outcome.TheVariants.{Aborted, DeviceError, Ok, PortDead, Unplugged}
-use Rattle.block_machine.specs.Events.{IsLawful, Moment, WasIssued, answers_of}
+use Rattle.ata_types.specs.declared.request.Reply.{Reply}
+use Rattle.agreement.specs.Agrees.{port_at}
+use Rattle.block_machine.specs.Events.{IsLawful, IsToldBefore, Moment, Tells, WasIssued, answers_of, reply_of}
 use Rattle.block_machine.specs.Ports.{Evidence, Fault, IsServiced, Ports, SameDisk, SamePort}
 use Rattle.block_machine.specs.State.{Pending}
 use Rattle.block_machine.specs.Steps.{Step, Answer}
@@ -53,6 +58,37 @@ all_pairs_append {X} R xs (y ∷ ys) one other crossed = subst (AllPairs R) (app
     (λ none. absurd (nowhere a none))
     (first_or_later y [] a last))
     (Contains-append_cases xs (y ∷ []) a here)))
+
+-- The replies are those of the steps' answers, which are of ports below this number, by port, and then by id.
+pub record AreToldBelow (n : ℕ) (steps : List Step) (replies : List Reply) : Type 0 where
+  pub answers : List (Pending × Outcome)
+  pub permuted : IsPermutation answers (answers_of steps)
+  pub ordered : AllPairs IsToldBefore answers
+  pub low : All (λ a. a.0.request.port.0 < n) answers
+  pub told : replies ≡ map reply_of answers
+
+-- and then the next port's answers are told
+pub told_then : (n : ℕ) (early late : List Step) (before its : List Reply) → AreToldBelow n early before → Tells late its → ((e : Pending) (o : Outcome) → Contains late (Answer e o) → e.request.port ≡ port_at n)
+    → AreToldBelow (n + 1) (late ++ early) (before ++ its)
+told_then n early late before its p x own = record {
+  answers = p.answers ++ x.answers;
+  permuted = subst (IsPermutation (p.answers ++ x.answers)) (sym (answers_append late early))
+      (IsPermutation-trans (p.answers ++ x.answers) (answers_of early ++ answers_of late) (answers_of late ++ answers_of early)
+      (IsPermutation-append p.answers (answers_of early) x.answers (answers_of late) p.permuted x.same)
+      (IsPermutation-append_comm (answers_of early) (answers_of late)));
+  ordered = all_pairs_append IsToldBefore p.answers x.answers p.ordered x.ordered (λ a b here there.
+      let lt = All-contains (λ (y : Pending × Outcome). y.0.request.port.0 < n) p.answers a p.low here in
+      let is : b.0.request.port.0 ≡ n = ap (λ (q : Port). q.0) (its_port b there) in
+      inl (omega (arith, lt, is)));
+  low = All-append (λ a. a.0.request.port.0 < n + 1) p.answers x.answers
+      (All-weaker (λ a. a.0.request.port.0 < n) (λ a. a.0.request.port.0 < n + 1) (λ a lt. omega (arith, lt)) p.answers p.low)
+      (All-weaker (Contains x.answers) (λ a. a.0.request.port.0 < n + 1) (λ a here. let is : a.0.request.port.0 ≡ n = ap (λ (q : Port). q.0) (its_port a here) in omega (arith, is)) x.answers
+      (All-contains_itself x.answers));
+  told = ap (λ (list : List Reply). list ++ its) p.told ∙ ap (λ (list : List Reply). map reply_of p.answers ++ list) x.told ∙ sym (map-append reply_of p.answers x.answers);
+}
+  where
+    its_port : (a : Pending × Outcome) → Contains x.answers a → a.0.request.port ≡ port_at n
+    its_port a here = own a.0 a.1 (answers_there late a (Contains-permutation x.answers (answers_of late) a x.same here))
 
 -- ---- evidence
 

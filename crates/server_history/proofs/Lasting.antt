@@ -41,29 +41,29 @@ use Rattle.server_history.proofs.Recovering.{IsEarlyPart, IsPart, start_part}
 use Rattle.server_history.proofs.Recovery.{evidence_by}
 use Rattle.server_history.proofs.Resetting.{up_driven}
 use Rattle.server_history.proofs.Rounds.{each_driven}
-use Rattle.server_history.proofs.Showing.{LeavesTrouble, grows_over, shown_more, shown_since, shows_over}
+use Rattle.server_history.proofs.Showing.{LeavesTrouble, grows_over, shown_more, shown_since, shows_over, stays_on}
 use Rattle.server_history.proofs.Stretching.{TurnParts}
 use Rattle.server_history.proofs.Starting.{boots_or_absent}
 use Rattle.server_history.proofs.Slots.{ready_found}
 
 -- ---- accesses that leave what a port shows
 
-ci_apart : (port : Port) (v : ℕ) → LeavesTrouble port (Writing (Px port Ci) v)
-ci_apart port v = (
-  (λ e. let z : Px port Ci ≡ Px port Is = e in cc),
-  (λ e. let z : Px port Ci ≡ Px port Serr = e in cc),
-  (λ e. let z : Px port Ci ≡ Px port Cmd = e in cc),
-  (λ e. let z : Px port Ci ≡ Px port Sctl = e in cc),
-  (λ e. let z : Px port Ci ≡ Ghc = e in cc),
+ci_apart : (port at : Port) (v : ℕ) → LeavesTrouble port (Writing (Px at Ci) v)
+ci_apart port at v = (
+  (λ e. let z : Px at Ci ≡ Px port Is = e in cc),
+  (λ e. let z : Px at Ci ≡ Px port Serr = e in cc),
+  (λ e. let z : Px at Ci ≡ Px port Cmd = e in cc),
+  (λ e. let z : Px at Ci ≡ Px port Sctl = e in cc),
+  stays_on (Writing (Px at Ci) v) (λ e. let z : Px at Ci ≡ Ghc = e in cc),
 )
 
-sact_apart : (port : Port) (v : ℕ) → LeavesTrouble port (Writing (Px port Sact) v)
-sact_apart port v = (
-  (λ e. let z : Px port Sact ≡ Px port Is = e in cc),
-  (λ e. let z : Px port Sact ≡ Px port Serr = e in cc),
-  (λ e. let z : Px port Sact ≡ Px port Cmd = e in cc),
-  (λ e. let z : Px port Sact ≡ Px port Sctl = e in cc),
-  (λ e. let z : Px port Sact ≡ Ghc = e in cc),
+sact_apart : (port at : Port) (v : ℕ) → LeavesTrouble port (Writing (Px at Sact) v)
+sact_apart port at v = (
+  (λ e. let z : Px at Sact ≡ Px port Is = e in cc),
+  (λ e. let z : Px at Sact ≡ Px port Serr = e in cc),
+  (λ e. let z : Px at Sact ≡ Px port Cmd = e in cc),
+  (λ e. let z : Px at Sact ≡ Px port Sctl = e in cc),
+  stays_on (Writing (Px at Sact) v) (λ e. let z : Px at Sact ≡ Ghc = e in cc),
 )
 
 ie_apart : (port : Port) (v : ℕ) → LeavesTrouble port (Writing (Px port Ie) v)
@@ -72,23 +72,41 @@ ie_apart port v = (
   (λ e. let z : Px port Ie ≡ Px port Serr = e in cc),
   (λ e. let z : Px port Ie ≡ Px port Cmd = e in cc),
   (λ e. let z : Px port Ie ≡ Px port Sctl = e in cc),
-  (λ e. let z : Px port Ie ≡ Ghc = e in cc),
+  stays_on (Writing (Px port Ie) v) (λ e. let z : Px port Ie ≡ Ghc = e in cc),
 )
 
-issuing_leaves : (port : Port) (access : Access) → IssuesIn port access → LeavesTrouble port access
-issuing_leaves port (Reading r v) is = (tt, tt, tt, tt, tt)
-issuing_leaves port (Writing r v) is = ⊎_elim
-    (λ (same : r ≡ Px port Sact). subst (λ (x : Reg). LeavesTrouble port (Writing x v)) (sym same) (sact_apart port v))
-    (λ (same : r ≡ Px port Ci). subst (λ (x : Reg). LeavesTrouble port (Writing x v)) (sym same) (ci_apart port v))
+-- of any port
+pub issuing_leaves : (at port : Port) (access : Access) → IssuesIn at access → LeavesTrouble port access
+issuing_leaves at port (Reading r v) is = (tt, tt, tt, tt, stays_on (Reading r v) tt)
+issuing_leaves at port (Writing r v) is = ⊎_elim
+    (λ (same : r ≡ Px at Sact). subst (λ (x : Reg). LeavesTrouble port (Writing x v)) (sym same) (sact_apart port at v))
+    (λ (same : r ≡ Px at Ci). subst (λ (x : Reg). LeavesTrouble port (Writing x v)) (sym same) (ci_apart port at v))
     is.2.0
-issuing_leaves port (Loading at bytes) is = (tt, tt, tt, tt, tt)
-issuing_leaves port (Storing at bytes) is = (tt, tt, tt, tt, tt)
+issuing_leaves at port (Loading a bytes) is = (tt, tt, tt, tt, stays_on (Loading a bytes) tt)
+issuing_leaves at port (Storing a bytes) is = (tt, tt, tt, tt, stays_on (Storing a bytes) tt)
 
 asking_leaves : (port : Port) (access : Access) → IsAsking port access → LeavesTrouble port access
-asking_leaves port (Reading r v) is = (tt, tt, tt, tt, tt)
-asking_leaves port (Writing r v) is = subst (λ (x : Reg). LeavesTrouble port (Writing x v)) (sym is.0) (ci_apart port v)
-asking_leaves port (Loading at bytes) is = (tt, tt, tt, tt, tt)
-asking_leaves port (Storing at bytes) is = (tt, tt, tt, tt, tt)
+asking_leaves port (Reading r v) is = (tt, tt, tt, tt, stays_on (Reading r v) tt)
+asking_leaves port (Writing r v) is = subst (λ (x : Reg). LeavesTrouble port (Writing x v)) (sym is.0) (ci_apart port port v)
+asking_leaves port (Loading at bytes) is = (tt, tt, tt, tt, stays_on (Loading at bytes) tt)
+asking_leaves port (Storing at bytes) is = (tt, tt, tt, tt, stays_on (Storing at bytes) tt)
+
+-- ---- a port that got ready
+
+module _ (laws : LawsBelow) (port : Port) (old asked mid new : Device) (on : IsOn asked) (way : GetsReady port asked mid) (later : IsDrivenBy (LeavesTrouble port) mid new) where
+  pub ready_up_on : IsOn way.up
+  ready_up_on = laws.of_on port asked way.up on (driven_as (IsOfBoot port) (IsOf port) asked way.up (λ access x. laws.booting_of port access x) (up_driven laws port asked way.up way.first))
+
+  -- what came since ST was set leaves what the port shows
+  pub ready_since : IsDrivenBy (LeavesTrouble port) way.up new
+  ready_since =
+      by_then (driven_as (IsAsking port) (LeavesTrouble port) way.up way.then.asked (asking_leaves port) way.then.asks)
+      (by_then
+      (record { accesses = Writing (Px port Ie) told_causes ∷ []; all = (mid, way.then.tells, refl); only = All-cons (LeavesTrouble port) (Writing (Px port Ie) told_causes) [] (ie_apart port told_causes) (All-nil (LeavesTrouble port)) })
+      later)
+
+  pub ready_shows : ShowsTrouble port.0 old new
+  ready_shows = shown_since port.0 old way.up new (shows_over laws port ready_since.accesses way.up new ready_up_on ready_since.only ready_since.all) way.first.set
 
 -- ---- a port that is ready once it was booted
 
@@ -103,19 +121,8 @@ module _ (laws : LawsBelow) (port : Port) (low : port.0 < 4) (wanted : Wanted) (
   abbrev boot_way : GetsReady port b.asked mid
   boot_way = boot_ends.way
 
-  pub boot_up_on : IsOn boot_ends.way.up
-  boot_up_on = laws.of_on port b.asked boot_way.up boot_asked_on (driven_as (IsOfBoot port) (IsOf port) b.asked boot_way.up (λ access x. laws.booting_of port access x) (up_driven laws port b.asked boot_way.up boot_way.first))
-
-  -- what came since ST was set leaves what the port shows
-  pub boot_since : IsDrivenBy (LeavesTrouble port) boot_ends.way.up new
-  boot_since =
-      by_then (driven_as (IsAsking port) (LeavesTrouble port) boot_way.up boot_way.then.asked (asking_leaves port) boot_way.then.asks)
-      (by_then
-      (record { accesses = Writing (Px port Ie) told_causes ∷ []; all = (mid, boot_way.then.tells, refl); only = All-cons (LeavesTrouble port) (Writing (Px port Ie) told_causes) [] (ie_apart port told_causes) (All-nil (LeavesTrouble port)) })
-      later)
-
   pub boot_shows : ShowsTrouble port.0 old new
-  boot_shows = shown_since port.0 old boot_way.up new (shows_over laws port boot_since.accesses boot_way.up new boot_up_on boot_since.only boot_since.all) boot_way.first.set
+  boot_shows = ready_shows laws port old b.asked mid new boot_asked_on boot_way later
 
 -- ---- the whole
 
@@ -132,7 +139,7 @@ module _ (laws : LawsBelow) (port : Port) (replies : List Reply) (old new : Serv
 
   -- what is issued leaves what the port shows
   pub issuing : IsDrivenBy (LeavesTrouble port) r.mid.device new.device
-  issuing = driven_as (IssuesIn port) (LeavesTrouble port) r.mid.device new.device (issuing_leaves port) (each_driven laws port (due_ids (mode_in r.mid port) port (asks_of r.mid.book)) r.mid new r.issued)
+  issuing = driven_as (IssuesIn port) (LeavesTrouble port) r.mid.device new.device (issuing_leaves port port) (each_driven laws port (due_ids (mode_in r.mid port) port (asks_of r.mid.book)) r.mid new r.issued)
 
   -- the adapter is on when the port was recovered
   pub recovered_driven : IsDrivenBy (IsOf port) old.device a.device

@@ -1,3 +1,4 @@
+pub mod Members
 pub mod Told
 pub mod Finding
 pub mod Halting
@@ -75,6 +76,14 @@ pub mod Evident
 pub mod Counted
 pub mod Recovered
 pub mod Remaining
+pub mod Loans
+pub mod Booked
+pub mod Stalling
+pub mod Sticking
+pub mod Stuck
+pub mod Lending
+pub mod Deaths
+pub mod Ending
 pub mod Beside
 pub mod Mending
 pub mod Minding
@@ -93,3 +102,14 @@ pub mod Fitting
 pub mod Tending
 pub mod Tended
 pub mod Driving
+pub mod Overtaken
+pub mod Retaken
+pub mod Fated
+pub mod Regained
+pub mod Reissued
+pub mod Rebooting
+pub mod Rebooted
+pub mod Spotted
+pub mod Booted
+pub mod Accessed
+pub mod Vouching

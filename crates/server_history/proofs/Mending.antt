@@ -9,7 +9,7 @@ use Rattle.adapter.specs.declared.access.DeviceStep.{DeviceStep}
 use Rattle.agreement.specs.Acts.{Act}
 use Rattle.agreement.specs.Driven.{AnyUse, IsFollowed}
 use Rattle.block_machine.specs.declared.due.Unanswered.{Unanswered}
-use Rattle.block_machine.proofs.Members.{map_in}
+use Rattle.server_history.proofs.Members.{map_in}
 use Rattle.std.specs.List.{Contains}
 use Rattle.server_history.proofs.Meeting.{nobody}
 use Rattle.block_machine.specs.Due.{due_of, IsDue, NoneDue, of_port}

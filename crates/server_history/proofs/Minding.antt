@@ -21,7 +21,7 @@ use Rattle.block_machine.specs.Left.{after}
 use Rattle.block_machine.specs.State.{Machine, Pending}
 use Rattle.block_machine.specs.Steps.{Answer, Issue, Step, at, issue}
 use Rattle.block_machine.specs.declared.due.Mode.{Mode}
-use Rattle.block_machine.proofs.Members.{at_cases, contains_cases, contains_here, contains_there, map_in}
+use Rattle.server_history.proofs.Members.{at_cases, contains_cases, contains_here, contains_there, map_in}
 use Rattle.host_boot.specs.Taken.{found_of}
 use Rattle.port_look.specs.Looks.{IsLooking}
 use Rattle.server_history.specs.declared.Trouble.{Trouble}

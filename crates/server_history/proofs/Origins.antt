@@ -13,7 +13,7 @@ use Rattle.block_machine.specs.Histories.{IsReached}
 use Rattle.block_machine.specs.Left.{after}
 use Rattle.block_machine.specs.State.{Machine, Pending}
 use Rattle.block_machine.specs.Steps.{Step, Again, Answer, Issue, after_step, at, issue, requeued}
-use Rattle.block_machine.proofs.Members.{at_cases, contains_cases, into_map, map_in, without_in}
+use Rattle.server_history.proofs.Members.{at_cases, contains_cases, into_map, map_in, without_in}
 use Rattle.server_history.specs.Turns.{IsOfTurn}
 use Rattle.server_history.proofs.Devices.{not_handled}
 use Rattle.server_history.specs.Below.{LawsBelow}

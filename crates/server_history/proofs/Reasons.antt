@@ -15,7 +15,7 @@ use Rattle.block_machine.specs.Ports.{Evidence, Ports}
 use Rattle.block_machine.specs.State.{Pending}
 use Rattle.block_machine.specs.Steps.{Step, Again, Answer, Issue}
 use Rattle.block_machine.specs.declared.due.Mode.{Mode}
-use Rattle.block_machine.proofs.Members.{contains_cases, contains_there}
+use Rattle.server_history.proofs.Members.{contains_cases, contains_there}
 use Rattle.request_queue.specs.Entries.{Held}
 use Rattle.request_queue.specs.Fates.{Holdings, MeetFates, MeetsFate, fate_of, fate_on}
 use Rattle.request_queue.specs.declared.Entry.{Entry}

@@ -1,9 +1,7 @@
 -- A server goes on once a port of it was recovered, booted where it had to be, and its requests met their fates.
-use Rattle.std.proofs.Common.{ℕ, ◌≡◌, ◌<◌, Bool, true, false, cond, List, [], ◌∷◌, Some, refl, sym, ◌∙◌, ap, subst, ⊎_elim, arith, eqb-true, eq-eqb}
-use Rattle.std.proofs.lemmas.Bool.{cond-true}
-use Rattle.std.proofs.lemmas.List.{length-set}
-use Rattle.std.proofs.lemmas.List.Elements.{All-contains, All-contains_itself, All-filter, filter_passes}
-use Rattle.std.proofs.lemmas.List.Kept.{AllPairs-filter}
+use Rattle.std.proofs.Common.{ℕ, ◌≡◌, ◌≢◌, ◌<◌, ◌≤◌, length, Bool, true, false, cond, List, [], ◌∷◌, Some, refl, sym, ◌∙◌, ap, subst, ⊎_elim, arith, eq-eqb}
+use Rattle.std.proofs.lemmas.Bool.{cases_eq, cond-true}
+use Rattle.std.proofs.lemmas.List.{get_or-set_other, get_or-set_same, length-set}
 use Rattle.std.specs.List.{Contains}
 use Rattle.std.specs.Prelude.{filter, slice_set}
 use Rattle.ata_types.specs.declared.Port.{Port}
@@ -17,7 +15,7 @@ use Rattle.agreement.specs.Driven.{AnyUse, IsFollowed}
 use Rattle.agreement.specs.Links.{SameAdapter}
 use Rattle.block_machine.specs.Histories.{IsReached}
 use Rattle.block_machine.specs.State.{Machine}
-use Rattle.block_machine.proofs.Members.{contains_cases, contains_here, contains_there}
+use Rattle.server_history.proofs.Members.{contains_cases, contains_here, contains_there}
 use Rattle.error_recovery.specs.Recovery.{EndsIn}
 use Rattle.error_recovery.specs.declared.Next.{Next}
 use Rattle.error_recovery.specs.declared.Next.TheVariants as next
@@ -30,19 +28,20 @@ use Rattle.port_control.specs.Ports.{IsStopped}
 use Rattle.port_control.specs.declared.Running as running_token
 use Rattle.port_control.specs.declared.Stopped.{Stopped}
 use Rattle.port_look.specs.Looks.{IsLooking}
-use Rattle.request_queue.specs.Entries.{Held, IsEarlier, is_of}
+use Rattle.request_queue.specs.Entries.{Held, is_of}
 use Rattle.request_queue.specs.Fates.{fate_of}
 use Rattle.request_queue.specs.declared.fate.Prospect.{Prospect}
 use Rattle.request_queue.specs.declared.fate.Prospect.TheVariants.{SameDisk, DiskLost, Dead}
 use Rattle.server_history.specs.Below.{LawsBelow}
 use Rattle.server_history.specs.Mended.{AreQueued, IsFoundAfter, IsProspect, IsMended, HasMetFates, holdings_of, requests_of}
-use Rattle.server_history.specs.Server.{Server, IsKept, IsMachineOf, is_served, mode_found, mode_in, slots_at, state_of, used_for}
+use Rattle.server_history.specs.Server.{Server, IsKept, IsMachineOf, is_served, kept_at, mode_found, mode_in, slots_at, state_of, used_for}
 use Rattle.server_history.proofs.Behind.{ready_on}
 use Rattle.server_history.proofs.Beside.{Passes, PassesTo, recovery_passes, after_passes, passes_none, slots_of}
 use Rattle.server_history.proofs.Halting.{again_halts, works_plainly}
 use Rattle.server_history.proofs.Lists.{nowhere}
 use Rattle.server_history.proofs.Looking.{finding_kept, found_over, looking_kept}
-use Rattle.server_history.proofs.Remaining.{IsLeft, WasIn, ends_of, fated}
+use Rattle.server_history.proofs.Counted.{places}
+use Rattle.server_history.proofs.Remaining.{IsLeft, WasIn, ends_of, fated, its_requests}
 use Rattle.server_history.proofs.Replaced.{StandsAt, replaced_kept, same_over, stands_after, still_there}
 use Rattle.server_history.proofs.Seen.{saw_still}
 use Rattle.server_history.proofs.Settling.{answers_kept, answers_settings}
@@ -199,20 +198,8 @@ module _ (laws : LawsBelow) (port : Port) (later : List Reply) (old new : Server
 
   -- ---- the requests
 
-  of_port : (e : Held) → Contains (requests_of port mid.book) e → Contains mid.book e × (e.entry.port ≡ port)
-  of_port e here =
-      let its : Held → Bool = λ x. is_of port x.entry in (
-        All-contains (Contains mid.book) (filter its mid.book) e (All-filter its (Contains mid.book) mid.book (All-contains_itself mid.book)) here,
-        ap (λ (n : ℕ). record { 0 = n }) (eqb-true e.entry.port.0 port.0 (All-contains (λ (x : Held). its x ≡ true) (filter its mid.book) e (filter_passes its mid.book) here)),
-      )
-
-  left : IsLeft (fate_of a.failed a.prospect) mid.grants (requests_of port mid.book) (holdings_of port mid) a.now
-  left = fated laws port a.failed a.prospect mid.grants (requests_of port mid.book) later (holdings_of port mid) a.now (record {
-    here = of_port;
-    earlier = AllPairs-filter IsEarlier (λ (e : Held). is_of port e.entry) mid.book m.ordered.ordered;
-    ordered = m.ordered;
-    accepted = m.accepted;
-  }) a.meets
+  left : IsLeft port (fate_of a.failed a.prospect) mid.grants (requests_of port mid.book) (holdings_of port mid) a.now
+  left = fated laws port a.failed a.prospect mid.grants (requests_of port mid.book) later (holdings_of port mid) a.now (its_requests port mid m.ordered m.accepted) a.meets
 
   -- where one of the port is left, its port is ready
   still_ready : (e : Held) → Contains a.now.book e → e.entry.port.0 ≡ port.0 → state_of a.found ≡ ReadyState
@@ -233,8 +220,25 @@ module _ (laws : LawsBelow) (port : Port) (later : List Reply) (old new : Server
 
   -- ---- the server
 
+  -- it had no loan kept, and has one of each issued request at most
+  few_kept : (q : ℕ) → length (kept_at (slice_set mid.kept port.0 a.now.kept) q) ≤ 32
+  few_kept q = ⊎_elim
+      (λ (same : q ≡ port.0).
+      let here = ap (kept_at (slice_set mid.kept port.0 a.now.kept)) same ∙ get_or-set_same mid.kept port.0 a.now.kept [] (let f = m.four_kept in let l = small in omega (arith, f, l)) in
+      let were = places laws mid port m its_ready in
+      let none = ap length were.0 in
+      let most = were.1 in
+      let then_most = left.places in
+      let long = ap length here in
+      omega (arith, long, none, most, then_most))
+      (λ (other : q ≢ port.0).
+      let there = ap length (get_or-set_other mid.kept port.0 q a.now.kept [] other) in
+      let most = m.few_kept q in
+      omega (arith, there, most))
+      (cases_eq q port.0)
+
   pub recovered_kept : (machine : Machine) → IsReached machine → IsMachineOf new machine → IsKept new
   recovered_kept machine reached stands = subst IsKept (sym a.server)
       (replaced_kept laws port mid m small new.device whole.0 whole.1 a.now.table a.found (slice_set mid.remembered port.0 (Some a.was)) a.mode a.slots (slice_set mid.kept port.0 a.now.kept) a.now.book (ap is_served was_found) its_stands a.mode_is a.unused
       (record { owners = left.owners; accepted = left.accepted; ordered = left.ordered; from = left.from; ready = still_ready })
-      (length-set mid.remembered port.0 (Some a.was) ∙ m.four_remembered) (length-set mid.kept port.0 a.now.kept ∙ m.four_kept) machine reached (subst (λ (s : Server). IsMachineOf s machine) a.server stands))
+      (length-set mid.remembered port.0 (Some a.was) ∙ m.four_remembered) (length-set mid.kept port.0 a.now.kept ∙ m.four_kept) few_kept machine reached (subst (λ (s : Server). IsMachineOf s machine) a.server stands))

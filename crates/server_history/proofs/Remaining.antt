@@ -1,17 +1,20 @@
 -- What is left of a book once requests of a port met their fates.
-use Rattle.std.proofs.Common.{suc, ◌≡◌, ◌≢◌, ◌<◌, ◌==◌, Bool, true, false, not, if◌then◌else◌, List, [], ◌∷◌, map, Option, None, Some, refl, sym, ap, ◌∙◌, subst, arith, ⊎_elim}
+use Rattle.std.proofs.Common.{ℕ, ◌≤◌, ◌+◌, cond, length, le_refl, eq-eqb, eqb-true, suc, ◌≡◌, ◌≢◌, ◌<◌, ◌==◌, Bool, true, false, not, if◌then◌else◌, List, [], ◌∷◌, map, Option, None, Some, refl, sym, ap, ◌∙◌, subst, arith, ⊎_elim}
 use Rattle.std.specs.List.{All, AllPairs, Contains}
 use Rattle.std.proofs.lemmas.Bool.{eqb-false}
-use Rattle.std.proofs.lemmas.List.Elements.{All-contains, All-filter}
+use Rattle.std.proofs.lemmas.List.{length-append}
+use Rattle.std.proofs.lemmas.List.Elements.{All-contains, All-contains_itself, All-filter, filter_passes}
+use Rattle.std.proofs.lemmas.List.Kept.{AllPairs-filter}
+use Rattle.std.specs.Prelude.{filter}
 use Rattle.ata_types.specs.declared.Port.{Port}
 use Rattle.ata_types.specs.declared.grant.GrantRow.{GrantRow}
 use Rattle.ata_types.specs.declared.request.Outcome.{Outcome}
 use Rattle.ata_types.specs.declared.request.Outcome.TheVariants as outcome
 use Rattle.ata_types.specs.declared.request.Reply.{Reply}
 use Rattle.ata_types.specs.declared.request.RequestId.{RequestId}
-use Rattle.block_machine.proofs.Members.{contains_cases, contains_there, map_in}
+use Rattle.server_history.proofs.Members.{contains_cases, contains_there, map_in}
 use Rattle.dma_frames.specs.Table.{Table}
-use Rattle.request_queue.specs.Entries.{HasIssuesLeft, Held, IsAccepted, IsEarlier, IsInOrder, at, has_id, requeued, without}
+use Rattle.request_queue.specs.Entries.{HasIssuesLeft, Held, IsAccepted, IsEarlier, IsInOrder, at, has_id, is_of, requeued, without}
 use Rattle.request_queue.specs.Fates.{EndsLoan, Holdings, MeetFates, MeetsFate, fate_of, fate_on, keeps_loan}
 use Rattle.request_queue.specs.declared.Entry.{Entry}
 use Rattle.request_queue.specs.declared.fate.Failed.{Failed}
@@ -20,6 +23,9 @@ use Rattle.request_queue.specs.declared.fate.Fate.TheVariants.{Ends, GoesAgain, 
 use Rattle.request_queue.specs.declared.fate.Prospect.{Prospect}
 use Rattle.request_queue.specs.declared.fate.Prospect.TheVariants.{Dead, DiskLost, SameDisk}
 use Rattle.server_history.specs.Below.{LawsBelow}
+use Rattle.server_history.specs.Mended.{holdings_of, requests_of}
+use Rattle.server_history.specs.Server.{Server}
+use Rattle.server_history.proofs.Loans.{counts, fewer_issued, issued_of, kept_issued, one_fewer, requeued_issued}
 use Rattle.server_history.proofs.Lists.{nowhere, first_here}
 
 -- ---- fates
@@ -76,6 +82,19 @@ pub record MayDecide (port : Port) (rows : List GrantRow) (requests : List Held)
   pub ordered : IsInOrder now.book
   pub accepted : All (IsAccepted rows now.table) now.book
 
+-- so it is with all of the port's
+pub its_requests : (port : Port) (s : Server) → IsInOrder s.book → All (IsAccepted s.grants s.table) s.book → MayDecide port s.grants (requests_of port s.book) (holdings_of port s)
+its_requests port s ordered accepted = record { here = here; earlier = AllPairs-filter IsEarlier own s.book ordered.ordered; ordered = ordered; accepted = accepted }
+  where
+    own : Held → Bool
+    own e = is_of port e.entry
+
+    here : (e : Held) → Contains (requests_of port s.book) e → Contains s.book e × (e.entry.port ≡ port)
+    here e there = (
+      All-contains (Contains s.book) (filter own s.book) e (All-filter own (Contains s.book) s.book (All-contains_itself s.book)) there,
+      ap (λ (n : ℕ). record { 0 = n }) (eqb-true e.entry.port.0 port.0 (All-contains (λ (x : Held). own x ≡ true) (filter own s.book) e (filter_passes own s.book) there)),
+    )
+
 -- it was in the book before, as another that waited or not
 pub record WasIn (book : List Held) (e : Held) : Type 0 where
   pub was : Held
@@ -84,18 +103,21 @@ pub record WasIn (book : List Held) (e : Held) : Type 0 where
   pub port : e.entry.port ≡ was.entry.port
   pub op : e.entry.op ≡ was.entry.op
 
--- The book is as a server has it still; it has no request that it hadn't, and none of these that was answered; and each frame has its owner.
-pub record IsLeft (fate : Entry → Fate) (rows : List GrantRow) (requests : List Held) (old new : Holdings) : Type 0 where
+-- The book is as a server has it still; it has no request that it hadn't, and none of these that was answered; each frame has its owner; and no more places are needed for loans
+-- of the port.
+pub record IsLeft (port : Port) (fate : Entry → Fate) (rows : List GrantRow) (requests : List Held) (old new : Holdings) : Type 0 where
   pub ordered : IsInOrder new.book
   pub accepted : All (IsAccepted rows new.table) new.book
   pub owners : new.table.owners ≡ old.table.owners
   pub from : (e : Held) → Contains new.book e → WasIn old.book e
   pub gone : (e : Held) (o : Outcome) → Contains requests e → fate e.entry ≡ Ends o → (x : Held) → Contains new.book x → x.entry.id ≢ e.entry.id
+  pub places : length new.kept + issued_of port new.book ≤ length old.kept + issued_of port old.book
+  pub fewer : (q : Port) → issued_of q new.book ≤ issued_of q old.book
 
-was_itself : (book : List Held) (e : Held) → Contains book e → WasIn book e
+pub was_itself : (book : List Held) (e : Held) → Contains book e → WasIn book e
 was_itself book e here = record { was = e; there = here; id = refl; port = refl; op = refl }
 
-was_more : (old mid : List Held) (e : Held) → ((x : Held) → Contains mid x → WasIn old x) → WasIn mid e → WasIn old e
+pub was_more : (old mid : List Held) (e : Held) → ((x : Held) → Contains mid x → WasIn old x) → WasIn mid e → WasIn old e
 was_more old mid e before w =
     let v = before w.was w.there in
     record { was = v.was; there = v.there; id = w.id ∙ v.id; port = w.port ∙ v.port; op = w.op ∙ v.op }
@@ -112,6 +134,8 @@ module _ (laws : LawsBelow) (port : Port) (failed : Option Failed) (prospect : P
     owners : mid.table.owners ≡ old.table.owners
     from : (e : Held) → Contains mid.book e → WasIn old.book e
     gone : (o : Outcome) → fate request.entry ≡ Ends o → (x : Held) → Contains mid.book x → x.entry.id ≢ request.entry.id
+    places : length mid.kept + issued_of port mid.book ≤ length old.kept + issued_of port old.book
+    fewer : (q : Port) → issued_of q mid.book ≤ issued_of q old.book
 
   module _ (request : Held) (rest : List Held) (old mid : Holdings) (may : MayDecide port rows (request ∷ rest) old) where
     its : Contains old.book request
@@ -134,6 +158,8 @@ module _ (laws : LawsBelow) (port : Port) (failed : Option Failed) (prospect : P
       owners = refl;
       from = was_itself old.book;
       gone = λ o ends. absurd (never o ends);
+      places = le_refl (length old.kept + issued_of port old.book);
+      fewer = λ q. le_refl (issued_of q old.book);
     })
 
     -- it waits again
@@ -157,6 +183,8 @@ module _ (laws : LawsBelow) (port : Port) (failed : Option Failed) (prospect : P
       owners = refl;
       from = requeued_was;
       gone = λ o ends. let z : GoesAgain ≡ Ends o = sym again ∙ ends in absurd cc;
+      places = let less = requeued_issued port request.entry.id old.book in omega (arith, less);
+      fewer = λ q. requeued_issued q request.entry.id old.book;
     })
       where
         issue : (request.entry.issued ≡ true) × ((request.entry.issues == 4) ≡ false)
@@ -176,8 +204,25 @@ module _ (laws : LawsBelow) (port : Port) (failed : Option Failed) (prospect : P
     )
     loan_left false loan = (loan.1.owners, laws.still_answered rows old.table mid.table old.book request its loan.1 may.accepted)
 
-    answered : mid.book ≡ without request.entry.id old.book → (kept : Bool) → EndsLoan kept request old mid → HasMet request rest old mid
-    answered book kept loan =
+    -- and then it is one loan more, and one issued request fewer
+    loan_placed : mid.book ≡ without request.entry.id old.book → (kept : Bool) → (kept ≡ true → request.entry.issued ≡ true) → EndsLoan kept request old mid
+        → length mid.kept + issued_of port mid.book ≤ length old.kept + issued_of port old.book
+    loan_placed book true issued loan =
+        let longer : length mid.kept ≡ length old.kept + 1 = ap length loan.0 ∙ length-append old.kept (record { frames = request.frames; request = request.entry.id } ∷ []) in
+        let one : counts port request ≡ 1 =
+        ap (λ (own : Bool). cond own (cond request.entry.issued 1 0) 0) (eq-eqb request.entry.port.0 port.0 (ap (λ (p : Port). p.0) (may.here request (first_here request rest)).1))
+        ∙ ap (λ (b : Bool). cond b 1 0) (issued refl) in
+        let less = one_fewer port (λ (e : Held). not (has_id request.entry.id e)) old.book request its (ap not (eq-eqb request.entry.id.0 request.entry.id.0 refl)) in
+        let same = ap (issued_of port) book in
+        omega (arith, longer, one, less, same)
+    loan_placed book false issued loan =
+        let as_long = ap length loan.0 in
+        let less = fewer_issued port (λ (e : Held). not (has_id request.entry.id e)) old.book in
+        let same = ap (issued_of port) book in
+        omega (arith, as_long, less, same)
+
+    answered : mid.book ≡ without request.entry.id old.book → (kept : Bool) → (kept ≡ true → request.entry.issued ≡ true) → EndsLoan kept request old mid → HasMet request rest old mid
+    answered book kept issued loan =
         let l = loan_left kept loan in
         record {
           may = record {
@@ -191,23 +236,27 @@ module _ (laws : LawsBelow) (port : Port) (failed : Option Failed) (prospect : P
           owners = l.0;
           from = λ e there. was_itself old.book e ((laws.left old.book request.entry.id e).0 (subst (λ (list : List Held). Contains list e) book there)).0;
           gone = λ o ends x there. ((laws.left old.book request.entry.id x).0 (subst (λ (list : List Held). Contains list x) book there)).1;
+          places = loan_placed book kept issued loan;
+          fewer = λ q. subst (λ (list : List Held). issued_of q list ≤ issued_of q old.book) (sym book) (fewer_issued q (λ (e : Held). not (has_id request.entry.id e)) old.book);
         }
 
     meets_one : (f : Fate) → fate request.entry ≡ f → (told : List Reply) → MeetsFate request f told old mid → HasMet request rest old mid
     meets_one Waits is told meets = waited meets.1 (λ o ends. let z : Waits ≡ Ends o = sym is ∙ ends in absurd cc)
     meets_one GoesAgain is told meets = goes_again meets.1 is
-    meets_one (Ends o) is told meets = answered meets.1 (keeps_loan o request.entry) meets.2
+    meets_one (Ends o) is told meets = answered meets.1 (keeps_loan o request.entry) (kept_issued o request.entry) meets.2
 
   -- ---- one after another
 
   pub fated : (requests : List Held) (replies : List Reply) (old new : Holdings) → MayDecide port rows requests old → MeetFates (fate_of failed prospect) requests replies old new
-      → IsLeft (fate_of failed prospect) rows requests old new
-  fated [] replies old new may (none, is) = subst (IsLeft (fate_of failed prospect) rows [] old) (sym is) (record {
+      → IsLeft port (fate_of failed prospect) rows requests old new
+  fated [] replies old new may (none, is) = subst (IsLeft port (fate_of failed prospect) rows [] old) (sym is) (record {
     ordered = may.ordered;
     accepted = may.accepted;
     owners = refl;
     from = was_itself old.book;
     gone = λ e o here. absurd (nowhere e here);
+    places = le_refl (length old.kept + issued_of port old.book);
+    fewer = λ q. le_refl (issued_of q old.book);
   })
   fated (request ∷ rest) replies old new may (mid, told, later, split, meets, more) =
       let one : HasMet request rest old mid = meets_one request rest old mid may (fate_of failed prospect request.entry) refl told meets in
@@ -224,4 +273,6 @@ module _ (laws : LawsBelow) (port : Port) (failed : Option Failed) (prospect : P
             subst (λ (y : Held). x.entry.id ≢ y.entry.id) (sym is) (λ same. one.gone o (subst E is ends) w.was w.there (sym w.id ∙ same)))
             (λ (later_on : Contains rest e). rests.gone e o later_on ends x there)
             (contains_cases request rest e here);
+        places = let first = one.places in let more_places = rests.places in omega (arith, first, more_places);
+        fewer = λ q. let first = one.fewer q in let then_fewer = rests.fewer q in omega (arith, first, then_fewer);
       }

@@ -48,7 +48,7 @@ use Rattle.slots.specs.Uses.{Uses as PortSlots, use_at}
 use Rattle.slots.specs.declared.Use.{Use as SlotUse}
 use Rattle.server_history.specs.Below.{LawsBelow}
 use Rattle.server_history.specs.Mended.{IsFoundAfter, AreUnused}
-use Rattle.server_history.specs.Server.{HasSlots, Server, IsKept, IsMachineOf, IsPortOf, is_served, mode_at, mode_found, mode_in, no_slots, plain_mode, slots_at, state_of, usable_of, used_for}
+use Rattle.server_history.specs.Server.{HasSlots, Server, IsKept, IsMachineOf, IsPortOf, is_served, kept_at, mode_at, mode_found, mode_in, no_slots, plain_mode, slots_at, state_of, usable_of, used_for}
 use Rattle.server_history.specs.declared.Trouble.{Trouble}
 use Rattle.server_history.proofs.Behind.{left_on}
 use Rattle.server_history.proofs.Beside.{Passes}
@@ -313,8 +313,8 @@ module _ (laws : LawsBelow) (port : Port) (s : Server) (k : IsKept s) (low : por
 
   -- ---- the whole
 
-  pub replaced_kept : length remembered ≡ 4 → length kept ≡ 4 → (machine : Machine) → IsReached machine → IsMachineOf then_is machine → IsKept then_is
-  replaced_kept four_remembered four_kept machine reached is = record {
+  pub replaced_kept : length remembered ≡ 4 → length kept ≡ 4 → ((q : ℕ) → length (kept_at kept q) ≤ 32) → (machine : Machine) → IsReached machine → IsMachineOf then_is machine → IsKept then_is
+  replaced_kept four_remembered four_kept few_kept machine reached is = record {
     on = whole.on;
     room = let room = k.room in let size = alike.size in omega (arith, room, size);
     there = there_is;
@@ -323,6 +323,7 @@ module _ (laws : LawsBelow) (port : Port) (s : Server) (k : IsKept s) (low : por
     four_modes = length-set s.modes port.0 mode ∙ k.four_modes;
     four_remembered = four_remembered;
     four_kept = four_kept;
+    few_kept = few_kept;
     modes = modes_are;
     slots = slots_are;
     kinds = kinds_are;

@@ -139,7 +139,7 @@ module _ (laws : LawsBelow) (port : Port) where
   looking (NotAta signature) old new l = signing signature old new l
   looking EngineStuck old new l = absurd l
 
-  commanding : (old new : Device) → IsDrivenBy (IsControl WritesCommand port) old new → IsDrivenBy (IsBeside port) old new
+  pub commanding : (old new : Device) → IsDrivenBy (IsControl WritesCommand port) old new → IsDrivenBy (IsBeside port) old new
   commanding old new driven = driven_as (IsControl WritesCommand port) (IsBeside port) old new (control_beside WritesCommand command_beside) driven
 
   asking : (old new : Device) → IsDrivenBy (IsAsking port) old new → IsDrivenBy (IsBeside port) old new

@@ -22,7 +22,7 @@ use Rattle.block_machine.specs.State.{Machine, Pending, unanswered}
 use Rattle.block_machine.specs.Steps.{Step, Accept, Again, Answer, Issue}
 use Rattle.block_machine.specs.declared.due.Mode.{Mode}
 use Rattle.block_machine.specs.declared.due.Unanswered.{Unanswered}
-use Rattle.block_machine.proofs.Members.{contains_cases, contains_here, contains_there, into_map, map_in}
+use Rattle.server_history.proofs.Members.{contains_cases, contains_here, contains_there, into_map, map_in}
 use Rattle.driver_history.specs.Histories.{IssuesDue, unissued}
 use Rattle.ncq.specs.Tasks.{IsIssuing}
 use Rattle.request_queue.specs.Entries.{Held, IsInOrder, IsWaiting, asks, asks_of, at, due_ids, has_id, issue}
@@ -259,7 +259,7 @@ module _ (laws : LawsBelow) (port : Port) where
   each_modes (first ∷ ids) old new (mid, one, more) = each_modes ids mid new more ∙ ap (λ (n : Server). n.modes) one.server
 
   -- once all that were due are issued, none is
-  each_done : (mode : Mode) (ids : List RequestId) (old new : Server) → IssuesEach port ids old new → AreDueInTurn mode port ids (asks_of old.book) → NoneDue mode (asks_of new.book) port
+  pub each_done : (mode : Mode) (ids : List RequestId) (old new : Server) → IssuesEach port ids old new → AreDueInTurn mode port ids (asks_of old.book) → NoneDue mode (asks_of new.book) port
   each_done mode [] old new none turns = subst (λ (n : Server). NoneDue mode (asks_of n.book) port) (sym none) turns
   each_done mode (first ∷ ids) old new (mid, one, more) turns =
       each_done mode ids mid new more

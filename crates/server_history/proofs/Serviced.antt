@@ -28,7 +28,7 @@ use Rattle.server_history.specs.Tried.{IsLookedAt}
 use Rattle.server_history.specs.Server.{Server, IsKept, IsMachineOf, IsSettled, mode_in, ports_of, state_of}
 use Rattle.server_history.proofs.Asks.{none_due}
 use Rattle.server_history.proofs.Beginning.{kept_fit}
-use Rattle.server_history.proofs.Going.{happening_with, lead_with, with_device}
+use Rattle.server_history.proofs.Going.{holding, happening_with, lead_with, with_device}
 use Rattle.server_history.proofs.Slots.{of_ready, ready_found}
 use Rattle.server_history.proofs.Zips.{at_right}
 use Rattle.server_history.proofs.Plans.{AService, TakesTurn, turn_at}
@@ -143,7 +143,7 @@ module _ (laws : LawsBelow) (s new : Server) (replies : List Reply) (start : IsS
 
   pub service_event : (h : Happening Device DeviceStep) × (h.event.ask ≡ Service) × (h.event.said ≡ Served replies) × Leads first (h ∷ past) new
   service_event =
-      lead_with laws first past s new Service (Served replies) p.evidence p.steps p.wanted leads holds (kept_fit new holds)
+      lead_with laws first past s new Service (Served replies) p.evidence p.steps p.wanted leads (holding new holds) (kept_fit new holds)
       p.turns.may p.belong p.turns.last p.lawful keeps all_answered
       p.accesses
       (p.does, p.serving)

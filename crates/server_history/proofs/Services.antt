@@ -1,15 +1,11 @@
 -- Ready ports have their turns one after another, and each leads on what was done so far.
 use Rattle.std.proofs.Common.{ℕ, suc, ◌≡◌, ◌≢◌, ◌≤◌, ◌<◌, ◌+◌, ◌-◌, ◌||◌, Bool, true, false, List, [], ◌∷◌, ◌++◌, map, Some, None, refl, sym, ap, ◌∙◌, subst, inl, inr, ⊎_elim, arith, append_assoc, append-nil, ◌⊎◌}
-use Rattle.std.specs.List.{All, AllPairs, Contains, list_any}
-use Rattle.std.specs.List.Sorted.{IsPermutation}
+use Rattle.std.specs.List.{All, Contains, list_any}
 use Rattle.std.proofs.lemmas.Bool.{cases_Bool, cases_eq, cases_lt, or_left, or_right}
-use Rattle.std.proofs.lemmas.List.{map-append}
-use Rattle.std.proofs.lemmas.List.Elements.{All-nil, All-append, All-contains, All-contains_itself, All-weaker, Contains-append_cases, Contains-append_left, Contains-append_right}
-use Rattle.std.proofs.lemmas.List.Sorted.{Contains-permutation, IsPermutation-append, IsPermutation-append_comm, IsPermutation-trans}
+use Rattle.std.proofs.lemmas.List.Elements.{All-nil, All-append, All-contains, All-weaker, Contains-append_cases, Contains-append_left, Contains-append_right}
 use Rattle.ata_types.specs.declared.Port.{Port}
 use Rattle.ata_types.specs.declared.PortState.{PortState}
 use Rattle.ata_types.specs.declared.PortState.TheVariants.{Dead, Ready as ReadyState}
-use Rattle.ata_types.specs.declared.request.Outcome.{Outcome}
 use Rattle.ata_types.specs.declared.request.Reply.{Reply}
 use Rattle.ata_types.specs.declared.request.RequestId.{RequestId}
 use Rattle.adapter.specs.Access.{Access}
@@ -22,7 +18,7 @@ use Rattle.adapter.specs.Rules.{IsOn}
 use Rattle.agreement.specs.Agrees.{port_at}
 use Rattle.agreement.specs.Driven.{IsDrivenBy, IsOf}
 use Rattle.agreement.specs.Slots.{IsMove, ServesRequest}
-use Rattle.block_machine.specs.Events.{Ask, AllLawful, Belong, IsIssuedIn, IsToldBefore, Moment, Served, ShowsDisk, WasIssued, answers_of, changes_disk, issues_it, reply_of}
+use Rattle.block_machine.specs.Events.{Ask, AllLawful, Belong, IsIssuedIn, Moment, Served, ShowsDisk, WasIssued, changes_disk, issues_it}
 use Rattle.block_machine.specs.Histories.{Instant, IsReached}
 use Rattle.block_machine.specs.Left.{after}
 use Rattle.block_machine.specs.Ports.{Evidence, Fault, Ports, SameDisk, SamePort}
@@ -30,7 +26,7 @@ use Rattle.block_machine.specs.Due.{of_port}
 use Rattle.block_machine.specs.State.{Pending, Machine, unanswered}
 use Rattle.block_machine.specs.declared.due.Unanswered.{Unanswered}
 use Rattle.block_machine.specs.Steps.{Step}
-use Rattle.block_machine.proofs.Members.{map_in}
+use Rattle.server_history.proofs.Members.{map_in}
 use Rattle.host_boot.specs.Taken.{found_of}
 use Rattle.host_boot.specs.declared.Found.{Found}
 use Rattle.host_boot.specs.declared.Found.TheVariants.{Unserved, Ready, Unready}
@@ -55,7 +51,7 @@ use Rattle.server_history.proofs.Ties.{serving, ties_carried, ties_turned}
 use Rattle.server_history.proofs.Progress.{skipped}
 use Rattle.server_history.proofs.Lists.{nowhere}
 use Rattle.server_history.proofs.Progress as progress
-use Rattle.server_history.proofs.Joined.{NamesSome, alike_first, alike_then, all_pairs_append, answers_append, answers_there, joined, lawful_lift, names_joined, names_more, names_only, same_at, same_disk, same_then, serviced_lift}
+use Rattle.server_history.proofs.Joined.{AreToldBelow, NamesSome, alike_first, alike_then, joined, lawful_lift, names_joined, names_more, names_only, same_at, same_disk, same_then, serviced_lift, told_then}
 
 same_some : {X : Type 0} {a b : X} → Some a ≡ Some b → a ≡ b
 same_some is = cc
@@ -310,21 +306,9 @@ module _ (plan : Plan) (laws : LawsBelow) (s : Server) (start : IsSettled s) (ol
 
     -- ---- answers
 
-    answered_port : (a : Pending × Outcome) → Contains x.tells.answers a → a.0.request.port ≡ port_at n
-    answered_port a here =
-        answered_of (λ q. q ≡ port_at n) x.steps x.own a.0 a.1 (answers_there x.steps a (Contains-permutation x.tells.answers (answers_of x.steps) a x.tells.same here))
-
-    ordered_all : AllPairs IsToldBefore (p.answers ++ x.tells.answers)
-    ordered_all = all_pairs_append IsToldBefore p.answers x.tells.answers p.ordered x.tells.ordered (λ a b here there.
-        let lt = All-contains (λ (y : Pending × Outcome). y.0.request.port.0 < n) p.answers a p.low here in
-        let is : b.0.request.port.0 ≡ n = ap (λ (q : Port). q.0) (answered_port b there) in
-        inl (omega (arith, lt, is)))
-
-    permuted_all : IsPermutation (p.answers ++ x.tells.answers) (answers_of all)
-    permuted_all = subst (IsPermutation (p.answers ++ x.tells.answers)) (sym (answers_append x.steps p.steps))
-        (IsPermutation-trans (p.answers ++ x.tells.answers) (answers_of p.steps ++ answers_of x.steps) (answers_of x.steps ++ answers_of p.steps)
-        (IsPermutation-append p.answers (answers_of p.steps) x.tells.answers (answers_of x.steps) p.permuted x.tells.same)
-        (IsPermutation-append_comm (answers_of p.steps) (answers_of x.steps)))
+    told_all : AreToldBelow (n + 1) all (before ++ its)
+    told_all = told_then n p.steps x.steps before its (record { answers = p.answers; permuted = p.permuted; ordered = p.ordered; low = p.low; told = p.told }) x.tells
+        (λ e o here. answered_of (λ q. q ≡ port_at n) x.steps x.own e o here)
 
     -- ---- each port
 
@@ -519,14 +503,11 @@ module _ (plan : Plan) (laws : LawsBelow) (s : Server) (start : IsSettled s) (ol
       lawful = joined_lawful;
       owes = owes_join plan (found_of s.ports n) n (port_at n) part.accesses c mid m p.evidence x.evidence p.steps x.steps p.owes x.owes;
       unplugs = unplugs_join laws old reached n p.steps x.steps p.turns x.own x.may x.last p.unplugs x.unplugs;
-      answers = p.answers ++ x.tells.answers;
-      permuted = permuted_all;
-      ordered = ordered_all;
-      low = All-append (λ a. a.0.request.port.0 < n + 1) p.answers x.tells.answers
-          (All-weaker (λ a. a.0.request.port.0 < n) (λ a. a.0.request.port.0 < n + 1) (λ a lt. omega (arith, lt)) p.answers p.low)
-          (All-weaker (Contains x.tells.answers) (λ a. a.0.request.port.0 < n + 1) (λ a here. let is : a.0.request.port.0 ≡ n = ap (λ (q : Port). q.0) (answered_port a here) in omega (arith, is)) x.tells.answers
-          (All-contains_itself x.tells.answers));
-      told = ap (λ (list : List Reply). list ++ its) p.told ∙ ap (λ (list : List Reply). map reply_of p.answers ++ list) x.tells.told ∙ sym (map-append reply_of p.answers x.tells.answers);
+      answers = told_all.answers;
+      permuted = told_all.permuted;
+      ordered = told_all.ordered;
+      low = told_all.low;
+      told = told_all.told;
       faults = λ told here. ⊎_elim
           (λ early. fault_before told (p.faults told early))
           (λ late. ⊎_elim (λ is. fault_n is told (x.faults told late)) (λ silent. absurd (nowhere told (subst (λ (list : List Fault). Contains list told) silent.0 late))) silent_or_ready)

@@ -23,7 +23,7 @@ use Rattle.block_machine.specs.Left.{after}
 use Rattle.block_machine.specs.State.{Machine, Pending}
 use Rattle.block_machine.specs.declared.due.Mode.{Mode}
 use Rattle.block_machine.specs.Steps.{Step, Answer}
-use Rattle.block_machine.proofs.Members.{contains_cases, contains_there, into_map, map_in}
+use Rattle.server_history.proofs.Members.{contains_cases, contains_there, into_map, map_in}
 use Rattle.host_boot.specs.Taken.{found_of}
 use Rattle.host_boot.specs.declared.Found.TheVariants.{Ready}
 use Rattle.driver_history.specs.Histories.{IssuesDue}

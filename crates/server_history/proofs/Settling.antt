@@ -15,7 +15,7 @@ use Rattle.block_machine.specs.Histories.{IsReached}
 use Rattle.block_machine.specs.Left.{after}
 use Rattle.block_machine.specs.State.{Machine, Pending}
 use Rattle.block_machine.specs.Steps.{Step, Answer}
-use Rattle.block_machine.proofs.Members.{into_map}
+use Rattle.server_history.proofs.Members.{into_map}
 use Rattle.host_boot.specs.Taken.{found_of}
 use Rattle.host_boot.specs.declared.Found.{Found}
 use Rattle.request_queue.specs.Entries.{Held, IsInOrder, asks, asks_of, due_ids}

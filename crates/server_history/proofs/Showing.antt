@@ -6,6 +6,7 @@ use Rattle.std.proofs.lemmas.Bool.{cases_eq}
 use Rattle.std.proofs.lemmas.List.{length-append}
 use Rattle.std.proofs.lemmas.List.Elements.{All-contains, All-head, All-tail, Contains-append_right}
 use Rattle.ata_types.specs.declared.Port.{Port}
+use Rattle.hba_regs.specs.Bits.{bit}
 use Rattle.hba_regs.specs.declared.reg.PortReg.TheVariants.{Cmd, Is, Sctl, Serr}
 use Rattle.hba_regs.specs.declared.reg.Reg.TheVariants.{Ghc, Px}
 use Rattle.adapter.specs.Access.{Access, Does, DoesAll}
@@ -89,9 +90,16 @@ module _ (Such : Entry → Type 0) (port : ℕ) where
 
 -- ---- stretches that clear nothing
 
--- it writes neither PxIS nor PxSERR, nor PxCMD or PxSCTL, nor GHC
+-- where it writes GHC, it sets AE and doesn't set HR
+abbrev pub StaysOn : Access → Type 0
+StaysOn access = (v : ℕ) → access ≡ Writing Ghc v → (bit v 31 ≡ true) × (bit v 0 ≡ false)
+
+pub stays_on : (access : Access) → SparesRegister Ghc access → StaysOn access
+stays_on access spares v is = absurd (subst (SparesRegister Ghc) is spares refl)
+
+-- it writes neither PxIS nor PxSERR, nor PxCMD or PxSCTL, and leaves the adapter on
 abbrev pub LeavesTrouble : Port → Access → Type 0
-LeavesTrouble port access = SparesRegister (Px port Is) access × SparesRegister (Px port Serr) access × SparesRegister (Px port Cmd) access × SparesRegister (Px port Sctl) access × SparesRegister Ghc access
+LeavesTrouble port access = SparesRegister (Px port Is) access × SparesRegister (Px port Serr) access × SparesRegister (Px port Cmd) access × SparesRegister (Px port Sctl) access × StaysOn access
 
 abbrev ShowsNoFatal : PortState → Type 0
 ShowsNoFatal p = (place : ℕ) → 27 ≤ place → place ≤ 29 → p.is place ≡ false
@@ -124,12 +132,15 @@ fatal_unless p not = by (p.is 27) (p.is 28) (p.is 29) refl refl refl
             (λ (ne : place ≢ 27). ⊎_elim (λ (e : place ≡ 28). rw e y) (λ (other : place ≢ 28). let e : place ≡ 29 = omega (arith, from, to, ne, other) in rw e z) (cases_eq place 28))
             (cases_eq place 27)
 
-module _ (laws : LawsBelow) (port : Port) where
-  written : (access : Access) → SparesRegister Ghc access → (v : ℕ) → access ≡ Writing Ghc v → (Ghc ≢ Ghc)
-  written access spares v is = subst (SparesRegister Ghc) is spares
+-- the adapter stays on over them
+pub on_over : LawsBelow → (accesses : List Access) (old new : Device) → IsOn old → All StaysOn accesses → DoesAll accesses old new → IsOn new
+on_over laws [] old new on all is = subst IsOn (sym is) on
+on_over laws (access ∷ accesses) old new on all (mid, does, rest) =
+    on_over laws accesses mid new (laws.looks.access_on access old mid on (All-head StaysOn access accesses all) does) (All-tail StaysOn access accesses all) rest
 
+module _ (laws : LawsBelow) (port : Port) where
   pub on_one : (access : Access) (old new : Device) → IsOn old → SparesRegister Ghc access → Does access old new → IsOn new
-  on_one access old new on spares does = laws.looks.access_on access old new on (λ v is. absurd (written access spares v is refl)) does
+  on_one access old new on spares does = laws.looks.access_on access old new on (stays_on access spares) does
 
   pub shows_over : (accesses : List Access) (old new : Device) → IsOn old → All (LeavesTrouble port) accesses → DoesAll accesses old new → ShowsAll port.0 old new
   shows_over [] old new on all is = subst (ShowsAll port.0 old) (sym is) (record {
@@ -141,7 +152,7 @@ module _ (laws : LawsBelow) (port : Port) where
   })
   shows_over (access ∷ accesses) old new on all (mid, does, rest) =
       let kind = All-head (LeavesTrouble port) access accesses all in
-      let later = shows_over accesses mid new (on_one access old mid on kind.4 does) (All-tail (LeavesTrouble port) access accesses all) rest in
+      let later = shows_over accesses mid new (laws.looks.access_on access old mid on kind.4 does) (All-tail (LeavesTrouble port) access accesses all) rest in
       record {
         grows = laws.looks.grows_more old mid new (laws.looks.access_grows access old mid does) later.grows;
         fault = λ clear.

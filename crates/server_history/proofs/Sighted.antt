@@ -1,5 +1,5 @@
 -- A boot that finds a disk has seen a device on its way: PxSSTS was read, and its DET was 3 (AHCI 1.3.1, 3.3.10).
-use Rattle.std.proofs.Common.{◌⊎◌, true, ◌≡◌, ◌≢◌, ◌∷◌, ◌++◌, [], inl, inr, refl, sym, ap, ◌∙◌, ⊎_elim, arith}
+use Rattle.std.proofs.Common.{◌⊎◌, true, ◌≡◌, ◌≢◌, ◌∷◌, ◌++◌, [], inl, inr, refl, sym, ap, ◌∙◌, ⊎_elim, arith, subst}
 use Rattle.std.proofs.lemmas.Bool.{cases_eq}
 use Rattle.std.proofs.lemmas.List.Elements.{All-append, All-weaker}
 use Rattle.std.specs.List.{All, list_any}
@@ -18,12 +18,13 @@ use Rattle.agreement.specs.Driver.{IsBacked}
 use Rattle.block_machine.specs.Events.{ShowsDisk, changes_disk}
 use Rattle.block_machine.specs.State.{Machine}
 use Rattle.block_machine.specs.Steps.{Step}
-use Rattle.host_boot.specs.Again.{BootsAgain, BootsStopped, EndsUnready, IsOfStart}
+use Rattle.host_boot.specs.Again.{BootsAgain, BootsStopped, IsOfStart}
 use Rattle.host_boot.specs.declared.Booted.{Booted}
 use Rattle.host_boot.specs.declared.Found.{Found}
 use Rattle.host_boot.specs.declared.Found.TheVariants.{Ready, Unready, Unserved}
 use Rattle.identify.specs.declared.wanted.Wanted.{Wanted}
-use Rattle.port_boot.specs.States.{EndsEarly, GetsUp, IsOfBoot, ShowsOwnDisk, TellsFault}
+use Rattle.port_boot.specs.States.{EndsAs, EndsEarly, EndsLate, GetsReady, GetsUp, IsEarly, IsLate, IsOfBoot, ShowsOwnDisk, TellsFault}
+use Rattle.identify.specs.Wanted.{serial_of}
 use Rattle.port_control.specs.Ports.{FindsLink, HasLink, IsPlacing, Looks, ReadsUntil}
 use Rattle.port_control.specs.declared.PortFault.{PortFault}
 use Rattle.port_control.specs.declared.PortFault.TheVariants.{NoDevice, Busy, EngineStuck, NotAta}
@@ -83,27 +84,32 @@ module _ (laws : LawsBelow) (port : Port) where
       by (NotAta signature) told l = found_then old g.placed g.resets.sent g.resets.ended l.linked new on g.places g.resets.sends g.resets.ends l.links (linked_then laws port signature g.resets.ended new l)
       by EngineStuck told l = absurd l
 
-  unready : (wanted : Wanted) (state : Shown) (old new : Device) → IsOn old → EndsUnready wanted port state old new → ShowsDisk state → SeesDevice port old new
-  unready wanted Absent old new on x shows = absurd shows
-  unready wanted Dead old new on x shows = absurd shows
-  unready wanted ReadyState old new on x shows = absurd x.ended
-  unready wanted Foreign old new on x shows = let g = x.late tt in started old g.up new on g.first (late_then laws port old new g)
-  unready wanted (Unfit n) old new on x shows = ⊎_elim
-      (λ (seven : n ≡ 7). early (Unfit n) old new on no (x.early (inl seven)))
+  -- a port that isn't ready, by the way that it went
+  pub unready_sees : (state : Shown) (old new : Device) → IsOn old → state ≢ ReadyState → (IsEarly state → EndsEarly port state old new) → (IsLate state → EndsLate port old new) → ShowsDisk state → SeesDevice port old new
+  unready_sees Absent old new on other first last shows = absurd shows
+  unready_sees Dead old new on other first last shows = absurd shows
+  unready_sees ReadyState old new on other first last shows = absurd (other refl)
+  unready_sees Foreign old new on other first last shows = let g = last tt in started old g.up new on g.first (late_then laws port old new g)
+  unready_sees (Unfit n) old new on other first last shows = ⊎_elim
+      (λ (seven : n ≡ 7). early (Unfit n) old new on no (first (inl seven)))
       (λ (not_seven : n ≢ 7). ⊎_elim
-      (λ (eight : n ≡ 8). early (Unfit n) old new on no (x.early (inr eight)))
-      (λ (not_eight : n ≢ 8). let g = x.late (not_seven, not_eight) in started old g.up new on g.first (late_then laws port old new g))
+      (λ (eight : n ≡ 8). early (Unfit n) old new on no (first (inr eight)))
+      (λ (not_eight : n ≢ 8). let g = last (not_seven, not_eight) in started old g.up new on g.first (late_then laws port old new g))
       (cases_eq n 8))
       (cases_eq n 7)
     where
       no : Unfit n ≢ Absent
       no is = let z : Unfit n ≡ Absent = is in cc
 
+  -- and one that is ready
+  pub ready_sees : (old new : Device) → IsOn old → GetsReady port old new → SeesDevice port old new
+  ready_sees old new on g = started old g.up new on g.first (ready_then laws port old new g)
+
   -- each boot that finds a disk
   pub boot_sees : (wanted : Wanted) (found : Found) (old new : Device) → IsOn old → BootsStopped wanted port found old new → ShowsDisk (state_of found) → SeesDevice port old new
   boot_sees wanted Unserved old new on none shows = absurd none
-  boot_sees wanted (Ready info) old new on e shows = let g = e.way in started old g.up new on g.first (ready_then laws port old new g)
-  boot_sees wanted (Unready state) old new on e shows = unready wanted state old new on e shows
+  boot_sees wanted (Ready info) old new on e shows = ready_sees old new on e.way
+  boot_sees wanted (Unready state) old new on e shows = unready_sees state old new on (λ is. subst (λ (x : Shown). EndsAs (serial_of wanted) x port.0 new) is e.ended) e.early e.late shows
 
 -- So it has since before the boot: by these accesses, of which some led to the boot.
 pub record SeesOver (port : Port) (old asked new : Device) : Type 0 where

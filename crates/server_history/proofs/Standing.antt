@@ -35,7 +35,7 @@ clients None = inl refl
 clients (Some used) = inr (used.id, refl)
 
 -- the port is served where it was found so
-served_is : (wanted : Wanted) (found : Found) (port : ℕ) (d : Device) → StillStandsBehind wanted found port d → (is_served found ≡ true) ↔ IsServedPort wanted port d
+pub served_is : (wanted : Wanted) (found : Found) (port : ℕ) (d : Device) → StillStandsBehind wanted found port d → (is_served found ≡ true) ↔ IsServedPort wanted port d
 served_is wanted Unserved port d s = ((λ yes. absurd (false≢true yes)), (λ served. absurd (s.0 served)))
 served_is wanted (Ready info) port d s = ((λ yes. s.0), (λ served. refl))
 served_is wanted (Unready state) port d s = ((λ yes. s.0), (λ served. refl))

@@ -26,7 +26,7 @@ use Rattle.agreement.specs.Slots.{Free, Own, Use}
 use Rattle.block_machine.specs.Due.{due_of}
 use Rattle.block_machine.specs.Left.{after}
 use Rattle.block_machine.specs.declared.due.Unanswered.{Unanswered}
-use Rattle.block_machine.proofs.Members.{map_in}
+use Rattle.server_history.proofs.Members.{map_in}
 use Rattle.driver_history.specs.Trace.{LeavesCommand, ReadsMasks, ResetsLink}
 use Rattle.error_recovery.specs.Recovery.{IsRecovering, LeavesSlots}
 use Rattle.error_recovery.specs.declared.Next.{Next}

@@ -32,7 +32,7 @@ use Rattle.block_machine.specs.Ports.{IsInterrupted, Ports, SamePort}
 use Rattle.block_machine.specs.Due.{of_port}
 use Rattle.block_machine.specs.State.{Machine, Pending, unanswered}
 use Rattle.block_machine.specs.Steps.{Step, Age, Again, Answer, after_step, older}
-use Rattle.block_machine.proofs.Members.{contains_cases, contains_here, into_map, map_in, none_of}
+use Rattle.server_history.proofs.Members.{contains_cases, contains_here, into_map, map_in, none_of}
 use Rattle.driver_history.specs.Evidence.{IsEvidenced}
 use Rattle.driver_history.specs.Histories.{FindsDone, IssuesDue, TiesPort}
 use Rattle.driver_history.specs.Parts.{IsOfOther}
@@ -50,7 +50,7 @@ use Rattle.server_history.proofs.Ageing.{older_by, older_ended, older_issued, ol
 use Rattle.server_history.proofs.Accepting.{any_in}
 use Rattle.server_history.proofs.Asks.{none_due, none_issued}
 use Rattle.server_history.proofs.Beginning.{kept_fit}
-use Rattle.server_history.proofs.Going.{happening_with, lead_with, with_device}
+use Rattle.server_history.proofs.Going.{holding, happening_with, lead_with, with_device}
 use Rattle.server_history.proofs.Joined.{answers_append, lawful_lift, ready_or_not}
 use Rattle.server_history.proofs.Lists.{nowhere}
 use Rattle.server_history.proofs.Plans.{ATick, Plan, TakesTurn, Uses, turn_at}
@@ -516,7 +516,7 @@ module _ (laws : LawsBelow) (s new : Server) (replies : List Reply) (start : IsS
 
   pub tick_event : (h : Happening Device DeviceStep) × (h.event.ask ≡ Tick) × (h.event.said ≡ Served replies) × Leads first (h ∷ past) new
   tick_event =
-      lead_with laws first past s new Tick (Served replies) p.evidence steps p.wanted leads holds (kept_fit new holds)
+      lead_with laws first past s new Tick (Served replies) p.evidence steps p.wanted leads (holding new holds) (kept_fit new holds)
       (laws.basic.may was.machine p.steps (Age ready ∷ []) (tt, tt) p.turns.may)
       (belong_join Tick (ports_of new) p.steps (Age ready ∷ []) p.belong (tt, inr tt))
       (last_after ready p.steps p.turns.last)

@@ -16,7 +16,7 @@ use Rattle.block_machine.specs.Histories.{Instant}
 use Rattle.block_machine.specs.Ports.{Ports, Evidence, IsInterrupted}
 use Rattle.block_machine.specs.Steps.{Step, Again, Answer}
 use Rattle.ata_types.specs.declared.request.Outcome.TheVariants as outcome
-use Rattle.block_machine.proofs.Members.{contains_cases, contains_here, contains_there}
+use Rattle.server_history.proofs.Members.{contains_cases, contains_here, contains_there}
 use Rattle.error_recovery.specs.Evidence.{ShowsFatal}
 use Rattle.driver_history.specs.Evidence.{IsEvidenced, IsEvidencedOf, ShowsChange, ShowsFailure}
 use Rattle.driver_history.specs.Trace.{LeavesEngine}
@@ -33,7 +33,7 @@ chosen is [] = []
 chosen is (port ∷ ports) = cond (is port) (port ∷ chosen is ports) (chosen is ports)
 
 -- those that are chosen are so
-chosen_is : (is : Port → Bool) (ports : List Port) (port : Port) → Contains (chosen is ports) port → is port ≡ true
+pub chosen_is : (is : Port → Bool) (ports : List Port) (port : Port) → Contains (chosen is ports) port → is port ≡ true
 unfolding chosen
 chosen_is is [] port here = absurd (nowhere port here)
 chosen_is is (first ∷ ports) port here = ⊎_elim
@@ -45,7 +45,7 @@ chosen_is is (first ∷ ports) port here = ⊎_elim
     (cases_Bool (is first))
 
 -- and all that are so are chosen
-is_chosen : (is : Port → Bool) (ports : List Port) (port : Port) → Contains ports port → is port ≡ true → Contains (chosen is ports) port
+pub is_chosen : (is : Port → Bool) (ports : List Port) (port : Port) → Contains ports port → is port ≡ true → Contains (chosen is ports) port
 unfolding chosen
 is_chosen is [] port here so = absurd (nowhere port here)
 is_chosen is (first ∷ ports) port here so = ⊎_elim
@@ -72,7 +72,7 @@ chosen_of Such is (port ∷ ports) all = by (is port) (chosen_of Such is ports (
 pub four : List Port
 four = port_at 0 ∷ port_at 1 ∷ port_at 2 ∷ port_at 3 ∷ []
 
-in_four : (port : Port) → port.0 < 4 → Contains four port
+pub in_four : (port : Port) → port.0 < 4 → Contains four port
 unfolding four
 in_four port low = ⊎_elim
     (λ (e : port.0 ≡ 0). contains_here (port_at 0) (port_at 1 ∷ port_at 2 ∷ port_at 3 ∷ []) port (ap port_at e))

@@ -182,7 +182,7 @@ module _ (laws : LawsBelow) (s new : Server) (seen : Device) (port : Port) (stat
   kept_then =
       let w = whole laws s new seen port state k is lives looks b in
       replaced_kept laws port s k small new.device w.0 w.1 s.table b.found s.remembered b.mode b.slots s.kept s.book (ap is_served is) (its_stand laws s new seen port state k is lives looks b) b.mode_is b.unused
-      (book_left laws s new seen port state k is lives looks b) k.four_remembered k.four_kept (after k.machine (steps k.machine k.reached k.stands)) (laws.basic.reached k.machine _ k.reached (may k.machine k.reached k.stands))
+      (book_left laws s new seen port state k is lives looks b) k.four_remembered k.four_kept k.few_kept (after k.machine (steps k.machine k.reached k.stands)) (laws.basic.reached k.machine _ k.reached (may k.machine k.reached k.stands))
       (then_stands k.machine k.reached k.stands)
 
   none_due : (q : Port) → NoneDue (mode_in then q) (asks_of s.book) q

@@ -7,7 +7,7 @@ use Rattle.std.proofs.lemmas.List.Elements.{All-contains, All-contains_itself, A
 use Rattle.ata_types.specs.declared.Port.{Port}
 use Rattle.ata_types.specs.declared.PortState.TheVariants.{Dead as DeadState, Ready as ReadyState}
 use Rattle.ata_types.specs.declared.request.Reply.{Reply}
-use Rattle.hba_regs.specs.declared.reg.PortReg.TheVariants.{Cmd, Ie, Sctl}
+use Rattle.hba_regs.specs.declared.reg.PortReg.TheVariants.{Ie, Sctl}
 use Rattle.hba_regs.specs.declared.reg.Reg.TheVariants.{Ghc, Px}
 use Rattle.adapter.specs.Access.{Access, DoesAll}
 use Rattle.adapter.specs.Access.Access.{Writing}
@@ -44,7 +44,7 @@ use Rattle.server_history.proofs.Becoming.{next_dead, state_new}
 use Rattle.server_history.proofs.Evident.{IsEvident}
 use Rattle.server_history.proofs.Faulted.{given_up}
 use Rattle.server_history.proofs.Following.{mid_kept, mid_ready}
-use Rattle.server_history.proofs.Lasting.{again, again_booted, boot_ends, boot_since, boot_up_on, info, issuing, recovered_on, then_issuing}
+use Rattle.server_history.proofs.Lasting.{again, again_booted, boot_asked_on, boot_ends, ready_since, ready_up_on, info, issuing, recovered_on, then_issuing}
 use Rattle.server_history.proofs.Recovering.{IsEarlyPart}
 use Rattle.server_history.proofs.Recovery.{evidence_by, gone_of}
 use Rattle.server_history.proofs.Resetting.{up_driven}
@@ -81,37 +81,43 @@ module _ (laws : LawsBelow) (port : Port) where
       (laws.trouble.link_left port access old mid on.no_reset kind.0 does parts.0))
 
   -- a port that runs well does so still
+  all_well : (accesses : List Access) (old new : Device) → IsOn old → All (LeavesTrouble port) accesses → DoesAll accesses old new → Undisturbed port.0 old new → RunsWell (old.port port.0) → RunsWell (new.port port.0)
+  all_well [] old new on all is calm well = subst (λ (d : Device). RunsWell (d.port port.0)) (sym is) well
+  all_well (access ∷ accesses) old new on all (mid, does, rest) calm well =
+      let kind = All-head (LeavesTrouble port) access accesses all in
+      let early = laws.looks.access_grows access old mid does in
+      let late = grows_over laws accesses mid new rest in
+      let parts = laws.looks.calm_parts port.0 old mid new early.0 late.0 early.1 late.1 calm in
+      all_well accesses mid new (laws.looks.access_on access old mid on kind.4 does) (All-tail (LeavesTrouble port) access accesses all) rest parts.1
+      (laws.runs_well port.0 old mid (laws.runs_over port access old mid on kind.3 kind.2 does) parts.0 well)
+
   well_over : (old new : Device) → IsOn old → IsDrivenBy (LeavesTrouble port) old new → Undisturbed port.0 old new → RunsWell (old.port port.0) → RunsWell (new.port port.0)
-  well_over old new on driven calm well = laws.runs_well port.0 old new
-      (laws.runs_on port driven.accesses old new on driven.all
-      (All-weaker (LeavesTrouble port) (SparesRegister Ghc) (λ access is. is.4) driven.accesses driven.only)
-      (All-weaker (LeavesTrouble port) (SparesRegister (Px port Sctl)) (λ access is. is.3) driven.accesses driven.only)
-      (All-weaker (LeavesTrouble port) (SparesRegister (Px port Cmd)) (λ access is. is.2) driven.accesses driven.only))
-      calm well
+  well_over old new on driven calm well = all_well driven.accesses old new on driven.only driven.all calm well
 
--- one that was booted runs well, where no disk went or came, and nothing went wrong since ST was set
-module _ (laws : LawsBelow) (port : Port) (low : port.0 < 4) (wanted : Wanted) (info : DiskInfo) (booted : Booted) (old d mid new : Device) (on : IsOn d) (b : BootsAgain wanted port booted d mid) (found : booted.found ≡ Ready info)
-    (later : IsDrivenBy (LeavesTrouble port) mid new) (mid_on : IsOn mid) (until : Grows old d) where
-  abbrev way : GetsReady port b.asked mid
-  way = (boot_ends laws port low wanted info booted old d mid new on b found later).way
-
-  abbrev since : IsDrivenBy (LeavesTrouble port) way.up new
-  since = boot_since laws port low wanted info booted old d mid new on b found later
-
-  pub booted_well : PlugsNone port.0 old new → (GainsRunning (IsFaultOf port.0) port.0 old new → ⊥) → (GainsRunning (IsFatalOf port.0) port.0 old new → ⊥) → RunsWell (new.port port.0)
-  booted_well none unfailed unbroken =
-      let first = laws.looks.grows_more old d b.asked until (grows_over laws b.asks.driven.accesses d b.asked b.asks.driven.all) in
-      let whole = (let x = (boot_ends laws port low wanted info booted old d mid new on b found later).boots.followed.driven in grows_over laws x.accesses b.asked mid x.all) in
-      let last = grows_over laws later.accesses mid new later.all in
-      let rest = laws.looks.grows_more b.asked mid new whole last in
-      let plugs = laws.trouble.plugs_parts port.0 b.asked mid new whole.0 last.0 whole.1 last.1 (laws.trouble.plugs_parts port.0 old b.asked new first.0 rest.0 first.1 rest.1 none).1 in
-      let up = (let x = up_driven laws port b.asked way.up way.first in grows_over laws x.accesses b.asked way.up x.all) in
+-- one that got ready runs well, where no disk went or came, and nothing went wrong since ST was set
+module _ (laws : LawsBelow) (port : Port) (old asked mid new : Device) (on : IsOn asked) (way : GetsReady port asked mid) (later : IsDrivenBy (LeavesTrouble port) mid new) (mid_on : IsOn mid)
+    (first : Grows old asked) where
+  pub ready_well : PlugsNone port.0 old new → (GainsRunning (IsFaultOf port.0) port.0 old new → ⊥) → (GainsRunning (IsFatalOf port.0) port.0 old new → ⊥) → RunsWell (new.port port.0)
+  ready_well none unfailed unbroken =
+      let since = ready_since laws port old asked mid new on way later in
+      let up = (let x = up_driven laws port asked way.up way.first in grows_over laws x.accesses asked way.up x.all) in
       let told = laws.looks.grows_more way.up way.then.asked mid (grows_over laws way.then.asks.accesses way.up way.then.asked way.then.asks.all) (laws.looks.access_grows (Writing (Px port Ie) told_causes) way.then.asked mid way.then.tells) in
-      let same = (shows_over laws port since.accesses way.up new (boot_up_on laws port low wanted info booted old d mid new on b found later) since.only since.all).same in
+      let whole = laws.looks.grows_more asked way.up mid up told in
+      let last = grows_over laws later.accesses mid new later.all in
+      let rest = laws.looks.grows_more asked mid new whole last in
+      let plugs = laws.trouble.plugs_parts port.0 asked mid new whole.0 last.0 whole.1 last.1 (laws.trouble.plugs_parts port.0 old asked new first.0 rest.0 first.1 rest.1 none).1 in
+      let same = (shows_over laws port since.accesses way.up new (ready_up_on laws port old asked mid new on way later) since.only since.all).same in
       let set = way.first.set in
-      let calm = laws.calls.calm_since port.0 old way.up new (laws.looks.grows_more old b.asked way.up first up) (grows_over laws since.accesses way.up new since.all) (omega (arith, same, set)) none unfailed unbroken in
+      let calm = laws.calls.calm_since port.0 old way.up new (laws.looks.grows_more old asked way.up first up) (grows_over laws since.accesses way.up new since.all) (omega (arith, same, set)) none unfailed unbroken in
       let parts = laws.looks.calm_parts port.0 way.up mid new told.0 last.0 told.1 last.1 calm in
       well_over laws port mid new mid_on later parts.1 (way.well plugs.0 parts.0)
+
+-- and so does one that was booted
+module _ (laws : LawsBelow) (port : Port) (low : port.0 < 4) (wanted : Wanted) (info : DiskInfo) (booted : Booted) (old d mid new : Device) (on : IsOn d) (b : BootsAgain wanted port booted d mid) (found : booted.found ≡ Ready info)
+    (later : IsDrivenBy (LeavesTrouble port) mid new) (mid_on : IsOn mid) (until : Grows old d) where
+  pub booted_well : PlugsNone port.0 old new → (GainsRunning (IsFaultOf port.0) port.0 old new → ⊥) → (GainsRunning (IsFatalOf port.0) port.0 old new → ⊥) → RunsWell (new.port port.0)
+  booted_well = ready_well laws port old b.asked mid new (boot_asked_on laws port low wanted info booted old d mid new on b found later) (boot_ends laws port low wanted info booted old d mid new on b found later).way later mid_on
+      (laws.looks.grows_more old d b.asked until (grows_over laws b.asks.driven.accesses d b.asked b.asks.driven.all))
 
 -- a link wasn't reset where PxSCTL wasn't written
 never_reset : (port : Port) (accesses : List Access) → All (SparesRegister (Px port Sctl)) accesses → ResetsLink port accesses → ⊥

@@ -1,7 +1,7 @@
 -- Two lists whose members stand for one another, place by place.
 use Rattle.std.proofs.Common.{◌≡◌, List, [], ◌∷◌, sym, subst, ⊎_elim}
 use Rattle.std.specs.List.{AllZip, Contains}
-use Rattle.block_machine.proofs.Members.{contains_there, contains_cases}
+use Rattle.server_history.proofs.Members.{contains_there, contains_cases}
 use Rattle.server_history.proofs.Lists.{nowhere, first_here}
 
 -- what each member of the second list has at its place

@@ -9,6 +9,8 @@ use Rattle.adapter.specs.declared.command.Operation.{Operation}
 use Rattle.adapter.specs.declared.tape.Entry.{Entry as TapeEntry}
 use Rattle.adapter.specs.Commands.{Meaning}
 use Rattle.adapter.specs.Rules.{IsOn}
+use Rattle.adapter.specs.Kept.{Keeps}
+use Rattle.adapter.specs.Steps.{Steps}
 use Rattle.agreement.specs.Acts.{Act, AreDone, accesses_of, steps_of}
 use Rattle.agreement.specs.Agrees.{Agrees, AreApart}
 use Rattle.agreement.specs.Readying.{IsStored, LeavesStored}
@@ -23,15 +25,16 @@ use Rattle.hba_regs.specs.declared.reg.Reg.TheVariants.{Px}
 use Rattle.agreement.specs.GivingUp.{parking_all, served_ids}
 use Rattle.agreement.specs.Slots.{Armed, Free, Own, Serves, Use, Uses, put}
 use Rattle.block_machine.specs.Due.{is_plain}
-use Rattle.block_machine.specs.State.{Machine, Pending}
-use Rattle.block_machine.specs.Steps.{Step, Age, Again, Issue, Answer, May, after_step, stays}
+use Rattle.block_machine.specs.State.{Accepted, Machine, Pending}
+use Rattle.block_machine.specs.Steps.{Step, Age, Again, Issue, Answer, IsLiving, May, after_step, stays}
 use Rattle.block_machine.specs.declared.due.Mode.{Mode}
 use Rattle.agreement.specs.Facts.{ShowsFault}
 use Rattle.ata_types.specs.declared.grant.GrantRow.{GrantRow}
 use Rattle.dma_frames.specs.Table.{Table}
 use Rattle.request_queue.specs.Entries.{Held, IsAccepted, IsInOrder, aged, asks_of}
 use Rattle.request_queue.specs.Machine.{IsBook}
-use Rattle.block_machine.specs.Left.{after}
+use Rattle.block_machine.specs.Confined.{WasAccepted, WithinLimits}
+use Rattle.block_machine.specs.Left.{IsLegal, IsStart, after}
 use Rattle.block_machine.specs.Histories.{Instant, IsReached, Happening, now}
 use Rattle.block_machine.specs.Events.{AllDevices, AllMay}
 use Rattle.agreement.specs.Spares.{AllFurther, IsFurther, SparesBook}
@@ -39,6 +42,9 @@ use Rattle.driver_history.specs.Histories.{IsHistory}
 use Rattle.identify.specs.declared.wanted.Wanted.{Wanted}
 
 pub record BasicLaws : Type 0 where
+  -- what the device does by itself
+  pub keeps : (old new : Device) → Steps old new → Keeps old new
+  pub was_on : (old new : Device) → Steps old new → IsOn new → IsOn old
   -- steps one after another
   pub joined : (m : Machine) (late early : List Step) → after m (late ++ early) ≡ after (after m early) late
   pub may : (m : Machine) (late early : List Step) → AllMay m early → AllMay (after m early) late → AllMay m (late ++ early)
@@ -96,3 +102,10 @@ pub record AgeLaws : Type 0 where
   pub ordered : (entries : List Held) (ready : Port → Bool) → IsInOrder entries → IsInOrder (aged ready entries)
   pub accepted : (rows : List GrantRow) (table : Table) (entries : List Held) (ready : Port → Bool) → All (IsAccepted rows table) entries → All (IsAccepted rows table) (aged ready entries)
   pub asks : (entries : List Held) (ready : Port → Bool) → asks_of (aged ready entries) ≡ asks_of entries
+
+-- requests that are unanswered or kept
+pub record LivingLaws : Type 0 where
+  pub limits : (start : Machine) (history : List Step) → IsStart start → IsLegal start history → WithinLimits (after start history)
+  pub lived : (start : Machine) (history : List Step) (e : Pending) → IsStart start → IsLegal start history → IsLiving (after start history) e → WasAccepted start history e.request
+  pub one : (start : Machine) (history : List Step) (one other : Accepted) → WasAccepted start history one → WasAccepted start history other → one.id ≡ other.id → one ≡ other
+  pub answered : (m : Machine) (a b : Pending) → IsReached m → Contains m.book a → Contains m.kept b → a.request.id.0 ≢ b.request.id.0

@@ -11,12 +11,15 @@ use Rattle.adapter.specs.declared.command.Operation.{Operation}
 use Rattle.adapter.specs.declared.command.Operation.TheVariants.{ReadLog}
 use Rattle.adapter.specs.declared.tape.Entry.{Entry as TapeEntry}
 use Rattle.adapter.specs.declared.tape.Fault.{Fault}
+use Rattle.adapter.specs.Kept.{Keeps}
 use Rattle.adapter.specs.Rules.{IsOn}
+use Rattle.adapter.specs.Steps.{Steps}
 use Rattle.agreement.specs.Acts.{InSlots, at as at_slots}
 use Rattle.adapter.specs.Access.{Access, Does, DoesAll, Writes}
 use Rattle.adapter.specs.Access.Access.{Loading, Storing}
 use Rattle.agreement.specs.Links.{IsPlugging, SparesRegister}
 use Rattle.agreement.specs.Tape.{TellsAmong}
+use Rattle.hba_regs.specs.Bits.{bit}
 use Rattle.hba_regs.specs.declared.reg.PortReg.{PortReg}
 use Rattle.hba_regs.specs.declared.reg.PortReg.TheVariants.{Cmd, Sctl}
 use Rattle.hba_regs.specs.declared.reg.Reg.TheVariants.{Ghc, Px}
@@ -51,12 +54,13 @@ use Rattle.request_queue.specs.Entries.{Held, IsAccepted, IsEarlier, IsFresh, Is
 use Rattle.request_queue.specs.declared.Entry.{Entry}
 use Rattle.request_queue.specs.Machine.{IsBook, IsEntry}
 use Rattle.server_history.specs.After.{RecoveryLaws, TroubleLaws}
-use Rattle.server_history.specs.Basics.{AgeLaws, BasicLaws, SlotLaws}
+use Rattle.server_history.specs.Basics.{AgeLaws, BasicLaws, SlotLaws, LivingLaws}
 use Rattle.server_history.specs.Calls.{CallLaws, LookLaws}
 
 pub record LawsBelow : Type 0 where
   -- steps one after another
   pub basic : BasicLaws
+  pub living : LivingLaws
   -- the book and the machine's
   pub accepts : (entries : List Held) (m : Machine) (e : Held) (r : machine.Accepted) → IsBook entries m.book → IsEntry e (newly_accepted r) → IsBook (entries ++ e ∷ []) (after_step m (Accept r)).book
   pub issues : (entries : List Held) (m : Machine) (mode : Mode) (p : Pending) → IsBook entries m.book → IsBook (map (at p.request.id issue) entries) (after_step m (Issue mode p)).book
@@ -112,12 +116,16 @@ pub record LawsBelow : Type 0 where
   -- it is found done
   pub finding_of : (port : Port) (access : Access) → IsFinding port access → IsOf port access
   pub finding_followed : (port : Port) (mask done : ℕ) (old new : Device) → ReadsDone port mask done old new → IsFollowed (IsFinding port) AnyUse old new
+  -- the adapter
+  pub steps_keep : (old new : Device) → Steps old new → Keeps old new
+  pub switches_on : (v : ℕ) (old new : Device) → old.hr ≡ false → bit v 31 ≡ true → bit v 0 ≡ false → Writes Ghc v old new → IsOn new
   -- accesses of one port
   pub of_on : (port : Port) (old new : Device) → IsOn old → IsDrivenBy (IsOf port) old new → IsOn new
   pub of_left : (port : Port) (q : ℕ) (old new : Device) → q ≢ port.0 → IsOn old → IsDrivenBy (IsOf port) old new → LeavesPort (old.port q) (new.port q)
   pub of_spares : (port q : Port) (r : PortReg) → q.0 ≢ port.0 → (access : Access) → IsOf port access → SparesRegister (Px q r) access
   pub of_host : (port : Port) (access : Access) → IsOf port access → SparesRegister Ghc access
   -- a port that runs does so still
+  pub runs_over : (port : Port) (access : Access) (old new : Device) → IsOn old → SparesRegister (Px port Sctl) access → SparesRegister (Px port Cmd) access → Does access old new → RunsOn port.0 old new
   pub runs_on : (port : Port) (accesses : List Access) (old new : Device) → IsOn old → DoesAll accesses old new → All (SparesRegister Ghc) accesses → All (SparesRegister (Px port Sctl)) accesses → All (SparesRegister (Px port Cmd)) accesses → RunsOn port.0 old new
   pub runs_well : (port : ℕ) (old new : Device) → RunsOn port old new → Undisturbed port old new → RunsWell (old.port port) → RunsWell (new.port port)
   -- a port is recovered

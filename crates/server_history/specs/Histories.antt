@@ -8,6 +8,7 @@ use Rattle.block_machine.specs.Histories.{Instant, Happening}
 use Rattle.block_machine.specs.Histories as histories
 use Rattle.driver_history.specs.Histories.{Begins, Ties}
 use Rattle.server_history.specs.Server.{Server, ports_of, IsSettled, IsMachineOf}
+use Rattle.server_history.specs.Stalled.{IsStalled}
 
 -- An instant of a history is where the server stands: the device is its own, the ports are what it says, and the machine stands for it.
 pub record Stands (now : Instant Device) (s : Server) : Type 0 where
@@ -29,12 +30,20 @@ load_said (Err fault) bytes = Loaded (Err fault)
 abbrev pub Leads : Instant Device → List (Happening Device DeviceStep) → Server → Type 0
 Leads first past s = histories.Leads (Begins s.wanted) (Ties s.wanted) Stands first past s
 
--- To every history that leads to the old server, a call that asked this and said that adds one event, which leads to the new one; and that keeps
--- what a server keeps.
+-- To every history that leads to the old server, a call that asked this and said that adds one event, which leads to the new one.
+abbrev pub AddsEvent : Server → Server → Ask DeviceStep → Said → Type 0
+AddsEvent old new ask said = (first : Instant Device) (past : List (Happening Device DeviceStep)) → Leads first past old
+    → (h : Happening Device DeviceStep) × (h.event.ask ≡ ask) × (h.event.said ≡ said) × Leads first (h ∷ past) new
+
+-- So it does; and the new server's adapter is on, and each request is issued that is due.
 pub record Adds (old new : Server) (ask : Ask DeviceStep) (said : Said) : Type 0 where
   pub settled : IsSettled new
-  pub adds : (first : Instant Device) (past : List (Happening Device DeviceStep)) → Leads first past old
-      → (h : Happening Device DeviceStep) × (h.event.ask ≡ ask) × (h.event.said ≡ said) × Leads first (h ∷ past) new
+  pub adds : AddsEvent old new ask said
+
+-- So it does; and the new server's adapter hasn't been seen to end a reset.
+pub record AddsStalled (old new : Server) (ask : Ask DeviceStep) (said : Said) : Type 0 where
+  pub stalled : IsStalled new
+  pub adds : AddsEvent old new ask said
 
 -- a history without calls leads to the server
 abbrev pub HasBegun : Server → Type 0

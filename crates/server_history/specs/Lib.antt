@@ -1,7 +1,11 @@
 pub mod Server
+pub mod Stalled
+pub mod Kept
 pub mod Histories
 pub mod Served
 pub mod Mended
+pub mod Resets
+pub mod Rebooted
 pub mod Tried
 pub mod Turns
 pub mod After
@@ -9,3 +13,4 @@ pub mod Basics
 pub mod Calls
 pub mod Below
 pub mod Fates
+pub mod Ended

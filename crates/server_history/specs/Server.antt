@@ -41,7 +41,7 @@ use Rattle.slots.specs.declared.Use.{Use as SlotUse}
 use Rattle.driver_history.specs.Holds.{Runs, mode_of}
 
 -- The device behind the adapter; the grants; by frame its owner and the request that it is lent to; by port the disk that is wanted,
--- what it was found to be, which disk it was ready with when it was last mended, how it takes commands, what its slots are used for, and what is still lent
+-- what it was found to be, which disk it was ready with when it was last mended, or its adapter last reset, how it takes commands, what its slots are used for, and what is still lent
 -- to requests of it that were answered; the unanswered requests in order of acceptance, with what is lent to them; and the id that was handed out
 -- last, or 0.
 pub record Server : Type 0 where
@@ -162,7 +162,7 @@ abbrev pub use_of : Option SlotUse → Use
 use_of None = Free
 use_of (Some used) = Serves used.id
 
--- A slot is used as the server has it, unless its port is dead: there an engine was awaited in vain, so that what was in the slot may be there
+-- A slot is used as the server has it, unless its port is dead: there an engine was awaited in vain, or the adapter isn't on, so that what was in the slot may be there
 -- still, and nobody asks for it until the adapter is reset.
 abbrev pub IsUsedAs : Found → Option SlotUse → Use → Type 0
 IsUsedAs found used u = found ≢ Unready Dead → u ≡ use_of used
@@ -249,7 +249,7 @@ abbrev pub StandsAlone : List PortSlots → ℕ → ℕ → Type 0
 StandsAlone slots port slot = (slot ≡ 0) × ((other : ℕ) → other ≢ 0 → used_for slots port other ≡ None)
 
 -- What holds of a server at each moment of a call. The adapter is on and has the memory of the driver and of the clients, and each port that is
--- served; each port is as it was found, and runs if that was ready; of each of the four ports a disk may be remembered and loans may be kept; they
+-- served; each port is as it was found, and runs if that was ready; of each of the four ports a disk may be remembered, and 32 loans at most be kept; they
 -- take commands as adapter and disk can, and use the slots that they may, for queued commands or for plain ones, of which each is alone in slot 0;
 -- grants are as a configuration may give them; requests are as they were accepted, in order, and of ready ports; and some machine that a history
 -- leads to stands for the server.
@@ -262,6 +262,7 @@ pub record IsKept (s : Server) : Type 0 where
   pub four_modes : length s.modes ≡ 4
   pub four_remembered : length s.remembered ≡ 4
   pub four_kept : length s.kept ≡ 4
+  pub few_kept : (port : ℕ) → length (kept_at s.kept port) ≤ 32
   pub modes : (port : ℕ) → port < 4 → mode_at s.modes port ≡ mode_found s.device.cap (found_of s.ports port)
   pub slots : (port : ℕ) → port < 4 → HasSlots s.ports s.modes s.slots port
   pub kinds : (port : Port) (slot : ℕ) (used : SlotUse) (e : Held) → used_for s.slots port.0 slot ≡ Some used → Contains s.book e → e.entry.id ≡ used.id

@@ -108,7 +108,8 @@ pub record HeedsTrouble (port : Port) (accesses : List Access) (old : Instant De
   pub trouble : LosesNoTrouble evidence old ports new port
   pub well : RunsWellAnew evidence accesses old ports new port
 
--- As such a call it has done of its port what a service does of one, and where it tried the port's disk, no link is due any more; where it restarts the port, what a call does of trouble.
+-- As such a call it has done of its port what a service does of one; where it tried a port that showed X, and no disk came, no link is due at its end (EndsLinked); and where it
+-- restarts the port it has done what a call does of trouble.
 abbrev pub TiesTurn : Turn → Port → List Reply → List Access → Server → Server → Machine → Evidence → List Step → Type 0
 TiesTurn InService port replies accesses old new m evidence steps =
     TiesPort (instant_of old m) (turn_of InService replies new evidence steps) accesses port

@@ -1,15 +1,18 @@
 // What laws of the crates below say, for this crate's proofs. Nothing comes of calling these functions.
 ghost use Rattle.server_history.specs.After.{RecoveryLaws, TroubleLaws};
-ghost use Rattle.server_history.specs.Basics.{AgeLaws, BasicLaws, SlotLaws};
+ghost use Rattle.server_history.specs.Basics.{AgeLaws, BasicLaws, LivingLaws, SlotLaws};
 ghost use Rattle.server_history.specs.Below.{LawsBelow};
 ghost use Rattle.server_history.specs.Calls.{CallLaws, LookLaws};
 
-use adapter::laws::{accesses_compose, port_registers_are_accessed, saying_is_one};
+use adapter::laws::{
+    accesses_compose, port_registers_are_accessed, saying_is_one, steps_keep,
+    steps_switch_nothing_on,
+};
 use agreement::acts::acts_give;
 use agreement::disks::none_comes_in;
 use agreement::facts::{
     disk_stays, errors_are_shown, fatal_errors_compose, faults_compose, link_stays,
-    plugging_composes, plugging_is_found,
+    plugging_composes, plugging_is_found, switching_on,
 };
 use agreement::giving_up::{fault_is_outstanding, slots_are_given_up};
 use agreement::laws::{
@@ -21,8 +24,9 @@ use agreement::readying::{readied_stays, stored_stays_over_acts};
 use agreement::recovering::halts_are_of_taken_commands;
 use agreement::stretches::other_ports_are_left;
 use block_machine::laws::{
-    due_in_turn, due_is_exact, ended_is_issued, one_id_is_in_the_book_once, other_ports_stay,
-    own_requests_count, steps_go_on,
+    due_in_turn, due_is_exact, ended_is_issued, limits_hold, living_was_accepted,
+    one_id_is_in_the_book_once, one_id_is_one_request, other_ports_stay, own_requests_count,
+    steps_go_on, what_is_kept_was_answered,
 };
 use driver_history::laws::{a_turns_evidence_is_the_calls, histories_reach_their_machines};
 use driver_history::troubles::{
@@ -51,12 +55,24 @@ use request_queue::laws::{
 fn basic_laws_hold()
     ensures { BasicLaws }
 {
+    steps_keep();
+    steps_switch_nothing_on();
     steps_go_on();
     histories_reach_their_machines();
     one_id_is_in_the_book_once();
     ended_is_issued();
     steps_spare_the_book();
     accesses_compose();
+}
+
+/// What holds of requests that are unanswered, or kept.
+pub fn living_laws_hold()
+    ensures { LivingLaws }
+{
+    limits_hold();
+    living_was_accepted();
+    one_id_is_one_request();
+    what_is_kept_was_answered();
 }
 
 /// What becomes of slots, and of the requests in them.
@@ -148,6 +164,7 @@ pub fn the_laws_below_hold()
     ensures { LawsBelow }
 {
     basic_laws_hold();
+    living_laws_hold();
     slot_laws_hold();
     age_laws_hold();
     look_laws_hold();
@@ -171,6 +188,8 @@ pub fn the_laws_below_hold()
     issuing_performs();
     calls_are_of_one_port();
     finding_is_followed();
+    steps_keep();
+    switching_on();
     other_ports_are_left();
     a_port_runs_on();
     recovery_is_of_its_port();

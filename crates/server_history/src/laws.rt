@@ -60,8 +60,7 @@ ghost use Rattle.port_control.specs.Ports.{IsStopped};
 ghost use Rattle.port_control.specs.declared.Stopped.{Stopped};
 ghost use Rattle.server_history.specs.Mended.{AreQueued, IsMended, HasMetFates, MendsPort, requests_of};
 
-use super::lawful::the_laws_below_hold;
-use block_machine::laws::{limits_hold, living_was_accepted, one_id_is_one_request};
+use super::lawful::{living_laws_hold, the_laws_below_hold};
 use host_boot::laws::what_was_taken_over_may_be_served;
 
 /// A ready port of a new server runs well, if nothing went wrong on it since the adapter was idle.
@@ -161,9 +160,7 @@ pub fn kept_loans_are_lent()
     ensures answered { (s : Server) (port : ℕ) (loan : Lending) (e : Held) → IsKept s → Contains (kept_at s.kept port) loan → Contains s.book e
         → e.entry.id ≢ loan.request }
 {
-    limits_hold();
-    living_was_accepted();
-    one_id_is_one_request();
+    living_laws_hold();
 }
 
 /// A server goes on while requests are accepted, answered and issued.

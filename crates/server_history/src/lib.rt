@@ -4,6 +4,8 @@
 
 mod lawful;
 pub mod laws;
+pub mod resets;
+pub mod stalled;
 
 /// Why a ready port is mended.
 #[derive(Clone, Copy, Debug, PartialEq, Eq)]

@@ -2,6 +2,8 @@ use Rattle.server_history.proofs.lawful.basic_laws_hold.Goals as goal
 
 pub returns : goal.returns
 returns c = record {
+  keeps = c.steps_keep.ensures;
+  was_on = c.steps_switch_nothing_on.ensures;
   joined = c.steps_go_on.ensures.joined;
   may = c.steps_go_on.ensures.may;
   reached = c.steps_go_on.ensures.reached;

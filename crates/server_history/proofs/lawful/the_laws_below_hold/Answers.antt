@@ -3,6 +3,7 @@ use Rattle.server_history.proofs.lawful.the_laws_below_hold.Goals as goal
 pub returns : goal.returns
 returns c = record {
   basic = c.basic_laws_hold.ensures;
+  living = c.living_laws_hold.ensures;
   slots = c.slot_laws_hold.ensures;
   ages = c.age_laws_hold.ensures;
   looking = c.look_laws_hold.ensures;
@@ -44,10 +45,13 @@ returns c = record {
   issuing_of = c.calls_are_of_one_port.ensures.issuing;
   finding_of = c.calls_are_of_one_port.ensures.finding;
   finding_followed = c.finding_is_followed.ensures;
+  steps_keep = c.steps_keep.ensures;
+  switches_on = c.switching_on.ensures;
   of_on = c.other_ports_are_left.ensures.on;
   of_left = c.other_ports_are_left.ensures.left;
   of_spares = c.other_ports_are_left.ensures.spares;
   of_host = c.other_ports_are_left.ensures.spares_host;
+  runs_over = c.a_port_runs_on.ensures.over;
   runs_on = c.a_port_runs_on.ensures.runs;
   runs_well = c.a_port_runs_on.ensures.well;
   recovering_of = c.recovery_is_of_its_port.ensures.of;

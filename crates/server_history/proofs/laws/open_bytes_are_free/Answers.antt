@@ -2,4 +2,4 @@ use Rattle.server_history.proofs.Calls.{open_free}
 use Rattle.server_history.proofs.laws.open_bytes_are_free.Goals as goal
 
 pub returns : goal.returns
-returns c = open_free c.the_laws_below_hold.ensures
+returns c s client frame offset count k opens = open_free c.the_laws_below_hold.ensures s client frame offset count k.owners k.machine k.reached k.stands opens

@@ -1,0 +1,5 @@
+use Rattle.server_history.proofs.Booked.{settles_on}
+use Rattle.server_history.proofs.stalled.settling_goes_on.Goals as goal
+
+pub returns : goal.returns
+returns c = settles_on c.the_laws_below_hold.ensures

@@ -1,0 +1,5 @@
+use Rattle.server_history.proofs.Ending.{stalled_service}
+use Rattle.server_history.proofs.stalled.stalled_services_add.Goals as goal
+
+pub returns : goal.returns
+returns c s new replies t settles = stalled_service c.the_laws_below_hold.ensures s t new replies settles

@@ -1,0 +1,5 @@
+use Rattle.server_history.proofs.Sticking.{stuck_adds}
+use Rattle.server_history.proofs.stalled.stuck_resets_add.Goals as goal
+
+pub returns : goal.returns
+returns c = stuck_adds c.the_laws_below_hold.ensures

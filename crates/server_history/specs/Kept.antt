@@ -1,0 +1,22 @@
+-- Loans that are kept, and end together (this project's own).
+use Rattle.std.specs.Prelude.{ℕ, ◌≡◌, ◌≢◌, List, None, All, AllPairs, Contains}
+use Rattle.ata_types.specs.declared.request.Frame.{Frame}
+use Rattle.dma_frames.specs.Loan.{Lending}
+use Rattle.dma_frames.specs.Table.{Table, lent_to}
+use Rattle.server_history.specs.Server.{AreOfTwo, IsLentOut, kept_at}
+
+-- such loans end: their frames are lent to none, and nothing else changed
+pub record TakesBack (old new : Table) (Such : Lending → Type 0) : Type 0 where
+  pub owners : new.owners ≡ old.owners
+  pub none : (loan : Lending) (f : Frame) → Such loan → Contains loan.frames f → lent_to new f ≡ None
+  pub others : (f : Frame) → ((loan : Lending) → Such loan → Contains loan.frames f → ⊥) → lent_to new f ≡ lent_to old f
+
+-- the loan is kept of some port
+abbrev pub IsKeptIn : List (List Lending) → Lending → Type 0
+IsKeptIn kept loan = (port : ℕ) × Contains (kept_at kept port) loan
+
+-- The frames of each loan are lent to its request, and no two loans are of one request: so they may be given back, one after another.
+pub record MayGoBack (table : Table) (kept : List (List Lending)) : Type 0 where
+  pub lent : (port : ℕ) → All (IsLentOut table) (kept_at kept port)
+  pub two : (port : ℕ) → AllPairs AreOfTwo (kept_at kept port)
+  pub apart : (port other : ℕ) (a b : Lending) → port ≢ other → Contains (kept_at kept port) a → Contains (kept_at kept other) b → AreOfTwo a b
