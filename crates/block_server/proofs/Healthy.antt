@@ -15,7 +15,7 @@ use Rattle.adapter.specs.declared.access.DeviceStep.{DeviceStep}
 use Rattle.adapter.specs.declared.tape.Entry.{Entry}
 use Rattle.agreement.specs.Facts.{IsDisturbance, RunsWell, Undisturbed}
 use Rattle.agreement.specs.Slots.{ServesRequest}
-use Rattle.block_machine.specs.Events.{Ask, Submit as AskSubmit, StoreAt, Service as AskService, State as AskState, Device as AskDevice, Tick, Reset, EveryReadHolds, HeedsAt, IsHung, IsRun, moment_after, steps_of}
+use Rattle.block_machine.specs.Events.{Ask, Service as AskService, Tick, Reset, EveryReadHolds, HeedsAt, IsHung, IsRun, moment_after, steps_of}
 use Rattle.block_machine.specs.Histories.{Happening, Instant, events_of, now}
 use Rattle.block_machine.specs.Ports.{AreFit, Ports}
 use Rattle.block_machine.specs.State.{Pending}
@@ -35,7 +35,7 @@ use Rattle.server_history.specs.Histories.{Leads}
 use Rattle.server_history.specs.Server.{is_served, ports_of, state_of}
 use Rattle.block_server.specs.Healthy.{EachSince, IsServedWell, IsSound, ServesHealthyPorts, none, one_more}
 use Rattle.block_server.specs.Made.{IsNew}
-use Rattle.block_server.specs.Running.{AddEach, Ran, ask_of}
+use Rattle.block_server.specs.Running.{AddEach, Ran}
 use Rattle.block_server.specs.View.{ServerView, server_of}
 use Rattle.block_server.specs.declared.types.Event.{Event}
 use Rattle.block_server.specs.declared.types.Event.TheVariants as calls
@@ -69,17 +69,6 @@ pub record HistoryLaws : Type 0 where
 abbrev pub ReadyRunWell : Type 0
 ReadyRunWell = (wanted : List Wanted) (host : Host) (port : ℕ) (info : DiskInfo) (old new : Device) → IsIdle old → TakesOver wanted host old new
     → found_of host.ports port ≡ IsFound info → Undisturbed port old new → RunsWell (new.port port)
-
--- ---- lists of calls are no resets
-
-no_reset : (event : Event) → ask_of event ≢ Reset
-no_reset (calls.Submit r) e = let z : AskSubmit r ≡ Reset = e in absurd cc
-no_reset (calls.ClientStore client frame offset bytes) e = let z : StoreAt client frame offset bytes.items ≡ Reset = e in absurd cc
-no_reset (calls.ClientLoad client frame offset n) e = let z : ask_of (calls.ClientLoad client frame offset n) ≡ Reset = e in absurd cc
-no_reset calls.Service e = let z : AskService ≡ Reset = e in absurd cc
-no_reset calls.Tick e = let z : Tick ≡ Reset = e in absurd cc
-no_reset (calls.State port) e = let z : AskState port ≡ Reset = e in absurd cc
-no_reset (calls.Device step) e = let z : AskDevice step ≡ Reset = e in absurd cc
 
 -- ---- calls since an earlier part
 
@@ -150,7 +139,7 @@ module _ (laws : HistoryLaws) where
       (record {
         moves = laws.moves wanted first past h history;
         served = λ port healthy. served_well wanted first past h port history healthy;
-        part = λ port. (history.2.accesses, history.2.came, history.2.port port);
+        part = λ port. (history.2.accesses, history.2.came, history.2.evidenced.port port, history.2.port port);
         seen = λ port slot id asks ready serves clear inactive. laws.seen wanted first past h port slot id history asks ready serves clear inactive;
         heeded = λ port asks ready failure. laws.heeded wanted first past h port history asks ready failure;
       })
@@ -187,10 +176,10 @@ module _ (laws : HistoryLaws) where
         (further.0 ++ h ∷ [], further.1 ∙ sym (append_assoc further.0 (h ∷ []) past))
 
     module _ (port : Port) where
-      -- no call since an earlier part is a tick that finds a request of the port so old that it is restarted
-      abbrev Young : List (Happening Device DeviceStep) → List (Happening Device DeviceStep) → Type 0
-      Young past later = (after since : List (Happening Device DeviceStep)) (h : Happening Device DeviceStep) → later ≡ after ++ h ∷ (since ++ past)
-          → h.event.ask ≡ Tick → IsHung (now first (since ++ past)).moment port → ⊥
+      -- no call since an earlier part is a reset, nor a tick that finds a request of the port so old that it is restarted
+      abbrev Spares : List (Happening Device DeviceStep) → List (Happening Device DeviceStep) → Type 0
+      Spares past later = (after since : List (Happening Device DeviceStep)) (h : Happening Device DeviceStep) → later ≡ after ++ h ∷ (since ++ past)
+          → (h.event.ask ≢ Reset) × (h.event.ask ≡ Tick → IsHung (now first (since ++ past)).moment port → ⊥)
 
       abbrev Served : List (Happening Device DeviceStep) → List (Happening Device DeviceStep) → ServerView A → Type 0
       Served past later new = EachSince (λ before h. IsServedWell port (now first before) h) past later
@@ -198,13 +187,13 @@ module _ (laws : HistoryLaws) where
 
       healthy : (past later : List (Happening Device DeviceStep)) (old new : ServerView A) (events : List Event) (said : List Said)
           → AddEach device first past old events said later new → Leads first past (server_of device old)
-          → state_of (found_of old.ports port.0) ≡ Ready → StaysHealthy port.0 (device old.adapter) (device new.adapter) → Young past later → Served past later new
-      healthy past later old new [] [] adds leads ready stays young =
+          → state_of (found_of old.ports port.0) ≡ Ready → StaysHealthy port.0 (device old.adapter) (device new.adapter) → Spares past later → Served past later new
+      healthy past later old new [] [] adds leads ready stays spared =
           subst (λ (l : List (Happening Device DeviceStep)). Served past l new) (sym adds.0)
           (subst (Served past past) (sym adds.1) (none, ready, stays.well))
-      healthy past later old new [] (one ∷ more) adds leads ready stays young = absurd adds
-      healthy past later old new (event ∷ events) [] adds leads ready stays young = absurd adds
-      healthy past later old new (event ∷ events) (one ∷ more) (mid, h, its, ask_is, said_is, here, rest) leads ready stays young =
+      healthy past later old new [] (one ∷ more) adds leads ready stays spared = absurd adds
+      healthy past later old new (event ∷ events) [] adds leads ready stays spared = absurd adds
+      healthy past later old new (event ∷ events) (one ∷ more) (mid, h, its, ask_is, said_is, here, rest) leads ready stays spared =
           let tape = call_grows past old mid h leads here in
           let further = grows (h ∷ past) later mid new events more rest here in
           let u = parts port.0 (device old.adapter) (device mid.adapter) (device new.adapter) tape.0 further.0 tape.1 further.1 stays.undisturbed in
@@ -215,15 +204,15 @@ module _ (laws : HistoryLaws) where
           let served = served_well mid.wanted first past h port here.history (record {
             ready = is_ready;
             healthy = stays_in;
-            no_reset = λ e. no_reset event (sym ask_is ∙ e);
-            young = (let more = goes_further (h ∷ past) later mid new events more rest in young more.0 [] h more.1);
+            no_reset = (let more = goes_further (h ∷ past) later mid new events more rest in (spared more.0 [] h more.1).0);
+            young = (let more = goes_further (h ∷ past) later mid new events more rest in (spared more.0 [] h more.1).1);
           }) in
           let runs_on : RunsWell ((device mid.adapter).port port.0) = subst (λ (d : Device). RunsWell (d.port port.0)) here.stands.device_is served.0.well in
           let stays_ready : state_of (found_of mid.ports port.0) ≡ Ready =
           ap (λ (p : Ports). p.state port) (sym here.stands.ports_are) ∙ served.1.same.1 ∙ is_ready in
           let others = healthy (h ∷ past) later mid new events more rest here stays_ready (record { well = runs_on; undisturbed = u.after })
-          (λ after since k. subst (λ (l : List (Happening Device DeviceStep)). later ≡ after ++ k ∷ l → k.event.ask ≡ Tick → IsHung (now first l).moment port → ⊥)
-          (append_assoc since (h ∷ []) past) (young after (since ++ h ∷ []) k)) in
+          (λ after since k. subst (λ (l : List (Happening Device DeviceStep)). later ≡ after ++ k ∷ l → (k.event.ask ≢ Reset) × (k.event.ask ≡ Tick → IsHung (now first l).moment port → ⊥))
+          (append_assoc since (h ∷ []) past) (spared after (since ++ h ∷ []) k)) in
           (since_before h others.0 served, others.1, others.2)
 
     pub serves_healthy : (past : List (Happening Device DeviceStep)) (old new : ServerView A) (events : List Event) (said : List Said)
@@ -237,7 +226,7 @@ module _ (laws : HistoryLaws) where
           run = laws.run new.wanted first x.0 x.2.history;
           reads = laws.reads new.wanted first x.0 x.2.history;
           sound = all_sound new.wanted first x.0 x.2.history;
-          healthy = λ port ready stays young. healthy port past x.0 old new events said x.1 leads ready stays (λ after since h. since_has young after since h);
+          healthy = λ port ready stays spared. healthy port past x.0 old new events said x.1 leads ready stays (λ after since h. since_has spared after since h);
         }
 
 -- ---- a server as it is made

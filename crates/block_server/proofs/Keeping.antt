@@ -10,7 +10,7 @@ use Rattle.ata_types.specs.declared.request.Frame.{Frame}
 use Rattle.ata_types.specs.declared.request.RequestId.{RequestId}
 use Rattle.dma_frames.specs.Loan.{Lending}
 use Rattle.dma_frames.specs.Table.{LendsOnly, Table, lent_to}
-use Rattle.block_server.specs.Kept.{IsKeptIn, MayGoBack, TakesBack}
+use Rattle.server_history.specs.Kept.{IsKeptIn, MayGoBack, TakesBack}
 use Rattle.request_queue.specs.Entries.{GivesBack, Held, Stands}
 use Rattle.server_history.specs.Server.{AreOfTwo, IsLentOut, Server, kept_at}
 

@@ -12,6 +12,8 @@ mod Sending
 pub mod Healthy
 pub mod Keeping
 pub mod Settling
+pub mod Standing
+pub mod Reviving
 pub mod Mending
 pub mod Lent
 pub mod Restoring

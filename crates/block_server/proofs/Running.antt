@@ -8,7 +8,10 @@ use Rattle.block_machine.specs.Events.{State, Shown}
 use Rattle.block_server.specs.Running.{AddEach, Answered, Answers, Ran, ask_of, said_of}
 use Rattle.block_server.specs.View.{ServerView, server_of}
 use Rattle.block_machine.specs.Histories.{Happening, Instant}
-use Rattle.server_history.specs.Histories.{Adds, Leads}
+use Rattle.server_history.specs.Histories.{Adds, AddsEvent, Leads}
+use Rattle.server_history.specs.Stalled.{IsStalled}
+use Rattle.block_server.specs.Resetting.{HoldsBy}
+use Rattle.block_server.proofs.Standing.{holds_either}
 use Rattle.host_boot.specs.Taken.{found_of}
 use Rattle.server_history.specs.Server.{Server, IsSettled, ports_of, state_of}
 use Rattle.block_server.specs.declared.types.Event.{Event}
@@ -35,7 +38,7 @@ module _ {A : Type 0} (device : A → Device) where
   run_adds old new [] (one ∷ more) first past ran leads = absurd ran
   run_adds old new (event ∷ events) [] first past ran leads = absurd ran
   run_adds old new (event ∷ events) (one ∷ more) first past (mid, answered, rest) leads =
-      let y = answered.adds.adds first past leads in
+      let y = answered.adds first past leads in
       let x = run_adds mid new events more first (y.0 ∷ past) rest y.3 in
       (x.0, (mid, y.0, answered.answers, y.1, y.2, y.3, x.1), x.2)
 
@@ -52,7 +55,10 @@ module _ {A : Type 0} (device : A → Device) where
       (between, x, its, ask_is, said_is, here, add_more between mid new events said first (x ∷ past) later event one h rest answers asked told leads)
 
   -- a look at a port's state, where the state itself adds an event
-  pub shown_adds : ((s : Server) (port : Port) → IsSettled s → Adds s s (State port) (Shown ((ports_of s).state port))) → (s : ServerView A) (port : Port) (state : PortState)
-      → IsSettled (server_of device s) → state ≡ state_of (found_of s.ports port.0) → Adds (server_of device s) (server_of device s) (State port) (Shown state)
-  shown_adds adds s port state k is =
-      subst (λ (x : PortState). Adds (server_of device s) (server_of device s) (State port) (Shown x)) (sym is) (adds (server_of device s) port k)
+  pub shown_adds : ((s : Server) (port : Port) → IsSettled s → Adds s s (State port) (Shown ((ports_of s).state port)))
+      → ((s : Server) (port : Port) → IsStalled s → AddsEvent s s (State port) (Shown ((ports_of s).state port))) → (s v : ServerView A) → s ≡ v → (port : Port) (state : PortState)
+      → HoldsBy s.stuck (server_of device s) → state ≡ state_of (found_of v.ports port.0) → AddsEvent (server_of device v) (server_of device v) (State port) (Shown state)
+  shown_adds adds stalled s v is_view port state k is =
+      let P : ServerView A → Type 0 = λ x. AddsEvent (server_of device x) (server_of device x) (State port) (Shown ((ports_of (server_of device x)).state port)) in
+      subst (λ (x : PortState). AddsEvent (server_of device v) (server_of device v) (State port) (Shown x)) (sym is)
+      (subst P is_view (holds_either s.stuck k (λ _ settled. (adds (server_of device s) port settled).adds) (λ _ off. stalled (server_of device s) port off)))

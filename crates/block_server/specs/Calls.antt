@@ -20,11 +20,13 @@ use Rattle.block_machine.specs.Refusals.{IsAcceptable, IsFirstRefusal, IsOpen, I
 use Rattle.block_machine.specs.Rules.{IsNamed}
 use Rattle.block_server.specs.View.{ServerView, server_of}
 use Rattle.dma_frames.specs.Table.{owner_of, lent_to}
+use Rattle.host_boot.specs.declared.Found.{Found}
 use Rattle.block_machine.specs.Due.{due_of}
 use Rattle.request_queue.specs.Entries.{asks_of}
 use Rattle.server_history.specs.Served.{Accepts, accepting}
-use Rattle.server_history.specs.Turns.{ServePorts}
-use Rattle.server_history.specs.Server.{mode_in, situation_of}
+use Rattle.server_history.specs.Turns.{ServePorts, Ticks}
+use Rattle.server_history.specs.Resets.{SettlePorts}
+use Rattle.server_history.specs.Server.{Server, mode_in, situation_of}
 
 -- only the adapter is another
 abbrev pub SameServer : {A : Type 0} → ServerView A → ServerView A → Type 0
@@ -34,11 +36,12 @@ SameServer old new = new ≡ record old { adapter = new.adapter }
 abbrev pub IsFor : List GrantRow → Request → Port → Type 0
 IsFor rows r port = (row : GrantRow) × IsNamed rows r row × (row.port ≡ port)
 
--- The request is acceptable, and was accepted, on its row's port; then what is due there was issued. Where nothing was, no access was made.
+-- The request is acceptable, and was accepted, on its row's port; then what is due there was issued. Where nothing was, no access was made. The adapter is on, as before.
 pub record AcceptsRequest {A : Type 0} (device : A → Device) (old new : ServerView A) (r : Request) (id : RequestId) : Type 0 where
   pub acceptable : IsAcceptable (situation_of (server_of device old)) r
   pub port : Port
   pub accepts : Accepts port r id (server_of device old) (server_of device new)
+  pub stuck : new.stuck ≡ old.stuck
   pub same : due_of (mode_in (server_of device old) port) port (asks_of (accepting port r id accepts.table (server_of device old)).book) ≡ [] → new.adapter ≡ old.adapter
 
 -- A refused request is told the first cause that applies, and changes nothing: neither server nor adapter.
@@ -46,9 +49,24 @@ abbrev pub Submits : {A : Type 0} → (A → Device) → ServerView A → Server
 Submits device old new r (Ok id) = AcceptsRequest device old new r id
 Submits device old new r (Err refusal) = IsFirstRefusal (situation_of (server_of device old)) r refusal × (new ≡ old)
 
--- each ready port was served, and each other one that is served was tried, in rising number
+-- Each ready port was served, and each other one that is served was tried, in rising number. Since a reset that got stuck, all requests were told what their ports are:
+-- dead.
+abbrev pub ServicesBy : Bool → List Found → List Reply → Server → Server → Type 0
+ServicesBy false ports replies old new = ServePorts 0 ports replies old new
+ServicesBy true ports replies old new = SettlePorts 0 ports replies old new
+
+-- So a service does; it doesn't end a reset.
 abbrev pub Services : {A : Type 0} → (A → Device) → ServerView A → ServerView A → List Reply → Type 0
-Services device old new replies = ServePorts 0 old.ports replies (server_of device old) (server_of device new)
+Services device old new replies = ServicesBy old.stuck old.ports replies (server_of device old) (server_of device new) × (new.stuck ≡ old.stuck)
+
+-- Requests got older, and ready ports had their turns. Since a reset that got stuck there is none that is ready: nothing changed.
+abbrev pub TicksBy : Bool → List Reply → Server → Server → Type 0
+TicksBy false replies old new = Ticks replies old new
+TicksBy true replies old new = (replies ≡ []) × (new ≡ old)
+
+-- So a tick does; it doesn't end a reset either.
+abbrev pub TicksServer : {A : Type 0} → (A → Device) → ServerView A → ServerView A → List Reply → Type 0
+TicksServer device old new replies = TicksBy old.stuck replies (server_of device old) (server_of device new) × (new.stuck ≡ old.stuck)
 
 -- A refused load is told the first cause that applies, and changes nothing, the buffer neither. Another brings the frame's
 -- bytes and changes nothing of the server but what the device does meanwhile.

@@ -1,5 +1,5 @@
 -- Lists of calls, on ports where nothing goes wrong, and on ports where commands fail or fatal errors come (this project's own).
-use Rattle.std.specs.Prelude.{ℕ, true, false, ◌≡◌, List, [], ◌∷◌, Contains}
+use Rattle.std.specs.Prelude.{ℕ, true, false, ◌≡◌, ◌≢◌, List, [], ◌∷◌, Contains}
 use Rattle.ata_types.specs.declared.Port.{Port}
 use Rattle.ata_types.specs.declared.PortState.TheVariants.{Ready}
 use Rattle.ata_types.specs.declared.request.Outcome.{Outcome}
@@ -10,13 +10,13 @@ use Rattle.adapter.specs.Device.{Device}
 use Rattle.adapter.specs.declared.access.DeviceStep.{DeviceStep}
 use Rattle.agreement.specs.Facts.{RunsWell}
 use Rattle.agreement.specs.Slots.{ServesRequest}
-use Rattle.block_machine.specs.Events.{Event as Call, Moment, Service, Tick, AnswersEnded, EveryReadHolds, IsHung, IsRun, WasIssued, moment_after, steps_of}
+use Rattle.block_machine.specs.Events.{Event as Call, Moment, Reset, Service, Tick, AnswersEnded, EveryReadHolds, IsHung, IsRun, WasIssued, moment_after, steps_of}
 use Rattle.block_machine.specs.Histories.{Happening, Instant, events_of, now}
 use Rattle.block_machine.specs.Ports.{SamePort}
 use Rattle.block_machine.specs.State.{Pending}
 use Rattle.block_machine.specs.Steps.{Answer, AllTouched}
 use Rattle.driver_history.specs.Claims.{GoesWellFor, HeedsFailure, IsHealthyFor}
-use Rattle.driver_history.specs.Evidence.{ShowsFailure, StaysHealthy}
+use Rattle.driver_history.specs.Evidence.{IsEvidencedOf, ShowsFailure, StaysHealthy}
 use Rattle.driver_history.specs.Histories.{CameBy, Issues, TiesPort}
 use Rattle.driver_history.specs.Moves.{KeepsMoves}
 use Rattle.host_boot.specs.Taken.{found_of}
@@ -49,10 +49,12 @@ pub record ServesClientsOf (port : Port) (old : Moment) (call : Call DeviceStep)
 abbrev pub IsServedWell : Port → Instant Device → Happening Device DeviceStep → Type 0
 IsServedWell port old h = GoesWellFor old h port × ServesClientsOf port old.moment h.event
 
--- By the accesses that the call made it has done of the port what a call owes (TiesPort of driver_history).
+-- By the accesses that the call made it has done of the port what a call owes (TiesPort of driver_history), and what it names of the port in its
+-- evidence is so.
 abbrev pub DoesItsPart : Port → Instant Device → Happening Device DeviceStep → Type 0
 DoesItsPart port old h =
-    (accesses : List Access) × CameBy old.moment h.event.ask h.event.said accesses old.device h.device × TiesPort old h accesses port
+    (accesses : List Access) × CameBy old.moment h.event.ask h.event.said accesses old.device h.device
+    × IsEvidencedOf h.event.ask h.event.said accesses old h.event.ports h.device h.event.evidence port × TiesPort old h accesses port
 
 -- In a call after these ones, moves and clears keep to their places; and each port is served well that the call is healthy for. On each port the call does its part,
 -- whether or not it is ready, commands fail, fatal errors come, or its disk is lost; and a service answers each request of a port that is ready when it begins of which
@@ -73,8 +75,8 @@ pub record IsSound (first : Instant Device) (past : List (Happening Device Devic
 -- said, and what is so longer leads to the server after it. All calls together are a run of the block machine (so replies stand in the
 -- order of port and id), each read that was answered Ok has what was left where the adapter's disks tell their sectors, and each call is
 -- sound. And a port that is ready and runs well before the list, and on which nothing goes wrong until its end (no fault, no fatal error, no
--- disk that goes or comes), is served well by each of its calls, and is ready and runs well after it, unless one of them is a tick that brings a request of the port to
--- its age of three: that restarts the port, since nothing else tells that a request hangs.
+-- disk that goes or comes), is served well by each of its calls, and is ready and runs well after it, unless one of them is a reset, which boots each port, or a tick that brings a request
+-- of the port to its age of three: that restarts the port, since nothing else tells that a request hangs.
 pub record ServesHealthyPorts {A : Type 0} (device : A → Device) (first : Instant Device) (past : List (Happening Device DeviceStep))
     (old new : ServerView A) (events : List Event) (said : List Said) : Type 0 where
   pub later : List (Happening Device DeviceStep)
@@ -84,6 +86,6 @@ pub record ServesHealthyPorts {A : Type 0} (device : A → Device) (first : Inst
   pub reads : first.device.telling ≡ true → EveryReadHolds first.moment (events_of later)
   pub sound : EachSince (IsSound first) [] later
   pub healthy : (port : Port) → state_of (found_of old.ports port.0) ≡ Ready → StaysHealthy port.0 (device old.adapter) (device new.adapter)
-      → EachSince (λ before h. h.event.ask ≡ Tick → IsHung (now first before).moment port → ⊥) past later
+      → EachSince (λ before h. (h.event.ask ≢ Reset) × (h.event.ask ≡ Tick → IsHung (now first before).moment port → ⊥)) past later
       → EachSince (λ before h. IsServedWell port (now first before) h) past later
       × (state_of (found_of new.ports port.0) ≡ Ready) × RunsWell ((device new.adapter).port port.0)

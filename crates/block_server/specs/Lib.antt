@@ -1,5 +1,4 @@
 pub mod View
-pub mod Kept
 pub mod Seen
 pub mod Made
 pub mod Calls
@@ -9,3 +8,4 @@ pub mod Healthy
 pub mod Fates
 pub mod Recovery
 pub mod Trying
+pub mod Resetting

@@ -1,5 +1,5 @@
 -- A server as it is made (this project's own).
-use Rattle.std.specs.Prelude.{ℕ, ◌≡◌, ◌≤◌, ◌*◌, [], None, Some}
+use Rattle.std.specs.Prelude.{ℕ, false, ◌≡◌, ◌≤◌, ◌*◌, [], None, Some}
 use Rattle.std.specs.List.{Contains}
 use Rattle.ata_types.specs.declared.memory.TheConstants.{FRAME_BYTES}
 use Rattle.ata_types.specs.declared.request.ClientId.{ClientId}
@@ -25,7 +25,7 @@ pub record IsReadyFor (config : Config) (d : Device) : Type 0 where
   pub room : IsSound config → FRAME_BYTES * config.frames ≤ d.size
 
 -- The server has what the configuration's plan says: its grants, its owners, and the disks that it asks for. The adapter was taken over. No
--- disk is remembered but those that were found, nothing is asked, nothing lent, no loan kept, no slot used, no id handed out. It keeps what a
+-- disk is remembered but those that were found, nothing is asked, nothing lent, no loan kept, no slot used, no id handed out, and no reset got stuck. It keeps what a
 -- server keeps, and a history without calls leads to it.
 pub record IsNew {A : Type 0} (device : A → Device) (config : Config) (adapter : A) (s : ServerView A) : Type 0 where
   pub plan : PlanView
@@ -43,6 +43,7 @@ pub record IsNew {A : Type 0} (device : A → Device) (config : Config) (adapter
   pub unkept : (port : ℕ) → kept_at s.kept port ≡ []
   pub book : s.book ≡ []
   pub last : s.last ≡ 0
+  pub stuck : s.stuck ≡ false
   pub unused : (port slot : ℕ) → used_for s.slots port slot ≡ None
   pub settled : IsSettled (server_of device s)
   pub begun : HasBegun (server_of device s)

@@ -15,4 +15,5 @@ seen s = record {
   kept = s.kept;
   book = s.book;
   last = s.last;
+  stuck = s.stuck;
 }

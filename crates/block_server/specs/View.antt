@@ -1,5 +1,5 @@
 -- What contracts see of a server.
-use Rattle.std.specs.Prelude.{ℕ, List, Option}
+use Rattle.std.specs.Prelude.{ℕ, Bool, List, Option}
 use Rattle.ata_types.specs.declared.grant.GrantRow.{GrantRow}
 use Rattle.adapter.specs.Device.{Device}
 use Rattle.block_machine.specs.declared.due.Mode.{Mode}
@@ -29,6 +29,8 @@ pub record ServerView (A : Type 0) : Type 0 where
   pub book : List Held
   -- the id that was handed out last, or 0
   pub last : ℕ
+  -- whether the last reset got stuck
+  pub stuck : Bool
 
 -- what its histories see
 abbrev pub server_of : {A : Type 0} → (A → Device) → ServerView A → Server

@@ -1,4 +1,4 @@
-// What becomes of the unanswered requests of a port that was stopped.
+// What becomes of the unanswered requests of a port that was stopped, or is dead.
 ghost use Rattle.std.specs.Prelude.{ℕ, ◌≡◌, ◌≢◌, ◌≤◌, ◌+◌, ◌++◌, ◌∷◌, Contains, List, filter, length};
 ghost use Rattle.ata_types.specs.declared.request.Reply.{Reply};
 ghost use Rattle.block_server.specs.Fates.{HasPlaces, HavePlaces, IsSound, holding};

@@ -1,6 +1,6 @@
-// Loans that are kept when their requests are answered, since the device may still move their sectors.
+// Loans of a dead port that are kept when their requests are answered, until a reset ends: the device may still move their sectors.
 ghost use Rattle.std.specs.Prelude.{◌≡◌, ◌<◌, ◌++◌, ◌∷◌, [], ℕ, All, AllPairs, Contains, IfOk, length};
-ghost use Rattle.block_server.specs.Kept.{IsKeptIn, MayGoBack, TakesBack};
+ghost use Rattle.server_history.specs.Kept.{IsKeptIn, MayGoBack, TakesBack};
 ghost use Rattle.server_history.specs.Server.{AreOfTwo, IsLentOut, kept_at};
 
 use dma_frames::{FrameTable, Loan};
@@ -97,6 +97,7 @@ pub(crate) fn none_kept(alloc: Global) -> Result<[KeptLoans; PORTS], AllocError>
 pub(crate) fn give_all_back(kept: &mut [KeptLoans; PORTS], table: &mut FrameTable)
     requires { MayGoBack table.old kept.old }
     ensures empty { (port : ℕ) → kept_at kept.new port ≡ [] }
+    ensures four { length kept.new ≡ 4 }
     ensures back { TakesBack table.old table.new (IsKeptIn kept.old) }
 {
     for port in 0..PORTS {

@@ -8,10 +8,12 @@ pub mod laws;
 mod modes;
 mod port;
 mod recovery;
+mod resetting;
 mod run;
 mod server;
 mod trying;
 mod types;
 
+pub use host_boot::AdapterStuck;
 pub use server::Server;
 pub use types::{Event, RunStopped, Said, ServerError, Told};

@@ -194,7 +194,7 @@ pub(crate) fn find_after<A: Adapter>(
 }
 
 /// Whether a disk is the one that was there: it has the same serial number, and as many sectors.
-fn is_same_disk(was: &DiskInfo, info: &DiskInfo) -> bool
+pub(crate) fn is_same_disk(was: &DiskInfo, info: &DiskInfo) -> bool
     ensures { IsTrue result ↔ IsSameDisk was.now info.now }
 {
     info.serial == was.serial && info.sectors == was.sectors

@@ -15,7 +15,7 @@ impl<A: Adapter> Server<A> {
     ghost use Rattle.block_machine.specs.Events.{LoadAt};
     ghost use Rattle.block_server.specs.Running.{TellsBytes, RefusesBytes, said_of};
     ghost use Rattle.block_server.specs.View.{server_of};
-    ghost use Rattle.server_history.specs.Histories.{Adds};
+    ghost use Rattle.server_history.specs.Histories.{AddsEvent};
 
     /// At most 64 bytes of a frame. A function of its own, since its caller's frame would have room for them else.
     #[inline(never)]
@@ -28,7 +28,7 @@ impl<A: Adapter> Server<A> {
     ) -> Result<ArrayVec<u8, 64>, MemFault>
         ensures ok { IfOk result (λ bytes. TellsBytes A.device self.old self.new client frame offset (min count 64) bytes.items) }
         ensures err { IfErr result (RefusesBytes self.old self.new client frame offset (min count 64)) }
-        ensures adds { Adds (server_of A.device self.old) (server_of A.device self.new) (LoadAt client frame offset (min count 64)) (said_of (Said.Loaded result)) }
+        ensures adds { AddsEvent (server_of A.device self.old) (server_of A.device self.new) (LoadAt client frame offset (min count 64)) (said_of (Said.Loaded result)) }
     {
         let mut buffer = [0; FEW];
         let part = &mut buffer[..(count as usize).min(FEW)];
@@ -39,7 +39,7 @@ impl<A: Adapter> Server<A> {
     }
 }
 
-/// What a call said, with what a service or a tick answered.
+/// What a call said, with what a service, a tick or a reset answered.
 fn said_with(told: Told, replies: Replies) -> Said
     ensures { result ≡ with_replies told replies.items }
 {
@@ -48,6 +48,8 @@ fn said_with(told: Told, replies: Replies) -> Said
         Told::Stored(result) => Said::Stored(result),
         Told::Loaded(result) => Said::Loaded(result),
         Told::Served => Said::Served(replies),
+        Told::WasReset(Ok(())) => Said::WasReset(Ok(replies)),
+        Told::WasReset(Err(stuck)) => Said::WasReset(Err(stuck)),
         Told::State(state) => Said::State(state),
         Told::Stepped(done) => Said::Stepped(done),
     }
@@ -56,7 +58,7 @@ fn said_with(told: Told, replies: Replies) -> Said
 impl<A: Stepped> Server<A> {
     ghost use Rattle.block_server.specs.Running.{Answered, RanInto};
 
-    /// Makes the call. What a service or a tick answered is all that `replies` has then; another call leaves it.
+    /// Makes the call. What a service, a tick or a reset answered is all that `replies` has then; another call leaves it.
     pub fn answer(&mut self, event: &Event, replies: &mut Replies) -> Told
         ensures { Answered A.device event.now (with_replies result replies.new.items) self.old self.new }
     {
@@ -82,6 +84,7 @@ impl<A: Stepped> Server<A> {
                 self.tick_into(replies);
                 Told::Served
             }
+            Event::Reset => Told::WasReset(self.reset_into(replies)),
             Event::State(port) => Told::State(self.state(*port)),
             Event::Device(step) => Told::Stepped(self.device(step)),
         }

@@ -1,5 +1,5 @@
 // The server.
-ghost use Rattle.std.specs.Prelude.{◌≡◌, ◌≢◌, false, ◌<◌, ◌≤◌, ◌+◌, ◌↔◌, ◌*◌, ◌++◌, List, ℕ, IsTrue, IfOk, IfErr, OnOk, MatchOption, Ok, length, map, option_map, slice_index_or, true};
+ghost use Rattle.std.specs.Prelude.{[], ◌≡◌, ◌≢◌, false, ◌<◌, ◌≤◌, ◌+◌, ◌↔◌, ◌*◌, ◌++◌, List, ℕ, IsTrue, IfOk, IfErr, OnOk, MatchOption, Ok, length, map, option_map, slice_index_or, true};
 
 use crate::ServerError;
 use crate::answering::answer_done;
@@ -8,6 +8,7 @@ use crate::kept::{KeptLoans, end_all, give_all_back, none_kept};
 use crate::modes::{PLAIN, modes_of, ready_ports, unused_slots};
 use crate::port::{issue_due, issue_where_ready};
 use crate::recovery::{find_after, mend_rest, order_from, prospect_of, trouble_of};
+use crate::resetting::{disks_of, issue_ports, settle_ports, stuck_ports};
 use crate::trying::{find_anew, finds_news};
 use adapter::{Adapter, DeviceStep, Stepped};
 use ata_types::{
@@ -18,7 +19,7 @@ use block_machine::Mode;
 use configuration::Config;
 use dma_frames::FrameTable;
 use grants::{Grants, decide};
-use host_boot::{Found, PORTS, take_over};
+use host_boot::{AdapterStuck, Found, PORTS, reset, take_over};
 use identify::{DiskInfo, Wanted};
 use ncq::done;
 use plan::Plan;
@@ -29,8 +30,13 @@ use server_history::Trouble;
 use server_history::laws::{
     a_finished_port_settles, a_hung_port_is_restarted, a_mended_port_goes_on,
     a_new_server_has_begun, a_port_is_served, acceptances_add, an_unready_port_is_tried,
-    client_bytes_add, device_steps_add, kept_loans_are_lent, looks_keep, open_bytes_are_free,
-    refusals_add, requests_get_older, requests_keep, services_add, ticks_add,
+    client_bytes_add, device_steps_add, looks_keep, open_bytes_are_free, refusals_add,
+    requests_get_older, requests_keep, services_add, ticks_add,
+};
+use server_history::resets::{a_reset_server_goes_on, resets_add};
+use server_history::stalled::{
+    a_server_is_booked, booked_loans_are_lent, stalled_bytes_add, stalled_device_steps_add,
+    stalled_refusals_add, stalled_services_add, stalled_ticks_add, stuck_resets_add,
 };
 use slots::Slots;
 use std::alloc::Global;
@@ -47,26 +53,28 @@ pub struct Server<A: Adapter> {
     table: Box<FrameTable>,
     wanted: [Wanted; PORTS],
     ports: [Found; PORTS],
-    /// Of a port that isn't ready, or was mended, the disk that it was ready with before, if it ever was.
+    /// Of a port that isn't ready, or was mended, or whose adapter was reset, the disk that it was ready with before, if it ever was.
     remembered: [Option<DiskInfo>; PORTS],
     modes: [Mode; PORTS],
     slots: [Slots; PORTS],
-    /// Of a dead port, the loans of requests that were answered, but whose sectors the device may still move.
+    /// Of a dead port, the loans of requests that were issued, and then answered: until a reset ends, since the device may still move their sectors.
     kept: [KeptLoans; PORTS],
     book: Book,
     last: u64,
+    /// Whether the last reset got stuck: the adapter isn't on, each port that is served is dead, and requests may wait to be told so.
+    stuck: bool,
 }
 
 impl<A: Adapter> Model for Server<A> {
     ghost use Rattle.block_server.specs.Seen.{seen};
+    ghost use Rattle.block_server.specs.Resetting.{HoldsBy};
     ghost use Rattle.block_server.specs.View.{ServerView, server_of};
-    ghost use Rattle.server_history.specs.Server.{IsSettled};
 
     ghost Value = { ServerView A };
 
     ghost view = { seen };
 
-    ghost invariant = { λ s. IsSettled (server_of A.device (seen s)) };
+    ghost invariant = { λ s. HoldsBy s.stuck (server_of A.device (seen s)) };
 }
 
 /// Whether sectors of a request leave a disk of so many. A flush has none.
@@ -78,20 +86,21 @@ fn leaves_disk(r: &Request, sectors: u64) -> bool
 }
 
 impl<A: Adapter> Server<A> {
-    ghost use Rattle.block_machine.specs.Events.{Service, Served, Submit, Submitted, StoreAt, LoadAt, State, Shown, Tick};
+    ghost use Rattle.block_machine.specs.Events.{Reset, Service, Served, Submit, Submitted, StoreAt, LoadAt, State, Shown, Tick, WasReset};
     ghost use Rattle.block_machine.specs.Refusals.{IsAcceptable, IsFirstRefusal, IsOpen, IsFirstMemFault};
-    ghost use Rattle.block_server.specs.Calls.{AcceptsRequest, IsFor, Submits, Services, StoresFrame, LoadsFrame};
+    ghost use Rattle.block_server.specs.Calls.{AcceptsRequest, IsFor, Submits, Services, StoresFrame, LoadsFrame, TicksServer};
     ghost use Rattle.block_server.specs.Made.{IsReadyFor, IsNew, Refuses};
     ghost use Rattle.block_server.specs.View.{server_of};
     ghost use Rattle.configuration.specs.Rules.{IsSound};
     ghost use Rattle.dma_frames.specs.Table.{owner_of, lent_to};
     ghost use Rattle.host_boot.specs.Taken.{found_of};
     ghost use Rattle.request_queue.specs.Entries.{Held, IsOverdue};
-    ghost use Rattle.server_history.specs.Histories.{Adds, store_said, load_said};
+    ghost use Rattle.server_history.specs.Histories.{AddsEvent, store_said, load_said};
     ghost use Rattle.ata_types.specs.declared.request.Reply.{Reply};
     ghost use Rattle.server_history.specs.Served.{AnswersDone};
-    ghost use Rattle.server_history.specs.Turns.{ServesPort, Ticks, TicksPort, TriesOther, a_tick_older};
+    ghost use Rattle.server_history.specs.Turns.{ServesPort, TicksPort, TriesOther, a_tick_older};
     ghost use Rattle.block_server.specs.Recovery.{MendsOf, SeesTrouble};
+    ghost use Rattle.block_server.specs.Resetting.{DoesReset, reset_said};
     ghost use Rattle.adapter.specs.Device.{Device};
     ghost use Rattle.server_history.specs.Server.{IsSettled, disk_of, mode_at, remembered_at, situation_of, state_of, sectors_of, trims_of};
     ghost use Rattle.hba_regs.specs.Bits.{bit};
@@ -145,6 +154,7 @@ impl<A: Adapter> Server<A> {
             kept,
             book,
             last: 0,
+            stuck: false,
         })
     }
 
@@ -178,9 +188,10 @@ impl<A: Adapter> Server<A> {
     /// What a port is to its clients. One that isn't served is `Absent`.
     pub fn state(&self, port: Port) -> PortState
         ensures state { result ≡ state_of (found_of self.now.ports port.0) }
-        ensures adds { Adds (server_of A.device self.now) (server_of A.device self.now) (State port) (Shown result) }
+        ensures adds { AddsEvent (server_of A.device self.now) (server_of A.device self.now) (State port) (Shown result) }
     {
         refusals_add();
+        stalled_refusals_add();
         let _ = &self.adapter;
         match self.found(port) {
             Found::Unserved => PortState::Absent,
@@ -257,10 +268,12 @@ impl<A: Adapter> Server<A> {
 
     /// Puts the request last into the book, lends it its frames, and issues what is due on its port then.
     fn accept(&mut self, r: &Request, port: Port) -> RequestId
+        requires on { self.old.stuck ≡ false }
         requires acceptable { IsAcceptable (situation_of (server_of A.device self.old)) r.now }
         requires port { IsFor self.old.grants r.now port }
+        ensures on { self.new.stuck ≡ false }
         ensures accepts { AcceptsRequest A.device self.old self.new r.now result }
-        ensures adds { Adds (server_of A.device self.old) (server_of A.device self.new) (Submit r.now) (Submitted (Ok result)) }
+        ensures adds { AddsEvent (server_of A.device self.old) (server_of A.device self.new) (Submit r.now) (Submitted (Ok result)) }
     {
         requests_keep();
         acceptances_add();
@@ -292,9 +305,10 @@ impl<A: Adapter> Server<A> {
     /// frames are lent until then. Where refusals apply, the first of them is told, and nothing changes.
     pub fn submit(&mut self, r: &Request) -> Result<RequestId, Refusal>
         ensures submits { Submits A.device self.old self.new r.now result }
-        ensures adds { Adds (server_of A.device self.old) (server_of A.device self.new) (Submit r.now) (Submitted result) }
+        ensures adds { AddsEvent (server_of A.device self.old) (server_of A.device self.new) (Submit r.now) (Submitted result) }
     {
         refusals_add();
+        stalled_refusals_add();
         let _ = &self.adapter;
         let port = self.admit(r)?;
         Ok(self.accept(r, port))
@@ -303,9 +317,11 @@ impl<A: Adapter> Server<A> {
     /// Answers the requests of a ready port whose slots were found done, in order of acceptance: their frames are given back. Then what is due
     /// on the port is issued.
     fn finish(&mut self, port: Port, done: u32, replies: &mut Replies)
+        requires on { self.old.stuck ≡ false }
         requires ready { state_of (found_of self.old.ports port.0) ≡ Ready }
         requires over { (slot : ℕ) → slot < 32 → bit done slot ≡ true → IsOver ((A.device self.old.adapter).port port.0) slot }
         requires room { length replies.old.items + length self.old.book ≤ 128 }
+        ensures on { self.new.stuck ≡ false }
         ensures finishes { (its : List Reply) × (replies.new.items ≡ replies.old.items ++ its)
             × AnswersDone port done its (server_of A.device self.old) (server_of A.device self.new) }
         ensures settled { IsSettled (server_of A.device self.new) }
@@ -324,10 +340,12 @@ impl<A: Adapter> Server<A> {
     /// others wait again where their disk is there still, and are `Aborted` after the fourth issue; where it isn't they are `Unplugged`, and where the port is
     /// dead `PortDead`. Then what is due is issued.
     fn mend_port(&mut self, port: Port, was: DiskInfo, trouble: Trouble, replies: &mut Replies)
+        requires on { self.old.stuck ≡ false }
         requires ready { found_of self.old.ports port.0 ≡ Found.Ready was }
         requires sees { (before : Device) × SeesTrouble (record (server_of A.device self.old) { device = before }) port trouble (A.device self.old.adapter)
             × IsSettled (record (server_of A.device self.old) { device = before }) }
         requires room { length replies.old.items + length self.old.book ≤ 128 }
+        ensures on { self.new.stuck ≡ false }
         ensures mends { (before : Device) → SeesTrouble (record (server_of A.device self.old) { device = before }) port trouble (A.device self.old.adapter)
             → IsSettled (record (server_of A.device self.old) { device = before })
             → (its : List Reply) × (replies.new.items ≡ replies.old.items ++ its)
@@ -377,8 +395,10 @@ impl<A: Adapter> Server<A> {
     /// Looks at a ready port. Where commands of what it has issued are done, those requests are answered, and then what is due is issued. Where
     /// the look tells trouble, the port is mended.
     fn serve_port(&mut self, port: Port, replies: &mut Replies)
+        requires on { self.old.stuck ≡ false }
         requires ready { state_of (found_of self.old.ports port.0) ≡ Ready }
         requires room { length replies.old.items + length self.old.book ≤ 128 }
+        ensures on { self.new.stuck ≡ false }
         ensures serves { (its : List Reply) × (replies.new.items ≡ replies.old.items ++ its)
             × ServesPort port its (server_of A.device self.old) (server_of A.device self.new) }
         ensures settled { IsSettled (server_of A.device self.new) }
@@ -407,7 +427,9 @@ impl<A: Adapter> Server<A> {
     /// Looks at a port that isn't ready. Where an absent one shows a device, or one whose disk isn't served shows that it is another by now, or gone, the port is
     /// given up and booted. Nobody waits for it, so that nobody is answered. A dead port isn't looked at.
     fn try_port(&mut self, port: Port, state: PortState)
+        requires on { self.old.stuck ≡ false }
         requires unready { found_of self.old.ports port.0 ≡ Found.Unready state }
+        ensures on { self.new.stuck ≡ false }
         ensures tries { TriesOther port (server_of A.device self.old) (server_of A.device self.new) }
         ensures settled { IsSettled (server_of A.device self.new) }
         ensures ports { (q : ℕ) → q ≢ port.0 → found_of self.new.ports q ≡ found_of self.old.ports q }
@@ -437,9 +459,11 @@ impl<A: Adapter> Server<A> {
     /// A port that isn't ready is looked at in its turn (AHCI 1.3.1, 3.3.5 and 3.3.10): an absent one for a device, by one reading of PxSSTS; one whose disk is unfit or foreign for a
     /// change of it, by one reading of PxIS and one of PxSSTS. Where a device shows (DET is 3), or a change (PCS or PRCS is set, or DET isn't 3), the port is stopped and booted anew, and is
     /// what that finds: `Ready` with its disk, or `Absent`, `Unfit`, `Foreign` or `Dead`. Else it stays as it is. Nobody is answered for it. A dead port is left alone.
+    ///
+    /// Since a reset that got stuck each served port is dead: no port is looked at, and the requests from before that reset are told `PortDead`, port by port.
     pub fn service(&mut self) -> Replies
         ensures services { Services A.device self.old self.new result.items }
-        ensures adds { Adds (server_of A.device self.old) (server_of A.device self.new) Service (Served result.items) }
+        ensures adds { AddsEvent (server_of A.device self.old) (server_of A.device self.new) Service (Served result.items) }
     {
         let mut replies = Replies::new();
         self.service_into(&mut replies);
@@ -449,11 +473,14 @@ impl<A: Adapter> Server<A> {
     /// The same, where the replies stand in a list that the caller keeps, in place of what it had.
     pub fn service_into(&mut self, replies: &mut Replies)
         ensures services { Services A.device self.old self.new replies.new.items }
-        ensures adds { Adds (server_of A.device self.old) (server_of A.device self.new) Service (Served replies.new.items) }
+        ensures adds { AddsEvent (server_of A.device self.old) (server_of A.device self.new) Service (Served replies.new.items) }
     {
         services_add();
         the_book_stays_in_order();
         replies.clear();
+        if self.stuck {
+            return self.tell_dead(replies);
+        }
         let ports = self.ports;
         for number in 0..PORTS {
             let port = Port(number as u8);
@@ -465,8 +492,32 @@ impl<A: Adapter> Server<A> {
         }
     }
 
+    /// Tells the requests of dead ports so, since the last reset got stuck. Frames of those that had been issued stay lent.
+    fn tell_dead(&mut self, replies: &mut Replies)
+        requires stuck { self.old.stuck ≡ true }
+        requires none { replies.old.items ≡ [] }
+        ensures services { Services A.device self.old self.new replies.new.items }
+        ensures adds { AddsEvent (server_of A.device self.old) (server_of A.device self.new) Service (Served replies.new.items) }
+    {
+        a_server_is_booked();
+        stalled_services_add();
+        the_book_stays_in_order();
+        let book = &mut self.book;
+        let kept = &mut self.kept;
+        settle_ports(
+            book,
+            &mut self.table,
+            kept,
+            &self.remembered,
+            &self.ports,
+            replies,
+        );
+    }
+
     /// Makes the issued requests of ready ports a tick older, and tells by port whether one is overdue then.
     fn grow_older(&mut self) -> [bool; PORTS]
+        requires on { self.old.stuck ≡ false }
+        ensures on { self.new.stuck ≡ false }
         ensures older { server_of A.device self.new ≡ a_tick_older (server_of A.device self.old) }
         ensures settled { IsSettled (server_of A.device self.new) }
         ensures overdue { (number : ℕ) → number < 4 → IsTrue (slice_index_or result number false) ↔ IsOverdue (port_at number) self.new.book }
@@ -483,8 +534,10 @@ impl<A: Adapter> Server<A> {
 
     /// Restarts a ready port of which a request is overdue: the port isn't looked at, and is mended as one that is hung. Another rests.
     fn tick_port(&mut self, port: Port, was: DiskInfo, is_overdue: bool, replies: &mut Replies)
+        requires on { self.old.stuck ≡ false }
         requires ready { found_of self.old.ports port.0 ≡ Found.Ready was }
         requires room { length replies.old.items + length self.old.book ≤ 128 }
+        ensures on { self.new.stuck ≡ false }
         ensures ticks { (book : List Held) → (IsTrue is_overdue ↔ IsOverdue port book) → (its : List Reply) × (replies.new.items ≡ replies.old.items ++ its)
             × TicksPort book port its (server_of A.device self.old) (server_of A.device self.new) }
         ensures settled { IsSettled (server_of A.device self.new) }
@@ -510,8 +563,8 @@ impl<A: Adapter> Server<A> {
     /// of their four issues. It waits for the port as its stop and its boot do, at most so often as these tell, and meanwhile for all ports; four ports may be restarted in a
     /// call. A tick that restarts none makes no access (its contract says that it changes no port's registers).
     pub fn tick(&mut self) -> Replies
-        ensures ticks { Ticks result.items (server_of A.device self.old) (server_of A.device self.new) }
-        ensures adds { Adds (server_of A.device self.old) (server_of A.device self.new) Tick (Served result.items) }
+        ensures ticks { TicksServer A.device self.old self.new result.items }
+        ensures adds { AddsEvent (server_of A.device self.old) (server_of A.device self.new) Tick (Served result.items) }
     {
         let mut replies = Replies::new();
         self.tick_into(&mut replies);
@@ -520,12 +573,16 @@ impl<A: Adapter> Server<A> {
 
     /// The same, where the replies stand in a list that the caller keeps, in place of what it had.
     pub fn tick_into(&mut self, replies: &mut Replies)
-        ensures ticks { Ticks replies.new.items (server_of A.device self.old) (server_of A.device self.new) }
-        ensures adds { Adds (server_of A.device self.old) (server_of A.device self.new) Tick (Served replies.new.items) }
+        ensures ticks { TicksServer A.device self.old self.new replies.new.items }
+        ensures adds { AddsEvent (server_of A.device self.old) (server_of A.device self.new) Tick (Served replies.new.items) }
     {
         ticks_add();
+        stalled_ticks_add();
         the_book_stays_in_order();
         replies.clear();
+        if self.stuck {
+            return;
+        }
         let ports = self.ports;
         let overdue = self.grow_older();
         for place in 0..PORTS {
@@ -534,6 +591,71 @@ impl<A: Adapter> Server<A> {
             };
             self.tick_port(Port(place as u8), was, overdue[place], replies);
         }
+    }
+
+    /// Resets the adapter (AHCI 1.3.1, 10.4.3), and boots each port anew that is served. Frames that were kept of dead ports are given back. Where a port is ready then with the
+    /// disk that it was last ready with (serial and size), each request of it that had been issued goes again, or is `Aborted` after the fourth issue, and those that wait wait on: nobody is
+    /// told of a disk that was out and in again before. Else, unless the port is dead, all its requests are `Unplugged`, those too that wait. Where its engine gets stuck in the boot they are `PortDead`, and
+    /// frames of those that had been issued stay lent until another reset ends. What was done, but wasn't answered yet, isn't looked for: so it goes again. Then what is due is issued. The replies stand port by
+    /// port, in rising number, each port's in order of acceptance.
+    ///
+    /// `AdapterStuck` is told where HR of GHC is read 1 in 64 readings (that many are this project's own). Then each served port is dead until a reset ends: the next `service` tells its requests
+    /// `PortDead`, and frames of those that had been issued stay lent. A tick does nothing meanwhile.
+    pub fn reset(&mut self) -> Result<Replies, AdapterStuck>
+        ensures done { IfOk result (λ replies. DoesReset A.device self.old self.new replies.items (Ok tt)) }
+        ensures stuck { IfErr result (λ why. DoesReset A.device self.old self.new [] (Err why)) }
+        ensures adds { IfOk result (λ replies. AddsEvent (server_of A.device self.old) (server_of A.device self.new) Reset (WasReset (Some replies.items))) }
+        ensures adds_stuck { IfErr result (λ why. AddsEvent (server_of A.device self.old) (server_of A.device self.new) Reset (WasReset None)) }
+    {
+        let mut replies = Replies::new();
+        self.reset_into(&mut replies)?;
+        Ok(replies)
+    }
+
+    /// The same, where the replies stand in a list that the caller keeps, in place of what it had.
+    pub fn reset_into(&mut self, replies: &mut Replies) -> Result<(), AdapterStuck>
+        ensures resets { DoesReset A.device self.old self.new replies.new.items result }
+        ensures adds { AddsEvent (server_of A.device self.old) (server_of A.device self.new) Reset (reset_said result replies.new.items) }
+    {
+        a_server_is_booked();
+        booked_loans_are_lent();
+        a_reset_server_goes_on();
+        resets_add();
+        stuck_resets_add();
+        the_book_stays_in_order();
+        replies.clear();
+        let disks = disks_of(&self.ports, &self.remembered);
+        if let Err(stuck) = reset(&mut self.adapter) {
+            self.ports = stuck_ports(&self.ports);
+            self.remembered = disks;
+            self.modes = [PLAIN; PORTS];
+            self.slots = unused_slots(&self.modes);
+            self.stuck = true;
+            return Err(stuck);
+        }
+        give_all_back(&mut self.kept, &mut self.table);
+        let host = take_over(&mut self.adapter, &self.wanted);
+        self.ports = host.ports;
+        self.remembered = disks;
+        self.modes = modes_of(&host);
+        self.slots = unused_slots(&self.modes);
+        self.stuck = false;
+        settle_ports(
+            &mut self.book,
+            &mut self.table,
+            &mut self.kept,
+            &self.remembered,
+            &self.ports,
+            replies,
+        );
+        issue_ports(
+            &mut self.adapter,
+            &mut self.book,
+            &mut self.slots,
+            &self.modes,
+            &self.ports,
+        );
+        Ok(())
     }
 
     /// Where in memory so many bytes of a client's own frame begin, from an offset in bytes on. The first that applies of
@@ -572,10 +694,12 @@ impl<A: Adapter> Server<A> {
         bytes: &[u8],
     ) -> Result<(), MemFault>
         ensures stores { StoresFrame A.device self.old self.new client frame offset bytes.now result }
-        ensures adds { Adds (server_of A.device self.old) (server_of A.device self.new) (StoreAt client frame offset bytes.now) (store_said result) }
+        ensures adds { AddsEvent (server_of A.device self.old) (server_of A.device self.new) (StoreAt client frame offset bytes.now) (store_said result) }
     {
         refusals_add();
+        stalled_refusals_add();
         open_bytes_are_free();
+        stalled_bytes_add();
         client_bytes_add();
         let address = self.open(client, frame, offset, bytes.len())?;
         self.adapter.store(address, bytes);
@@ -591,10 +715,12 @@ impl<A: Adapter> Server<A> {
         out: &mut [u8],
     ) -> Result<(), MemFault>
         ensures loads { LoadsFrame A.device self.old self.new client frame offset out.old out.new result }
-        ensures adds { Adds (server_of A.device self.old) (server_of A.device self.new) (LoadAt client frame offset (length out.old)) (load_said result out.new) }
+        ensures adds { AddsEvent (server_of A.device self.old) (server_of A.device self.new) (LoadAt client frame offset (length out.old)) (load_said result out.new) }
     {
         refusals_add();
+        stalled_refusals_add();
         open_bytes_are_free();
+        stalled_bytes_add();
         client_bytes_add();
         let address = self.open(client, frame, offset, out.len())?;
         self.adapter.load(address, out);
@@ -605,7 +731,8 @@ impl<A: Adapter> Server<A> {
     pub fn close(self) -> A
         ensures { result ≡ self.adapter }
     {
-        kept_loans_are_lent();
+        a_server_is_booked();
+        booked_loans_are_lent();
         let Server {
             adapter,
             grants: _,
@@ -618,6 +745,7 @@ impl<A: Adapter> Server<A> {
             kept,
             book,
             last: _,
+            stuck: _,
         } = self;
         let mut table = table;
         let mut kept = kept;
@@ -632,14 +760,15 @@ impl<A: Stepped> Server<A> {
     ghost use Rattle.block_machine.specs.Events.{Device as Told, Stepped};
     ghost use Rattle.block_server.specs.Calls.{StepsDevice};
     ghost use Rattle.block_server.specs.View.{server_of};
-    ghost use Rattle.server_history.specs.Histories.{Adds};
+    ghost use Rattle.server_history.specs.Histories.{AddsEvent};
 
     /// Has the device do a step, if that is possible.
     pub fn device(&mut self, step: &DeviceStep) -> bool
         ensures steps { StepsDevice A.device self.old self.new step.now result }
-        ensures adds { Adds (server_of A.device self.old) (server_of A.device self.new) (Told step.now) (Stepped result) }
+        ensures adds { AddsEvent (server_of A.device self.old) (server_of A.device self.new) (Told step.now) (Stepped result) }
     {
         device_steps_add();
+        stalled_device_steps_add();
         self.adapter.step(step)
     }
 }

@@ -3,6 +3,7 @@ use adapter::DeviceStep;
 use arrayvec::ArrayVec;
 use ata_types::{ClientId, Frame, MemFault, Port, PortState, Refusal, Replies, Request, RequestId};
 use configuration::Kind;
+use host_boot::AdapterStuck;
 
 /// Why no server was made.
 #[derive(Clone, Copy, Debug, PartialEq, Eq)]
@@ -33,6 +34,7 @@ pub enum Event {
     },
     Service,
     Tick,
+    Reset,
     State(Port),
     Device(DeviceStep),
 }
@@ -45,11 +47,13 @@ pub enum Said {
     Loaded(Result<ArrayVec<u8, 64>, MemFault>),
     /// What a service or a tick answered.
     Served(Replies),
+    /// What a reset answered, if it ended.
+    WasReset(Result<Replies, AdapterStuck>),
     State(PortState),
     Stepped(bool),
 }
 
-/// What a call answered, where the replies of a service or a tick stand in a list aside.
+/// What a call answered, where the replies of a service, a tick or a reset stand in a list aside.
 #[derive(Debug, Drop)]
 pub enum Told {
     Submitted(Result<RequestId, Refusal>),
@@ -57,6 +61,8 @@ pub enum Told {
     Loaded(Result<ArrayVec<u8, 64>, MemFault>),
     /// The list has what was answered.
     Served,
+    /// So it has of a reset that ended.
+    WasReset(Result<(), AdapterStuck>),
     State(PortState),
     Stepped(bool),
 }

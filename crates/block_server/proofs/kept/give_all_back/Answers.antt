@@ -2,7 +2,7 @@ use Rattle.std.proofs.Common.{◌≡◌, List, get_or, subst, arith}
 use Rattle.std.specs.List.{All, AllPairs, Contains}
 use Rattle.std.proofs.lemmas.List.{get_or_default}
 use Rattle.dma_frames.specs.Loan.{Lending}
-use Rattle.block_server.specs.Kept.{TakesBack}
+use Rattle.server_history.specs.Kept.{TakesBack}
 use Rattle.server_history.specs.Server.{AreOfTwo, IsLentOut, kept_at}
 use Rattle.block_server.proofs.Keeping.{all_empty, all_taken, next_out, next_so_far, next_two, none_so_far}
 use Rattle.block_server.proofs.kept.give_all_back.Goals as goal

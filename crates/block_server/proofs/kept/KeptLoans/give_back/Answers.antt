@@ -2,7 +2,7 @@ use Rattle.std.proofs.Common.{rules, ◌≡◌, ◌++◌, ◌∷◌, [], List, i
 use Rattle.std.specs.List.{All, AllPairs, Contains}
 use Rattle.std.proofs.lemmas.List.Elements.{All-contains}
 use Rattle.dma_frames.specs.Loan.{Lending}
-use Rattle.block_server.specs.Kept.{TakesBack}
+use Rattle.server_history.specs.Kept.{TakesBack}
 use Rattle.server_history.specs.Server.{AreOfTwo, IsLentOut}
 use Rattle.block_server.proofs.Keeping.{all_back, from_last, lent_left, none_back, two_left}
 use Rattle.block_server.proofs.kept.KeptLoans.give_back.Goals as goal

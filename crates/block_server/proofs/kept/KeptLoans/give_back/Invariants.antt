@@ -2,7 +2,7 @@ use Rattle.std.proofs.Common.{◌≤◌, vec_len}
 use Rattle.std.specs.List.{All, AllPairs, Contains}
 use Rattle.std.specs.Vec.{vec_capacity}
 use Rattle.dma_frames.specs.Table.{Table}
-use Rattle.block_server.specs.Kept.{TakesBack}
+use Rattle.server_history.specs.Kept.{TakesBack}
 use Rattle.server_history.specs.Server.{AreOfTwo, IsLentOut}
 use Rattle.block_server.proofs.kept.KeptLoans.give_back.Given as goal
 

@@ -11,9 +11,10 @@ use Rattle.block_server.specs.Ports.{with_part}
 use Rattle.block_server.specs.Seen.{seen}
 use Rattle.block_server.specs.View.{ServerView, server_of}
 use Rattle.request_queue.specs.Entries.{Held, asks_of}
-use Rattle.server_history.specs.Histories.{Adds}
+use Rattle.server_history.specs.Histories.{AddsEvent}
 use Rattle.server_history.specs.Served.{Accepts, accepting}
 use Rattle.server_history.specs.Server.{Server, mode_in, situation_of}
+use Rattle.block_server.proofs.Standing.{is_on, of_on, still, to_on}
 use Rattle.block_server.proofs.Accepting as accepted
 use Rattle.block_server.proofs.server.Server.accept.Given.{Over}
 use Rattle.block_server.proofs.server.Server.accept.Goals as goal
@@ -28,17 +29,17 @@ lend-loan-requires-clause-clear g c =
     (accepted.faultless (server_of g.A.Adapter.device (seen c.self.inside)) c.args.r.now (subst (λ (v : ServerView g.row.A.Denot). IsAcceptable (situation_of (server_of g.A.Adapter.device v)) c.args.r.now) (sym c.self.view_is) c.requires.acceptable)))
 
 pub accept-requires-clause-few : goal.accept-requires-clause-few
-accept-requires-clause-few g c = accepted.has_place (server_of g.A.Adapter.device (seen c.self.inside)) c.args.r.now (subst (λ (v : ServerView g.row.A.Denot). IsAcceptable (situation_of (server_of g.A.Adapter.device v)) c.args.r.now) (sym c.self.view_is) c.requires.acceptable) c.self.invariant.kept c.args.port (subst (λ (v : ServerView g.row.A.Denot). IsFor v.grants c.args.r.now c.args.port) (sym c.self.view_is) c.requires.port)
+accept-requires-clause-few g c = accepted.has_place (server_of g.A.Adapter.device (seen c.self.inside)) c.args.r.now (subst (λ (v : ServerView g.row.A.Denot). IsAcceptable (situation_of (server_of g.A.Adapter.device v)) c.args.r.now) (sym c.self.view_is) c.requires.acceptable) (is_on g.A.Adapter.device (seen c.self.inside) c.args.self.now c.self.view_is c.requires.on c.self.invariant).kept c.args.port (subst (λ (v : ServerView g.row.A.Denot). IsFor v.grants c.args.r.now c.args.port) (sym c.self.view_is) c.requires.port)
 
 pub issue_due-requires : goal.issue_due-requires
 issue_due-requires g c = record {
   lends = (
     accepting c.args.port c.args.r.now (record { 0 = c.self.inside.last + 1 }) c.lend-loan.new.self (server_of g.A.Adapter.device (seen c.self.inside)),
-    accepted.lends (server_of g.A.Adapter.device (seen c.self.inside)) c.args.r.now (subst (λ (v : ServerView g.row.A.Denot). IsAcceptable (situation_of (server_of g.A.Adapter.device v)) c.args.r.now) (sym c.self.view_is) c.requires.acceptable) c.self.invariant.kept c.args.port (subst (λ (v : ServerView g.row.A.Denot). IsFor v.grants c.args.r.now c.args.port) (sym c.self.view_is) c.requires.port)
+    accepted.lends (server_of g.A.Adapter.device (seen c.self.inside)) c.args.r.now (subst (λ (v : ServerView g.row.A.Denot). IsAcceptable (situation_of (server_of g.A.Adapter.device v)) c.args.r.now) (sym c.self.view_is) c.requires.acceptable) (is_on g.A.Adapter.device (seen c.self.inside) c.args.self.now c.self.view_is c.requires.on c.self.invariant).kept c.args.port (subst (λ (v : ServerView g.row.A.Denot). IsFor v.grants c.args.r.now c.args.port) (sym c.self.view_is) c.requires.port)
         c.requests_keep.ensures.accepted (record { 0 = c.self.inside.last + 1 }) refl c.as_slice.result.now c.as_slice.ensures.value
         c.lend-loan.new.self (rw c.deref_mut.ensures.value at c.lend-loan.ensures.lent) c.lend-loan.result.frames c.lend-loan.ensures.frames c.accept.new.self c.accept.ensures
         (slice_index_or c.self.inside.slots c.from.result c.index-self-from.result)
-        (accepted.its_slots (server_of g.A.Adapter.device (seen c.self.inside)) c.args.r.now (subst (λ (v : ServerView g.row.A.Denot). IsAcceptable (situation_of (server_of g.A.Adapter.device v)) c.args.r.now) (sym c.self.view_is) c.requires.acceptable) c.self.invariant.kept c.args.port (subst (λ (v : ServerView g.row.A.Denot). IsFor v.grants c.args.r.now c.args.port) (sym c.self.view_is) c.requires.port) c.from.result c.from.ensures c.index-self-from.result) c.mode-mode.result (ap (λ (v : ServerView g.row.A.Denot). mode_in (server_of g.A.Adapter.device v) c.args.port) c.self.view_is ∙ sym c.mode-mode.ensures),
+        (accepted.its_slots (server_of g.A.Adapter.device (seen c.self.inside)) c.args.r.now (subst (λ (v : ServerView g.row.A.Denot). IsAcceptable (situation_of (server_of g.A.Adapter.device v)) c.args.r.now) (sym c.self.view_is) c.requires.acceptable) (is_on g.A.Adapter.device (seen c.self.inside) c.args.self.now c.self.view_is c.requires.on c.self.invariant).kept c.args.port (subst (λ (v : ServerView g.row.A.Denot). IsFor v.grants c.args.r.now c.args.port) (sym c.self.view_is) c.requires.port) c.from.result c.from.ensures c.index-self-from.result) c.mode-mode.result (ap (λ (v : ServerView g.row.A.Denot). mode_in (server_of g.A.Adapter.device v) c.args.port) c.self.view_is ∙ sym c.mode-mode.ensures),
   );
 }
 
@@ -60,21 +61,21 @@ after g c = record (seen c.self.inside) {
 sent : (g : Over) (c : After-issue_due g) → Accepts c.args.port c.args.r.now (record { 0 = c.self.inside.last + 1 }) (server_of g.A.Adapter.device (seen c.self.inside)) (server_of g.A.Adapter.device (after g c))
 sent g c =
     let s = (server_of g.A.Adapter.device (seen c.self.inside)) in
-    let accepts = accepted.accepts (server_of g.A.Adapter.device (seen c.self.inside)) c.args.r.now (subst (λ (v : ServerView g.row.A.Denot). IsAcceptable (situation_of (server_of g.A.Adapter.device v)) c.args.r.now) (sym c.self.view_is) c.requires.acceptable) c.self.invariant.kept c.args.port (subst (λ (v : ServerView g.row.A.Denot). IsFor v.grants c.args.r.now c.args.port) (sym c.self.view_is) c.requires.port)
+    let accepts = accepted.accepts (server_of g.A.Adapter.device (seen c.self.inside)) c.args.r.now (subst (λ (v : ServerView g.row.A.Denot). IsAcceptable (situation_of (server_of g.A.Adapter.device v)) c.args.r.now) (sym c.self.view_is) c.requires.acceptable) (is_on g.A.Adapter.device (seen c.self.inside) c.args.self.now c.self.view_is c.requires.on c.self.invariant).kept c.args.port (subst (λ (v : ServerView g.row.A.Denot). IsFor v.grants c.args.r.now c.args.port) (sym c.self.view_is) c.requires.port)
     c.requests_keep.ensures.accepted (record { 0 = c.self.inside.last + 1 }) refl c.as_slice.result.now c.as_slice.ensures.value
     c.lend-loan.new.self (rw c.deref_mut.ensures.value at c.lend-loan.ensures.lent) c.lend-loan.result.frames c.lend-loan.ensures.frames c.accept.new.self c.accept.ensures in
-    let lends = accepted.lends (server_of g.A.Adapter.device (seen c.self.inside)) c.args.r.now (subst (λ (v : ServerView g.row.A.Denot). IsAcceptable (situation_of (server_of g.A.Adapter.device v)) c.args.r.now) (sym c.self.view_is) c.requires.acceptable) c.self.invariant.kept c.args.port (subst (λ (v : ServerView g.row.A.Denot). IsFor v.grants c.args.r.now c.args.port) (sym c.self.view_is) c.requires.port)
+    let lends = accepted.lends (server_of g.A.Adapter.device (seen c.self.inside)) c.args.r.now (subst (λ (v : ServerView g.row.A.Denot). IsAcceptable (situation_of (server_of g.A.Adapter.device v)) c.args.r.now) (sym c.self.view_is) c.requires.acceptable) (is_on g.A.Adapter.device (seen c.self.inside) c.args.self.now c.self.view_is c.requires.on c.self.invariant).kept c.args.port (subst (λ (v : ServerView g.row.A.Denot). IsFor v.grants c.args.r.now c.args.port) (sym c.self.view_is) c.requires.port)
     c.requests_keep.ensures.accepted (record { 0 = c.self.inside.last + 1 }) refl c.as_slice.result.now c.as_slice.ensures.value
     c.lend-loan.new.self (rw c.deref_mut.ensures.value at c.lend-loan.ensures.lent) c.lend-loan.result.frames c.lend-loan.ensures.frames c.accept.new.self c.accept.ensures
     (slice_index_or c.self.inside.slots c.from.result c.index-self-from.result)
-    (accepted.its_slots (server_of g.A.Adapter.device (seen c.self.inside)) c.args.r.now (subst (λ (v : ServerView g.row.A.Denot). IsAcceptable (situation_of (server_of g.A.Adapter.device v)) c.args.r.now) (sym c.self.view_is) c.requires.acceptable) c.self.invariant.kept c.args.port (subst (λ (v : ServerView g.row.A.Denot). IsFor v.grants c.args.r.now c.args.port) (sym c.self.view_is) c.requires.port) c.from.result c.from.ensures c.index-self-from.result) c.mode-mode.result (mode_is g c) in
+    (accepted.its_slots (server_of g.A.Adapter.device (seen c.self.inside)) c.args.r.now (subst (λ (v : ServerView g.row.A.Denot). IsAcceptable (situation_of (server_of g.A.Adapter.device v)) c.args.r.now) (sym c.self.view_is) c.requires.acceptable) (is_on g.A.Adapter.device (seen c.self.inside) c.args.self.now c.self.view_is c.requires.on c.self.invariant).kept c.args.port (subst (λ (v : ServerView g.row.A.Denot). IsFor v.grants c.args.r.now c.args.port) (sym c.self.view_is) c.requires.port) c.from.result c.from.ensures c.index-self-from.result) c.mode-mode.result (mode_is g c) in
     let more : Server = accepting c.args.port c.args.r.now (record { 0 = c.self.inside.last + 1 }) c.lend-loan.new.self s in
     subst (λ (n : ℕ). Accepts c.args.port c.args.r.now (record { 0 = c.self.inside.last + 1 }) s (record more { device = g.A.Adapter.device c.issue_due.new.adapter; slots = slice_set c.self.inside.slots n c.issue_due.new.slots; book = c.issue_due.new.book })) (sym c.from.ensures)
     (accepts (with_part more (g.A.Adapter.device c.issue_due.new.adapter) c.issue_due.new.book c.issue_due.new.slots c.args.port) (c.issue_due.ensures.issues more lends))
 
 pub invariant_of-self : goal.invariant_of-self
-invariant_of-self g c =
-    (c.acceptances_add.ensures (server_of g.A.Adapter.device (seen c.self.inside)) (server_of g.A.Adapter.device (after g c)) c.args.port c.args.r.now (record { 0 = c.self.inside.last + 1 }) c.self.invariant (subst (λ (v : ServerView g.row.A.Denot). IsAcceptable (situation_of (server_of g.A.Adapter.device v)) c.args.r.now) (sym c.self.view_is) c.requires.acceptable) (sent g c)).settled
+invariant_of-self g c = of_on c.self.view_is c.requires.on (
+    (c.acceptances_add.ensures (server_of g.A.Adapter.device (seen c.self.inside)) (server_of g.A.Adapter.device (after g c)) c.args.port c.args.r.now (record { 0 = c.self.inside.last + 1 }) (is_on g.A.Adapter.device (seen c.self.inside) c.args.self.now c.self.view_is c.requires.on c.self.invariant) (subst (λ (v : ServerView g.row.A.Denot). IsAcceptable (situation_of (server_of g.A.Adapter.device v)) c.args.r.now) (sym c.self.view_is) c.requires.acceptable) (sent g c)).settled)
 
 pub returns-clause-accepts : goal.returns-clause-accepts
 returns-clause-accepts g c =
@@ -82,8 +83,9 @@ returns-clause-accepts g c =
       acceptable = (subst (λ (v : ServerView g.row.A.Denot). IsAcceptable (situation_of (server_of g.A.Adapter.device v)) c.args.r.now) (sym c.self.view_is) c.requires.acceptable);
       port = c.args.port;
       accepts = sent g c;
+      stuck = refl;
       same = λ none.
-          let book = accepted.its_book (server_of g.A.Adapter.device (seen c.self.inside)) c.args.r.now (subst (λ (v : ServerView g.row.A.Denot). IsAcceptable (situation_of (server_of g.A.Adapter.device v)) c.args.r.now) (sym c.self.view_is) c.requires.acceptable) c.self.invariant.kept c.args.port (subst (λ (v : ServerView g.row.A.Denot). IsFor v.grants c.args.r.now c.args.port) (sym c.self.view_is) c.requires.port)
+          let book = accepted.its_book (server_of g.A.Adapter.device (seen c.self.inside)) c.args.r.now (subst (λ (v : ServerView g.row.A.Denot). IsAcceptable (situation_of (server_of g.A.Adapter.device v)) c.args.r.now) (sym c.self.view_is) c.requires.acceptable) (is_on g.A.Adapter.device (seen c.self.inside) c.args.self.now c.self.view_is c.requires.on c.self.invariant).kept c.args.port (subst (λ (v : ServerView g.row.A.Denot). IsFor v.grants c.args.r.now c.args.port) (sym c.self.view_is) c.requires.port)
           c.requests_keep.ensures.accepted (record { 0 = c.self.inside.last + 1 }) refl c.as_slice.result.now c.as_slice.ensures.value
           c.lend-loan.new.self (rw c.deref_mut.ensures.value at c.lend-loan.ensures.lent) c.lend-loan.result.frames c.lend-loan.ensures.frames c.accept.new.self c.accept.ensures in
           c.issue_due.ensures.none (subst (λ (b : List Held). due_of c.mode-mode.result c.args.port (asks_of b) ≡ []) book
@@ -92,8 +94,8 @@ returns-clause-accepts g c =
 
 pub returns-clause-adds : goal.returns-clause-adds
 returns-clause-adds g c =
-    subst (λ (v : ServerView g.row.A.Denot). Adds (server_of g.A.Adapter.device v) (server_of g.A.Adapter.device (after g c)) (Submit c.args.r.now) (Submitted (Ok (record { 0 = c.self.inside.last + 1 })))) c.self.view_is
-    (c.acceptances_add.ensures (server_of g.A.Adapter.device (seen c.self.inside)) (server_of g.A.Adapter.device (after g c)) c.args.port c.args.r.now (record { 0 = c.self.inside.last + 1 }) c.self.invariant (subst (λ (v : ServerView g.row.A.Denot). IsAcceptable (situation_of (server_of g.A.Adapter.device v)) c.args.r.now) (sym c.self.view_is) c.requires.acceptable) (sent g c))
+    subst (λ (v : ServerView g.row.A.Denot). AddsEvent (server_of g.A.Adapter.device v) (server_of g.A.Adapter.device (after g c)) (Submit c.args.r.now) (Submitted (Ok (record { 0 = c.self.inside.last + 1 })))) c.self.view_is
+    (c.acceptances_add.ensures (server_of g.A.Adapter.device (seen c.self.inside)) (server_of g.A.Adapter.device (after g c)) c.args.port c.args.r.now (record { 0 = c.self.inside.last + 1 }) (is_on g.A.Adapter.device (seen c.self.inside) c.args.self.now c.self.view_is c.requires.on c.self.invariant) (subst (λ (v : ServerView g.row.A.Denot). IsAcceptable (situation_of (server_of g.A.Adapter.device v)) c.args.r.now) (sym c.self.view_is) c.requires.acceptable) (sent g c)).adds
 
 pub accept-requires-clause-fresh : goal.accept-requires-clause-fresh
 accept-requires-clause-fresh g c = search rules

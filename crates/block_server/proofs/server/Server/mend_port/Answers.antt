@@ -16,6 +16,7 @@ use Rattle.dma_frames.specs.Loan.{Lending}
 use Rattle.dma_frames.specs.Table.{Table}
 use Rattle.request_queue.specs.Fates.{MeetFates, fate_of}
 use Rattle.block_server.specs.Fates.{IsSound}
+use Rattle.block_server.proofs.Standing.{is_on, of_on, still, to_on}
 use Rattle.block_server.proofs.Restoring as restoring
 use Rattle.block_server.proofs.Restoring.{RestoringLaws}
 use Rattle.block_server.proofs.server.Server.mend_port.Goals as goal
@@ -273,7 +274,7 @@ mended g c before sees_now settled_now =
     )
 
 pub invariant_of-self : goal.invariant_of-self
-invariant_of-self g c = (mended g c c.requires.sees.0 c.requires.sees.1 c.requires.sees.2).3
+invariant_of-self g c = of_on c.self.view_is c.requires.on ((mended g c c.requires.sees.0 c.requires.sees.1 c.requires.sees.2).3)
 
 pub returns-clause-mends : goal.returns-clause-mends
 returns-clause-mends g c = λ before sees settled.
@@ -282,7 +283,7 @@ returns-clause-mends g c = λ before sees settled.
     (done.0, done.1, subst P c.self.view_is done.2)
 
 pub returns-clause-settled : goal.returns-clause-settled
-returns-clause-settled g c = invariant_of-self g c
+returns-clause-settled g c = to_on c.self.view_is c.requires.on (invariant_of-self g c)
 
 pub returns-clause-room : goal.returns-clause-room
 returns-clause-room g c =

@@ -53,6 +53,7 @@ returns-clause-made g c =
       unkept = (none_kept c.in-Ok-none_kept.kept c.in-Ok-none_kept.ensures).1;
       book = c.in-Ok-new.ensures;
       last = refl;
+      stuck = refl;
       unused = c.unused_slots.ensures.unused;
       settled = begun.0;
       begun = begun.1;

@@ -1,4 +1,4 @@
-use Rattle.std.proofs.Common.{ℕ, ◌≡◌, ◌+◌, ◌≤◌, ◌++◌, List, drop, length}
+use Rattle.std.proofs.Common.{ℕ, ◌≡◌, ◌+◌, ◌≤◌, ◌++◌, false, List, drop, length}
 use Rattle.host_boot.specs.Taken.{found_of}
 use Rattle.ata_types.specs.declared.request.Reply.{Reply}
 use Rattle.server_history.specs.Turns.{ServePorts}
@@ -12,4 +12,5 @@ invariant-loop-number g l = record {
       → ServePorts 0 l.fn.self.ports (l.replies.items ++ later) (server_of g.A.Adapter.device l.fn.self) new;
   ports : (q : ℕ) → l.number ≤ q → found_of l.self.ports q ≡ found_of l.ports q;
   room : length l.replies.items + length l.self.book ≤ 128;
+  on : l.self.stuck ≡ false;
 }

@@ -1,15 +1,21 @@
-use Rattle.std.proofs.Common.{◌≡◌, ◌↔◌, ◌<◌, ◌++◌, IsTrue, List, append_assoc, arith, false, length, slice_index_or, refl, sym, ap, ◌∙◌, subst, rules}
+use Rattle.std.proofs.Common.{◌≡◌, ◌↔◌, ◌<◌, ◌++◌, Bool, IsTrue, List, append_assoc, arith, false, length, slice_index_or, refl, sym, ap, ◌∙◌, subst, rules}
 use Rattle.ata_types.specs.declared.Port.{Port}
 use Rattle.ata_types.specs.declared.request.Reply.{Reply}
 use Rattle.agreement.specs.Agrees.{port_at}
 use Rattle.host_boot.specs.Taken.{found_of}
 use Rattle.host_boot.specs.declared.Found.{Found}
 use Rattle.request_queue.specs.Entries.{IsOverdue}
-use Rattle.server_history.specs.Server.{Server, IsSettled}
-use Rattle.server_history.specs.Turns.{TakeTurns, TicksPort, a_tick_older}
+use Rattle.block_machine.specs.Events.{Served, Tick}
+use Rattle.block_server.specs.Calls.{TicksBy}
+use Rattle.server_history.specs.Histories.{AddsEvent}
+use Rattle.server_history.specs.Server.{Server}
+use Rattle.server_history.specs.Turns.{TakeTurns, Ticks, TicksPort, a_tick_older}
 use Rattle.block_server.specs.View.{ServerView, server_of}
 use Rattle.block_server.proofs.Turns.{all_turns, idle_turn, one_turn}
+use Rattle.block_server.proofs.Standing.{by_on, now_off, now_on}
+use Rattle.block_server.proofs.server.Server.tick_into.Given.{Over}
 use Rattle.block_server.proofs.server.Server.tick_into.Goals as goal
+use Rattle.block_server.proofs.server.Server.tick_into.Goals.{After-loop-place}
 
 -- nothing is done of a port that isn't ready
 abbrev Rests : Port → Server → Server → Type 0
@@ -28,6 +34,7 @@ loop-place-preserved-in_default g c =
           (idle_turn (TicksPort book) Rests ports c.loop-place.place (omega (arith, four, c.loop-place-test.true)) (server_of device c.loop-place.self) new later c.in_default.not-Ready so_far.settled refl more);
       ports = λ q more. so_far.ports q (omega (arith, more));
       room = so_far.room;
+      on = so_far.on;
       settled = so_far.settled;
     }
 
@@ -56,11 +63,13 @@ loop-place-preserved g c =
           (one_turn (TicksPort book) Rests ports c.loop-place.place low c.in-Ready.was s mid new ticked.0 later c.in-Ready.is c.tick_port.ensures.settled ticked.2 more));
       ports = λ q more. c.tick_port.ensures.ports q (λ same. omega (arith, more, same)) ∙ so_far.ports q (omega (arith, more));
       room = c.tick_port.ensures.room;
+      on = c.tick_port.ensures.on;
       settled = c.tick_port.ensures.settled;
     }
 
-pub returns-clause-ticks : goal.returns-clause-ticks
-returns-clause-ticks g c =
+-- the ports had their turns
+ticked : (g : Over) (c : After-loop-place g) → Ticks c.loop-place.replies.items (server_of g.A.Adapter.device c.args.self.now) (server_of g.A.Adapter.device c.loop-place.self)
+ticked g c =
     let device = g.A.Adapter.device in
     let old = server_of device c.args.self.now in
     let ports = c.self.inside.ports in
@@ -68,12 +77,30 @@ returns-clause-ticks g c =
     all_turns (TicksPort (a_tick_older old).book) Rests ports c.args.self.now.ports c.loop-place.place c.loop-place.replies.items (a_tick_older old) (server_of device c.loop-place.self)
     (omega (arith, four, c.loop-place-test.false)) c.loop-place.invariant.rest
 
+pub returns-clause-ticks : goal.returns-clause-ticks
+returns-clause-ticks g c =
+    let device = g.A.Adapter.device in (
+      by_on (λ (b : Bool). TicksBy b c.loop-place.replies.items (server_of device c.args.self.now) (server_of device c.loop-place.self)) c.self.view_is c.if-self.false (ticked g c),
+      c.loop-place.invariant.on ∙ by_on (λ (b : Bool). false ≡ b) c.self.view_is c.if-self.false refl,
+    )
+
 pub returns-clause-adds : goal.returns-clause-adds
 returns-clause-adds g c =
     let device = g.A.Adapter.device in
-    let S : ServerView g.row.A.Denot → Type 0 = λ v. IsSettled (server_of device v) in
-    c.ticks_add.ensures (server_of device c.args.self.now) (server_of device c.loop-place.self) c.loop-place.replies.items
-    (subst S c.self.view_is c.self.invariant) (returns-clause-ticks g c)
+    (c.ticks_add.ensures (server_of device c.args.self.now) (server_of device c.loop-place.self) c.loop-place.replies.items
+    (now_on device c.self.view_is c.if-self.false c.self.invariant) (ticked g c)).adds
+
+-- since a reset that got stuck there is no ready port
+pub returns-then-self-clause-ticks : goal.returns-then-self-clause-ticks
+returns-then-self-clause-ticks g c =
+    let s = server_of g.A.Adapter.device c.args.self.now in
+    (subst (λ (b : Bool). TicksBy b c.clear.new.self.items s s) (sym (ap (λ (v : ServerView g.row.A.Denot). v.stuck) (sym c.self.view_is) ∙ c.if-self.true)) (c.clear.ensures, refl), refl)
+
+pub returns-then-self-clause-adds : goal.returns-then-self-clause-adds
+returns-then-self-clause-adds g c =
+    let s = server_of g.A.Adapter.device c.args.self.now in
+    subst (λ (replies : List Reply). AddsEvent s s Tick (Served replies)) (sym c.clear.ensures)
+    (c.stalled_ticks_add.ensures s (now_off g.A.Adapter.device c.self.view_is c.if-self.true c.self.invariant)).adds
 
 pub loop-place-init : goal.loop-place-init
 loop-place-init g c =
@@ -91,5 +118,6 @@ loop-place-init g c =
       room =
           let all = c.the_book_stays_in_order.ensures.all c.grow_older-overdue.new.self.book c.grow_older-overdue.ensures.settled.kept.ordered in
           let none = ap length c.clear.ensures in omega (arith, all, none);
+      on = c.grow_older-overdue.ensures.on;
       settled = c.grow_older-overdue.ensures.settled;
     }

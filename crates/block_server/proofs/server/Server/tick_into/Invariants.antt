@@ -1,4 +1,4 @@
-use Rattle.std.proofs.Common.{ℕ, ◌≡◌, ◌+◌, ◌≤◌, ◌++◌, List, drop, length}
+use Rattle.std.proofs.Common.{ℕ, ◌≡◌, ◌+◌, ◌≤◌, ◌++◌, false, List, drop, length}
 use Rattle.host_boot.specs.Taken.{found_of}
 use Rattle.ata_types.specs.declared.request.Reply.{Reply}
 use Rattle.server_history.specs.Turns.{TakeTurns, TicksPort, a_tick_older}
@@ -12,5 +12,6 @@ invariant-loop-place g l = record {
       → TakeTurns (TicksPort (a_tick_older (server_of g.A.Adapter.device l.fn.self)).book) (λ port one other. other ≡ one) 0 l.fn.self.ports (l.replies.items ++ later) (a_tick_older (server_of g.A.Adapter.device l.fn.self)) new;
   ports : (q : ℕ) → l.place ≤ q → found_of l.self.ports q ≡ found_of l.ports q;
   room : length l.replies.items + length l.self.book ≤ 128;
+  on : l.self.stuck ≡ false;
   settled : IsSettled (server_of g.A.Adapter.device l.self);
 }

@@ -5,6 +5,7 @@ use Rattle.server_history.specs.Turns.{TriesOther}
 use Rattle.block_server.specs.Seen.{seen}
 use Rattle.block_server.specs.Trying.{FindsAnew}
 use Rattle.block_server.specs.View.{ServerView, server_of}
+use Rattle.block_server.proofs.Standing.{is_on, of_on, still, to_on}
 use Rattle.block_server.proofs.Anew as anew
 use Rattle.block_server.proofs.server.Server.try_port.Goals as goal
 
@@ -12,14 +13,14 @@ pub finds_news-requires-clause-there : goal.finds_news-requires-clause-there
 finds_news-requires-clause-there g c =
     let U : ServerView g.row.A.Denot → Type 0 = λ x. found_of x.ports c.args.port.0 ≡ Unready c.args.state in
     let v = seen c.self.inside in
-    c.self.invariant.kept.there c.args.port.0 (anew.served_unready (found_of v.ports c.args.port.0) c.args.state (subst U (sym c.self.view_is) c.requires.unready))
+    (is_on g.A.Adapter.device (seen c.self.inside) c.args.self.now c.self.view_is c.requires.on c.self.invariant).kept.there c.args.port.0 (anew.served_unready (found_of v.ports c.args.port.0) c.args.state (subst U (sym c.self.view_is) c.requires.unready))
 
 pub invariant_of-self : goal.invariant_of-self
-invariant_of-self g c =
+invariant_of-self g c = of_on c.self.view_is c.requires.on (
     let device = g.A.Adapter.device in
     let U : ServerView g.row.A.Denot → Type 0 = λ x. found_of x.ports c.args.port.0 ≡ Unready c.args.state in
-    (anew.left_settles c.an_unready_port_is_tried.ensures.tried (server_of device (seen c.self.inside)) c.args.port c.args.state (subst U (sym c.self.view_is) c.requires.unready) c.self.invariant
-    (device c.finds_news.new.adapter) c.if-not-finds_news.ensures.looks c.if-not-finds_news.ensures.followed).1
+    (anew.left_settles c.an_unready_port_is_tried.ensures.tried (server_of device (seen c.self.inside)) c.args.port c.args.state (subst U (sym c.self.view_is) c.requires.unready) (is_on g.A.Adapter.device (seen c.self.inside) c.args.self.now c.self.view_is c.requires.on c.self.invariant)
+    (device c.finds_news.new.adapter) c.if-not-finds_news.ensures.looks c.if-not-finds_news.ensures.followed).1)
 
 pub returns-then-not-finds_news-clause-tries : goal.returns-then-not-finds_news-clause-tries
 returns-then-not-finds_news-clause-tries g c =
@@ -28,18 +29,18 @@ returns-then-not-finds_news-clause-tries g c =
     let s = server_of device (seen c.self.inside) in
     let T : ServerView g.row.A.Denot → Type 0 = λ x. TriesOther c.args.port (server_of device x) (record s { device = device c.finds_news.new.adapter }) in
     subst T c.self.view_is
-    (anew.left_settles c.an_unready_port_is_tried.ensures.tried s c.args.port c.args.state (subst U (sym c.self.view_is) c.requires.unready) c.self.invariant
+    (anew.left_settles c.an_unready_port_is_tried.ensures.tried s c.args.port c.args.state (subst U (sym c.self.view_is) c.requires.unready) (is_on g.A.Adapter.device (seen c.self.inside) c.args.self.now c.self.view_is c.requires.on c.self.invariant)
     (device c.finds_news.new.adapter) c.if-not-finds_news.ensures.looks c.if-not-finds_news.ensures.followed).0
 
 pub returns-then-not-finds_news-clause-settled : goal.returns-then-not-finds_news-clause-settled
-returns-then-not-finds_news-clause-settled g c = invariant_of-self g c
+returns-then-not-finds_news-clause-settled g c = to_on c.self.view_is c.requires.on (invariant_of-self g c)
 
 pub find_anew-found-requires-clause-there : goal.find_anew-found-requires-clause-there
 find_anew-found-requires-clause-there g c =
     let device = g.A.Adapter.device in
     let U : ServerView g.row.A.Denot → Type 0 = λ x. found_of x.ports c.args.port.0 ≡ Unready c.args.state in
     let looks = c.if-not-finds_news.ensures.looks in
-    (c.an_unready_port_is_tried.ensures.looked (server_of device (seen c.self.inside)) (device c.finds_news.new.adapter) c.args.port c.args.state c.self.invariant.kept (subst U (sym c.self.view_is) c.requires.unready)
+    (c.an_unready_port_is_tried.ensures.looked (server_of device (seen c.self.inside)) (device c.finds_news.new.adapter) c.args.port c.args.state (is_on g.A.Adapter.device (seen c.self.inside) c.args.self.now c.self.view_is c.requires.on c.self.invariant).kept (subst U (sym c.self.view_is) c.requires.unready)
     (anew.booted_alive c.args.state c.args.port (device c.self.inside.adapter) (device c.finds_news.new.adapter) looks) c.if-not-finds_news.ensures.followed).1
 
 pub find_anew-found-requires-clause-agreed : goal.find_anew-found-requires-clause-agreed
@@ -47,7 +48,7 @@ find_anew-found-requires-clause-agreed g c =
     let device = g.A.Adapter.device in
     let U : ServerView g.row.A.Denot → Type 0 = λ x. found_of x.ports c.args.port.0 ≡ Unready c.args.state in
     let looks = c.if-not-finds_news.ensures.looks in
-    (c.an_unready_port_is_tried.ensures.looked (server_of device (seen c.self.inside)) (device c.finds_news.new.adapter) c.args.port c.args.state c.self.invariant.kept (subst U (sym c.self.view_is) c.requires.unready)
+    (c.an_unready_port_is_tried.ensures.looked (server_of device (seen c.self.inside)) (device c.finds_news.new.adapter) c.args.port c.args.state (is_on g.A.Adapter.device (seen c.self.inside) c.args.self.now c.self.view_is c.requires.on c.self.invariant).kept (subst U (sym c.self.view_is) c.requires.unready)
     (anew.booted_alive c.args.state c.args.port (device c.self.inside.adapter) (device c.finds_news.new.adapter) looks) c.if-not-finds_news.ensures.followed).2
 
 pub find_anew-found-requires-clause-bootable : goal.find_anew-found-requires-clause-bootable
@@ -55,19 +56,19 @@ find_anew-found-requires-clause-bootable g c = λ stopped result token gives res
     let device = g.A.Adapter.device in
     let U : ServerView g.row.A.Denot → Type 0 = λ x. found_of x.ports c.args.port.0 ≡ Unready c.args.state in
     let looks = c.if-not-finds_news.ensures.looks in
-    c.an_unready_port_is_tried.ensures.bootable (server_of device (seen c.self.inside)) (device c.finds_news.new.adapter) stopped c.args.port c.args.state result token c.self.invariant.kept
+    c.an_unready_port_is_tried.ensures.bootable (server_of device (seen c.self.inside)) (device c.finds_news.new.adapter) stopped c.args.port c.args.state result token (is_on g.A.Adapter.device (seen c.self.inside) c.args.self.now c.self.view_is c.requires.on c.self.invariant).kept
     (subst U (sym c.self.view_is) c.requires.unready) (anew.booted_alive c.args.state c.args.port (device c.self.inside.adapter) (device c.finds_news.new.adapter) looks) c.if-not-finds_news.ensures.followed gives restarts
 
 pub invariant_of-self-2 : goal.invariant_of-self-2
-invariant_of-self-2 g c =
+invariant_of-self-2 g c = of_on c.self.view_is c.requires.on (
     let device = g.A.Adapter.device in
     let U : ServerView g.row.A.Denot → Type 0 = λ x. found_of x.ports c.args.port.0 ≡ Unready c.args.state in
     let v = seen c.self.inside in
     let F : ℕ → Type 0 = λ n. FindsAnew (wanted_of v.wanted n) c.args.port c.find_anew-found.result.0 c.find_anew-found.result.1 (device c.finds_news.new.adapter) (device c.find_anew-found.new.adapter) in
     let places : length c.new.result.places ≡ 32 = search rules in
-    (anew.booted_settles c.an_unready_port_is_tried.ensures.tried (server_of device v) c.args.port c.args.state (subst U (sym c.self.view_is) c.requires.unready) c.self.invariant
+    (anew.booted_settles c.an_unready_port_is_tried.ensures.tried (server_of device v) c.args.port c.args.state (subst U (sym c.self.view_is) c.requires.unready) (is_on g.A.Adapter.device (seen c.self.inside) c.args.self.now c.self.view_is c.requires.on c.self.invariant)
     (device c.finds_news.new.adapter) c.if-not-finds_news.ensures.looks c.if-not-finds_news.ensures.followed (device c.find_anew-found.new.adapter) c.find_anew-found.result.0 c.find_anew-found.result.1 c.new.result
-    (subst F c.from-number.ensures c.find_anew-found.ensures.finds) (record { usable = c.new.ensures.usable; places = places; free = c.new.ensures.free }) c.from-number.result c.from-number.ensures).1
+    (subst F c.from-number.ensures c.find_anew-found.ensures.finds) (record { usable = c.new.ensures.usable; places = places; free = c.new.ensures.free }) c.from-number.result c.from-number.ensures).1)
 
 pub returns-clause-tries : goal.returns-clause-tries
 returns-clause-tries g c =
@@ -79,9 +80,9 @@ returns-clause-tries g c =
     let new = anew.found_anew (server_of device v) (device c.find_anew-found.new.adapter) c.find_anew-found.result.0 c.find_anew-found.result.1 c.new.result c.from-number.result in
     let T : ServerView g.row.A.Denot → Type 0 = λ x. TriesOther c.args.port (server_of device x) new in
     subst T c.self.view_is
-    (anew.booted_settles c.an_unready_port_is_tried.ensures.tried (server_of device v) c.args.port c.args.state (subst U (sym c.self.view_is) c.requires.unready) c.self.invariant
+    (anew.booted_settles c.an_unready_port_is_tried.ensures.tried (server_of device v) c.args.port c.args.state (subst U (sym c.self.view_is) c.requires.unready) (is_on g.A.Adapter.device (seen c.self.inside) c.args.self.now c.self.view_is c.requires.on c.self.invariant)
     (device c.finds_news.new.adapter) c.if-not-finds_news.ensures.looks c.if-not-finds_news.ensures.followed (device c.find_anew-found.new.adapter) c.find_anew-found.result.0 c.find_anew-found.result.1 c.new.result
     (subst F c.from-number.ensures c.find_anew-found.ensures.finds) (record { usable = c.new.ensures.usable; places = places; free = c.new.ensures.free }) c.from-number.result c.from-number.ensures).0
 
 pub returns-clause-settled : goal.returns-clause-settled
-returns-clause-settled g c = invariant_of-self-2 g c
+returns-clause-settled g c = to_on c.self.view_is c.requires.on (invariant_of-self-2 g c)

@@ -1,0 +1,13 @@
+use Rattle.std.proofs.Common.{drop}
+use Rattle.block_server.specs.Resetting.{LendsPorts, with_issues}
+use Rattle.server_history.specs.Resets.{IssuePorts}
+use Rattle.server_history.specs.Server.{Server}
+use Rattle.block_server.proofs.resetting.issue_ports.Given as goal
+
+abbrev pub invariant-loop-number : goal.invariant-loop-number
+invariant-loop-number g l = record {
+  lends : (s : Server) → LendsPorts s (g.A.Adapter.device l.fn.adapter) l.fn.book l.fn.slots l.fn.modes l.fn.ports
+      → LendsPorts (with_issues s (g.A.Adapter.device l.adapter) l.book l.slots) (g.A.Adapter.device l.adapter) l.book l.slots l.fn.modes l.fn.ports;
+  rest : (s : Server) → LendsPorts s (g.A.Adapter.device l.fn.adapter) l.fn.book l.fn.slots l.fn.modes l.fn.ports → (new : Server)
+      → IssuePorts l.number (drop l.number l.fn.ports) (with_issues s (g.A.Adapter.device l.adapter) l.book l.slots) new → IssuePorts 0 l.fn.ports s new;
+}

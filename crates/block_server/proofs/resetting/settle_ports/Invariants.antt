@@ -1,0 +1,16 @@
+use Rattle.std.proofs.Common.{ℕ, ◌≡◌, ◌≤◌, ◌+◌, ◌++◌, List, drop, length}
+use Rattle.ata_types.specs.declared.request.Reply.{Reply}
+use Rattle.block_server.specs.Resetting.{LendsBook, with_book}
+use Rattle.server_history.specs.Resets.{SettlePorts}
+use Rattle.server_history.specs.Server.{Server}
+use Rattle.block_server.proofs.resetting.settle_ports.Given as goal
+
+abbrev pub invariant-loop-number : goal.invariant-loop-number
+invariant-loop-number l = record {
+  lends : (s : Server) → LendsBook s l.fn.table l.fn.book l.fn.kept l.fn.remembered l.fn.ports
+      → LendsBook (with_book s l.table l.book l.kept) l.table l.book l.kept l.fn.remembered l.fn.ports;
+  rest : (s : Server) → LendsBook s l.fn.table l.fn.book l.fn.kept l.fn.remembered l.fn.ports → (later : List Reply) (new : Server)
+      → SettlePorts l.number (drop l.number l.fn.ports) later (with_book s l.table l.book l.kept) new
+      → (its : List Reply) × (l.replies.items ++ later ≡ l.fn.replies.items ++ its) × SettlePorts 0 l.fn.ports its s new;
+  room : length l.replies.items + length l.book ≤ 128;
+}
