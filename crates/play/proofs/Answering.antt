@@ -40,7 +40,7 @@ pub goes_on : {A : Type 0} (device : A → Device) (starved : A → Bool) (trace
 goes_on device starved trace extends old new shown events said text last none first past leads = record { later = past; adds = (refl, refl); leads = leads }
 goes_on device starved trace extends old new shown events said text last (call {mid = mid} {shown = before} {events = calls} {event = event} {said = saying} {one = one} {before = printed} {last = latest} prints fed answered) first past leads =
     let on = goes_on device starved trace extends old mid before calls saying printed latest prints first past leads in
-    let here = answered.adds.adds first on.later on.leads in
+    let here = answered.adds first on.later on.leads in
     record {
       later = here.0 ∷ on.later;
       adds = extends old mid new calls saying first past on.later event one here.0 on.adds answered.answers here.1 here.2 here.3;

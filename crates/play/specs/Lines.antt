@@ -19,6 +19,10 @@ abbrev pub replies_text : List Reply → List ℕ
 replies_text [] = answer_line answer.Quiet
 replies_text (reply ∷ replies) = flat_map (λ r. answer_line (answer.Replied r)) (reply ∷ replies)
 
+-- that the adapter was reset, and a line for each reply
+abbrev pub reset_text : List Reply → List ℕ
+reset_text replies = answer_line answer.Done ++ flat_map (λ r. answer_line (answer.Replied r)) replies
+
 -- what a call said
 abbrev pub said_text : Said → List ℕ
 said_text (said.Submitted (Ok id)) = answer_line (answer.Accepted id)
@@ -28,6 +32,8 @@ said_text (said.Stored (Err fault)) = answer_line (answer.Barred fault)
 said_text (said.Loaded (Ok bytes)) = answer_line (answer.Bytes (referred bytes.items))
 said_text (said.Loaded (Err fault)) = answer_line (answer.Barred fault)
 said_text (said.Served replies) = replies_text replies.items
+said_text (said.WasReset (Ok replies)) = reset_text replies.items
+said_text (said.WasReset (Err stuck)) = answer_line answer.Stuck
 said_text (said.State state) = answer_line (answer.State state)
 said_text (said.Stepped done) = answer_line (answer.Stepped done)
 

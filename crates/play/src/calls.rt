@@ -35,6 +35,7 @@ pub fn event(line: Line) -> Event
         },
         Line::Service => Event::Service,
         Line::Tick => Event::Tick,
+        Line::Reset => Event::Reset,
         Line::State(port) => Event::State(port),
         Line::Device(step) => Event::Device(step),
     }

@@ -2,7 +2,9 @@
 ghost use Rattle.std.specs.Prelude.{◌≡◌, ◌≤◌, ℕ, OnOk, length, take};
 ghost use Rattle.std.specs.Io.KnownBytes.{Appends};
 ghost use Rattle.block_server.specs.Running.{with_replies};
-ghost use Rattle.play.specs.Lines.{call_text, gained_text, replies_text, said_text, trace_text};
+ghost use Rattle.play.specs.Lines.{call_text, gained_text, replies_text, reset_text, said_text, trace_text};
+ghost use Rattle.script.specs.Answer.{answer_line};
+ghost use Rattle.std.specs.List.{flat_map};
 
 use adapter::Entry;
 use ata_types::Reply;
@@ -14,6 +16,16 @@ use std::io;
 #[derive(Clone, Copy, Debug, PartialEq, Eq)]
 pub struct Unwritten;
 
+/// Prints a line for each reply.
+fn print_each<W: io::Write>(out: &mut W, replies: &[Reply]) -> io::Result<()>
+    ensures { OnOk result (Appends (W.contents out.old) (W.contents out.new) (flat_map (λ r. answer_line (Answer.Replied r)) replies.now)) }
+{
+    for reply in replies {
+        Answer::Replied(*reply).print(out)?;
+    }
+    Ok(())
+}
+
 /// Prints a line for each reply, or one that there is none.
 fn print_replies<W: io::Write>(out: &mut W, replies: &[Reply]) -> io::Result<()>
     ensures { OnOk result (Appends (W.contents out.old) (W.contents out.new) (replies_text replies.now)) }
@@ -21,13 +33,18 @@ fn print_replies<W: io::Write>(out: &mut W, replies: &[Reply]) -> io::Result<()>
     if replies.is_empty() {
         return Answer::Quiet.print(out);
     }
-    for reply in replies {
-        Answer::Replied(*reply).print(out)?;
-    }
-    Ok(())
+    print_each(out, replies)
 }
 
-/// Prints what a call said, of which the replies of a service or a tick stand in a list.
+/// Prints that the adapter was reset, and a line for each reply.
+fn print_reset<W: io::Write>(out: &mut W, replies: &[Reply]) -> io::Result<()>
+    ensures { OnOk result (Appends (W.contents out.old) (W.contents out.new) (reset_text replies.now)) }
+{
+    Answer::Done.print(out)?;
+    print_each(out, replies)
+}
+
+/// Prints what a call said, of which the replies of a service, a tick or a reset stand in a list.
 fn print_told<W: io::Write>(out: &mut W, told: &Told, replies: &[Reply]) -> io::Result<()>
     ensures { OnOk result (Appends (W.contents out.old) (W.contents out.new) (said_text (with_replies told.now replies.now))) }
 {
@@ -38,6 +55,8 @@ fn print_told<W: io::Write>(out: &mut W, told: &Told, replies: &[Reply]) -> io::
         Told::Loaded(Ok(bytes)) => Answer::Bytes(bytes.as_slice()).print(out),
         Told::Stored(Err(fault)) | Told::Loaded(Err(fault)) => Answer::Barred(*fault).print(out),
         Told::Served => print_replies(out, replies),
+        Told::WasReset(Ok(())) => print_reset(out, replies),
+        Told::WasReset(Err(_)) => Answer::Stuck.print(out),
         Told::State(state) => Answer::State(*state).print(out),
         Told::Stepped(did) => Answer::Stepped(*did).print(out),
     }
@@ -77,7 +96,7 @@ fn print_trace<W: io::Write>(
 }
 
 /// Writes what is printed of a call, in place of what the text had: with a trace, what the tape gained past so many entries, and then what the
-/// call said, of which the replies of a service or a tick stand in a list. It fails where memory is refused.
+/// call said, of which the replies of a service, a tick or a reset stand in a list. It fails where memory is refused.
 pub fn print_call(
     text: &mut Vec<u8>,
     trace: bool,

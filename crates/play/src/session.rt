@@ -71,7 +71,7 @@ impl From<Stop> for Ended {
 /// What a run keeps from line to line.
 #[derive(Drop)]
 struct Room {
-    /// What a service or a tick answered.
+    /// What a service, a tick or a reset answered.
     replies: Replies,
     /// What is printed of one line.
     text: Vec<u8>,

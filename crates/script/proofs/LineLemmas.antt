@@ -20,7 +20,7 @@ use Rattle.adapter.specs.declared.access.DeviceStep.TheVariants as step
 use Rattle.adapter.specs.declared.access.FatalError.{FatalError}
 use Rattle.adapter.specs.declared.access.FatalError.TheVariants.{Interface, HostBus}
 use Rattle.script.specs.declared.line.Line.{Line}
-use Rattle.script.specs.declared.line.Line.TheVariants.{Submit, Store, Load, Service, Tick, State, Device}
+use Rattle.script.specs.declared.line.Line.TheVariants.{Submit, Store, Load, Service, Tick, Reset, State, Device}
 use Rattle.script.specs.Fields.{Word, fatal_word, frames_word}
 use Rattle.script.specs.Line.{IsLine, IsPlace, IsRequest, IsStep, line_text, line_words, op_word, page_word, place_words, request_words, step_words}
 use Rattle.script.proofs.FrameLemmas.{IsFrame, decimals}
@@ -118,6 +118,7 @@ line_are (Load client frame offset count) h =
     (more (number offset (omega (arith, h.2))) (more (number count (omega (arith, h.4))) none))))
 line_are Service h = more (fixed (codes "service") refl) none
 line_are Tick h = more (fixed (codes "tick") refl) none
+line_are Reset h = more (fixed (codes "reset") refl) none
 line_are (State port) h = port_are (codes "state") port (fixed (codes "state") refl) h
 line_are (Device s) h = more (fixed (codes "dev") refl) (step_are s h)
 
@@ -153,6 +154,7 @@ few_words (Store client frame offset bytes) = omega arith
 few_words (Load client frame offset count) = omega arith
 few_words Service = omega arith
 few_words Tick = omega arith
+few_words Reset = omega arith
 few_words (State port) = omega arith
 few_words (Device s) = omega (arith, step_few s)
 
@@ -162,6 +164,7 @@ some_words (Store client frame offset bytes) = omega arith
 some_words (Load client frame offset count) = omega arith
 some_words Service = omega arith
 some_words Tick = omega arith
+some_words Reset = omega arith
 some_words (State port) = omega arith
 some_words (Device s) = omega arith
 

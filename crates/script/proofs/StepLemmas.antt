@@ -15,7 +15,7 @@ use Rattle.ata_types.specs.declared.request.Frame.{Frame}
 use Rattle.ata_types.specs.declared.request.Op.{Op}
 use Rattle.ata_types.specs.declared.request.Op.TheVariants.{Read, Write, Trim, Flush}
 use Rattle.script.specs.declared.line.Line.{Line}
-use Rattle.script.specs.declared.line.Line.TheVariants.{Submit, Store, Load, Service, Tick, State, Device}
+use Rattle.script.specs.declared.line.Line.TheVariants.{Submit, Store, Load, Service, Tick, Reset, State, Device}
 use Rattle.script.specs.Line.{IsLine, IsStep, line_words, op_word, page_word, step_words}
 use Rattle.script.specs.Fields.{Word}
 
@@ -120,6 +120,7 @@ as_store (Submit r) client frame offset bytes h e = no_store r.op (ap (λ ws. ge
 as_store (Load c f o n) client frame offset bytes h e = absurd (omega (arith, ap (λ ws. length (get_or ws 0 [])) e))
 as_store Service client frame offset bytes h e = absurd (omega (arith, ap length e))
 as_store Tick client frame offset bytes h e = absurd (omega (arith, ap length e))
+as_store Reset client frame offset bytes h e = absurd (omega (arith, ap length e))
 as_store (State p) client frame offset bytes h e = absurd (omega (arith, ap length e))
 as_store (Device s) client frame offset bytes h e = absurd (omega (arith, ap (λ ws. length (get_or ws 0 [])) e))
 
@@ -162,5 +163,6 @@ as_load (Submit r) client frame offset count h e = no_load r.op (ap (λ ws. get_
 as_load (Store c f o b) client frame offset count h e = absurd (omega (arith, ap (λ ws. length (get_or ws 0 [])) e))
 as_load Service client frame offset count h e = absurd (omega (arith, ap length e))
 as_load Tick client frame offset count h e = absurd (omega (arith, ap length e))
+as_load Reset client frame offset count h e = absurd (omega (arith, ap length e))
 as_load (State p) client frame offset count h e = absurd (omega (arith, ap length e))
 as_load (Device s) client frame offset count h e = absurd (omega (arith, ap (λ ws. length (get_or ws 0 [])) e))

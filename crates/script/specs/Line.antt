@@ -14,7 +14,7 @@ use Rattle.adapter.specs.declared.access.DeviceStep.{DeviceStep}
 use Rattle.adapter.specs.declared.access.DeviceStep.TheVariants as step
 use Rattle.script.specs.Fields.{Word, fatal_word, frames_word}
 use Rattle.script.specs.declared.line.Line.{Line}
-use Rattle.script.specs.declared.line.Line.TheVariants.{Submit, Store, Load, Service, Tick, State, Device}
+use Rattle.script.specs.declared.line.Line.TheVariants.{Submit, Store, Load, Service, Tick, Reset, State, Device}
 
 abbrev pub op_word : Op → Word
 op_word Read = codes "read"
@@ -66,6 +66,7 @@ line_words (Load client frame offset count) =
     codes "load" ∷ decimal client.0 ∷ decimal frame.0 ∷ decimal offset ∷ decimal count ∷ []
 line_words Service = codes "service" ∷ []
 line_words Tick = codes "tick" ∷ []
+line_words Reset = codes "reset" ∷ []
 line_words (State port) = codes "state" ∷ decimal port.0 ∷ []
 line_words (Device asked) = codes "dev" ∷ step_words asked
 
@@ -117,5 +118,6 @@ IsLine (Store client frame offset bytes) = (client.0 < 256) × (frame.0 < 65536)
 IsLine (Load client frame offset count) = (client.0 < 256) × (frame.0 < 65536) × (offset < 2 ^ 32) × (1 ≤ count) × (count ≤ 64)
 IsLine Service = Unit {0}
 IsLine Tick = Unit {0}
+IsLine Reset = Unit {0}
 IsLine (State port) = port.0 < 4
 IsLine (Device asked) = IsStep asked

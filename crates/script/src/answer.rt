@@ -27,6 +27,10 @@ pub enum Answer<'a> {
     Replied(Reply),
     /// No request has ended.
     Quiet,
+    /// The adapter was reset.
+    Done,
+    /// The adapter didn't end its reset.
+    Stuck,
     /// The state of a port.
     State(PortState),
     /// Whether the device did its step.
@@ -208,6 +212,8 @@ impl fmt::Display for Answer<'_> {
             Answer::Bytes(bytes) => write!(f, "bytes {}", Hex(bytes)),
             Answer::Replied(reply) => write!(f, "reply {} {}", reply.id.0, Ended(reply.outcome)),
             Answer::Quiet => write!(f, "quiet"),
+            Answer::Done => write!(f, "done"),
+            Answer::Stuck => write!(f, "stuck"),
             Answer::State(state) => write!(f, "state {}", State(state)),
             Answer::Stepped(true) => write!(f, "did"),
             Answer::Stepped(false) => write!(f, "no"),

@@ -41,6 +41,8 @@ pub enum Line {
     Service,
     /// Note that a tick has gone by.
     Tick,
+    /// Reset the adapter.
+    Reset,
     /// Show the state of a port.
     State(Port),
     /// Have the device do a step.
@@ -225,6 +227,10 @@ fn asked(words: &[&str]) -> Option<Line>
         },
         "tick" => match rest {
             [] => Some(Line::Tick),
+            _ => None,
+        },
+        "reset" => match rest {
+            [] => Some(Line::Reset),
             _ => None,
         },
         "read" => Some(Line::Submit(transfer(Op::Read, rest)?)),
