@@ -405,30 +405,6 @@ IsAnswered (Device step) (Stepped true) old evidence steps new = AllDevices step
 IsAnswered (Device step) (Stepped false) old evidence steps new = (steps ≡ []) × SamePorts old.ports new.ports
 IsAnswered ask said old evidence steps new = ⊥
 
--- the moment after the event
-abbrev pub moment_after : {D : Type 0} → Moment → Event D → Moment
-moment_after old event = record { machine = after old.machine event.steps; ports = event.ports }
-
--- The event may happen at the old moment.
-pub record Happens {D : Type 0} (old : Moment) (event : Event D) : Type 0 where
-  pub may : AllMay old.machine event.steps
-  pub belong : Belong event.ask event.ports event.steps
-  pub last : IssuesLast event.steps
-  pub lawful : AllLawful old event.evidence event.ports event.steps
-  pub fit : AreFit event.ports
-  pub disks : KeepsDisks old (moment_after old event)
-  pub answered : IsAnswered event.ask event.said old event.evidence event.steps (moment_after old event)
-
--- the moment after a run of events
-abbrev pub moment_of : {D : Type 0} → Moment → List (Event D) → Moment
-moment_of first [] = first
-moment_of first (event ∷ past) = moment_after (moment_of first past) event
-
--- each event of the run happened at the moment that the events before it left
-abbrev pub IsRun : {D : Type 0} → Moment → List (Event D) → Type 0
-IsRun first [] = IsStart first.machine × AreFit first.ports
-IsRun first (event ∷ past) = IsRun first past × Happens (moment_of first past) event
-
 -- ---- what a service makes of trouble
 
 -- the port failed, or its link had told of a change when the call began, or a disk goes or comes in it
@@ -474,11 +450,32 @@ HeedsAt port ask old evidence steps new = IsInterrupted evidence port → ⊥
 abbrev pub Heeds : {D : Type 0} → Ask D → Moment → Evidence → List Step → Moment → Type 0
 Heeds ask old evidence steps new = (port : Port) → HeedsAt port ask old evidence steps new
 
--- each call of the run heeds what it finds
-abbrev pub AllHeed : {D : Type 0} → Moment → List (Event D) → Type 0
-AllHeed first [] = Unit {0}
-AllHeed first (event ∷ past) = AllHeed first past
-    × Heeds event.ask (moment_of first past) event.evidence event.steps (moment_of first (event ∷ past))
+-- ---- events, and runs of them
+
+-- the moment after the event
+abbrev pub moment_after : {D : Type 0} → Moment → Event D → Moment
+moment_after old event = record { machine = after old.machine event.steps; ports = event.ports }
+
+-- The event may happen at the old moment.
+pub record Happens {D : Type 0} (old : Moment) (event : Event D) : Type 0 where
+  pub may : AllMay old.machine event.steps
+  pub belong : Belong event.ask event.ports event.steps
+  pub last : IssuesLast event.steps
+  pub lawful : AllLawful old event.evidence event.ports event.steps
+  pub fit : AreFit event.ports
+  pub disks : KeepsDisks old (moment_after old event)
+  pub answered : IsAnswered event.ask event.said old event.evidence event.steps (moment_after old event)
+  pub heeds : Heeds event.ask old event.evidence event.steps (moment_after old event)
+
+-- the moment after a run of events
+abbrev pub moment_of : {D : Type 0} → Moment → List (Event D) → Moment
+moment_of first [] = first
+moment_of first (event ∷ past) = moment_after (moment_of first past) event
+
+-- each event of the run happened at the moment that the events before it left
+abbrev pub IsRun : {D : Type 0} → Moment → List (Event D) → Type 0
+IsRun first [] = IsStart first.machine × AreFit first.ports
+IsRun first (event ∷ past) = IsRun first past × Happens (moment_of first past) event
 
 -- ---- what a run gives
 

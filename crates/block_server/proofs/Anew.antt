@@ -17,10 +17,9 @@ use Rattle.port_control.specs.declared.Stopped.{Stopped}
 use Rattle.port_look.specs.Looks.{IsLooking}
 use Rattle.server_history.specs.Mended.{AreUnused}
 use Rattle.server_history.specs.Server.{Server, IsSettled, is_served}
-use Rattle.server_history.specs.Tried.{IsFoundAnew, IsLookedAt, TriesPort}
-use Rattle.server_history.specs.Turns.{TriesOther}
+use Rattle.server_history.specs.Tried.{FindsAnew, IsFoundAnew, IsLookedAt, TriesPort}
+use Rattle.server_history.specs.Turns.{TriesUnready}
 use Rattle.slots.specs.Uses.{Uses as PortSlots}
-use Rattle.block_server.specs.Trying.{FindsAnew}
 
 -- a port that isn't ready is served
 pub served_unready : (found : Found) (state : PortState) → found ≡ Unready state → is_served found ≡ true
@@ -52,11 +51,11 @@ found_anew s new found mode slots number = record s {
 
 -- what the law says of a port that was tried
 abbrev pub SettlesTried : Type 0
-SettlesTried = (s new : Server) (port : Port) → IsSettled s → (tries : TriesPort port s new) → (tries.state ≢ Dead → IsFollowed (IsLooking port) AnyUse s.device tries.seen) → TriesOther port s new × IsSettled new
+SettlesTried = (s new : Server) (port : Port) → IsSettled s → (tries : TriesPort port s new) → (tries.state ≢ Dead → IsFollowed (IsLooking port) AnyUse s.device tries.seen) → TriesUnready port s new × IsSettled new
 
 module _ (law : SettlesTried) (s : Server) (port : Port) (state : PortState) (is : found_of s.ports port.0 ≡ Unready state) (settled : IsSettled s) (seen : Device) where
   -- where nothing shows, that was all
-  pub left_settles : IsLookedAt state port false s.device seen → IsFollowed (IsLooking port) AnyUse s.device seen → TriesOther port s (record s { device = seen }) × IsSettled (record s { device = seen })
+  pub left_settles : IsLookedAt state port false s.device seen → IsFollowed (IsLooking port) AnyUse s.device seen → TriesUnready port s (record s { device = seen }) × IsSettled (record s { device = seen })
   left_settles looks followed = law s (record s { device = seen }) port settled tries (λ alive. followed)
     where
       tries : TriesPort port s (record s { device = seen })
@@ -81,13 +80,9 @@ module _ (law : SettlesTried) (s : Server) (port : Port) (state : PortState) (is
       looks = looks;
       left = λ none. let z : true ≡ false = none in absurd cc;
       boots = λ booted. record {
-        result = finds.result;
-        stopped = finds.stopped;
-        gives_up = finds.gives_up;
         found = found;
-        is = finds.is;
         mode = mode;
-        mode_is = finds.mode_is;
+        anew = finds;
         slots = slots;
         unused = unused;
         server = refl;
@@ -95,8 +90,8 @@ module _ (law : SettlesTried) (s : Server) (port : Port) (state : PortState) (is
     }
 
     -- else it was given up, and booted
-    pub booted_settles : (number : ℕ) → number ≡ port.0 → TriesOther port s (found_anew s new found mode slots number) × IsSettled (found_anew s new found mode slots number)
+    pub booted_settles : (number : ℕ) → number ≡ port.0 → TriesUnready port s (found_anew s new found mode slots number) × IsSettled (found_anew s new found mode slots number)
     unfolding boots_so
     booted_settles number same =
-        subst (λ (n : ℕ). TriesOther port s (found_anew s new found mode slots n) × IsSettled (found_anew s new found mode slots n)) (sym same)
+        subst (λ (n : ℕ). TriesUnready port s (found_anew s new found mode slots n) × IsSettled (found_anew s new found mode slots n)) (sym same)
         (law s (found_anew s new found mode slots port.0) port settled boots_so (λ alive. followed))

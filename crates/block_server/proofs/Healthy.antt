@@ -118,7 +118,7 @@ module _ (laws : HistoryLaws) where
   served_well wanted first past h port history healthy =
       let goes = laws.well wanted first past h port history healthy in
       let old = now first past in
-      let heeds = (history.2.port port).heeds in (
+      let heeds = history.1.heeds port in (
         goes,
         record {
           same = goes.spared.same;

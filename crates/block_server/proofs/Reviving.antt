@@ -29,7 +29,7 @@ use Rattle.server_history.specs.Mended.{holdings_of, requests_of}
 use Rattle.server_history.specs.Resets.{IsProspectAnew, IsTakenAgain, IssuePorts, SettlePorts, SettlesPort}
 use Rattle.server_history.specs.Served.{IssuesAll, IssuesEach, IssuesOne}
 use Rattle.server_history.specs.Server.{AreOfTwo, Server, IsKept, IsLentOut, disk_of, kept_at, mode_at, mode_found, no_slots, plain_mode, remembered_at, slots_at, state_of, used_for}
-use Rattle.server_history.specs.Stalled.{GetsStuck, IsBooked, stuck_found}
+use Rattle.server_history.specs.Stalled.{GetsStuck, KeepsBooks, stuck_found}
 use Rattle.slots.specs.Uses.{Uses as PortSlots}
 use Rattle.block_server.specs.Fates.{IsSound, holding}
 use Rattle.block_server.specs.Ports.{Lends}
@@ -135,7 +135,7 @@ lends_one s device book slots modes ports l number info low small ready other mo
 -- ---- the whole
 
 -- what is kept may be given back
-pub may_go : (s : Server) (b : IsBooked s) → ((port : ℕ) → All (IsLentOut s.table) (kept_at s.kept port)) → ((port : ℕ) → AllPairs AreOfTwo (kept_at s.kept port))
+pub may_go : (s : Server) (b : KeepsBooks s) → ((port : ℕ) → All (IsLentOut s.table) (kept_at s.kept port)) → ((port : ℕ) → AllPairs AreOfTwo (kept_at s.kept port))
     → ((port other : ℕ) (x y : Lending) → Contains (kept_at s.kept port) x → Contains (kept_at s.kept other) y → x.request ≡ y.request → (port ≡ other) × (x ≡ y)) → MayGoBack s.table s.kept
 may_go s b lent two one = record { lent = lent; two = two; apart = λ port other x y ne here there same. ne (one port other x y here there same).0 }
 

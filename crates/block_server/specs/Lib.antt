@@ -7,5 +7,4 @@ pub mod Ports
 pub mod Healthy
 pub mod Fates
 pub mod Recovery
-pub mod Trying
 pub mod Resetting

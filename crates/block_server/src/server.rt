@@ -98,7 +98,7 @@ impl<A: Adapter> Server<A> {
     ghost use Rattle.server_history.specs.Histories.{AddsEvent, store_said, load_said};
     ghost use Rattle.ata_types.specs.declared.request.Reply.{Reply};
     ghost use Rattle.server_history.specs.Served.{AnswersDone};
-    ghost use Rattle.server_history.specs.Turns.{ServesPort, TicksPort, TriesOther, a_tick_older};
+    ghost use Rattle.server_history.specs.Turns.{ServesPort, TicksPort, TriesUnready, a_tick_older};
     ghost use Rattle.block_server.specs.Recovery.{MendsOf, SeesTrouble};
     ghost use Rattle.block_server.specs.Resetting.{DoesReset, reset_said};
     ghost use Rattle.adapter.specs.Device.{Device};
@@ -430,7 +430,7 @@ impl<A: Adapter> Server<A> {
         requires on { self.old.stuck ≡ false }
         requires unready { found_of self.old.ports port.0 ≡ Found.Unready state }
         ensures on { self.new.stuck ≡ false }
-        ensures tries { TriesOther port (server_of A.device self.old) (server_of A.device self.new) }
+        ensures tries { TriesUnready port (server_of A.device self.old) (server_of A.device self.new) }
         ensures settled { IsSettled (server_of A.device self.new) }
         ensures ports { (q : ℕ) → q ≢ port.0 → found_of self.new.ports q ≡ found_of self.old.ports q }
         ensures book { self.new.book ≡ self.old.book }

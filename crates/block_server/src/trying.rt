@@ -3,7 +3,7 @@ ghost use Rattle.std.specs.Prelude.{true, ◌≡◌};
 ghost use Rattle.adapter.specs.Device.{Device};
 ghost use Rattle.adapter.specs.Rules.{HasPort, IsOn};
 ghost use Rattle.agreement.specs.Driven.{AgreesWith, AnyUse, IsFollowed};
-ghost use Rattle.block_server.specs.Trying.{FindsAnew};
+ghost use Rattle.server_history.specs.Tried.{FindsAnew};
 ghost use Rattle.error_recovery.specs.Recovery.{GivesUp};
 ghost use Rattle.error_recovery.specs.declared.Recovered as recovered_record;
 ghost use Rattle.port_boot.specs.States.{IsBootable};

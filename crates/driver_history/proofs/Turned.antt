@@ -22,7 +22,7 @@ use Rattle.block_machine.specs.Histories.{Instant}
 use Rattle.block_machine.specs.Ports.{Evidence, IsInterrupted, Ports, SamePort}
 use Rattle.error_recovery.specs.Evidence.{GainsRunning, ShowsFatal}
 use Rattle.driver_history.specs.Evidence.{Gains, ShowsChange, ShowsFailure}
-use Rattle.driver_history.specs.Histories.{BootsAnew, HasBadDisk, HasFaultAlone, IsFreshOrGone, LosesNoTrouble, RunsWellAnew, TendsPort, TriesDisk}
+use Rattle.driver_history.specs.Histories.{BootsAnew, IsUnfitOrForeign, HasFaultAlone, IsFreshOrUnshown, LosesNoTrouble, RunsWellAnew, TendsPort, TriesDisk}
 use Rattle.driver_history.specs.Laws.{Laws}
 use Rattle.driver_history.specs.Parts.{EndsLinked, HasTurnIn, IsOfOther, NamesAlike, all_of}
 use Rattle.driver_history.specs.Trace.{ResetsLink}
@@ -41,10 +41,10 @@ gained_at Such old new before e later tape is = record {
   is = is;
 }
 
-fresh_or_gone : (p : PortState) → IsFreshIfShown p → IsFreshOrGone p
+fresh_or_gone : (p : PortState) → IsFreshIfShown p → IsFreshOrUnshown p
 fresh_or_gone p fresh = ⊎_elim (λ (shows : p.ssts_det ≡ 3). inl (fresh shows)) (λ gone. inr gone) (cases_eq p.ssts_det 3)
 
-fresh_if_shown : (p : PortState) → IsFreshOrGone p → IsFreshIfShown p
+fresh_if_shown : (p : PortState) → IsFreshOrUnshown p → IsFreshIfShown p
 fresh_if_shown p fresh shows = ⊎_elim (λ came. came) (λ gone. absurd (gone shows)) fresh
 
 module _ (laws : Laws) (port : Port) where
@@ -137,7 +137,7 @@ module _ (laws : Laws) (port : Port) where
           let b = laws.comes_parts port.0 t.start t.end new middle.0 last.grows.0 middle.1 last.grows.1 a.1 in
           (a.0, b.0, b.1)
 
-      bad_then : SamePort old.moment.ports begun.ports port → HasBadDisk old.moment.ports port → HasBadDisk begun.ports port
+      bad_then : SamePort old.moment.ports begun.ports port → IsUnfitOrForeign old.moment.ports port → IsUnfitOrForeign begun.ports port
       bad_then was bad = ⊎_elim (λ foreign. inl (was.1 ∙ foreign)) (λ unfit. inr (unfit.0, was.1 ∙ unfit.1)) bad
 
       -- X that was shown is shown still
@@ -153,10 +153,10 @@ module _ (laws : Laws) (port : Port) where
           (linked (bad_then was bad) (x_then x) parts.1)
 
       -- the disk's first FIS has come, or no device shows, at the call's end, where it has at the turn's
-      fresh_still : NoneComes port.0 t.end new → IsFreshOrGone (t.end.port port.0) → IsFreshOrGone (new.port port.0)
+      fresh_still : NoneComes port.0 t.end new → IsFreshOrUnshown (t.end.port port.0) → IsFreshOrUnshown (new.port port.0)
       fresh_still none fresh = fresh_or_gone (new.port port.0) (stays_over IsFreshIfShown (laws.fresh port) t.later t.end new t.last none (fresh_if_shown (t.end.port port.0) fresh))
 
-      pub tries_are_the_calls : SamePort old.moment.ports begun.ports port → (HasBadDisk old.moment.ports port → HasDeviceOrNone (old.device.port port.0)) → EndsLinked port began ended t.end
+      pub tries_are_the_calls : SamePort old.moment.ports begun.ports port → (IsUnfitOrForeign old.moment.ports port → HasDeviceOrNone (old.device.port port.0)) → EndsLinked port began ended t.end
           → (NoneComes port.0 t.start t.end → TriesDisk t.turn began ended t.end port) → NoneComes port.0 old.device new → TriesDisk (all_of t) old ports new port
       tries_are_the_calls was there linked tried none = record {
         shown = λ absent shows. ⊎_elim
@@ -196,12 +196,12 @@ module _ (laws : Laws) (port : Port) where
           its = tried parts.1
 
           -- what is so of the disk's first FIS when the turn begins is so at the call's end
-          from_start : IsFreshIfShown (t.start.port port.0) → IsFreshOrGone (new.port port.0)
+          from_start : IsFreshIfShown (t.start.port port.0) → IsFreshOrUnshown (new.port port.0)
           from_start fresh = fresh_or_gone (new.port port.0)
               (stays_over IsFreshIfShown (laws.fresh port) t.later t.end new t.last parts.2 (stays_over IsFreshIfShown (laws.fresh port) t.turn t.start t.end t.then parts.1 fresh))
 
           -- where no disk was in, none is when the turn begins
-          vacant_then : HasBadDisk old.moment.ports port → (old.device.port port.0).ssts_det ≢ 3 → IsVacant (t.start.port port.0)
+          vacant_then : IsUnfitOrForeign old.moment.ports port → (old.device.port port.0).ssts_det ≢ 3 → IsVacant (t.start.port port.0)
           vacant_then bad out = stays_over IsVacant (laws.vacant port) t.before old.device t.start t.first parts.0
               (⊎_elim (λ (shows : (old.device.port port.0).ssts_det ≡ 3). absurd (out shows)) (λ gone. record { out = gone; det = out }) (there bad))
 

@@ -21,7 +21,7 @@ use Rattle.agreement.specs.Errors.{IsFatalOf, NoneComes, NoneFatal}
 use Rattle.agreement.specs.Facts.{RunsWell, IsFaultOf}
 use Rattle.agreement.specs.Links.{IsPlugging, PlugsNone}
 use Rattle.agreement.specs.Slots.{ServesRequest}
-use Rattle.block_machine.specs.Events.{Ask, Submit, StoreAt, LoadAt, Service, Tick, Reset, Device as Told, Said, Submitted, Stored, Loaded, Served, WasReset, Stepped, Moment, HeedsAt, IsHung, IsIssuedIn, issues_it, moment_after}
+use Rattle.block_machine.specs.Events.{Ask, Submit, StoreAt, LoadAt, Service, Tick, Reset, Device as Told, Said, Submitted, Stored, Loaded, Served, WasReset, Stepped, Moment, IsHung, IsIssuedIn, issues_it, moment_after}
 use Rattle.block_machine.specs.Due.{IsDue}
 use Rattle.block_machine.specs.Histories.{Instant, Happening}
 use Rattle.block_machine.specs.Histories as histories
@@ -161,12 +161,12 @@ TellsPlainFaults ask old ports new steps port = Unit {0}
 -- ---- disks that are there are tried
 
 -- its first FIS has come, or no device shows
-abbrev pub IsFreshOrGone : PortState → Type 0
-IsFreshOrGone p = (p.fresh ≡ true) ⊎ (p.ssts_det ≢ 3)
+abbrev pub IsFreshOrUnshown : PortState → Type 0
+IsFreshOrUnshown p = (p.fresh ≡ true) ⊎ (p.ssts_det ≢ 3)
 
 -- a service finds the port unfit or foreign
-abbrev pub HasBadDisk : Ports → Port → Type 0
-HasBadDisk ports port = (ports.state port ≡ Foreign) ⊎ ((cause : ℕ) × (ports.state port ≡ Unfit cause))
+abbrev pub IsUnfitOrForeign : Ports → Port → Type 0
+IsUnfitOrForeign ports port = (ports.state port ≡ Foreign) ⊎ ((cause : ℕ) × (ports.state port ≡ Unfit cause))
 
 -- A service in which no disk of a served port comes boots what is there, unless the port ends dead: an absent port that shows a device, unless a disk of it goes in the call;
 -- and an unfit or foreign one with X set, unless it ends absent. One of these without a device ends absent, or dead. Where the link was reset so, the disk's first FIS has
@@ -175,12 +175,12 @@ pub record TriesDisk (accesses : List Access) (old : Instant Device) (ports : Po
   pub shown : old.moment.ports.state port ≡ Absent → (old.device.port port.0).ssts_det ≡ 3
       → (ports.state port ≡ Dead) ⊎ (ResetsLink port accesses ⊎ Gains (IsPlugging port.0) old.device new)
   pub absent : old.moment.ports.state port ≡ Absent → (old.device.port port.0).ssts_det ≡ 3 → (old.device.port port.0).fresh ≡ false
-      → (ports.state port ≡ Dead) ⊎ IsFreshOrGone (new.port port.0)
-  pub missing : HasBadDisk old.moment.ports port → (old.device.port port.0).ssts_det ≢ 3
+      → (ports.state port ≡ Dead) ⊎ IsFreshOrUnshown (new.port port.0)
+  pub missing : IsUnfitOrForeign old.moment.ports port → (old.device.port port.0).ssts_det ≢ 3
       → (ports.state port ≡ Absent) ⊎ (ports.state port ≡ Dead)
-  pub changed : HasBadDisk old.moment.ports port → (old.device.port port.0).serr_x ≡ true
+  pub changed : IsUnfitOrForeign old.moment.ports port → (old.device.port port.0).serr_x ≡ true
       → (ports.state port ≡ Absent) ⊎ ((ports.state port ≡ Dead)
-      ⊎ (ResetsLink port accesses × ((new.port port.0).serr_x ≡ false) × IsFreshOrGone (new.port port.0)))
+      ⊎ (ResetsLink port accesses × ((new.port port.0).serr_x ≡ false) × IsFreshOrUnshown (new.port port.0)))
 
 abbrev pub Tries : Ask DeviceStep → List Access → Instant Device → Ports → Device → Port → Type 0
 Tries Service accesses old ports new port =
@@ -230,7 +230,7 @@ RunsWellAnew evidence accesses old ports new port =
 -- ---- one port's part in a call, and the whole
 
 -- What a call has done of a port, as far as it needs the device: what was found done, a plain request's fault, a disk that is there, boots, and
--- trouble; and the call heeds what it finds of it.
+-- trouble. (That the call heeds what it finds of it, `Happens` has.)
 pub record TiesPort (old : Instant Device) (h : Happening Device DeviceStep) (accesses : List Access) (port : Port) : Type 0 where
   pub finds : FindsIn h.event.ask accesses old h.event.steps port
   pub faults : TellsPlainFaults h.event.ask old h.event.ports h.device h.event.steps port
@@ -238,7 +238,6 @@ pub record TiesPort (old : Instant Device) (h : Happening Device DeviceStep) (ac
   pub boots : BootsAnew h.event.ask h.event.said accesses old h.event.ports h.device port
   pub trouble : LosesNoTrouble h.event.evidence old h.event.ports h.device port
   pub well : RunsWellAnew h.event.evidence accesses old h.event.ports h.device port
-  pub heeds : HeedsAt port h.event.ask old.moment h.event.evidence h.event.steps (moment_after old.moment h.event)
 
 -- The device's part in a call. Its accesses led there, and the tape backs the machine's steps. What stands behind the evidence is so. It has
 -- issued what is due. Of each port it has done its part. And after it there holds what holds at each instant.

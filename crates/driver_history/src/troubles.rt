@@ -18,7 +18,7 @@ ghost use Rattle.block_machine.specs.Ports.{Evidence, IsInterrupted, Ports, Same
 ghost use Rattle.error_recovery.specs.Evidence.{GainsRunning};
 ghost use Rattle.driver_history.specs.Claims.{HeedsFailure};
 ghost use Rattle.driver_history.specs.Evidence.{ShowsChange, ShowsFailure};
-ghost use Rattle.driver_history.specs.Histories.{BootsAnew, HasBadDisk, HasFaultAlone, IsHistory, LosesNoTrouble, RunsWellAnew, TriesDisk};
+ghost use Rattle.driver_history.specs.Histories.{BootsAnew, IsUnfitOrForeign, HasFaultAlone, IsHistory, LosesNoTrouble, RunsWellAnew, TriesDisk};
 ghost use Rattle.driver_history.specs.Parts.{EndsLinked, HasTurnIn, NamesAlike, all_of};
 ghost use Rattle.driver_history.specs.Trace.{ClearsNone, ResetsLink};
 ghost use Rattle.identify.specs.declared.wanted.Wanted.{Wanted};
@@ -89,7 +89,7 @@ pub fn a_turns_trouble_is_the_calls()
 pub fn a_turn_that_tries_a_disk_is_the_calls()
     ensures tries { (port : Port) (old : Instant Device) (begun : Moment) (ended ports : Ports) (new : Device) → IsOn old.device
         → (t : HasTurnIn port old.device new) → IsOn t.end → SamePort ended ports port → SamePort old.moment.ports begun.ports port
-        → (HasBadDisk old.moment.ports port → HasDeviceOrNone (old.device.port port.0))
+        → (IsUnfitOrForeign old.moment.ports port → HasDeviceOrNone (old.device.port port.0))
         → EndsLinked port (record { device = t.start; moment = begun }) ended t.end
         → (NoneComes port.0 t.start t.end → TriesDisk t.turn (record { device = t.start; moment = begun }) ended t.end port)
         → NoneComes port.0 old.device new → TriesDisk (all_of t) old ports new port }

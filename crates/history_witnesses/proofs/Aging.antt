@@ -139,6 +139,7 @@ module _ (age : ℕ) where
         issues = λ port is. not_due (suc age) port;
         emptied = λ port is not_ready. absurd (not_ready is);
       };
+      heeds = λ _. tt;
     }
 
     pub tick_part : (n : ℕ) → TiesPort (issued_at age) tick [] (port_at n)
@@ -149,7 +150,6 @@ module _ (age : ℕ) where
       boots = λ h. absurd (not_hung age young (port_at n) h);
       trouble = no_trouble nothing (issued_at age) both submitted (port_at n) [] refl (All-nil (IsCalm n)) (served_ready n) (quiet n);
       well = λ why. absurd (⊎_elim (nowhere (port_at n)) (nowhere (port_at n)) why);
-      heeds = tt;
     }
 
     unfoldable pub tick_ties : Ties (Any ∷ Any ∷ []) (issued_at age) tick

@@ -130,35 +130,6 @@ had_disk zero = inl (refl, refl, refl, refl, refl, refl)
 had_disk (suc zero) = inr (λ shows. absurd shows)
 had_disk (suc (suc n)) = inl (refl, refl, refl, refl, refl, refl)
 
-service_happens : Happens submitted_at.moment service.event
-service_happens = record {
-  may = (
-    (
-      (
-        (tt, (inl ((0, omega arith, refl), refl), omega arith, refl, omega arith, λ e. absurd (let x : Read ≡ Write = e in cc))),
-        (inl ((0, omega arith, refl), refl), all_touched, refl),
-      ),
-      (0, omega arith, refl),
-    ),
-    refl,
-  );
-  belong = ((((tt, inl tt), inl tt), inr tt), inl tt);
-  last = ((((tt, λ id h is. absurd (true≢false (sym is))), λ id h is. absurd (true≢false (sym is))), λ id h is. absurd (true≢false (sym is))), λ id h is. absurd (true≢false (sym is)));
-  lawful = (tt, (record { pending = waiting; here = (0, omega arith, refl); id_is = refl; issued = refl }, refl, all_touched, refl));
-  fit = fit_one;
-  disks = λ e o here. absurd (nowhere e here);
-  answered = record {
-    tells = record { answers = (ended, outcome.Ok) ∷ []; same = IsPermutation-refl _; ordered = λ i j d less low. absurd (omega (arith, less, low)); told = refl };
-    dead = λ e o here is. absurd (not_dead e.request.port.0 is);
-    grounded = tt;
-    unplugs = record { emptied = λ e other here. absurd (not_unplugged e here); alike = λ e other here. absurd (not_unplugged e here) };
-    issues = λ port is r at_port due. absurd (nowhere r due.here);
-    emptied = λ port other e here. absurd (nowhere e here);
-    becomes = λ port. becomes port.0;
-    disk = λ port. had_disk port.0;
-  };
-}
-
 service_backed : IsBacked submitted lost issuing service_steps
 service_backed = record {
   telling = refl;
@@ -347,6 +318,36 @@ well zero = λ why. absurd (⊎_elim (unnamed 0 (omega arith)).stopped (unnamed 
 well (suc zero) = λ why ready. absurd (let x : Absent ≡ Ready = ready in cc)
 well (suc (suc n)) = λ why. absurd (⊎_elim (unnamed (suc (suc n)) (omega arith)).stopped (unnamed (suc (suc n)) (omega arith)).stuck why)
 
+service_happens : Happens submitted_at.moment service.event
+service_happens = record {
+  may = (
+    (
+      (
+        (tt, (inl ((0, omega arith, refl), refl), omega arith, refl, omega arith, λ e. absurd (let x : Read ≡ Write = e in cc))),
+        (inl ((0, omega arith, refl), refl), all_touched, refl),
+      ),
+      (0, omega arith, refl),
+    ),
+    refl,
+  );
+  belong = ((((tt, inl tt), inl tt), inr tt), inl tt);
+  last = ((((tt, λ id h is. absurd (true≢false (sym is))), λ id h is. absurd (true≢false (sym is))), λ id h is. absurd (true≢false (sym is))), λ id h is. absurd (true≢false (sym is)));
+  lawful = (tt, (record { pending = waiting; here = (0, omega arith, refl); id_is = refl; issued = refl }, refl, all_touched, refl));
+  fit = fit_one;
+  disks = λ e o here. absurd (nowhere e here);
+  answered = record {
+    tells = record { answers = (ended, outcome.Ok) ∷ []; same = IsPermutation-refl _; ordered = λ i j d less low. absurd (omega (arith, less, low)); told = refl };
+    dead = λ e o here is. absurd (not_dead e.request.port.0 is);
+    grounded = tt;
+    unplugs = record { emptied = λ e other here. absurd (not_unplugged e here); alike = λ e other here. absurd (not_unplugged e here) };
+    issues = λ port is r at_port due. absurd (nowhere r due.here);
+    emptied = λ port other e here. absurd (nowhere e here);
+    becomes = λ port. becomes port.0;
+    disk = λ port. had_disk port.0;
+  };
+  heeds = λ port. heeds port.0;
+}
+
 service_part : (n : ℕ) → TiesPort submitted_at service turns (port_at n)
 service_part n = record {
   finds = λ is e on. service_finds n e on;
@@ -355,7 +356,6 @@ service_part n = record {
   boots = service_boots n;
   trouble = trouble n;
   well = well n;
-  heeds = heeds n;
 }
 
 service_ties : Ties (Any ∷ Any ∷ []) submitted_at service

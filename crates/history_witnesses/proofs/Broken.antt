@@ -81,26 +81,6 @@ service = record {
   device = booted;
 }
 
-happens : Happens broken_at.moment service.event
-happens = record {
-  may = (tt, (0, omega arith, refl));
-  belong = (tt, inr tt);
-  last = (tt, λ id h is. absurd (true≢false (sym is)));
-  lawful = (tt, (named 0, named 0));
-  fit = fit_one;
-  disks = λ e o here. absurd (nowhere e here);
-  answered = record {
-    tells = record { answers = (waiting, outcome.Unplugged) ∷ []; same = IsPermutation-refl _; ordered = λ i j d less low. absurd (omega (arith, less, low)); told = refl };
-    dead = λ e o here is. absurd (not_dead e.request.port.0 is);
-    grounded = tt;
-    unplugs = unplugs restart is_restart;
-    issues = λ port is r at_port due. absurd (nowhere r due.here);
-    emptied = λ port other e here. absurd (nowhere e here);
-    becomes = λ port. becomes port.0;
-    disk = λ port. had_disk port.0;
-  };
-}
-
 of_tended : AreServing (TendsPort both) fatal_accesses
 of_tended = (tended, ((λ is. cc, tended), ((λ is. cc, tt), (tended, of_served (TendsPort both) tended))))
   where
@@ -133,6 +113,27 @@ service_finds : (n : ℕ) (e : Pending) → IsIssuedOn (port_at n) issuing e →
 service_finds zero e on = finds restart is_restart
 service_finds (suc n) e on = absurd (none_there 0 n e on)
 
+happens : Happens broken_at.moment service.event
+happens = record {
+  may = (tt, (0, omega arith, refl));
+  belong = (tt, inr tt);
+  last = (tt, λ id h is. absurd (true≢false (sym is)));
+  lawful = (tt, (named 0, named 0));
+  fit = fit_one;
+  disks = λ e o here. absurd (nowhere e here);
+  answered = record {
+    tells = record { answers = (waiting, outcome.Unplugged) ∷ []; same = IsPermutation-refl _; ordered = λ i j d less low. absurd (omega (arith, less, low)); told = refl };
+    dead = λ e o here is. absurd (not_dead e.request.port.0 is);
+    grounded = tt;
+    unplugs = unplugs restart is_restart;
+    issues = λ port is r at_port due. absurd (nowhere r due.here);
+    emptied = λ port other e here. absurd (nowhere e here);
+    becomes = λ port. becomes port.0;
+    disk = λ port. had_disk port.0;
+  };
+  heeds = λ port. heeds port.0;
+}
+
 part_of : (n : ℕ) → TiesPort broken_at service fatal_accesses (port_at n)
 part_of n = record {
   finds = λ is e on. service_finds n e on;
@@ -141,7 +142,6 @@ part_of n = record {
   boots = boots n;
   trouble = trouble restart is_restart n;
   well = well restart is_restart n;
-  heeds = heeds n;
 }
 
 ties : Ties (Any ∷ Any ∷ []) broken_at service

@@ -24,7 +24,7 @@ use Rattle.block_machine.specs.Steps.{Step, Answer, NoneKept}
 use Rattle.host_boot.specs.Taken.{wanted_of}
 use Rattle.identify.specs.declared.wanted.Wanted.TheVariants.{Any}
 use Rattle.driver_history.specs.Evidence.{IsEvidencedOf}
-use Rattle.driver_history.specs.Histories.{Ties, TiesPort, TriesDisk, HasBadDisk, TendsPort}
+use Rattle.driver_history.specs.Histories.{Ties, TiesPort, TriesDisk, IsUnfitOrForeign, TendsPort}
 use Rattle.driver_history.specs.Holds.{HoldsOf, HoldsWith, NoneWaits}
 use Rattle.driver_history.specs.Trace.{LeavesEngine, IsServing}
 use Rattle.host_boot.specs.Resets.{ReadsGlobalControl}
@@ -147,6 +147,7 @@ reset_happens = record {
   fit = fit_dead;
   disks = λ e o here there same. (refl, refl);
   answered = (tt, λ port. stuck_is port.0);
+  heeds = λ _. tt;
 }
 
 unchanged : (d : Device) → ((n : ℕ) → (d.port n).plugged ≡ (d.port n).plugged ++ [])
@@ -188,7 +189,6 @@ reset_part n = record {
   boots = tt;
   trouble = no_trouble stuck_evidence submitted_at dead pending (port_at n) [] refl (All-nil (IsCalm n)) (served_ready n) (calm submitted.tape read_memory issued refl refl refl (λ place from. refl) pending n);
   well = λ why ready. absurd (not_ready n ready);
-  heeds = tt;
 }
 
 reset_ties : Ties (Any ∷ Any ∷ []) submitted_at reset
@@ -301,6 +301,7 @@ service_happens = record {
     becomes = λ port. becomes port.0;
     disk = λ port. inl (refl, refl, refl, refl, refl, refl);
   };
+  heeds = λ port is. absurd (not_ready port.0 is);
 }
 
 service_evidenced : (n : ℕ) → IsEvidencedOf Service (Served replies) [] pending_at dead pending nothing (port_at n)
@@ -319,7 +320,7 @@ tries n served =
       changed = λ bad. absurd (not_bad is bad);
     }
   where
-    not_bad : dead.state (port_at n) ≡ Dead → HasBadDisk dead (port_at n) → ⊥
+    not_bad : dead.state (port_at n) ≡ Dead → IsUnfitOrForeign dead (port_at n) → ⊥
     not_bad is (inl foreign) = let x : Dead ≡ Foreign = sym is ∙ foreign in cc
     not_bad is (inr unfit) = let x : Dead ≡ Unfit unfit.0 = sym is ∙ unfit.1 in cc
 
@@ -342,7 +343,6 @@ service_part n = record {
     disk = λ is. absurd (not_ready n is);
   };
   well = λ why is. absurd (not_ready n is);
-  heeds = λ is. absurd (not_ready n is);
 }
 
 service_backed : IsBacked pending pending issuing (answer ∷ [])

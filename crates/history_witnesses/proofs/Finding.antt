@@ -164,35 +164,6 @@ module _ (c : Discovery) where
     not_unplugged : (e : Pending) → Contains steps (Answer e outcome.Unplugged) → ⊥
     not_unplugged e here = let x : outcome.Unplugged ≡ outcome.Ok = (only_answer e outcome.Unplugged here).1 in cc
 
-    pub service_happens : Happens before.moment service.event
-    service_happens = record {
-      may = (
-        (
-          (tt, (inl (is.here, refl), omega arith, in_then, sizes, λ e. absurd (let x : Read ≡ Write = e in cc))),
-          (inl (is.touched_here, refl), all_touched, in_then),
-        ),
-        is.ended_here,
-      );
-      belong = (((tt, inl tt), inl tt), inr tt);
-      last = (((tt, λ id h i. absurd (true≢false (sym i))), λ id h i. absurd (true≢false (sym i))), λ id h i. absurd (true≢false (sym i)));
-      lawful = (tt, (record { pending = outstanding; here = is.here; id_is = refl; issued = refl }, refl, all_touched, refl));
-      fit = fit_ready c.disk;
-      disks = λ e o here there same. (refl, refl);
-      answered = record {
-        tells = record { answers = (ended, outcome.Ok) ∷ []; same = IsPermutation-refl _; ordered = λ i j d less low. absurd (omega (arith, less, low)); told = refl };
-        dead = λ e o here dead. absurd (not_dead e.request.port.0 dead);
-        grounded = tt;
-        unplugs = record { emptied = λ e other here. absurd (not_unplugged e here); alike = λ e other here. absurd (not_unplugged e here) };
-        issues = λ port ready. is.none_due port;
-        emptied = λ port other e here at. other (ap (λ (n : ℕ). two_states (port_at n)) (ap (λ (q : Port). q.0) (sym at) ∙ is.agreeing.first_alone e here));
-        becomes = λ port. stay_serviced c.disk nothing port.0 (nowhere port);
-        disk = λ port. inl (refl, refl, refl, refl, refl, refl);
-      };
-    }
-      where
-        sizes : c.sector + 0 < c.machine.sizes (port_at 0)
-        sizes = let low = is.on_disk in let size : c.machine.sizes (port_at 0) ≡ 256 = ap (λ (f : Port → ℕ). f (port_at 0)) is.agreed.disks.2 in omega (arith, low, size)
-
     pub backed : IsBacked before.device served_at.device c.machine steps
     backed = record {
       telling = refl;
@@ -278,6 +249,36 @@ module _ (c : Discovery) where
     gained_calm : (n : ℕ) → All (IsCalm n) gained
     gained_calm n = All-from_recursion (IsCalm n) gained ((λ x. x, λ x. x, λ x. x), ((λ x. x, λ x. x, λ x. x), tt))
 
+    pub service_happens : Happens before.moment service.event
+    service_happens = record {
+      may = (
+        (
+          (tt, (inl (is.here, refl), omega arith, in_then, sizes, λ e. absurd (let x : Read ≡ Write = e in cc))),
+          (inl (is.touched_here, refl), all_touched, in_then),
+        ),
+        is.ended_here,
+      );
+      belong = (((tt, inl tt), inl tt), inr tt);
+      last = (((tt, λ id h i. absurd (true≢false (sym i))), λ id h i. absurd (true≢false (sym i))), λ id h i. absurd (true≢false (sym i)));
+      lawful = (tt, (record { pending = outstanding; here = is.here; id_is = refl; issued = refl }, refl, all_touched, refl));
+      fit = fit_ready c.disk;
+      disks = λ e o here there same. (refl, refl);
+      answered = record {
+        tells = record { answers = (ended, outcome.Ok) ∷ []; same = IsPermutation-refl _; ordered = λ i j d less low. absurd (omega (arith, less, low)); told = refl };
+        dead = λ e o here dead. absurd (not_dead e.request.port.0 dead);
+        grounded = tt;
+        unplugs = record { emptied = λ e other here. absurd (not_unplugged e here); alike = λ e other here. absurd (not_unplugged e here) };
+        issues = λ port ready. is.none_due port;
+        emptied = λ port other e here at. other (ap (λ (n : ℕ). two_states (port_at n)) (ap (λ (q : Port). q.0) (sym at) ∙ is.agreeing.first_alone e here));
+        becomes = λ port. stay_serviced c.disk nothing port.0 (nowhere port);
+        disk = λ port. inl (refl, refl, refl, refl, refl, refl);
+      };
+      heeds = λ port ready. heeds port.0;
+    }
+      where
+        sizes : c.sector + 0 < c.machine.sizes (port_at 0)
+        sizes = let low = is.on_disk in let size : c.machine.sizes (port_at 0) ≡ 256 = ap (λ (f : Port → ℕ). f (port_at 0)) is.agreed.disks.2 in omega (arith, low, size)
+
     pub service_part : (n : ℕ) → TiesPort before service masks (port_at n)
     service_part n = record {
       finds = λ ready e on. finds n e on;
@@ -286,7 +287,6 @@ module _ (c : Discovery) where
       boots = (λ ready f. absurd (⊎_elim (λ fatal. (quiet n ready).1 (inl fatal)) (quiet n ready).0 f), inl (refl, refl, refl, refl, refl, refl));
       trouble = no_trouble nothing before (two_ready c.disk) served_at.device (port_at n) gained refl (gained_calm n) (served_ready n) (quiet n);
       well = λ why. absurd (⊎_elim (nowhere (port_at n)) (nowhere (port_at n)) why);
-      heeds = λ ready. heeds n;
     }
 
     unfoldable pub service_ties : Ties (Any ∷ Any ∷ []) before service

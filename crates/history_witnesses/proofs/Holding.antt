@@ -32,7 +32,7 @@ use Rattle.port_boot.specs.States.{told_causes, HasFitDisk}
 use Rattle.port_control.specs.Ports.{programmed}
 use Rattle.error_recovery.specs.Evidence.{GainsRunning}
 use Rattle.driver_history.specs.Evidence.{IsEvidencedOf, ShowsFailure, ShowsLoss, Gains}
-use Rattle.driver_history.specs.Histories.{HasBadDisk, TriesDisk, LosesNoTrouble}
+use Rattle.driver_history.specs.Histories.{IsUnfitOrForeign, TriesDisk, LosesNoTrouble}
 use Rattle.driver_history.specs.Holds.{HasNothing, HasRequests, IsClients, IsOfKind, IsUnservedAt, NoneWaits, Runs}
 use Rattle.driver_history.specs.Trace.{LeavesEngine}
 use Rattle.history_witnesses.specs.Scene.{page_entry, page_move}
@@ -208,7 +208,7 @@ tries_ready accesses old ports new port ready = record {
     not_absent : old.moment.ports.state port ≡ Absent → ⊥
     not_absent is = let x : Ready ≡ Absent = sym ready ∙ is in cc
 
-    not_bad : HasBadDisk old.moment.ports port → ⊥
+    not_bad : IsUnfitOrForeign old.moment.ports port → ⊥
     not_bad (inl is) = let x : Ready ≡ Foreign = sym ready ∙ is in cc
     not_bad (inr is) = let x : Ready ≡ Unfit is.0 = sym ready ∙ is.1 in cc
 

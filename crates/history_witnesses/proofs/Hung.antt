@@ -150,6 +150,7 @@ happens = record {
     issues = λ port is r at_port due. absurd (nowhere r due.here);
     emptied = λ port is not_ready e here. absurd (nowhere e here);
   };
+  heeds = λ _. tt;
 }
 
 -- ---- what it owes each port
@@ -170,7 +171,6 @@ part_of n = record {
   boots = boots n;
   trouble = trouble restart is_restart n;
   well = well restart is_restart n;
-  heeds = tt;
 }
 
 ties : Ties (Any ∷ Any ∷ []) (issued_at 2) restarting_tick

@@ -142,6 +142,7 @@ meeting_happens = record {
   fit = fit_ready plain_disks;
   disks = λ e o here there same. (refl, refl);
   answered = (tt, λ port. (refl, refl, refl, refl, refl, refl));
+  heeds = λ port why. ⊎_elim (nowhere port) (nowhere port) why;
 }
 
 pub backed : IsBacked submitted (dev broken) issuing []
@@ -196,7 +197,6 @@ meeting_part n = record {
   boots = tt;
   trouble = trouble n;
   well = λ why. absurd (⊎_elim (nowhere (port_at n)) (nowhere (port_at n)) why);
-  heeds = λ why. ⊎_elim (nowhere (port_at n)) (nowhere (port_at n)) why;
 }
 
 unfoldable pub meeting_ties : Ties (Any ∷ Any ∷ []) submitted_at meeting

@@ -271,7 +271,6 @@ part_of n = record {
   boots = (λ is f. absurd (⊎_elim (λ fatal. (quiet n is).1 (inl fatal)) (quiet n is).0 f), inl (refl, refl, refl, refl, refl, refl));
   trouble = trouble n;
   well = well n;
-  heeds = heeds n;
 }
 
 backed : IsBacked submitted recovered issuing (answer ∷ [])
@@ -318,6 +317,7 @@ happens = record {
     becomes = λ port. stay_serviced plain_disks fault_evidence port.0 (nowhere port);
     disk = λ port. inl (refl, refl, refl, refl, refl, refl);
   };
+  heeds = λ port. heeds port.0;
 }
 
 ties : Ties (Any ∷ Any ∷ []) submitted_at service

@@ -1,5 +1,5 @@
 -- The adapter is reset, and GHC is read until the reset is done.
-use Rattle.std.proofs.Common.{ℕ, Bool, true, false, ◌≡◌, ◌+◌, ◌<◌, ◌++◌, List, [], ◌∷◌, refl, ◌∙◌, ap, arith}
+use Rattle.std.proofs.Common.{ℕ, Bool, true, false, ◌≡◌, ◌+◌, ◌<◌, ◌≤◌, ◌++◌, List, [], ◌∷◌, refl, ◌∙◌, ap, arith}
 use Rattle.std.specs.Prelude.{All, length}
 use Rattle.std.proofs.lemmas.List.{length-append}
 use Rattle.std.proofs.lemmas.List.Elements.{All-append, All-cons, All-nil}
@@ -40,6 +40,11 @@ module _ (n v : ℕ) (early late : List Access) (a : AsksAgain n early) (is : la
   asks_shown : (hr : Bool) → bit v 0 ≡ hr → AwaitsHr hr (early ++ late)
   asks_shown hr shows = record { asked = a.asked; shown = v; here = joined; only = a.only; pending = shows }
 
+  asked_few : n < 64 → length (early ++ late) ≤ 65
+  asked_few few =
+      let here = ap length joined in let long = a.long in let more = length-append a.asked (Reading Ghc v ∷ []) in
+      omega (arith, few, here, long, more)
+
   asks_more : bit v 0 ≡ true → AsksAgain (n + 1) (early ++ late)
   asks_more shows = record {
     asked = a.asked ++ Reading Ghc v ∷ [];
@@ -76,10 +81,11 @@ module _ (laws : Laws) (start : Device) where
       same = same;
     }
 
-    pub resetting_ends : bit v 0 ≡ false → Resets start e
-    resetting_ends clear =
-        let told = with_reading (AwaitsHr false) (λ early late a is. asks_shown n v early late a is false clear) in
-        record { followed = told.followed; awaited = told.tells; idle = laws.reset_idle v d e w.pending call clear; same = same }
+    pub resetting_ends : n < 64 → bit v 0 ≡ false → Resets start e
+    resetting_ends few clear =
+        let told = with_reading (λ accesses. AwaitsHr false accesses × (length accesses ≤ 65))
+            (λ early late a is. (asks_shown n v early late a is false clear, asked_few n v early late a is few)) in
+        record { followed = told.followed; awaited = told.tells.0; often = told.tells.1; idle = laws.reset_idle v d e w.pending call clear; same = same }
 
   -- it was read 64 times
   pub resetting_sticks : (n : ℕ) (d : Device) → n ≡ 64 → IsResetting start n d → StaysReset start d

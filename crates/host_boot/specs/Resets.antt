@@ -1,5 +1,5 @@
 -- A host adapter that is reset (AHCI 1.3.1, 3.1.2 and 10.4.3; how often it is asked is this project's own).
-use Rattle.std.specs.Prelude.{ℕ, Bool, true, false, ◌≡◌, ◌++◌, List, [], ◌∷◌, All, length}
+use Rattle.std.specs.Prelude.{ℕ, Bool, true, false, ◌≡◌, ◌≤◌, ◌++◌, List, [], ◌∷◌, All, length}
 use Rattle.hba_regs.specs.Bits.{bit}
 use Rattle.hba_regs.specs.declared.reg.Reg.TheVariants.{Ghc}
 use Rattle.adapter.specs.Access.{Access}
@@ -41,11 +41,12 @@ AwaitsReset accesses = AwaitsHr true accesses
 
 -- ---- the whole
 
--- The adapter was reset: HR was read 0 at last. It is idle: none of its slots has a command any more. A machine that agreed followed, by steps of the device alone. (That HR is read 64 times at
--- the most no clause says: it is counted in a test.)
+-- The adapter was reset: GHC was read 64 times at most, and HR was read 0 at last. It is idle: none of its slots has a command any more. A machine that agreed followed, by steps of the
+-- device alone.
 pub record Resets (old new : Device) : Type 0 where
   pub followed : IsFollowed IsOfReset AnyUse old new
   pub awaited : AwaitsHr false followed.driven.accesses
+  pub often : length followed.driven.accesses ≤ 65
   pub idle : IsIdle new
   pub same : SameAdapter old new
 

@@ -64,6 +64,7 @@ happens2 = record {
   fit = ports_fit Ready refl;
   disks = λ e o h i same. (refl, refl);
   answered = (acceptable 0 (situation_of (moment_of first run1)) other.asked (write_at 0 (moment_of first run1) 101 41 quiet (omega arith) (omega arith) refl refl), (other, refl, refl), λ p. (refl, refl, refl, refl, refl, refl), λ p _. none_waits _ refl p);
+  heeds = spares_ports;
 }
 
 tells : Tells service.steps (map reply_of told)
@@ -77,6 +78,19 @@ tells = record {
     go : (i j : ℕ) (d : Pending × Outcome) → i < j → j < 2 → IsToldBefore (slice_index_or told i d) (slice_index_or told j d)
     go zero (suc zero) d lt below = inr (refl, omega arith)
     go i j d lt below = absurd (omega (arith, lt, below))
+
+notices : (p : Port) → first.ports.state p ≡ Ready → ServesReady (moment_of first run2) seen service.steps (moment_of first run3) p
+notices p ready = record {
+  ended = none_ended (moment_of first run2).machine service.steps refl p;
+  emptied = λ gone. absurd (contains_none p gone);
+  told = λ gone. absurd (contains_none p gone);
+  interrupts = λ _. inl (contains_here port [] p (ready_port p ready));
+  anew = λ _ e h. absurd (contains_none e h);
+  single = let zero = no_faults service.steps refl p in omega (arith, zero);
+  disk = λ shows. shows_none Dead (λ s. s) p shows;
+  fatal = λ _. (contains_here port [] p (ready_port p ready), no_faults service.steps refl p);
+  calm = inl (inl (contains_here port [] p (ready_port p ready)));
+}
 
 happens3 : Happens (moment_of first run2) service
 happens3 = record {
@@ -96,6 +110,7 @@ happens3 = record {
     becomes = λ p. (λ dead. none_dead p dead, λ _. (record { served = refl; stuck = dead_here p; dies = λ h. dies p h; keeps = λ _. (refl, refl) }, changed_here Ready Dead seen (inl (contains_here port [] port refl)) p));
     disk = λ p. inr (λ shows. shows_none Dead (λ s. s) p shows);
   };
+  heeds = notices;
 }
   where
     only : (x p : Port) → Contains (x ∷ []) p → p ≡ x
@@ -104,26 +119,12 @@ happens3 = record {
     dies : (p : Port) → Contains (port ∷ []) p → (ports_in Dead).state p ≡ Dead
     dies p h = ap (ports_in Dead).state (only port p h)
 
-notices : (p : Port) → first.ports.state p ≡ Ready → ServesReady (moment_of first run2) seen service.steps (moment_of first run3) p
-notices p ready = record {
-  ended = none_ended (moment_of first run2).machine service.steps refl p;
-  emptied = λ gone. absurd (contains_none p gone);
-  told = λ gone. absurd (contains_none p gone);
-  interrupts = λ _. inl (contains_here port [] p (ready_port p ready));
-  anew = λ _ e h. absurd (contains_none e h);
-  single = let zero = no_faults service.steps refl p in omega (arith, zero);
-  disk = λ shows. shows_none Dead (λ s. s) p shows;
-  fatal = λ _. (contains_here port [] p (ready_port p ready), no_faults service.steps refl p);
-  calm = inl (inl (contains_here port [] p (ready_port p ready)));
-}
-
 pub dies_in_a_service : DiesInAService
 dies_in_a_service = record {
   first = first;
   asked = run2;
   service = service;
   runs = ((((empty_starts, ports_fit Ready refl), happens1), happens2), happens3);
-  heeds = (((tt, spares_ports), spares_ports), notices);
   one = one;
   two = two;
   book = refl;

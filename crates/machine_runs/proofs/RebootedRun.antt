@@ -11,7 +11,7 @@ use Rattle.block_machine.specs.Steps.{Issue, Again, Answer, Release, newly_accep
 use Rattle.block_machine.specs.Events.{Moment, Reset, WasReset, Event, Happens, IsIssuedIn, reply_of, moment_of, moment_after}
 use Rattle.machine_runs.specs.Worked.{GoesAgainInResets}
 use Rattle.block_machine.proofs.Setting.{port, empty_starts}
-use Rattle.machine_runs.proofs.Scene.{mode, ports, first, one_issued, one_told, none_told, none_unplugged, finds_none, emptied_of, only_one, of_two, ports_fit, none_dead, spares_ports}
+use Rattle.machine_runs.proofs.Scene.{mode, ports, first, one_issued, one_told, none_told, none_unplugged, finds_none, emptied_of, only_one, of_two, ports_fit, none_dead}
 use Rattle.machine_runs.proofs.WaitingRun.{write, read, run2, happens1, happens2, none_due}
 use Rattle.machine_runs.proofs.ResetRun.{halted, stopped_here}
 
@@ -64,6 +64,7 @@ again m n present few = record {
       disk = λ _. inl (present p);
     };
   };
+  heeds = λ _. tt;
 }
 
 happens6 : Happens (moment_of first run5) abort
@@ -91,6 +92,7 @@ happens6 = record {
       disk = λ _. inl refl;
     };
   };
+  heeds = λ _. tt;
 }
 
 pub goes_again_in_resets : GoesAgainInResets
@@ -102,7 +104,6 @@ goes_again_in_resets = record {
   three = retry 3;
   four = abort;
   runs = (((((((empty_starts, ports_fit Ready refl), happens1), happens2), again (moment_of first run2).machine 1 (λ p. refl) (omega arith)), again (moment_of first (retry 1 ∷ run2)).machine 2 (λ p. refl) (omega arith)), again (moment_of first (retry 2 ∷ retry 1 ∷ run2)).machine 3 (λ p. refl) (omega arith)), happens6);
-  heeds = ((((((tt, spares_ports), spares_ports), λ _. tt), λ _. tt), λ _. tt), λ _. tt);
   resets = (refl, refl, refl, refl);
   issued = tried 1;
   waits = waits;

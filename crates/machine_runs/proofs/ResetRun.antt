@@ -14,7 +14,7 @@ use Rattle.machine_runs.specs.Worked.{EndsWithAReset}
 use Rattle.block_machine.proofs.Members.{contains_none, contains_here, contains_cases}
 use Rattle.block_machine.proofs.Keeps.{same_port}
 use Rattle.block_machine.proofs.Setting.{port, frame, empty_starts}
-use Rattle.machine_runs.proofs.Scene.{mode, ports, ports_in, at_port, first, call, at_here, is_ready, is_dead, ready_here, none_dead, emptied_one, one_issued, none_there, one_told, none_told, none_ended, none_unplugged, finds_none, ready_port, restarts_here, spares_ports, only_one, ports_fit}
+use Rattle.machine_runs.proofs.Scene.{mode, ports, ports_in, at_port, first, call, at_here, is_ready, is_dead, ready_here, none_dead, emptied_one, one_issued, none_there, one_told, none_told, none_ended, none_unplugged, finds_none, ready_port, restarts_here, only_one, ports_fit}
 use Rattle.block_machine.proofs.Calm.{none}
 use Rattle.machine_runs.proofs.WaitingRun.{write, run1, happens1}
 
@@ -129,6 +129,7 @@ happens2 = record {
     issues = λ p _. one_issued (unanswered (aged 1)) refl p;
     emptied = λ p _ ne e h. emptied_one (aged 1) refl p ne e h;
   };
+  heeds = λ _. tt;
 }
 
 pub happens3 : Happens (moment_of first run2) (tick [])
@@ -147,6 +148,7 @@ happens3 = record {
     issues = λ p _. one_issued (unanswered (aged 2)) refl p;
     emptied = λ p _ ne e h. emptied_one (aged 2) refl p ne e h;
   };
+  heeds = λ _. tt;
 }
 
 -- the third restarts it
@@ -220,6 +222,7 @@ happens4 = record {
     issues = λ p _. one_issued (unanswered again) refl p;
     emptied = λ p _ ne e h. emptied_one again refl p ne e h;
   };
+  heeds = λ _. tt;
 }
 
 -- The reset that is stuck, and what comes after it.
@@ -247,6 +250,7 @@ happens5 = record {
   fit = ports_fit Dead refl;
   disks = λ e o h i same. (refl, refl);
   answered = (tt, λ p. (refl, λ here. let dead = at_here Dead p here in (dead, dead_here p dead), (refl, refl)));
+  heeds = λ _. tt;
 }
 
 abbrev outcome_of : Step → Outcome
@@ -277,6 +281,7 @@ happens6 = record {
     becomes = λ p. (λ _. (refl, refl, refl, refl, refl, refl), λ alive. (record { served = refl; stuck = λ dead. absurd (alive dead); dies = λ h. absurd (contains_none p h); keeps = λ _. (refl, refl) }, inl (refl, refl, refl, refl, refl, refl)));
     disk = λ p. inl (refl, refl, refl, refl, refl, refl);
   };
+  heeds = λ p ready. dead_not_ready p ready;
 }
 
 happens7 : Happens (moment_of first run6) reset
@@ -301,6 +306,7 @@ happens7 = record {
       disk = λ _. inl refl;
     };
   };
+  heeds = λ _. tt;
 }
 
 pub ends_with_a_reset : EndsWithAReset
@@ -314,7 +320,6 @@ ends_with_a_reset = record {
   service = service;
   reset = reset;
   runs = ((((((((empty_starts, ports_fit Ready refl), happens1), happens2), happens3), happens4), happens5), happens6), happens7);
-  heeds = (((((((tt, spares_ports), λ _. tt), λ _. tt), λ _. tt), λ _. tt), λ p ready. dead_not_ready p ready), λ _. tt);
   ticks = (refl, refl, refl);
   aged = aged 2;
   old = refl;

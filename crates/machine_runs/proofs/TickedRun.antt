@@ -45,6 +45,7 @@ happens4 = record {
   fit = ports_fit Ready refl;
   disks = λ e o h i same. (refl, refl);
   answered = (((tt, tt), tt), λ p. (refl, refl, refl, refl, refl, refl));
+  heeds = spares_ports;
 }
 
 hung : IsHung (moment_of first run4) port
@@ -104,6 +105,7 @@ happens5 = record {
     issues = λ p _. none_there p;
     emptied = λ p _ ne e h. absurd (contains_none e h);
   };
+  heeds = λ _. tt;
 }
 
 pub ends_at_a_tick : EndsAtATick
@@ -113,7 +115,6 @@ ends_at_a_tick = record {
   ending = ending;
   tick = tick;
   runs = ((((((empty_starts, ports_fit Ready refl), happens1), happens2), happens3), happens4), happens5);
-  heeds = (((((tt, spares_ports), λ _. tt), λ _. tt), spares_ports), λ _. tt);
   aged = aged 2;
   old = refl;
   not_ended = (refl, refl);

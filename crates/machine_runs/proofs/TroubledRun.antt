@@ -232,6 +232,7 @@ happens1 = record {
   fit = fit Ready Ready refl refl;
   disks = λ e o h i same. (refl, refl);
   answered = (acceptable 1 (situation_of (moment_of first run0)) lost.asked (fit_read 1 (moment_of first run0) 42 quiet0 refl refl), (lost, refl, refl), λ p. (refl, refl, refl, refl, refl, refl), λ p _. none_waits _ refl p);
+  heeds = spares_ports;
 }
 
 -- a request of the book's end
@@ -253,6 +254,7 @@ happens2 = record {
   fit = fit Ready Ready refl refl;
   disks = λ e o h i same. (refl, refl);
   answered = (acceptable 0 (situation_of (moment_of first run1)) failed.asked (write_at 0 (moment_of first run1) 100 40 quiet1 (omega arith) (omega arith) refl refl), (failed, refl, refl), λ p. (refl, refl, refl, refl, refl, refl), λ p _. none_waits _ refl p);
+  heeds = spares_ports;
 }
 
 happens3 : Happens (moment_of first run2) (submit again)
@@ -264,6 +266,7 @@ happens3 = record {
   fit = fit Ready Ready refl refl;
   disks = λ e o h i same. (refl, refl);
   answered = (acceptable 0 (situation_of (moment_of first run2)) again.asked (write_at 0 (moment_of first run2) 101 41 quiet2 (omega arith) (omega arith) refl refl), (again, refl, refl), λ p. (refl, refl, refl, refl, refl, refl), λ p _. none_waits _ refl p);
+  heeds = spares_ports;
 }
 
 happens4 : Happens (moment_of first run3) (submit finished)
@@ -275,6 +278,7 @@ happens4 = record {
   fit = fit Ready Ready refl refl;
   disks = λ e o h i same. (refl, refl);
   answered = (acceptable 0 (situation_of (moment_of first run3)) finished.asked (write_at 0 (moment_of first run3) 102 43 quiet3 (omega arith) (omega arith) refl refl), (finished, refl, refl), λ p. (refl, refl, refl, refl, refl, refl), λ p _. none_waits _ refl p);
+  heeds = spares_ports;
 }
 
 happens5 : Happens (moment_of first run4) ending
@@ -286,6 +290,7 @@ happens5 = record {
   fit = fit Ready Ready refl refl;
   disks = λ e o h i same. (refl, refl);
   answered = (((tt, tt), tt), λ p. (refl, refl, refl, refl, refl, refl));
+  heeds = spares_ports;
 }
 
 happens6 : Happens (moment_of first run5) unplug
@@ -297,6 +302,7 @@ happens6 = record {
   fit = fit Ready Ready refl refl;
   disks = λ e o h i same. (refl, refl);
   answered = ((tt, tt), λ p. (refl, refl, refl, refl, refl, refl));
+  heeds = spares_ports;
 }
 
 -- The call that finds both troubles.
@@ -430,6 +436,7 @@ happens7 = record {
     );
     disk = λ p. inr (λ shows. inl (in_zero (moment_of first run6).machine refl p shows));
   };
+  heeds = serves_ready;
 }
   where
     apart : (id : RequestId) → (1 == id.0) ≡ true → IsIssuedIn id (Issue mode (requeued (tried 1)) ∷ requeuing) → ⊥
@@ -462,8 +469,8 @@ before m n = record { machine = record m { book = tried n ∷ []; kept = [] }; p
 retry_heeds : (m : Machine) (n : ℕ) → m.present (on 0) ≡ true → (p : Port) → both Ready Absent p ≡ Ready → ServesReady (before m n) failure (retry n).steps (moment_after (before m n) (retry n)) p
 retry_heeds m n in_before p ready = fails (before m n) (moment_after (before m n) (retry n)) (retry n).steps p ready in_before refl refl (λ e h _ _. left_anew (suc n) (retry n).steps refl e h)
 
-retried : (m : Machine) (n : ℕ) → n < 4 → Happens (before m n) (retry n)
-retried m n few = record {
+retried : (m : Machine) (n : ℕ) → m.present (on 0) ≡ true → n < 4 → Happens (before m n) (retry n)
+retried m n in_before few = record {
   may = ((tt, (contains_here (tried n) [] (tried n) refl, refl, few)), (contains_here (requeued (tried n)) [] (requeued (tried n)) refl, record { here = contains_here (unanswered (requeued (tried n))) [] (unanswered (requeued (tried n))) refl; clear = refl; slot = λ _. omega arith }, λ e h. absurd (contains_none e h)));
   belong = ((tt, inr refl), inr (refl, refl));
   last = ((tt, λ id h i. false≢true i), λ id h i. false≢true i);
@@ -480,6 +487,7 @@ retried m n few = record {
     becomes = stays;
     disk = λ p. inl (refl, refl, refl, refl, refl, refl);
   };
+  heeds = retry_heeds m n in_before;
 }
 
 happens10 : Happens (moment_of first run9) abort
@@ -500,6 +508,7 @@ happens10 = record {
     becomes = stays;
     disk = λ p. inl (refl, refl, refl, refl, refl, refl);
   };
+  heeds = λ p ready. fails (moment_of first run9) (moment_after (moment_of first run9) abort) abort.steps p ready refl refl refl (λ e h. absurd (contains_none e h));
 }
 
 pub meets_trouble : MeetsTrouble
@@ -510,8 +519,7 @@ meets_trouble = record {
   third = retry 2;
   fourth = retry 3;
   last = abort;
-  runs = (((((((((((empty_starts, fit Ready Ready refl refl), happens1), happens2), happens3), happens4), happens5), happens6), happens7), retried (moment_of first run7).machine 2 (omega arith)), retried (moment_of first (retry 2 ∷ run7)).machine 3 (omega arith)), happens10);
-  heeds = ((((((((((tt, spares_ports), spares_ports), spares_ports), spares_ports), spares_ports), spares_ports), serves_ready), retry_heeds (moment_of first run7).machine 2 refl), retry_heeds (moment_of first (retry 2 ∷ run7)).machine 3 refl), λ p ready. fails (moment_of first run9) (moment_after (moment_of first run9) abort) abort.steps p ready refl refl refl (λ e h. absurd (contains_none e h)));
+  runs = (((((((((((empty_starts, fit Ready Ready refl refl), happens1), happens2), happens3), happens4), happens5), happens6), happens7), retried (moment_of first run7).machine 2 refl (omega arith)), retried (moment_of first (retry 2 ∷ run7)).machine 3 refl (omega arith)), happens10);
   told = (((((((((((((((((((((tt, tt), tt), tt), tt), tt), tt), tt), tt), λ e. absurd (false≢true (ap is_reader e))), tt), tt), tt), tt), tt), tt), tt), tt), tt), tt), tt), tt);
   volatile = (((((((((((((((((((((tt, tt), tt), tt), tt), tt), tt), tt), tt), tt), tt), tt), tt), tt), tt), tt), tt), tt), tt), tt), tt), tt);
   lost = losing;

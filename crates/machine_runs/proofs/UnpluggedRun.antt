@@ -72,6 +72,7 @@ ticked m n young = record {
     issues = λ p _. none_due p;
     emptied = λ p _. emptied_of (older aging (aged n) ∷ older aging waits ∷ []) (of_two (older aging (aged n)) (older aging waits) (λ e. e.request.port ≡ port) refl refl) p;
   };
+  heeds = λ _. tt;
 }
 
 happens5 : Happens (moment_of first run4) going
@@ -83,6 +84,7 @@ happens5 = record {
   fit = ports_fit Ready refl;
   disks = λ e o h i same. (refl, refl);
   answered = ((tt, tt), λ p. (refl, refl, refl, refl, refl, refl));
+  heeds = spares_ports;
 }
 
 -- The third tick.
@@ -166,6 +168,7 @@ happens6 = record {
     issues = λ p ready. absent_not_ready p ready;
     emptied = λ p _ ne e h. absurd (contains_none e h);
   };
+  heeds = λ _. tt;
 }
 
 pub is_taken_out_before_a_tick : IsTakenOutBeforeATick
@@ -175,7 +178,6 @@ is_taken_out_before_a_tick = record {
   going = going;
   tick = tick;
   runs = (((((((empty_starts, ports_fit Ready refl), happens1), happens2), ticked (moment_of first run2).machine 0 (omega arith)), ticked (moment_of first run3).machine 1 (omega arith)), happens5), happens6);
-  heeds = ((((((tt, spares_ports), spares_ports), λ _. tt), λ _. tt), spares_ports), λ _. tt);
   issued = aged 2;
   waits = waits;
   book = refl;

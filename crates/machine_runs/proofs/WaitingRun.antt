@@ -75,6 +75,7 @@ happens1 = record {
   fit = ports_fit Ready refl;
   disks = λ e o h i same. (refl, refl);
   answered = (acceptable 0 (situation_of (moment_of first run0)) write.asked (fit_write (moment_of first run0) 40 quiet0 refl refl), (write, refl, refl), λ p. (refl, refl, refl, refl, refl, refl), λ p _. one_issued (unanswered (issue (newly_accepted write))) refl p);
+  heeds = spares_ports;
 }
 
 -- the write in its slot, and the read after it
@@ -100,6 +101,7 @@ happens2 = record {
   fit = ports_fit Ready refl;
   disks = λ e o h i same. (refl, refl);
   answered = (acceptable 0 (situation_of (moment_of first run1)) read.asked (fit_read 0 (moment_of first run1) 41 quiet1 refl refl), (read, refl, refl), λ p. (refl, refl, refl, refl, refl, refl), λ p _. none_due p);
+  heeds = spares_ports;
 }
 
 happens3 : Happens (moment_of first run2) event3
@@ -120,6 +122,7 @@ happens3 = record {
   fit = ports_fit Ready refl;
   disks = λ e o h i same. (refl, refl);
   answered = plain_service (moment_of first run2).machine (moment_of first run3).machine event3.steps (reply 1 ∷ []) (one_told (done write) outcome.Ok event3.steps refl (reply 1) refl) refl tt (λ p. one_issued (unanswered (issue (newly_accepted read))) refl p) (only_one (issue (newly_accepted read)) (λ e. e.request.port ≡ port) refl);
+  heeds = all_calmly (moment_of first run2) (moment_of first run3) event3.steps (in_ready (moment_of first run2).machine refl) (λ p. (refl, refl, refl, refl, refl, refl)) refl (none_ended (moment_of first run2).machine event3.steps refl);
 }
 
 happens4 : Happens (moment_of first run3) event4
@@ -131,6 +134,7 @@ happens4 = record {
   fit = ports_fit Ready refl;
   disks = λ e o h i same. (refl, refl);
   answered = (((tt, tt), tt), λ p. (refl, refl, refl, refl, refl, refl));
+  heeds = spares_ports;
 }
 
 happens5 : Happens (moment_of first run4) event5
@@ -142,6 +146,7 @@ happens5 = record {
   fit = ports_fit Ready refl;
   disks = λ e o h i same. (refl, refl);
   answered = plain_service (moment_of first run4).machine (moment_of first run5).machine event5.steps (reply 2 ∷ []) (one_told (done read) outcome.Ok event5.steps refl (reply 2) refl) refl tt (λ p. none_there p) (λ e h. absurd (contains_none e h));
+  heeds = all_calmly (moment_of first run4) (moment_of first run5) event5.steps (in_ready (moment_of first run4).machine refl) (λ p. (refl, refl, refl, refl, refl, refl)) refl (last_ended (moment_of first run4).machine event5.steps [] (done read) refl refl (done read) refl (contains_here (Answer (done read) outcome.Ok) [] (Answer (done read) outcome.Ok) refl));
 }
 
 pub waits_its_turn : WaitsItsTurn
@@ -149,7 +154,6 @@ waits_its_turn = record {
   first = first;
   run = run5;
   runs = ((((((empty_starts, ports_fit Ready refl), happens1), happens2), happens3), happens4), happens5);
-  heeds = (((((tt, spares_ports), spares_ports), all_calmly (moment_of first run2) (moment_of first run3) event3.steps (in_ready (moment_of first run2).machine refl) (λ p. (refl, refl, refl, refl, refl, refl)) refl (none_ended (moment_of first run2).machine event3.steps refl)), spares_ports), all_calmly (moment_of first run4) (moment_of first run5) event5.steps (in_ready (moment_of first run4).machine refl) (λ p. (refl, refl, refl, refl, refl, refl)) refl (last_ended (moment_of first run4).machine event5.steps [] (done read) refl refl (done read) refl (contains_here (Answer (done read) outcome.Ok) [] (Answer (done read) outcome.Ok) refl)));
   told = ((((((((((tt, tt), tt), tt), λ e. absurd (false≢true (ap is_reader e))), tt), tt), tt), λ _ b lt. refl), tt), tt);
   early = run2;
   call = event3;

@@ -11,7 +11,7 @@ use Rattle.block_machine.specs.Due.{is_flush}
 use Rattle.block_machine.specs.Ports.{Evidence}
 use Rattle.block_machine.specs.State.{Block, Disk, Accepted, block_of, is_reader, unanswered}
 use Rattle.block_machine.specs.Steps.{Step, Accept, Issue, Touch, End, Answer, Unplug, Replace, Store, Load, newly_accepted, issue, touch, mark_ended}
-use Rattle.block_machine.specs.Events.{Submit, StoreAt, LoadAt, Service, Device, Submitted, Stored, Loaded, Served, Stepped, Event, Happens, IsRun, ServesReady, AllHeed, moment_of, situation_of, steps_of, ShowsDisk}
+use Rattle.block_machine.specs.Events.{Submit, StoreAt, LoadAt, Service, Device, Submitted, Stored, Loaded, Served, Stepped, Event, Happens, IsRun, ServesReady, moment_of, situation_of, steps_of, ShowsDisk}
 use Rattle.machine_runs.specs.Durable.{SameBytes, HeldSince}
 use Rattle.machine_runs.specs.Worked.{FindsTheFlushed, MayComeBack, ReadsOneOf}
 use Rattle.block_machine.proofs.Members.{contains_none, contains_here, contains_there, contains_cases}
@@ -164,6 +164,7 @@ happens1 = record {
   fit = ports_fit Ready refl;
   disks = λ e o h i same. (refl, refl);
   answered = (is_open (moment_of first run0).machine 40 0 1 refl refl (omega arith), refl, λ p. (refl, refl, refl, refl, refl, refl));
+  heeds = spares_ports;
 }
 
 happens2 : Happens (moment_of first run1) event2
@@ -175,6 +176,7 @@ happens2 = record {
   fit = ports_fit Ready refl;
   disks = λ e o h i same. (refl, refl);
   answered = (acceptable 0 (situation_of (moment_of first run1)) write.asked (fit_write (moment_of first run1) 40 quiet1 refl refl), (write, refl, refl), λ p. (refl, refl, refl, refl, refl, refl), λ p _. one_issued (unanswered (issue (newly_accepted write))) refl p);
+  heeds = spares_ports;
 }
 
 happens3 : Happens (moment_of first run2) event3
@@ -186,6 +188,7 @@ happens3 = record {
   fit = ports_fit Ready refl;
   disks = λ e o h i same. (refl, refl);
   answered = plain_service (moment_of first run2).machine (moment_of first run3).machine event3.steps (reply 1 ∷ []) (one_told (done write) outcome.Ok event3.steps refl (reply 1) refl) refl tt (λ p. none_there p) (λ e h. absurd (contains_none e h));
+  heeds = all_calmly (moment_of first run2) (moment_of first run3) event3.steps (in_ready (moment_of first run2).machine refl) (λ p. (refl, refl, refl, refl, refl, refl)) refl (none_ended (moment_of first run2).machine event3.steps refl);
 }
 
 happens4 : Happens (moment_of first run3) event4
@@ -197,6 +200,7 @@ happens4 = record {
   fit = ports_fit Ready refl;
   disks = λ e o h i same. (refl, refl);
   answered = (acceptable 0 (situation_of (moment_of first run3)) flush.asked (fit_flush (moment_of first run3) quiet3), (flush, refl, refl), λ p. (refl, refl, refl, refl, refl, refl), λ p _. one_issued (unanswered (issue (newly_accepted flush))) refl p);
+  heeds = spares_ports;
 }
 
 happens5 : Happens (moment_of first run4) event5
@@ -208,6 +212,7 @@ happens5 = record {
   fit = ports_fit Ready refl;
   disks = λ e o h i same. (refl, refl);
   answered = plain_service (moment_of first run4).machine (moment_of first run5).machine event5.steps (reply 2 ∷ []) (one_told (mark_ended (issue (newly_accepted flush))) outcome.Ok event5.steps refl (reply 2) refl) refl tt (λ p. none_there p) (λ e h. absurd (contains_none e h));
+  heeds = all_calmly (moment_of first run4) (moment_of first run5) event5.steps (in_ready (moment_of first run4).machine refl) (λ p. (refl, refl, refl, refl, refl, refl)) refl (none_ended (moment_of first run4).machine event5.steps refl);
 }
 
 happens6 : Happens (moment_of first run5) event6
@@ -219,6 +224,7 @@ happens6 = record {
   fit = ports_fit Ready refl;
   disks = λ e o h i same. (refl, refl);
   answered = (is_open (moment_of first run5).machine 40 0 1 refl refl (omega arith), refl, λ p. (refl, refl, refl, refl, refl, refl));
+  heeds = spares_ports;
 }
 
 happens7 : Happens (moment_of first run6) event7
@@ -230,6 +236,7 @@ happens7 = record {
   fit = ports_fit Ready refl;
   disks = λ e o h i same. (refl, refl);
   answered = (acceptable 0 (situation_of (moment_of first run6)) later.asked (fit_write (moment_of first run6) 40 quiet6 refl refl), (later, refl, refl), λ p. (refl, refl, refl, refl, refl, refl), λ p _. one_issued (unanswered (issue (newly_accepted later))) refl p);
+  heeds = spares_ports;
 }
 
 happens8 : Happens (moment_of first run7) event8
@@ -241,6 +248,7 @@ happens8 = record {
   fit = ports_fit Ready refl;
   disks = λ e o h i same. (refl, refl);
   answered = plain_service (moment_of first run7).machine (moment_of first run8).machine event8.steps (reply 3 ∷ []) (one_told (done later) outcome.Ok event8.steps refl (reply 3) refl) refl tt (λ p. none_there p) (λ e h. absurd (contains_none e h));
+  heeds = all_calmly (moment_of first run7) (moment_of first run8) event8.steps (in_ready (moment_of first run7).machine refl) (λ p. (refl, refl, refl, refl, refl, refl)) refl (none_ended (moment_of first run7).machine event8.steps refl);
 }
 
 happens9 : Happens (moment_of first run8) event9
@@ -252,6 +260,21 @@ happens9 = record {
   fit = ports_fit Ready refl;
   disks = λ e o h i same. (refl, refl);
   answered = ((tt, tt), λ p. (refl, refl, refl, refl, refl, refl));
+  heeds = spares_ports;
+}
+
+-- the service that notices
+notices : (p : Port) → at_port Ready p ≡ Ready → ServesReady (moment_of first run9) gone [] (moment_of first run10) p
+notices p ready = record {
+  ended = none_ended (moment_of first run9).machine [] refl p;
+  emptied = λ _ e h. absurd (contains_none e h);
+  told = λ _. inl (λ e o h. absurd (contains_none (Answer e o) h));
+  interrupts = λ _. inl (contains_here port [] p (ready_port p ready));
+  anew = λ _ e h. absurd (contains_none e h);
+  disk = λ shows. shows_none Absent (λ s. s) p shows;
+  fatal = λ h. absurd (contains_none p h);
+  single = omega arith;
+  calm = inl (inr (inl (contains_here port [] p (ready_port p ready))));
 }
 
 happens10 : Happens (moment_of first run9) event10
@@ -272,6 +295,7 @@ happens10 = record {
     becomes = λ p. (λ dead. none_dead p dead, λ _. (record { served = refl; stuck = λ dead. absent_not_dead p dead; dies = λ h. absurd (contains_none p h); keeps = λ _. (refl, refl) }, changed_here Ready Absent gone (inl (contains_here port [] port refl)) p));
     disk = λ p. inr (λ shows. shows_none Absent (λ s. s) p shows);
   };
+  heeds = notices;
 }
 
 happens11 : (disk : Disk) → Happens (moment_of first run10) (event11 disk)
@@ -283,6 +307,7 @@ happens11 disk = record {
   fit = ports_fit Absent refl;
   disks = λ e o h i same. (refl, refl);
   answered = ((tt, tt), λ p. (refl, refl, refl, refl, refl, refl));
+  heeds = spares_ports;
 }
 
 shows_ready : (p : Port) → ShowsDisk (at_port Ready p) → at_port Ready p ≡ Ready
@@ -314,6 +339,7 @@ happens12 disk = record {
     becomes = λ p. (λ dead. absent_not_dead p dead, λ _. (record { served = refl; stuck = λ dead. none_dead p dead; dies = λ h. absurd (contains_none p h); keeps = λ _. (refl, refl) }, changed_here Absent Ready booting (inl (contains_here port [] port refl)) p));
     disk = λ p. inr (λ shows. inl (present p (shows_ready p shows)));
   };
+  heeds = λ p ready. absent_not_ready p ready;
 }
 
 happens13 : (disk : Disk) → Happens (moment_of first (run12 disk)) (event13 disk)
@@ -325,6 +351,7 @@ happens13 disk = record {
   fit = ports_fit Ready refl;
   disks = λ e o h i same. (refl, refl);
   answered = (acceptable 0 (situation_of (moment_of first (run12 disk))) (read disk).asked (fit_read 0 (moment_of first (run12 disk)) 41 (quiet12 disk) refl refl), (read disk, refl, refl), λ p. (refl, refl, refl, refl, refl, refl), λ p _. one_issued (unanswered (issue (newly_accepted (read disk)))) refl p);
+  heeds = spares_ports;
 }
 
 happens14 : (disk : Disk) → Happens (moment_of first (run13 disk)) (event14 disk)
@@ -336,6 +363,7 @@ happens14 disk = record {
   fit = ports_fit Ready refl;
   disks = λ e o h i same. (refl, refl);
   answered = plain_service (moment_of first (run13 disk)).machine (moment_of first (run14 disk)).machine (event14 disk).steps (reply 4 ∷ []) (one_told (done (read disk)) outcome.Ok (event14 disk).steps refl (reply 4) refl) refl tt (λ p. none_there p) (λ e h. absurd (contains_none e h));
+  heeds = all_calmly (moment_of first (run13 disk)) (moment_of first (run14 disk)) (event14 disk).steps (in_ready (moment_of first (run13 disk)).machine refl) (λ p. (refl, refl, refl, refl, refl, refl)) refl (none_ended (moment_of first (run13 disk)).machine (event14 disk).steps refl);
 }
 
 loaded : (disk : Disk) (b : ℕ) → b < 1 → slice_index (disk 100 0 ∷ []) b ≡ (moment_of first (run14 disk)).machine.memory (frame 41) (0 + b)
@@ -350,27 +378,11 @@ happens15 disk = record {
   fit = ports_fit Ready refl;
   disks = λ e o h i same. (refl, refl);
   answered = (is_open (moment_of first (run14 disk)).machine 41 0 1 refl refl (omega arith), refl, λ p. (refl, refl, refl, refl, refl, refl));
+  heeds = spares_ports;
 }
 
 runs10 : IsRun first run10
 runs10 = (((((((((((empty_starts, ports_fit Ready refl), happens1), happens2), happens3), happens4), happens5), happens6), happens7), happens8), happens9), happens10)
-
--- the service that notices
-notices : (p : Port) → at_port Ready p ≡ Ready → ServesReady (moment_of first run9) gone [] (moment_of first run10) p
-notices p ready = record {
-  ended = none_ended (moment_of first run9).machine [] refl p;
-  emptied = λ _ e h. absurd (contains_none e h);
-  told = λ _. inl (λ e o h. absurd (contains_none (Answer e o) h));
-  interrupts = λ _. inl (contains_here port [] p (ready_port p ready));
-  anew = λ _ e h. absurd (contains_none e h);
-  disk = λ shows. shows_none Absent (λ s. s) p shows;
-  fatal = λ h. absurd (contains_none p h);
-  single = omega arith;
-  calm = inl (inr (inl (contains_here port [] p (ready_port p ready))));
-}
-
-heeds10 : AllHeed first run10
-heeds10 = ((((((((((tt, spares_ports), spares_ports), all_calmly (moment_of first run2) (moment_of first run3) event3.steps (in_ready (moment_of first run2).machine refl) (λ p. (refl, refl, refl, refl, refl, refl)) refl (none_ended (moment_of first run2).machine event3.steps refl)), spares_ports), all_calmly (moment_of first run4) (moment_of first run5) event5.steps (in_ready (moment_of first run4).machine refl) (λ p. (refl, refl, refl, refl, refl, refl)) refl (none_ended (moment_of first run4).machine event5.steps refl)), spares_ports), spares_ports), all_calmly (moment_of first run7) (moment_of first run8) event8.steps (in_ready (moment_of first run7).machine refl) (λ p. (refl, refl, refl, refl, refl, refl)) refl (none_ended (moment_of first run7).machine event8.steps refl)), spares_ports), notices)
 
 -- What the sector held since the flush was ended: the bytes of the one write or of the other.
 since_flush : (block : Block) → HeldSince empty port 100 block (steps_of run10) → SameBytes block (write.held 0) ⊎ SameBytes block (later.held 0)
@@ -400,7 +412,6 @@ finds disk back = record {
   service = event12;
   late = event15 disk ∷ event14 disk ∷ event13 disk ∷ [];
   runs = (((((runs10, happens11 disk), happens12 disk), happens13 disk), happens14 disk), happens15 disk);
-  heeds = (((((heeds10, spares_ports), λ p ready. absent_not_ready p ready), spares_ports), all_calmly (moment_of first (run13 disk)) (moment_of first (run14 disk)) (event14 disk).steps (in_ready (moment_of first (run13 disk)).machine refl) (λ p. (refl, refl, refl, refl, refl, refl)) refl (none_ended (moment_of first (run13 disk)).machine (event14 disk).steps refl)), spares_ports);
   told = ((((((((((((((((((((((((tt, tt), tt), tt), λ e. absurd (false≢true (ap is_reader e))), tt), tt), tt), tt), tt), tt), tt), tt), tt), λ e. absurd (false≢true (ap is_reader e))), tt), tt), tt), tt), tt), tt), λ _ b lt. refl), tt), tt), tt);
   volatile = ((((((((((((((((((((((((tt, tt), tt), tt), tt), tt), tt), tt), tt), tt), tt), tt), tt), tt), tt), tt), tt), tt), back), tt), tt), tt), tt), tt), tt);
   comes = refl;
@@ -430,7 +441,6 @@ finds_the_flushed = record {
   unplug = event9;
   service = event10;
   runs = runs10;
-  heeds = heeds10;
   write = write;
   flush = flush;
   later = later;

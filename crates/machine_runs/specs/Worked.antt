@@ -11,7 +11,7 @@ use Rattle.block_machine.specs.Due.{IsDue, conflict}
 use Rattle.block_machine.specs.Steps.{Step, Issue, Again, Answer, Unplug, Replace, May, AllTouched}
 use Rattle.block_machine.specs.Left.{after, IsStart, AllTold, HoldsLeft}
 use Rattle.machine_runs.specs.Durable.{SameBytes, ComesBack, IsVolatile, IsFlushed}
-use Rattle.block_machine.specs.Events.{Moment, Event, Service, Tick, Reset, Device, Served, WasReset, IsRun, AllHeed, accepts_of, reply_of, steps_of, moment_of}
+use Rattle.block_machine.specs.Events.{Moment, Event, Service, Tick, Reset, Device, Served, WasReset, IsRun, accepts_of, reply_of, steps_of, moment_of}
 
 -- the disk that was last in at the port is put in again after this run, with these bytes
 abbrev pub same_again : Moment → List (Event (Unit {0})) → Port → Disk → Step
@@ -28,7 +28,6 @@ pub record ReadsOneOf (first : Moment) (run : List (Event (Unit {0}))) (disk : D
   pub service : Event (Unit {0})
   pub late : List (Event (Unit {0}))
   pub runs : IsRun first (late ++ service ∷ plug ∷ run)
-  pub heeds : AllHeed first (late ++ service ∷ plug ∷ run)
   pub told : AllTold first.machine (steps_of (late ++ service ∷ plug ∷ run))
   pub volatile : IsVolatile first.machine (steps_of (late ++ service ∷ plug ∷ run))
   pub comes : plug.steps ≡ same_again first run one.port disk ∷ []
@@ -54,7 +53,6 @@ pub record FindsTheFlushed : Type 0 where
   pub unplug : Event (Unit {0})
   pub service : Event (Unit {0})
   pub runs : IsRun first (service ∷ unplug ∷ early)
-  pub heeds : AllHeed first (service ∷ unplug ∷ early)
   pub write : Accepted
   pub flush : Accepted
   pub later : Accepted
@@ -79,7 +77,6 @@ pub record WaitsItsTurn : Type 0 where
   pub first : Moment
   pub run : List (Event (Unit {0}))
   pub runs : IsRun first run
-  pub heeds : AllHeed first run
   pub told : AllTold first.machine (steps_of run)
   -- the run's events: these before that call, and the two after it
   pub early : List (Event (Unit {0}))
@@ -121,7 +118,6 @@ pub record EndsWithAReset : Type 0 where
   pub service : Event (Unit {0})
   pub reset : Event (Unit {0})
   pub runs : IsRun first (reset ∷ service ∷ stuck ∷ three ∷ two ∷ one ∷ asked)
-  pub heeds : AllHeed first (reset ∷ service ∷ stuck ∷ three ∷ two ∷ one ∷ asked)
   pub ticks : (one.ask ≡ Tick) × (two.ask ≡ Tick) × (three.ask ≡ Tick)
   pub aged : Pending
   pub old : (moment_of first (two ∷ one ∷ asked)).machine.book ≡ aged ∷ []
@@ -153,7 +149,6 @@ pub record MeetsTrouble : Type 0 where
   pub fourth : Event (Unit {0})
   pub last : Event (Unit {0})
   pub runs : IsRun first (last ∷ fourth ∷ third ∷ service ∷ asked)
-  pub heeds : AllHeed first (last ∷ fourth ∷ third ∷ service ∷ asked)
   pub told : AllTold first.machine (steps_of (last ∷ fourth ∷ third ∷ service ∷ asked))
   pub volatile : IsVolatile first.machine (steps_of (last ∷ fourth ∷ third ∷ service ∷ asked))
   pub lost : Pending
@@ -193,7 +188,6 @@ pub record EndsAtATick : Type 0 where
   pub ending : Event (Unit {0})
   pub tick : Event (Unit {0})
   pub runs : IsRun first (tick ∷ ending ∷ early)
-  pub heeds : AllHeed first (tick ∷ ending ∷ early)
   pub aged : Pending
   pub old : (moment_of first early).machine.book ≡ aged ∷ []
   pub not_ended : (aged.ended ≡ false) × (aged.age ≡ 2)
@@ -214,7 +208,6 @@ pub record IsTakenOutBeforeATick : Type 0 where
   pub going : Event (Unit {0})
   pub tick : Event (Unit {0})
   pub runs : IsRun first (tick ∷ going ∷ early)
-  pub heeds : AllHeed first (tick ∷ going ∷ early)
   pub issued : Pending
   pub waits : Pending
   pub book : (moment_of first early).machine.book ≡ issued ∷ waits ∷ []
@@ -241,7 +234,6 @@ pub record GoesAgainInResets : Type 0 where
   pub three : Event (Unit {0})
   pub four : Event (Unit {0})
   pub runs : IsRun first (four ∷ three ∷ two ∷ one ∷ asked)
-  pub heeds : AllHeed first (four ∷ three ∷ two ∷ one ∷ asked)
   pub resets : (one.ask ≡ Reset) × (two.ask ≡ Reset) × (three.ask ≡ Reset) × (four.ask ≡ Reset)
   pub issued : Pending
   pub waits : Pending
@@ -265,7 +257,6 @@ pub record DiesInAService : Type 0 where
   pub asked : List (Event (Unit {0}))
   pub service : Event (Unit {0})
   pub runs : IsRun first (service ∷ asked)
-  pub heeds : AllHeed first (service ∷ asked)
   pub one : Pending
   pub two : Pending
   pub book : (moment_of first asked).machine.book ≡ one ∷ two ∷ []

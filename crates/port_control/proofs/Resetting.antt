@@ -14,7 +14,7 @@ use Rattle.agreement.specs.Errors.{NoneComes}
 use Rattle.agreement.specs.Facts.{IsAwaited, IsQuiet, IsUnflagged}
 use Rattle.agreement.specs.Started.{IsUp, IsComingUp}
 use Rattle.agreement.specs.Driven.{Grows}
-use Rattle.port_control.specs.Ports.{IsClearing, IsResetting, IsUsable, ReceivesFises, HasLink, ShowsIdle, ReadsWithout, ReadsUntil, ClearsErrors, FindsLink, FindsSignature, FindsBusy, WasReset, HasClearErrors, FindsDevice, IsFound}
+use Rattle.port_control.specs.Ports.{IsClearing, IsResetting, IsUsable, ReceivesFises, HasLink, ShowsIdle, ReadsWithout, ReadsUntil, ClearsErrors, FindsLink, FindsSignature, FindsBusy, WasReset, HasClearErrors, FindsAwaited, IsFound}
 use Rattle.port_control.proofs.Using.{usable_after, receiving_write, stays_on, tape_gains}
 use Rattle.port_control.proofs.Settling.{comes_in_parts, plugs_in_parts, no_start, Settles, settles}
 use Rattle.port_control.specs.Laws.RegisterSet.{Clearing, Resetting}
@@ -116,7 +116,7 @@ module _ (laws : Laws) where
           (laws.comreset_comes port 1 old sent receives.stopped.halted.cr refl one)
 
   -- what was found since, where the link was coming up
-  pub found_on : (port : ℕ) (old mid new : Device) → Grows old mid → Grows mid new → (NoneComes port old mid → IsComingUp (mid.port port)) → IsAwaited (mid.port port) → FindsDevice port mid new → IsFound port old new
+  pub found_on : (port : ℕ) (old mid new : Device) → Grows old mid → Grows mid new → (NoneComes port old mid → IsComingUp (mid.port port)) → IsAwaited (mid.port port) → FindsAwaited port mid new → IsFound port old new
   found_on port old mid new early late coming awaited finds = record {
     calm = finds.calm;
     clear = record {
@@ -149,7 +149,7 @@ module _ (laws : Laws) where
       pub both_coming : NoneComes port.0 old new → IsComingUp (new.port port.0)
       both_coming none = let parts = comes_in_parts laws port.0 old mid new sent_grows looked.grows none in looked.coming parts.1 (coming parts.0)
 
-      pub both_found : IsAwaited (mid.port port.0) → FindsDevice port.0 mid new → IsFound port.0 old new
+      pub both_found : IsAwaited (mid.port port.0) → FindsAwaited port.0 mid new → IsFound port.0 old new
       both_found awaited finds = found_on port.0 old mid new sent_grows looked.grows coming awaited finds
 
   -- ---- looking for the device
@@ -184,7 +184,7 @@ module _ (laws : Laws) where
           serr_x = λ none. let parts = comes_in_parts laws port.0 seen cleared new b.grows c.grows none in change.serr_x parts.1 ((clear undue).serr_x parts.0);
         }
 
-    pub finds_device : FindsDevice port.0 old new
+    pub finds_device : FindsAwaited port.0 old new
     finds_device = record {
       calm = λ place small. c.calm receives_cleared place (calm place small);
       clear = λ coming. record {

@@ -211,7 +211,7 @@ pub record IsFound (port : ℕ) (old new : Device) : Type 0 where
   pub quiet : bit (new.port port).notes.last_tfd 3 ≡ false → IsQuiet (new.port port)
 
 -- So it is where the link was coming up before, and was awaited.
-pub record FindsDevice (port : ℕ) (old new : Device) : Type 0 where
+pub record FindsAwaited (port : ℕ) (old new : Device) : Type 0 where
   pub calm : (place : ℕ) → place < 32 → (new.port port).is place ≡ false
   pub clear : IsComingUp (old.port port) → HasClearErrors port old new
   pub undue : NoneComes port old new → IsComingUp (old.port port) → (new.port port).link_due ≡ false

@@ -14,7 +14,7 @@ ghost use Rattle.agreement.specs.Links.{PlugsNone};
 ghost use Rattle.agreement.specs.Recovering.{IsLinked, RunsLinked};
 ghost use Rattle.agreement.specs.Started.{IsUp, IsComingUp, IsStarted};
 ghost use Rattle.port_control.specs.Engines.{FailsToStopReceiving, StopsReceiving};
-ghost use Rattle.port_control.specs.Ports.{FailsToHalt, FailsToReceive, Halts, Receives, WritesCommand, IsPlacing, IsClearing, IsResetting, IsUsable, IsStopped, ReceivesFises, IsRunning, SawDevice, SawIdle, Shows, SameBeside, HasStopped, HasLink, ShowsIdle, ReadsWithout, ReadsUntil, ClearsErrors, FindsSignature, Looks, WasReset, HasClearErrors, FindsDevice, IsFound, Forgets, ShowsSignature, SameButStart, programmed};
+ghost use Rattle.port_control.specs.Ports.{FailsToHalt, FailsToReceive, Halts, Receives, WritesCommand, IsPlacing, IsClearing, IsResetting, IsUsable, IsStopped, ReceivesFises, IsRunning, SawDevice, SawIdle, Shows, SameBeside, HasStopped, HasLink, ShowsIdle, ReadsWithout, ReadsUntil, ClearsErrors, FindsSignature, Looks, WasReset, HasClearErrors, FindsAwaited, IsFound, Forgets, ShowsSignature, SameButStart, programmed};
 
 use adapter::Adapter;
 use ata_types::{DRIVER_BYTES, PORT_BYTES, Port, RECEIVED};
@@ -346,8 +346,8 @@ fn look<A: Adapter>(adapter: &mut A, port: Port) -> Result<(), PortFault>
         × (fault ≢ PortFault.EngineStuck)) }
     ensures looks { OnOk result (FindsSignature port 0x101 (A.device adapter.old) (A.device adapter.new)) }
     ensures looks_at_fault { IfErr result (λ fault. Looks port fault (A.device adapter.old) (A.device adapter.new)) }
-    ensures found { OnOk result (FindsDevice port.0 (A.device adapter.old) (A.device adapter.new)) }
-    ensures found_at_fault { IfErr result (λ fault. fault ≢ PortFault.NoDevice → FindsDevice port.0
+    ensures found { OnOk result (FindsAwaited port.0 (A.device adapter.old) (A.device adapter.new)) }
+    ensures found_at_fault { IfErr result (λ fault. fault ≢ PortFault.NoDevice → FindsAwaited port.0
         (A.device adapter.old) (A.device adapter.new)) }
     ensures signature { OnOk result (ShowsSignature ((A.device adapter.new).port port.0)) }
     ensures signature_at_fault { IfErr result (λ fault. (signature : ℕ) → fault ≡ PortFault.NotAta signature

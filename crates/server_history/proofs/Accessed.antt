@@ -35,7 +35,7 @@ use Rattle.server_history.specs.Below.{LawsBelow}
 use Rattle.server_history.specs.Resets.{IsTakenAgain, IssuePorts, ResetsServer, SettlePorts}
 use Rattle.server_history.specs.Served.{IssuesIn}
 use Rattle.server_history.specs.Server.{Server, is_served, mode_in, ports_of}
-use Rattle.server_history.specs.Stalled.{IsBooked}
+use Rattle.server_history.specs.Stalled.{KeepsBooks}
 use Rattle.server_history.proofs.Booted.{DidBoot, IsOfFound, TookTurn, WentBy, command_boots, went_by}
 use Rattle.server_history.proofs.Coming.{issuing_turns}
 use Rattle.server_history.proofs.Driving.{driven_as}
@@ -200,7 +200,7 @@ served_if Unserved other = absurd (other refl)
 served_if (Ready info) other = refl
 served_if (Unready state) other = refl
 
-module _ (laws : LawsBelow) (s new : Server) (replies : List Reply) (k : IsBooked s) (r : ResetsServer replies s new) where
+module _ (laws : LawsBelow) (s new : Server) (replies : List Reply) (k : KeepsBooks s) (r : ResetsServer replies s new) where
   abbrev t : IsTakenAgain s r.taken
   t = r.takes
 

@@ -146,8 +146,8 @@ interrupted wanted port next.Dead old new found is = inr (stuck_all port found i
 
 module _ (laws : LawsBelow) (s new : Server) (seen : Device) (port : Port) (state : PortState) (k : IsKept s) (is : found_of s.ports port.0 ≡ Unready state) (lives : state ≢ DeadState)
     (looks : IsFollowed (IsLooking port) AnyUse s.device seen) (b : BootsOnce port (record s { device = seen }) new) where
-  abbrev g : GivesUp port 0 true b.result seen b.stopped
-  g = b.gives_up
+  abbrev g : GivesUp port 0 true b.anew.result seen b.anew.stopped
+  g = b.anew.gives_up
 
   abbrev part : List Access
   part = g.mends.accesses
@@ -164,24 +164,24 @@ module _ (laws : LawsBelow) (s new : Server) (seen : Device) (port : Port) (stat
   pub unready : state_of (found_of s.ports port.0) ≢ ReadyState
   unready ready = never_ready s port state k is (sym (ap state_of is) ∙ ready)
 
-  pub after_it : IsFoundAfter wanted port Hung no_disk b.result.next b.stopped new.device b.found
-  after_it = found_after wanted port b.result.next b.stopped new.device b.found b.is
+  pub after_it : IsFoundAfter wanted port Hung no_disk b.anew.result.next b.anew.stopped new.device b.found
+  after_it = found_after wanted port b.anew.result.next b.anew.stopped new.device b.found b.anew.is
 
-  given : PassesTo laws s port k small b.result.next b.stopped
-  given = done laws s seen port state k is lives looks b.stopped b.result g
+  given : PassesTo laws s port k small b.anew.result.next b.anew.stopped
+  given = done laws s seen port state k is lives looks b.anew.stopped b.anew.result g
 
   -- the whole way leaves the other ports
   pub whole : (slots : InSlots) × Passes s port slots new.device
-  whole = after_passes laws s port k small wanted Hung no_disk b.result.next b.stopped new.device b.found after_it given
+  whole = after_passes laws s port k small wanted Hung no_disk b.anew.result.next b.anew.stopped new.device b.found after_it given
 
   -- ---- the port
 
   pub its_stand : StandsAt wanted b.found port.0 new.device
   its_stand =
       let service = its_service s port state k is in
-      let early = same_over laws port s.device b.stopped given.1.driven in
+      let early = same_over laws port s.device b.anew.stopped given.1.driven in
       let all = same_over laws port s.device new.device whole.1.driven in
-      stands_after laws wanted port b.stopped new.device given.1.on (service.0, ap (λ (pi : ℕ). bit pi port.0) early.pi ∙ service.1) true Hung no_disk seen b.result.next b.found g.mends.leaves.ends after_it
+      stands_after laws wanted port b.anew.stopped new.device given.1.on (service.0, ap (λ (pi : ℕ). bit pi port.0) early.pi ∙ service.1) true Hung no_disk seen b.anew.result.next b.found g.mends.leaves.ends after_it
       (all.pi ∙ sym early.pi) (λ token runs. absurd (g.halts token runs))
 
   pub book_left : IsBookLeft port b.found s.table s.book s
@@ -205,21 +205,21 @@ module _ (laws : LawsBelow) (s new : Server) (seen : Device) (port : Port) (stat
 
   -- ---- the accesses
 
-  pub afterwards : AfterList port Hung b.result.next b.found b.stopped new.device
-  afterwards = after_list laws port small wanted Hung no_disk b.result.next b.stopped new.device b.found after_it
+  pub afterwards : AfterList port Hung b.anew.result.next b.found b.anew.stopped new.device
+  afterwards = after_list laws port small wanted Hung no_disk b.anew.result.next b.anew.stopped new.device b.found after_it
 
   abbrev pub accesses : List Access
   accesses = looks.driven.accesses ++ (part ++ afterwards.driven.accesses)
 
-  does_part : DoesAll part seen b.stopped
-  does_part = recovery_does port.0 b.result.next part seen b.stopped g.mends.does.slots
+  does_part : DoesAll part seen b.anew.stopped
+  does_part = recovery_does port.0 b.anew.result.next part seen b.anew.stopped g.mends.does.slots
 
-  pub until : DoesAll (looks.driven.accesses ++ part) s.device b.stopped
-  until = laws.basic.does_append looks.driven.accesses part s.device seen b.stopped looks.driven.all does_part
+  pub until : DoesAll (looks.driven.accesses ++ part) s.device b.anew.stopped
+  until = laws.basic.does_append looks.driven.accesses part s.device seen b.anew.stopped looks.driven.all does_part
 
   pub does : DoesAll accesses s.device new.device
   does = laws.basic.does_append looks.driven.accesses (part ++ afterwards.driven.accesses) s.device seen new.device looks.driven.all
-      (laws.basic.does_append part afterwards.driven.accesses seen b.stopped new.device does_part afterwards.driven.all)
+      (laws.basic.does_append part afterwards.driven.accesses seen b.anew.stopped new.device does_part afterwards.driven.all)
 
   looking_only : All (IsPart port) looks.driven.accesses
   looking_only = All-weaker (IsLooking port) (IsPart port) (looking_part laws port) looks.driven.accesses looks.driven.only
@@ -235,17 +235,17 @@ module _ (laws : LawsBelow) (s new : Server) (seen : Device) (port : Port) (stat
 
   -- ---- what is told
 
-  becomes : IsServiced (ports_of s) (evidence_tried (stopped_of port b.result.next) (stuck_if port b.found)) (ports_of then_is) port
+  becomes : IsServiced (ports_of s) (evidence_tried (stopped_of port b.anew.result.next) (stuck_if port b.found)) (ports_of then_is) port
   becomes = (
     λ dead. absurd (lives (sym (ap state_of is) ∙ dead)),
     λ _. (
       record {
-        served = ap is_served found_then ∙ found_served wanted port Hung no_disk b.result.next b.stopped new.device b.found after_it ∙ sym (ap is_served is);
+        served = ap is_served found_then ∙ found_served wanted port Hung no_disk b.anew.result.next b.anew.stopped new.device b.found after_it ∙ sym (ap is_served is);
         stuck = λ dead. stuck_all port b.found (dead_is b.found (sym (ap state_of found_then) ∙ dead));
         dies = λ here. ap state_of found_then ∙ ap state_of (stuck_only port b.found here);
         keeps = λ other. (ap serial_of (same_disk other), ap sectors_of (same_disk other));
       },
-      inr (interrupted wanted port b.result.next b.stopped new.device b.found b.is),
+      inr (interrupted wanted port b.anew.result.next b.anew.stopped new.device b.found b.anew.is),
     ),
   )
     where
@@ -255,16 +255,16 @@ module _ (laws : LawsBelow) (s new : Server) (seen : Device) (port : Port) (stat
       same_disk : (ports_of then_is).state port ≢ ReadyState → disk_in then_is port ≡ disk_in s port
       same_disk other = ap (λ (f : Found). disk_of f remembered) found_then ∙ disk_is b.found remembered (λ ready. other (ap state_of found_then ∙ ready)) ∙ sym (ap (λ (f : Found). disk_of f remembered) is)
 
-  pub tells : TellsTried port (stopped_of port b.result.next) (stuck_if port b.found) accesses s then_is
+  pub tells : TellsTried port (stopped_of port b.anew.result.next) (stuck_if port b.found) accesses s then_is
   tells = record {
-    its_stopped = stopped_its port b.result.next;
+    its_stopped = stopped_its port b.anew.result.next;
     its_stuck = stuck_its port b.found;
     becomes = becomes;
-    engine = inr (interrupted wanted port b.result.next b.stopped new.device b.found b.is);
-    stops = engine_stops laws port looks.driven.accesses part afterwards.driven.accesses b.result.next g.mends.does.engine;
+    engine = inr (interrupted wanted port b.anew.result.next b.anew.stopped new.device b.found b.anew.is);
+    stops = engine_stops laws port looks.driven.accesses part afterwards.driven.accesses b.anew.result.next g.mends.does.engine;
     sticks = λ here.
         let dead = stuck_only port b.found here in
-        (engine_sticks laws port looks.driven.accesses part afterwards.driven.accesses b.result.next g.mends.does.engine (afterwards.sticks dead), counted dead);
+        (engine_sticks laws port looks.driven.accesses part afterwards.driven.accesses b.anew.result.next g.mends.does.engine (afterwards.sticks dead), counted dead);
   }
 
   -- ---- the other ports

@@ -11,7 +11,7 @@ use Rattle.agreement.specs.Recovering.{WorksPlainly}
 use Rattle.block_machine.specs.Events.{Service}
 use Rattle.block_machine.specs.Histories.{IsReached}
 use Rattle.block_machine.specs.State.{Machine}
-use Rattle.driver_history.specs.Histories.{HasBadDisk, HasFaultAlone}
+use Rattle.driver_history.specs.Histories.{IsUnfitOrForeign, HasFaultAlone}
 use Rattle.host_boot.specs.Taken.{found_of}
 use Rattle.port_look.specs.Looks.{IsLooking}
 use Rattle.server_history.specs.declared.Trouble.{Trouble}
@@ -44,7 +44,7 @@ module _ (laws : LawsBelow) (port : Port) (replies : List Reply) (old new : Serv
   not_absent : (ports_of old).state port ≡ shown.Absent → ⊥
   not_absent absent = let z : ReadyState ≡ shown.Absent = sym ready ∙ absent in cc
 
-  not_bad : HasBadDisk (ports_of old) port → ⊥
+  not_bad : IsUnfitOrForeign (ports_of old) port → ⊥
   not_bad bad = ⊎_elim
       (λ foreign. let z : ReadyState ≡ shown.Foreign = sym ready ∙ foreign in absurd cc)
       (λ unfit. let z : ReadyState ≡ shown.Unfit unfit.0 = sym ready ∙ unfit.1 in absurd cc)
@@ -85,16 +85,18 @@ module _ (laws : LawsBelow) (port : Port) (replies : List Reply) (old new : Serv
 
   pub ties_recovered : r.settled.mended.trouble ≢ Hung → TiesTurn InService port replies evident.accesses old new m (evidence_by r.settled) d.steps
   ties_recovered unhung = record {
-    finds = λ _ e issued. finding laws port replies old new k ready r looks kept evident m reached is d;
-    faults = λ alone e slot issued unended says plain. faulting laws port replies old new k ready r looks kept m reached is d (failing unhung alone) e slot issued unended says plain;
-    tries = λ _ _. record {
-      shown = λ absent. absurd (not_absent absent);
-      absent = λ absent. absurd (not_absent absent);
-      missing = λ bad. absurd (not_bad bad);
-      changed = λ bad. absurd (not_bad bad);
+    ties = record {
+      finds = λ _ e issued. finding laws port replies old new k ready r looks kept evident m reached is d;
+      faults = λ alone e slot issued unended says plain. faulting laws port replies old new k ready r looks kept m reached is d (failing unhung alone) e slot issued unended says plain;
+      tries = λ _ _. record {
+        shown = λ absent. absurd (not_absent absent);
+        absent = λ absent. absurd (not_absent absent);
+        missing = λ bad. absurd (not_bad bad);
+        changed = λ bad. absurd (not_bad bad);
+      };
+      boots = reboots laws port replies old new k ready r looks kept evident m;
+      trouble = heeds_trouble.trouble;
+      well = heeds_trouble.well;
     };
-    boots = reboots laws port replies old new k ready r looks kept evident m;
-    trouble = heeds_trouble.trouble;
-    well = heeds_trouble.well;
     heeds = λ _. serves_ready laws port replies old new k ready r looks kept evident m reached is d unhung;
   }

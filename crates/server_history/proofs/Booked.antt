@@ -17,7 +17,7 @@ use Rattle.server_history.specs.Below.{LawsBelow}
 use Rattle.server_history.specs.Mended.{holdings_of, requests_of}
 use Rattle.server_history.specs.Resets.{MaySettle, SettlesPort, with_holdings, SettlePorts}
 use Rattle.server_history.specs.Server.{Server, IsKept, is_served, kept_at, state_of, used_for}
-use Rattle.server_history.specs.Stalled.{IsBooked}
+use Rattle.server_history.specs.Stalled.{KeepsBooks}
 use Rattle.server_history.proofs.Counted.{places}
 use Rattle.server_history.proofs.Joined.{ready_or_not}
 use Rattle.server_history.proofs.Loans.{issued_of}
@@ -49,7 +49,7 @@ module _ (laws : LawsBelow) (s : Server) (k : IsKept s) where
       (λ (other : state_of (found_of s.ports port.0) ≢ ReadyState). let few = k.few_kept port.0 in let none = none_issued port other in omega (arith, few, none))
       (ready_or_not (state_of (found_of s.ports port.0)))
 
-  pub booked : IsBooked s
+  pub booked : KeepsBooks s
   booked = record {
     room = k.room;
     served = λ port low. served_is (wanted_of s.wanted port) (found_of s.ports port) port s.device (k.behind port low).behind;
@@ -77,7 +77,7 @@ module _ (laws : LawsBelow) (s : Server) (k : IsKept s) where
   }
 
 -- so its requests may meet their fates
-pub may_settle : (s : Server) → IsBooked s → MaySettle s
+pub may_settle : (s : Server) → KeepsBooks s → MaySettle s
 may_settle s b = record { four_kept = b.four_kept; ordered = b.ordered; accepted = b.accepted; places = b.places }
 
 -- and those of the other ports may still, once those of one port met theirs

@@ -47,10 +47,11 @@ use Rattle.host_boot.specs.declared.Found.TheVariants.{Unready}
 use Rattle.ata_types.specs.declared.PortState.TheVariants.{Dead}
 use Rattle.port_look.specs.Services.{IsService}
 use Rattle.server_history.specs.Below.{LawsBelow}
-use Rattle.driver_history.specs.Histories.{CameBy, Issues, IssuesDue, LosesNoTrouble, TiesPort}
+use Rattle.driver_history.specs.Histories.{CameBy, Issues, IssuesDue, LosesNoTrouble}
 use Rattle.driver_history.specs.Trace.{ClearsNone, LeavesEngine}
 use Rattle.server_history.specs.Histories.{Adds, AddsEvent, Leads, Stands, load_said, store_said}
 use Rattle.server_history.specs.Server.{HasCommand, Server, IsKept, IsMachineOf, IsPortOf, IsSettled, OwnsClientFrames, mode_in, ports_of, situation_of, used_for}
+use Rattle.server_history.specs.Turns.{DoesPort}
 use Rattle.slots.specs.declared.Use.{Use as SlotUse}
 use Rattle.agreement.specs.Agrees.{port_at}
 use Rattle.agreement.specs.Places.{IsTable}
@@ -116,7 +117,7 @@ pub record GoesTo (s : Server) (new : Device) : Type 0 where
 
 -- what of it stands in the device's terms, for each port
 abbrev Parts : Server → Device → Ask DeviceStep → Said → List Step → List Access → Type 0
-Parts s new ask said steps accesses = (m : Moment) → m.ports ≡ ports_of s → (port : Port) → TiesPort (still s m) (happening (still s m) new ask said steps (ports_of s)) accesses port
+Parts s new ask said steps accesses = (m : Moment) → m.ports ≡ ports_of s → (port : Port) → DoesPort (still s m) (happening (still s m) new ask said steps (ports_of s)) accesses port
 
 module _ (laws : LawsBelow) where
   -- what a request meets is what it meets in the machine
@@ -170,13 +171,13 @@ module _ (laws : LawsBelow) where
     undone_event step =
         nothing_event s (Told step) (Stepped false) goes (λ m. (refl, refl))
         (λ old at evidence. (refl, ports_same old.moment.ports (ports_of s) at.ports_are)) (λ old was at port. tt)
-        (λ m are port. record { finds = tt; faults = tt; tries = tt; boots = tt; trouble = goes.trouble m are port; well = λ i. absurd (uninterrupted s.device m.ports port i); heeds = uninterrupted s.device m.ports port })
+        (λ m are port. record { ties = record { finds = tt; faults = tt; tries = tt; boots = tt; trouble = goes.trouble m are port; well = λ i. absurd (uninterrupted s.device m.ports port i) }; heeds = uninterrupted s.device m.ports port })
 
     pub state_event : (port : Port) → AddsEvent s s (State port) (Shown ((ports_of s).state port))
     state_event port =
         nothing_event s (State port) (Shown ((ports_of s).state port)) goes (λ m. (refl, refl))
         (λ old at evidence. (ap (λ (ports : Ports). ports.state port) (sym at.ports_are), refl, ports_same old.moment.ports (ports_of s) at.ports_are)) (λ old was at q. tt)
-        (λ m are q. record { finds = tt; faults = tt; tries = tt; boots = tt; trouble = goes.trouble m are q; well = λ i. absurd (uninterrupted s.device m.ports q i); heeds = uninterrupted s.device m.ports q })
+        (λ m are q. record { ties = record { finds = tt; faults = tt; tries = tt; boots = tt; trouble = goes.trouble m are q; well = λ i. absurd (uninterrupted s.device m.ports q i) }; heeds = uninterrupted s.device m.ports q })
 
     pub store_refused_event : (client : ClientId) (frame : Frame) (offset : ℕ) (bytes : List ℕ) (fault : MemFault)
         → IsFirstMemFault (owner_of s.table) (lent_to s.table) client frame offset (length bytes) fault → AddsEvent s s (StoreAt client frame offset bytes) (store_said (Err fault))
@@ -184,7 +185,7 @@ module _ (laws : LawsBelow) where
         nothing_event s (StoreAt client frame offset bytes) (store_said (Err fault)) goes (λ m. (refl, refl))
         (λ old at evidence. (as_told s old.moment.machine at.machine (λ owner lent. IsFirstMemFault owner lent client frame offset (length bytes) fault) is, refl, ports_same old.moment.ports (ports_of s) at.ports_are))
         (λ old was at port. tt)
-        (λ m are port. record { finds = tt; faults = tt; tries = tt; boots = tt; trouble = goes.trouble m are port; well = λ i. absurd (uninterrupted s.device m.ports port i); heeds = uninterrupted s.device m.ports port })
+        (λ m are port. record { ties = record { finds = tt; faults = tt; tries = tt; boots = tt; trouble = goes.trouble m are port; well = λ i. absurd (uninterrupted s.device m.ports port i) }; heeds = uninterrupted s.device m.ports port })
 
     pub load_refused_event : (client : ClientId) (frame : Frame) (offset count : ℕ) (bytes : List ℕ) (fault : MemFault)
         → IsFirstMemFault (owner_of s.table) (lent_to s.table) client frame offset count fault → AddsEvent s s (LoadAt client frame offset count) (load_said (Err fault) bytes)
@@ -192,7 +193,7 @@ module _ (laws : LawsBelow) where
         nothing_event s (LoadAt client frame offset count) (load_said (Err fault) bytes) goes (λ m. (refl, refl))
         (λ old at evidence. (as_told s old.moment.machine at.machine (λ owner lent. IsFirstMemFault owner lent client frame offset count fault) is, refl, ports_same old.moment.ports (ports_of s) at.ports_are))
         (λ old was at port. tt)
-        (λ m are port. record { finds = tt; faults = tt; tries = tt; boots = tt; trouble = goes.trouble m are port; well = λ i. absurd (uninterrupted s.device m.ports port i); heeds = uninterrupted s.device m.ports port })
+        (λ m are port. record { ties = record { finds = tt; faults = tt; tries = tt; boots = tt; trouble = goes.trouble m are port; well = λ i. absurd (uninterrupted s.device m.ports port i) }; heeds = uninterrupted s.device m.ports port })
 
     -- where nothing is due on a ready port
     pub submit_refused_event : (r : Request) (refusal : Refusal) → IsFirstRefusal (situation_of s) r refusal
@@ -201,7 +202,7 @@ module _ (laws : LawsBelow) where
         nothing_event s (Submit r) (Submitted (Err refusal)) goes (λ m. (refl, refl))
         (λ old at evidence. (subst (λ (x : Situation). IsFirstRefusal x r refusal) (sym (situation_is s old at)) is, refl, ports_same old.moment.ports (ports_of s) at.ports_are))
         (λ old was at port ready. undue old.moment.machine at.machine port ready)
-        (λ m are port. record { finds = tt; faults = tt; tries = tt; boots = tt; trouble = goes.trouble m are port; well = λ i. absurd (uninterrupted s.device m.ports port i); heeds = uninterrupted s.device m.ports port })
+        (λ m are port. record { ties = record { finds = tt; faults = tt; tries = tt; boots = tt; trouble = goes.trouble m are port; well = λ i. absurd (uninterrupted s.device m.ports port i) }; heeds = uninterrupted s.device m.ports port })
 
   -- ---- calls that lead to another device
 
@@ -223,7 +224,7 @@ module _ (laws : LawsBelow) where
         (refl, asked)
         (λ port. All-nil (LeavesEngine port))
         (λ port. tt)
-        (λ port. record { finds = tt; faults = tt; tries = tt; boots = tt; trouble = goes.trouble old.moment at.ports_are port; well = λ i. absurd (uninterrupted s.device old.moment.ports port i); heeds = uninterrupted s.device old.moment.ports port })
+        (λ port. record { ties = record { finds = tt; faults = tt; tries = tt; boots = tt; trouble = goes.trouble old.moment at.ports_are port; well = λ i. absurd (uninterrupted s.device old.moment.ports port i) }; heeds = uninterrupted s.device old.moment.ports port })
         x.3.backed
         (machine_on laws s new old.moment.machine steps m x.3.only x.2)
 
@@ -242,7 +243,7 @@ module _ (laws : LawsBelow) where
           ((new, loads, refl), refl)
           (λ port. All-cons (LeavesEngine port) (Loading (4096 * frame.0 + offset) bytes) [] (tt, tt) (All-nil (LeavesEngine port)))
           (λ port. tt)
-          (λ port. record { finds = tt; faults = tt; tries = tt; boots = tt; trouble = goes.trouble old.moment at.ports_are port; well = λ i. absurd (uninterrupted s.device old.moment.ports port i); heeds = uninterrupted s.device old.moment.ports port })
+          (λ port. record { ties = record { finds = tt; faults = tt; tries = tt; boots = tt; trouble = goes.trouble old.moment at.ports_are port; well = λ i. absurd (uninterrupted s.device old.moment.ports port i) }; heeds = uninterrupted s.device old.moment.ports port })
           x.0.backed x.1
 
       pub store_event : Stores (4096 * frame.0 + offset) bytes s.device new → AddsEvent s (record s { device = new }) (StoreAt client frame offset bytes) (store_said (Ok tt))
@@ -259,7 +260,7 @@ module _ (laws : LawsBelow) where
           ((new, stores, refl), refl)
           (λ port. All-cons (LeavesEngine port) (Storing (4096 * frame.0 + offset) bytes) [] (tt, tt) (All-nil (LeavesEngine port)))
           (λ port. tt)
-          (λ port. record { finds = tt; faults = tt; tries = tt; boots = tt; trouble = goes.trouble old.moment at.ports_are port; well = λ i. absurd (uninterrupted s.device old.moment.ports port i); heeds = uninterrupted s.device old.moment.ports port })
+          (λ port. record { ties = record { finds = tt; faults = tt; tries = tt; boots = tt; trouble = goes.trouble old.moment at.ports_are port; well = λ i. absurd (uninterrupted s.device old.moment.ports port i) }; heeds = uninterrupted s.device old.moment.ports port })
           x.0.backed x.1
 
   -- ---- clients' bytes

@@ -37,7 +37,7 @@ use Rattle.request_queue.specs.declared.fate.Prospect.{Prospect}
 use Rattle.request_queue.specs.declared.fate.Prospect.TheVariants.{SameDisk, DiskLost, Dead as NoEnd}
 use Rattle.server_history.specs.Histories.{AddsStalled, Leads}
 use Rattle.block_machine.specs.Ports.{IsServiced, Ports, SamePort}
-use Rattle.driver_history.specs.Histories.{HasBadDisk, TendsPort, TriesDisk}
+use Rattle.driver_history.specs.Histories.{IsUnfitOrForeign, TendsPort, TriesDisk}
 use Rattle.driver_history.specs.Trace.{IsServing, LeavesEngine}
 use Rattle.server_history.proofs.Going.{lead_by, ports_same}
 use Rattle.server_history.proofs.Making.{none_last}
@@ -51,7 +51,7 @@ use Rattle.server_history.specs.Fates.{DecidesOn, KeepsNone, MayMeet, MeetsInMac
 use Rattle.server_history.specs.Mended.{holdings_of, requests_of}
 use Rattle.server_history.specs.Resets.{IsProspectAnew, MaySettle, SettlePorts, SettlesPort, with_holdings}
 use Rattle.server_history.specs.Server.{AreKept, Server, IsMachineOf, is_served, kept_at, ports_of, state_of}
-use Rattle.server_history.specs.Stalled.{IsBooked, IsStalled}
+use Rattle.server_history.specs.Stalled.{KeepsBooks, IsStalled}
 use Rattle.server_history.proofs.Booked.{kept_other, kept_same, left, may_settle, settles_on}
 use Rattle.server_history.proofs.Deaths.{TellsDeath, death_told, deaths_belong, deaths_grounded, deaths_issue_none, deaths_lawful, deaths_unplug_none}
 use Rattle.server_history.proofs.Following.{deciding_leaves, fates_owners, in_filter}
@@ -83,7 +83,7 @@ unfolding an_issued
 an_issued_is id port = refl
 
 module _ (laws : LawsBelow) (s : Server) (t : IsStalled s) where
-  abbrev b : IsBooked s
+  abbrev b : KeepsBooks s
   b = t.booked
 
   -- the server, with these holdings of all ports
@@ -502,7 +502,7 @@ module _ (laws : LawsBelow) (s : Server) (t : IsStalled s) where
           is_dead : (port : Port) → old.ports.served port ≡ true → old.ports.state port ≡ Dead
           is_dead port its = ap (λ (p : Ports). p.state port) leads.stands.ports_are ∙ ap state_of (t.dead port.0 (ap (λ (p : Ports). p.served port) (sym leads.stands.ports_are) ∙ its))
 
-          not_bad : (port : Port) → old.ports.served port ≡ true → HasBadDisk old.ports port → ⊥
+          not_bad : (port : Port) → old.ports.served port ≡ true → IsUnfitOrForeign old.ports port → ⊥
           not_bad port its (inl foreign) = let y : Dead ≡ Foreign = sym (is_dead port its) ∙ foreign in cc
           not_bad port its (inr (cause, unfit)) = let y : Dead ≡ Unfit cause = sym (is_dead port its) ∙ unfit in cc
 
@@ -515,12 +515,14 @@ module _ (laws : LawsBelow) (s : Server) (t : IsStalled s) where
           (λ port. All-nil (LeavesEngine port))
           (λ port ready. absurd (never_ready s t.dead port.0 ready))
           (λ port. record {
-            finds = λ ready. absurd (was_never port ready);
-            faults = λ alone. absurd (was_never port alone.ready);
-            tries = λ its none. tries port its;
-            boots = ((λ ready. absurd (was_never port ready)), inl (same_ports port));
-            trouble = never_troubled s t.dead (told_by s.device old.ports) (record { device = s.device; moment = old }) (ports_of s) s.device port leads.stands.ports_are (never_ready s t.dead port.0);
-            well = λ i. absurd (uninterrupted s.device old.ports port i);
+            ties = record {
+              finds = λ ready. absurd (was_never port ready);
+              faults = λ alone. absurd (was_never port alone.ready);
+              tries = λ its none. tries port its;
+              boots = ((λ ready. absurd (was_never port ready)), inl (same_ports port));
+              trouble = never_troubled s t.dead (told_by s.device old.ports) (record { device = s.device; moment = old }) (ports_of s) s.device port leads.stands.ports_are (never_ready s t.dead port.0);
+              well = λ i. absurd (uninterrupted s.device old.ports port i);
+            };
             heeds = λ ready. absurd (was_never port ready);
           })
           x.backed

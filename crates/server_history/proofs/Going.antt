@@ -24,7 +24,7 @@ use Rattle.dma_frames.specs.Table.{Table}
 use Rattle.host_boot.specs.Taken.{found_of}
 use Rattle.host_boot.specs.declared.Found.{Found}
 use Rattle.driver_history.specs.Evidence.{IsEvidenced}
-use Rattle.driver_history.specs.Histories.{Begins, CameBy, Issues, Ties, TiesPort}
+use Rattle.driver_history.specs.Histories.{Begins, CameBy, Issues, Ties}
 use Rattle.driver_history.specs.Trace.{LeavesEngine}
 use Rattle.driver_history.specs.Holds.{HoldsAt}
 use Rattle.driver_history.proofs.Instants.{history_fit, ready_low}
@@ -38,6 +38,7 @@ use Rattle.block_machine.specs.Due.{is_plain}
 use Rattle.server_history.proofs.Standing.{holds_with, slots}
 use Rattle.server_history.proofs.Told.{evidenced, lawful_told, no_evidence, told_by}
 use Rattle.server_history.specs.Below.{LawsBelow}
+use Rattle.server_history.specs.Turns.{DoesPort}
 
 -- ---- the book
 
@@ -188,7 +189,7 @@ pub lead_with : LawsBelow → (first : Instant Device) (past : List (Happening D
     → (accesses : List Access) → CameBy (now first past).moment ask said accesses s.device new.device
     → IsEvidenced ask said accesses (with_device s.device (now first past)) (ports_of new) new.device evidence
     → ((port : Port) → Issues ask steps (after (now first past).moment.machine steps) (ports_of new) port)
-    → ((port : Port) → TiesPort (with_device s.device (now first past)) (happening_with evidence new.device ask said steps (ports_of new)) accesses port)
+    → ((port : Port) → DoesPort (with_device s.device (now first past)) (happening_with evidence new.device ask said steps (ports_of new)) accesses port)
     → IsBacked s.device new.device (now first past).moment.machine steps
     → IsMachineOf new (after (now first past).moment.machine steps)
     → (h : Happening Device DeviceStep) × (h.event.ask ≡ ask) × (h.event.said ≡ said) × Leads first (h ∷ past) new
@@ -199,7 +200,7 @@ lead_with laws first past s new ask said evidence steps wanted_is leads holds fi
   record {
     history = (
       subst (λ wanted. IsHistory (Begins wanted) (Ties wanted) first past) (sym wanted_is) leads.history,
-      record { may = may; belong = belong; last = last; lawful = lawful; fit = fit; disks = disks; answered = answered },
+      record { may = may; belong = belong; last = last; lawful = lawful; fit = fit; disks = disks; answered = answered; heeds = λ port. (parts port).heeds },
       subst (λ (d : Device). Ties new.wanted (with_device d old) h) (sym leads.stands.device_is) ties,
     );
     stands = record { device_is = refl; ports_are = refl; machine = stands };
@@ -225,7 +226,7 @@ lead_with laws first past s new ask said evidence steps wanted_is leads holds fi
       backed = backed;
       evidenced = evidenced;
       issues = issues;
-      port = parts;
+      port = λ port. (parts port).ties;
       holds = holds later reached stands;
     }
 
@@ -238,7 +239,7 @@ pub lead_by : LawsBelow → (first : Instant Device) (past : List (Happening Dev
     → (accesses : List Access) → CameBy (now first past).moment ask said accesses s.device new.device
     → ((port : Port) → All (LeavesEngine port) accesses)
     → ((port : Port) → Issues ask steps (after (now first past).moment.machine steps) (ports_of new) port)
-    → ((port : Port) → TiesPort (with_device s.device (now first past)) (happening (with_device s.device (now first past)) new.device ask said steps (ports_of new)) accesses port)
+    → ((port : Port) → DoesPort (with_device s.device (now first past)) (happening (with_device s.device (now first past)) new.device ask said steps (ports_of new)) accesses port)
     → IsBacked s.device new.device (now first past).moment.machine steps
     → IsMachineOf new (after (now first past).moment.machine steps)
     → (h : Happening Device DeviceStep) × (h.event.ask ≡ ask) × (h.event.said ≡ said) × Leads first (h ∷ past) new

@@ -16,6 +16,7 @@ pub mod Standing
 pub mod Behind
 pub mod Going
 pub mod Ports
+pub mod RebootedBy
 pub mod Devices
 pub mod Calls
 pub mod Beginning

@@ -26,10 +26,10 @@ use Rattle.block_machine.proofs.Counting.{count_append}
 use Rattle.host_boot.specs.Taken.{found_of}
 use Rattle.host_boot.specs.declared.Found.{Found}
 use Rattle.driver_history.specs.Evidence.{ShowsChange, ShowsFailure}
-use Rattle.driver_history.specs.Histories.{BootsAnew, FindsDone, HasBadDisk, HasFaultAlone, IsAnsweredFaulty, IsIssuedOn, TiesPort}
+use Rattle.driver_history.specs.Histories.{BootsAnew, FindsDone, IsUnfitOrForeign, HasFaultAlone, IsAnsweredFaulty, IsIssuedOn}
 use Rattle.driver_history.specs.Parts.{HasTurnIn, NamesAlike}
 use Rattle.server_history.specs.Below.{LawsBelow}
-use Rattle.server_history.specs.Turns.{HasPart, HeedsTrouble, InService, MakesTurn, TiesTurn, Turn, instant_of, moment_of, turn_of}
+use Rattle.server_history.specs.Turns.{DoesPort, HasPart, HeedsTrouble, InService, MakesTurn, TiesTurn, Turn, instant_of, moment_of, turn_of}
 use Rattle.server_history.specs.Server.{HasCommand, Server, IsKept, IsMachineOf, IsSettled, ports_of, state_of}
 use Rattle.server_history.proofs.Joined.{same_then}
 use Rattle.server_history.proofs.Progress.{others_leave}
@@ -105,7 +105,7 @@ module _ (laws : LawsBelow) (s : Server) (start : IsSettled s) (old : Moment) (r
     whole_is = lifting.whole_is AService laws s start old reached at ports_are n c mid before its p next part m_reached on_mid
 
     module _ (evidence : Evidence) (alike : NamesAlike (port_at n) x.evidence evidence) (same_n : SamePort old.ports (ports_of c) (port_at n)) where
-      abbrev did : TiesPort (instant_of c m) (turn_of InService its mid x.evidence x.steps) part.accesses (port_at n)
+      abbrev did : DoesPort (instant_of c m) (turn_of InService its mid x.evidence x.steps) part.accesses (port_at n)
       did = its_ties
 
       abbrev serves : ServesReady (moment_of c m) x.evidence x.steps (record { machine = after m x.steps; ports = ports_of mid }) (port_at n)
@@ -170,7 +170,7 @@ module _ (laws : LawsBelow) (s : Server) (start : IsSettled s) (old : Moment) (r
         fault_told = ⊎_elim
             (λ (a : IsAnsweredFaulty it.now_is x.steps). inl (a.0, a.1, a.2, a.3 ∙ it.same_as.request, Contains-append_left x.steps p.steps (Answer a.0 (DeviceError a.1 a.2)) a.4))
             (λ dead. inr dead)
-            (did.faults alone_now it.now_is it.has.slot (then_issued e own it) unended_now (lifting.by AService laws s start old reached at ports_are n c mid before its p next part m_reached on_mid ready e it).serves plain_now)
+            (did.ties.faults alone_now it.now_is it.has.slot (then_issued e own it) unended_now (lifting.by AService laws s start old reached at ports_are n c mid before its p next part m_reached on_mid ready e it).serves plain_now)
 
       -- ---- what it heeds
 
@@ -223,28 +223,30 @@ module _ (laws : LawsBelow) (s : Server) (start : IsSettled s) (old : Moment) (r
 
       -- ---- the whole
 
-      not_bad : HasBadDisk old.ports (port_at n) → ⊥
+      not_bad : IsUnfitOrForeign old.ports (port_at n) → ⊥
       not_bad bad = ready_fits (old.ports.state (port_at n)) was_ready bad
 
       not_absent : old.ports.state (port_at n) ≡ Absent → ⊥
       not_absent absent = let z : Absent ≡ ReadyState = sym absent ∙ was_ready in absurd cc
 
       heeds_trouble : HeedsTrouble (port_at n) accesses began evidence (ports_of mid) mid.device
-      heeds_trouble = lifting.trouble_whole AService laws s start old reached at ports_are n c mid before its p next part m_reached on_mid evidence alike same_n (λ _. stops_troubled) (λ _. inl undue) (record { trouble = did.trouble; well = did.well })
+      heeds_trouble = lifting.trouble_whole AService laws s start old reached at ports_are n c mid before its p next part m_reached on_mid evidence alike same_n (λ _. stops_troubled) (λ _. inl undue) (record { trouble = did.ties.trouble; well = did.ties.well })
 
-      pub ties_whole : TiesPort began (turn_of InService [] mid evidence all) accesses (port_at n)
+      pub ties_whole : DoesPort began (turn_of InService [] mid evidence all) accesses (port_at n)
       ties_whole = record {
-        finds = λ _ e own. finding e own;
-        faults = λ alone e slot own unended says plain. fault_told alone e slot own unended says plain;
-        tries = λ served coming. record {
-          shown = λ absent det. absurd (not_absent absent);
-          absent = λ absent det fresh. absurd (not_absent absent);
-          missing = λ bad. absurd (not_bad bad);
-          changed = λ bad. absurd (not_bad bad);
+        ties = record {
+          finds = λ _ e own. finding e own;
+          faults = λ alone e slot own unended says plain. fault_told alone e slot own unended says plain;
+          tries = λ served coming. record {
+            shown = λ absent det. absurd (not_absent absent);
+            absent = λ absent det fresh. absurd (not_absent absent);
+            missing = λ bad. absurd (not_bad bad);
+            changed = λ bad. absurd (not_bad bad);
+          };
+          boots = subst (λ (list : List Access). BootsAnew Service (Served []) (p.accesses ++ list) began (ports_of mid) mid.device (port_at n)) (append-nil part.accesses)
+              (laws.calls.call_boots (port_at n) began (moment_of c m) (ports_of mid) (ports_of mid) mid.device (Served its) (Served []) kept.on (λ _. undue) t on_mid same_self same_n did.ties.boots);
+          trouble = heeds_trouble.trouble;
+          well = heeds_trouble.well;
         };
-        boots = subst (λ (list : List Access). BootsAnew Service (Served []) (p.accesses ++ list) began (ports_of mid) mid.device (port_at n)) (append-nil part.accesses)
-            (laws.calls.call_boots (port_at n) began (moment_of c m) (ports_of mid) (ports_of mid) mid.device (Served its) (Served []) kept.on (λ _. undue) t on_mid same_self same_n did.boots);
-        trouble = heeds_trouble.trouble;
-        well = heeds_trouble.well;
         heeds = λ _. heeds_whole;
       }

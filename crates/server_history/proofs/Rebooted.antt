@@ -25,7 +25,7 @@ use Rattle.block_machine.specs.State.{Machine, Pending, unanswered}
 use Rattle.block_machine.specs.Steps.{Again, Answer, Release, Step}
 use Rattle.block_machine.specs.declared.due.Mode.{Mode}
 use Rattle.driver_history.specs.Evidence.{IsEvidenced, IsEvidencedOf}
-use Rattle.driver_history.specs.Histories.{BootsAnew, IssuesDue, LosesNoTrouble, RunsWellAnew, ServesPort, TiesPort}
+use Rattle.driver_history.specs.Histories.{BootsAnew, IssuesDue, LosesNoTrouble, RunsWellAnew, ServesPort}
 use Rattle.driver_history.specs.Trace.{IsOfPorts}
 use Rattle.hba_regs.specs.Bits.{bit}
 use Rattle.host_boot.specs.Taken.{IsServed, StandsBehind, StillStandsBehind, found_of, wanted_of}
@@ -61,11 +61,11 @@ use Rattle.server_history.proofs.Turns.{belong_join, lawful_join}
 use Rattle.server_history.proofs.Zips.{at_right}
 use Rattle.server_history.specs.Ended.{ResetLaws}
 use Rattle.server_history.specs.Histories.{Adds, Leads}
-use Rattle.server_history.specs.Rebooted.{IsRebootedBy}
+use Rattle.server_history.proofs.RebootedBy.{IsRebootedBy}
 use Rattle.server_history.specs.Resets.{IsProspectAnew, IsTakenAgain, IssuePorts, ResetsServer, SettlePorts}
 use Rattle.server_history.specs.Server.{IsKept, IsMachineOf, IsSettled, Server, disk_in, disk_of, is_served, mode_in, ports_of, remembered_at, sectors_of, serial_of, state_of}
-use Rattle.server_history.specs.Stalled.{IsBooked}
-use Rattle.server_history.specs.Turns.{instant_of, moment_of}
+use Rattle.server_history.specs.Stalled.{KeepsBooks}
+use Rattle.server_history.specs.Turns.{DoesPort, instant_of, moment_of}
 use Rattle.ata_types.specs.declared.request.Outcome.TheVariants as outcome
 
 -- a port that is found in the state of a dead one is dead
@@ -80,7 +80,7 @@ remembers Unserved remembered other = refl
 remembers (Ready info) remembered other = absurd (other refl)
 remembers (Unready state) remembered other = refl
 
-module _ (laws : ResetLaws) (s taken settled new : Server) (replies : List Reply) (booked : IsBooked s) (takes : IsTakenAgain s taken) (settles : SettlePorts 0 taken.ports replies taken settled) (issues : IssuePorts 0 taken.ports settled new)
+module _ (laws : ResetLaws) (s taken settled new : Server) (replies : List Reply) (booked : KeepsBooks s) (takes : IsTakenAgain s taken) (settles : SettlePorts 0 taken.ports replies taken settled) (issues : IssuePorts 0 taken.ports settled new)
     (by : IsRebootedBy s new replies) (first : Instant Device) (past : List (Happening Device DeviceStep)) (leads : Leads first past s) where
   abbrev was : Moment
   was = (now first past).moment
@@ -512,14 +512,16 @@ module _ (laws : ResetLaws) (s taken settled new : Server) (replies : List Reply
     port = λ port. subst (λ (old : Instant Device). IsEvidencedOf Reset (WasReset (Some replies)) by.accesses old (ports_of new) new.device by.evidence port) instant_is (by.evidenced m port);
   }
 
-  port_part : (port : Port) → TiesPort (with_device s.device (now first past)) (happening_with by.evidence new.device Reset (WasReset (Some replies)) steps (ports_of new)) by.accesses port
+  port_part : (port : Port) → DoesPort (with_device s.device (now first past)) (happening_with by.evidence new.device Reset (WasReset (Some replies)) steps (ports_of new)) by.accesses port
   port_part port = record {
-    finds = tt;
-    faults = tt;
-    tries = tt;
-    boots = subst (λ (old : Instant Device). BootsAnew Reset (WasReset (Some replies)) by.accesses old (ports_of new) new.device port) instant_is (by.boots m port);
-    trouble = subst (λ (old : Instant Device). LosesNoTrouble by.evidence old (ports_of new) new.device port) instant_is (by.trouble m port);
-    well = subst (λ (old : Instant Device). RunsWellAnew by.evidence by.accesses old (ports_of new) new.device port) instant_is (by.well m port);
+    ties = record {
+      finds = tt;
+      faults = tt;
+      tries = tt;
+      boots = subst (λ (old : Instant Device). BootsAnew Reset (WasReset (Some replies)) by.accesses old (ports_of new) new.device port) instant_is (by.boots m port);
+      trouble = subst (λ (old : Instant Device). LosesNoTrouble by.evidence old (ports_of new) new.device port) instant_is (by.trouble m port);
+      well = subst (λ (old : Instant Device). RunsWellAnew by.evidence by.accesses old (ports_of new) new.device port) instant_is (by.well m port);
+    };
     heeds = tt;
   }
 
@@ -543,7 +545,7 @@ module _ (laws : ResetLaws) (s taken settled new : Server) (replies : List Reply
 
 -- ---- the whole
 
-pub resets_add_given : ResetLaws → (s new : Server) (replies : List Reply) → IsRebootedBy s new replies → IsBooked s → ResetsServer replies s new → Adds s new Reset (WasReset (Some replies))
+pub resets_add_given : ResetLaws → (s new : Server) (replies : List Reply) → IsRebootedBy s new replies → KeepsBooks s → ResetsServer replies s new → Adds s new Reset (WasReset (Some replies))
 resets_add_given laws s new replies by booked resets = record {
   settled = settled_at_last laws s resets.taken resets.settled booked resets.takes replies resets.settles booked.machine booked.reached booked.stands new resets.issues;
   adds = λ first past leads. reset_event laws s resets.taken resets.settled new replies booked resets.takes resets.settles resets.issues by first past leads;

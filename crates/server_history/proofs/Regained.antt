@@ -32,9 +32,9 @@ use Rattle.server_history.specs.Ended.{ResetLaws}
 use Rattle.server_history.proofs.Zips.{at_right}
 use Rattle.server_history.specs.Resets.{IsTakenAgain, IssuePorts, MaySettle, SettlePorts}
 use Rattle.server_history.specs.Server.{HasSlots, IsKept, IsMachineOf, IsSettled, Server, is_served, mode_at, mode_found, state_of, used_for}
-use Rattle.server_history.specs.Stalled.{IsBooked}
+use Rattle.server_history.specs.Stalled.{KeepsBooks}
 
-module _ (laws : ResetLaws) (s taken settled : Server) (booked : IsBooked s) (takes : IsTakenAgain s taken) (replies : List Reply) (settles : SettlePorts 0 taken.ports replies taken settled) (m : Machine) (reached : IsReached m)
+module _ (laws : ResetLaws) (s taken settled : Server) (booked : KeepsBooks s) (takes : IsTakenAgain s taken) (replies : List Reply) (settles : SettlePorts 0 taken.ports replies taken settled) (m : Machine) (reached : IsReached m)
     (is : IsMachineOf s m) where
   pub its_retaken : IsRetaken s taken takes.takes.uses m
   its_retaken = retaken laws s taken takes m reached is

@@ -41,7 +41,7 @@ use Rattle.server_history.specs.Kept.{IsKeptIn, TakesBack}
 use Rattle.server_history.specs.Mended.{requests_of}
 use Rattle.server_history.specs.Resets.{IsTakenAgain, MaySettle}
 use Rattle.server_history.specs.Server.{AreKept, IsMachineOf, Server, kept_at}
-use Rattle.server_history.specs.Stalled.{IsBooked}
+use Rattle.server_history.specs.Stalled.{KeepsBooks}
 
 -- ---- stretches of the device
 
@@ -265,7 +265,7 @@ accepted_then grants old new entries m limits book lent owners accepted i d smal
           sym (lent g) ∙ ap m.lent (get_or_default y.0.request.asked.frames.items k f _ inside) ∙ limits.lent y.0 (inl y.1) k inside ∙ ap Some y.2.id);
     }
 
-module _ (laws : ResetLaws) (s taken : Server) (booked : IsBooked s) (takes : IsTakenAgain s taken) where
+module _ (laws : ResetLaws) (s taken : Server) (booked : KeepsBooks s) (takes : IsTakenAgain s taken) where
   its : IsRetaken s taken takes.takes.uses booked.machine
   its = retaken laws s taken takes booked.machine booked.reached booked.stands
 

@@ -19,11 +19,10 @@ use Rattle.host_boot.specs.declared.Found.{Found}
 use Rattle.host_boot.specs.declared.Found.TheVariants.{Unready}
 use Rattle.server_history.proofs.Joined.{dead_or_not}
 use Rattle.driver_history.specs.Evidence.{IsEvidenced}
-use Rattle.driver_history.specs.Histories.{TiesPort}
 use Rattle.request_queue.specs.Machine.{IsEntry}
 use Rattle.server_history.specs.Histories.{Adds, Leads}
 use Rattle.server_history.specs.Below.{LawsBelow}
-use Rattle.server_history.specs.Turns.{HasPart, ServePorts, ServesPort, TriesOther}
+use Rattle.server_history.specs.Turns.{DoesPort, HasPart, ServePorts, ServesPort, TriesUnready}
 use Rattle.server_history.specs.Tried.{IsLookedAt}
 use Rattle.server_history.specs.Server.{Server, IsKept, IsMachineOf, IsSettled, mode_in, ports_of, state_of}
 use Rattle.server_history.proofs.Asks.{none_due}
@@ -53,7 +52,7 @@ module _ (laws : LawsBelow) (s new : Server) (replies : List Reply) (start : IsS
   ready_part n c mid before its is_ready_n p serves = subst (λ (found : Found). HasPart (turn_at AService found n) (port_at n) its c mid) (sym (ready_found s n start.kept is_ready_n).1.1) serves.part
 
   -- a dead port is passed over
-  other_part : (n : ℕ) (c mid : Server) (before : List Reply) (state : PortState) → found_of s.ports n ≡ Unready state → Progress AService laws s start old reached at same n c before → TriesOther (port_at n) c mid
+  other_part : (n : ℕ) (c mid : Server) (before : List Reply) (state : PortState) → found_of s.ports n ≡ Unready state → Progress AService laws s start old reached at same n c before → TriesUnready (port_at n) c mid
       → ((TakesTurn AService (found_of s.ports n) → ⊥) × (mid ≡ c)) ⊎ (TakesTurn AService (found_of s.ports n) × HasPart (turn_at AService (found_of s.ports n) n) (port_at n) [] c mid)
   other_part n c mid before state is p tries = ⊎_elim
       (λ (dead : state ≡ Dead).
@@ -72,7 +71,7 @@ module _ (laws : LawsBelow) (s new : Server) (replies : List Reply) (start : IsS
       (dead_or_not state)
 
   ends : Whole AService laws s start old reached at same new replies
-  ends = go AService laws s start old reached at same ServesPort TriesOther ready_part other_part s.ports 0 (λ i. ap (λ (k : ℕ). found_of s.ports k) (omega arith)) s new [] replies (begun AService laws s start old reached at same) serves
+  ends = go AService laws s start old reached at same ServesPort TriesUnready ready_part other_part s.ports 0 (λ i. ap (λ (k : ℕ). found_of s.ports k) (omega arith)) s new [] replies (begun AService laws s start old reached at same) serves
 
   p : Progress AService laws s start old reached at same ends.count new replies
   p = ends.progress
@@ -136,10 +135,10 @@ module _ (laws : LawsBelow) (s new : Server) (replies : List Reply) (start : IsS
   }
 
   -- what the service has done of each port
-  port_part : (port : Port) → TiesPort began (happening_with p.evidence new.device Service (Served replies) p.steps (ports_of new)) p.accesses port
+  port_part : (port : Port) → DoesPort began (happening_with p.evidence new.device Service (Served replies) p.steps (ports_of new)) p.accesses port
   port_part port =
       let did = (done port).ties.0 in
-      record { finds = did.finds; faults = did.faults; tries = did.tries; boots = did.boots; trouble = did.trouble; well = did.well; heeds = did.heeds }
+      record { ties = record { finds = did.ties.finds; faults = did.ties.faults; tries = did.ties.tries; boots = did.ties.boots; trouble = did.ties.trouble; well = did.ties.well }; heeds = did.heeds }
 
   pub service_event : (h : Happening Device DeviceStep) × (h.event.ask ≡ Service) × (h.event.said ≡ Served replies) × Leads first (h ∷ past) new
   service_event =
@@ -153,4 +152,4 @@ module _ (laws : LawsBelow) (s new : Server) (replies : List Reply) (start : IsS
       p.backed p.stands
 
 pub services_add : LawsBelow → (s new : Server) (replies : List Reply) → IsSettled s → ServePorts 0 s.ports replies s new → Adds s new Service (Served replies)
-services_add laws s new replies start serves = record { settled = turns_kept ServesPort TriesOther s.ports 0 s new replies start serves; adds = λ first past leads. service_event laws s new replies start serves first past leads }
+services_add laws s new replies start serves = record { settled = turns_kept ServesPort TriesUnready s.ports 0 s new replies start serves; adds = λ first past leads. service_event laws s new replies start serves first past leads }

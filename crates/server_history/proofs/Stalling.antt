@@ -27,7 +27,7 @@ use Rattle.request_queue.specs.Entries.{Held}
 use Rattle.request_queue.specs.Machine.{IsEntry}
 use Rattle.server_history.specs.Below.{LawsBelow}
 use Rattle.server_history.specs.Server.{Server, IsMachineOf, is_served, ports_of, state_of, use_of}
-use Rattle.server_history.specs.Stalled.{AreDead, IsBooked}
+use Rattle.server_history.specs.Stalled.{AreDead, KeepsBooks}
 use Rattle.server_history.proofs.Going.{IsHolding}
 use Rattle.server_history.proofs.Slots.{none_kept}
 use Rattle.server_history.proofs.Zips.{at_right}
@@ -77,7 +77,7 @@ module _ (s : Server) (dead : AreDead s.ports) where
 
 -- ---- an instant
 
-module _ (s : Server) (b : IsBooked s) (dead : AreDead s.ports) (off : IsOn s.device → ⊥) (m : Machine) (is : IsMachineOf s m) where
+module _ (s : Server) (b : KeepsBooks s) (dead : AreDead s.ports) (off : IsOn s.device → ⊥) (m : Machine) (is : IsMachineOf s m) where
   abbrev slots : InSlots
   slots = record { uses = is.uses; parked = is.parked }
 
@@ -115,7 +115,7 @@ module _ (s : Server) (b : IsBooked s) (dead : AreDead s.ports) (off : IsOn s.de
     port = λ port low. ⊎_elim (of_unserved port low) (of_dead port) (either s dead port.0);
   }
 
-pub holds_off : (s : Server) → IsBooked s → AreDead s.ports → (IsOn s.device → ⊥) → IsHolding s
+pub holds_off : (s : Server) → KeepsBooks s → AreDead s.ports → (IsOn s.device → ⊥) → IsHolding s
 holds_off s b dead off m reached is = (slots s b dead off m is, holds_with_off s b dead off m is)
 
 -- ---- what accesses leave
@@ -160,8 +160,8 @@ module _ (laws : LawsBelow) where
 
 -- ---- the server with another device
 
-pub booked_on : (s : Server) (new : Device) → IsBooked s → SameAdapter s.device new → ((port : ℕ) → IsIdlePort (s.device.port port) → IsIdlePort (new.port port))
-    → (m : Machine) → IsReached m → IsMachineOf (record s { device = new }) m → IsBooked (record s { device = new })
+pub booked_on : (s : Server) (new : Device) → KeepsBooks s → SameAdapter s.device new → ((port : ℕ) → IsIdlePort (s.device.port port) → IsIdlePort (new.port port))
+    → (m : Machine) → IsReached m → IsMachineOf (record s { device = new }) m → KeepsBooks (record s { device = new })
 booked_on s new b same idle m reached is = record {
   room = subst (λ (n : ℕ). 163840 ≤ n) (sym same.size) b.room;
   served = λ port low.

@@ -20,10 +20,10 @@ use Rattle.block_machine.specs.Steps.{Step, Answer}
 use Rattle.block_machine.proofs.Counting.{count_append}
 use Rattle.host_boot.specs.Taken.{found_of}
 use Rattle.driver_history.specs.Evidence.{ShowsChange, ShowsFailure}
-use Rattle.driver_history.specs.Histories.{HasBadDisk, HasFaultAlone, IsAnsweredFaulty, TiesPort}
+use Rattle.driver_history.specs.Histories.{IsUnfitOrForeign, HasFaultAlone, IsAnsweredFaulty}
 use Rattle.driver_history.specs.Parts.{HasTurnIn, NamesAlike}
 use Rattle.server_history.specs.Below.{LawsBelow}
-use Rattle.server_history.specs.Turns.{HasPart, HeedsTrouble, InService, MakesTurn, turn_of}
+use Rattle.server_history.specs.Turns.{DoesPort, HasPart, HeedsTrouble, InService, MakesTurn, turn_of}
 use Rattle.server_history.specs.Server.{Server, IsKept, IsMachineOf, IsSettled, ports_of, state_of}
 use Rattle.server_history.proofs.Joined.{same_then}
 use Rattle.server_history.proofs.Origins.{stood}
@@ -73,7 +73,7 @@ module _ (laws : LawsBelow) (s : Server) (start : IsSettled s) (old : Moment) (r
       abbrev t : HasTurnIn q s.device mid.device
       t = carrying.t AService laws s start old reached at ports_are n c mid before its p part m_reached q apart
 
-      abbrev did : TiesPort began (turn_of InService [] c p.evidence p.steps) p.accesses q
+      abbrev did : DoesPort began (turn_of InService [] c p.evidence p.steps) p.accesses q
       did = d.ties.0
 
       abbrev serves : ServesReady old p.evidence p.steps (record { machine = m; ports = ports_of c }) q
@@ -132,30 +132,32 @@ module _ (laws : LawsBelow) (s : Server) (start : IsSettled s) (old : Moment) (r
 
       -- ---- the whole
 
-      not_bad : HasBadDisk old.ports q → ⊥
+      not_bad : IsUnfitOrForeign old.ports q → ⊥
       not_bad bad = ready_fits (old.ports.state q) asked bad
 
       not_absent : old.ports.state q ≡ Absent → ⊥
       not_absent absent = let z : Absent ≡ ReadyState = sym absent ∙ asked in absurd cc
 
       heeds_trouble : HeedsTrouble q accesses began evidence (ports_of mid) mid.device
-      heeds_trouble = carrying.trouble_still AService laws s start old reached at ports_are n c mid before its p part m_reached q apart d evidence alike same (λ _. stops_troubled) (λ _. inl undue) (record { trouble = did.trouble; well = did.well })
+      heeds_trouble = carrying.trouble_still AService laws s start old reached at ports_are n c mid before its p part m_reached q apart d evidence alike same (λ _. stops_troubled) (λ _. inl undue) (record { trouble = did.ties.trouble; well = did.ties.well })
 
-      pub ties_still : TiesPort began (turn_of InService [] mid evidence all) accesses q
+      pub ties_still : DoesPort began (turn_of InService [] mid evidence all) accesses q
       ties_still = record {
-        finds = λ is_ready e own. carrying.finds_more AService laws s start old reached at ports_are n c mid before its p part m_reached q apart (did.finds is_ready e own);
-        faults = λ alone e slot own unended says plain. ⊎_elim
-            (λ (a : IsAnsweredFaulty e p.steps). inl (a.0, a.1, a.2, a.3, Contains-append_right x.steps p.steps (Answer a.0 (DeviceError a.1 a.2)) a.4))
-            (λ dead. inr (same.1 ∙ dead))
-            (did.faults (alone_so_far alone) e slot own unended says plain);
-        tries = λ served coming. record {
-          shown = λ absent det. absurd (not_absent absent);
-          absent = λ absent det fresh. absurd (not_absent absent);
-          missing = λ bad. absurd (not_bad bad);
-          changed = λ bad. absurd (not_bad bad);
+        ties = record {
+          finds = λ is_ready e own. carrying.finds_more AService laws s start old reached at ports_are n c mid before its p part m_reached q apart (did.ties.finds is_ready e own);
+          faults = λ alone e slot own unended says plain. ⊎_elim
+              (λ (a : IsAnsweredFaulty e p.steps). inl (a.0, a.1, a.2, a.3, Contains-append_right x.steps p.steps (Answer a.0 (DeviceError a.1 a.2)) a.4))
+              (λ dead. inr (same.1 ∙ dead))
+              (did.ties.faults (alone_so_far alone) e slot own unended says plain);
+          tries = λ served coming. record {
+            shown = λ absent det. absurd (not_absent absent);
+            absent = λ absent det fresh. absurd (not_absent absent);
+            missing = λ bad. absurd (not_bad bad);
+            changed = λ bad. absurd (not_bad bad);
+          };
+          boots = laws.calls.call_boots q began old (ports_of c) (ports_of mid) mid.device (Served []) (Served []) kept.on (λ _. undue) t p.on same same_self did.ties.boots;
+          trouble = heeds_trouble.trouble;
+          well = heeds_trouble.well;
         };
-        boots = laws.calls.call_boots q began old (ports_of c) (ports_of mid) mid.device (Served []) (Served []) kept.on (λ _. undue) t p.on same same_self did.boots;
-        trouble = heeds_trouble.trouble;
-        well = heeds_trouble.well;
         heeds = λ _. heeds_whole;
       }

@@ -21,7 +21,7 @@ use Rattle.block_machine.specs.Ports.{AreFit, Evidence, Fault, IsStuck, Ports, S
 use Rattle.block_machine.specs.State.{Machine}
 use Rattle.block_machine.specs.Steps.{Step}
 use Rattle.driver_history.specs.Evidence.{IsEvidencedOf}
-use Rattle.driver_history.specs.Histories.{Begins, Ties, TiesPort}
+use Rattle.driver_history.specs.Histories.{Begins, Ties}
 use Rattle.driver_history.specs.Trace.{LeavesEngine}
 use Rattle.driver_history.proofs.Instants.{history_fit, ready_low}
 use Rattle.host_boot.specs.Resets.{IsOfReset}
@@ -34,7 +34,8 @@ use Rattle.request_queue.specs.Entries.{Held}
 use Rattle.server_history.specs.Below.{LawsBelow}
 use Rattle.server_history.specs.Histories.{AddsStalled, Leads}
 use Rattle.server_history.specs.Server.{Server, IsMachineOf, disk_in, disk_of, is_served, ports_of, remembered_at, sectors_of, serial_of, state_of, use_of}
-use Rattle.server_history.specs.Stalled.{AreDead, GetsStuck, IsBooked, IsStalled, stuck_found}
+use Rattle.server_history.specs.Stalled.{AreDead, GetsStuck, KeepsBooks, IsStalled, stuck_found}
+use Rattle.server_history.specs.Turns.{DoesPort}
 use Rattle.server_history.proofs.Devices.{devices_belong, devices_last, devices_lawful}
 use Rattle.server_history.proofs.Going.{happening_with, lead_with, machine_on, with_device}
 use Rattle.server_history.proofs.Lists.{nowhere}
@@ -85,7 +86,7 @@ stuck_disk Unserved last = refl
 stuck_disk (Ready info) last = refl
 stuck_disk (Unready state) last = refl
 
-module _ (laws : LawsBelow) (s new : Server) (b : IsBooked s) (g : GetsStuck s new) where
+module _ (laws : LawsBelow) (s new : Server) (b : KeepsBooks s) (g : GetsStuck s new) where
   -- the server then
   abbrev n : Server
   n = record s { device = new.device; ports = new.ports; remembered = new.remembered; modes = new.modes; slots = new.slots }
@@ -152,7 +153,7 @@ module _ (laws : LawsBelow) (s new : Server) (b : IsBooked s) (g : GetsStuck s n
       let x = (followed_adds g.stays.followed is.uses is.parked tt).adds m reached is.knows in
       record { steps = x.0; only = x.3.only; may = x.1; backed = x.3.backed; with_device_alone = machine_on laws s new.device m x.0 is x.3.only x.2 }
 
-  booked_then : (m : Machine) → IsReached m → IsMachineOf (record s { device = new.device }) m → IsBooked n
+  booked_then : (m : Machine) → IsReached m → IsMachineOf (record s { device = new.device }) m → KeepsBooks n
   booked_then m reached is =
       let on = booked_on s new.device b g.stays.same
       (λ port idle. accesses_idle laws its_accesses (All-weaker IsOfReset LeavesPorts leaves_ports its_accesses g.stays.followed.driven.only) s.device new.device g.stays.followed.driven.all port idle)
@@ -249,21 +250,23 @@ module _ (laws : LawsBelow) (s new : Server) (b : IsBooked s) (g : GetsStuck s n
     unfolding evidence
     no_fault told here = nowhere told here
 
-    part : (steps : List Step) (port : Port) → TiesPort began (happening_with evidence new.device Reset (WasReset None) steps (ports_of n)) its_accesses port
+    part : (steps : List Step) (port : Port) → DoesPort began (happening_with evidence new.device Reset (WasReset None) steps (ports_of n)) its_accesses port
     unfolding evidence
     part steps port = record {
-      finds = tt;
-      faults = tt;
-      tries = tt;
-      boots = tt;
-      trouble = record {
-        errors = λ ready shown. inl (inr (stuck_named port (was_served port (ready_low old port fit ready).0)));
-        changes = λ tends shown. inl (inr (stuck_named port (was_served port tends.0)));
-        fault = λ ready. absurd (never_ready n dead port.0 ready);
-        fatal = λ ready. absurd (never_ready n dead port.0 ready);
-        disk = λ ready. absurd (never_ready n dead port.0 ready);
+      ties = record {
+        finds = tt;
+        faults = tt;
+        tries = tt;
+        boots = tt;
+        trouble = record {
+          errors = λ ready shown. inl (inr (stuck_named port (was_served port (ready_low old port fit ready).0)));
+          changes = λ tends shown. inl (inr (stuck_named port (was_served port tends.0)));
+          fault = λ ready. absurd (never_ready n dead port.0 ready);
+          fatal = λ ready. absurd (never_ready n dead port.0 ready);
+          disk = λ ready. absurd (never_ready n dead port.0 ready);
+        };
+        well = λ i ready. absurd (never_ready n dead port.0 ready);
       };
-      well = λ i ready. absurd (never_ready n dead port.0 ready);
       heeds = tt;
     }
 

@@ -38,7 +38,7 @@ use Rattle.driver_history.specs.Trace.{IsServing, LeavesEngine}
 use Rattle.server_history.specs.Below.{LawsBelow}
 use Rattle.server_history.specs.Histories.{AddsEvent, AddsStalled, Leads, load_said, store_said}
 use Rattle.server_history.specs.Server.{Server, IsMachineOf, ports_of, situation_of}
-use Rattle.server_history.specs.Stalled.{IsBooked, IsStalled}
+use Rattle.server_history.specs.Stalled.{KeepsBooks, IsStalled}
 use Rattle.server_history.proofs.Calls.{GoesTo, device_event, load_ends, load_event, load_refused_event, open_free, state_event, store_ends, store_event, store_refused_event, submit_refused_event, undone_event}
 use Rattle.server_history.proofs.Going.{lead_by, machine_on, ports_same}
 use Rattle.server_history.proofs.Lists.{nowhere}
@@ -59,7 +59,7 @@ never_here : (step : Step) (ready : Port → Bool) → (step ≡ Age ready → �
 never_here step ready other here = ⊎_elim other (nowhere step) (contains_cases (Age ready) [] step here)
 
 module _ (laws : LawsBelow) (s : Server) (t : IsStalled s) where
-  abbrev b : IsBooked s
+  abbrev b : KeepsBooks s
   b = t.booked
 
   -- ---- the server with another device
@@ -196,12 +196,14 @@ module _ (laws : LawsBelow) (s : Server) (t : IsStalled s) where
         (λ port. All-nil (LeavesEngine port))
         (λ port ready. absurd (never_ready s t.dead port.0 ready))
         (λ port. record {
-          finds = λ hung. absurd (not_hung port hung);
-          faults = tt;
-          tries = tt;
-          boots = λ hung. absurd (not_hung port hung);
-          trouble = never_troubled s t.dead (told_by s.device old.ports) (record { device = s.device; moment = old }) (ports_of s) s.device port leads.stands.ports_are (never_ready s t.dead port.0);
-          well = λ i. absurd (uninterrupted s.device old.ports port i);
+          ties = record {
+            finds = λ hung. absurd (not_hung port hung);
+            faults = tt;
+            tries = tt;
+            boots = λ hung. absurd (not_hung port hung);
+            trouble = never_troubled s t.dead (told_by s.device old.ports) (record { device = s.device; moment = old }) (ports_of s) s.device port leads.stands.ports_are (never_ready s t.dead port.0);
+            well = λ i. absurd (uninterrupted s.device old.ports port i);
+          };
           heeds = tt;
         })
         (laws.backed_own s.device old.machine (Age (λ port. false)) (λ none. none))

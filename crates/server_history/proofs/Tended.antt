@@ -20,7 +20,7 @@ use Rattle.agreement.specs.Vacant.{IsVacant}
 use Rattle.block_machine.specs.Events.{ShowsDisk}
 use Rattle.block_machine.specs.Ports.{Evidence, IsInterrupted}
 use Rattle.block_machine.specs.State.{Machine}
-use Rattle.driver_history.specs.Histories.{HasBadDisk, IsFreshOrGone, TriesDisk}
+use Rattle.driver_history.specs.Histories.{IsUnfitOrForeign, IsFreshOrUnshown, TriesDisk}
 use Rattle.driver_history.specs.Trace.{ResetsLink}
 use Rattle.driver_history.specs.Parts.{EndsLinked}
 use Rattle.error_recovery.specs.Evidence.{GainsRunning, ShowsTrouble}
@@ -56,11 +56,11 @@ use Rattle.server_history.proofs.Fitting.{found_bad}
 -- ---- a port in which a disk was found that isn't served
 
 module _ (s : Server) (port : Port) (state : PortState) (k : IsKept s) (is : found_of s.ports port.0 ≡ Unready state) where
-  bad_found : HasBadDisk (ports_of s) port → FoundBadDisk (state_of (found_of s.ports port.0))
+  bad_found : IsUnfitOrForeign (ports_of s) port → FoundBadDisk (state_of (found_of s.ports port.0))
   bad_found bad = found_bad (state_of (found_of s.ports port.0)) bad
 
   -- no disk is in then, where none shows
-  vacant : HasBadDisk (ports_of s) port → (s.device.port port.0).ssts_det ≢ 3 → IsVacant (s.device.port port.0)
+  vacant : IsUnfitOrForeign (ports_of s) port → (s.device.port port.0).ssts_det ≢ 3 → IsVacant (s.device.port port.0)
   vacant bad out = ⊎_elim
       (λ (shows : (s.device.port port.0).ssts_det ≡ 3). absurd (out shows))
       (λ (gone : (s.device.port port.0).present ≡ false). record { out = gone; det = out })
@@ -72,7 +72,7 @@ module _ (s : Server) (port : Port) (state : PortState) (k : IsKept s) (is : fou
     device_found : (ports_of s).state port ≡ Absent → FindsDevice port result s.device seen
     device_found absent = subst (λ (its : PortState). IsLookedAt its port result s.device seen) (sym (ap state_of is) ∙ absent) l
 
-    change_found : HasBadDisk (ports_of s) port → FindsChange port result s.device seen
+    change_found : IsUnfitOrForeign (ports_of s) port → FindsChange port result s.device seen
     change_found bad = ⊎_elim
         (λ foreign. subst (λ (its : PortState). IsLookedAt its port result s.device seen) (sym (ap state_of is) ∙ foreign) l)
         (λ unfit. subst (λ (its : PortState). IsLookedAt its port result s.device seen) (sym (ap state_of is) ∙ unfit.1) l)
@@ -84,7 +84,7 @@ module _ (s : Server) (port : Port) (state : PortState) (k : IsKept s) (is : fou
         let f = device_found absent in
         unequal (f.status % 16) 3 (sym f.tells ∙ none) (laws.looks.shown_after port Ssts f.status s.device seen k.on.no_reset f.reads ∙ shows)
 
-    still_there : NoneComes port.0 s.device seen → HasBadDisk (ports_of s) port → (s.device.port port.0).ssts_det ≢ 3 → ⊥
+    still_there : NoneComes port.0 s.device seen → IsUnfitOrForeign (ports_of s) port → (s.device.port port.0).ssts_det ≢ 3 → ⊥
     still_there comes bad out =
         let f = change_found bad in
         let on = laws.looks.access_on (Reading (Px port Is) f.causes) s.device f.seen k.on (λ v e. absurd cc) f.reads in
@@ -92,7 +92,7 @@ module _ (s : Server) (port : Port) (state : PortState) (k : IsKept s) (is : fou
         (stays_vacant laws port (Reading (Px port Is) f.causes ∷ Reading (Px port Ssts) f.status ∷ []) s.device seen (f.seen, f.reads, (seen, f.shows, refl)) comes (vacant bad out)).det
         (sym (laws.looks.shown_after port Ssts f.status f.seen seen on.no_reset f.shows) ∙ link)
 
-    still_same : HasBadDisk (ports_of s) port → (s.device.port port.0).serr_x ≡ true → ⊥
+    still_same : IsUnfitOrForeign (ports_of s) port → (s.device.port port.0).serr_x ≡ true → ⊥
     still_same bad came =
         let f = change_found bad in
         let told = (laws.looks.changes_told port f.causes s.device f.seen k.on.no_reset f.reads).1 came in
@@ -136,13 +136,13 @@ module _ (laws : LawsBelow) (s new : Server) (seen : Device) (port : Port) (stat
   made = accesses laws s new seen port state k is lives looks b
 
   abbrev first : List Access
-  first = looks.driven.accesses ++ b.gives_up.mends.accesses
+  first = looks.driven.accesses ++ b.anew.gives_up.mends.accesses
 
   -- what its boot found, where it isn't dead
   record FindsSome : Type 0 where
     booted : Booted
     same : booted.found ≡ b.found
-    boots : BootsAgain (wanted_of s.wanted port.0) port booted b.stopped new.device
+    boots : BootsAgain (wanted_of s.wanted port.0) port booted b.anew.stopped new.device
     resets : ResetsLink port made
     shows : ShowsDisk (state_of booted.found) ⊎ ((ports_of then).state port ≡ Absent)
 
@@ -150,15 +150,15 @@ module _ (laws : LawsBelow) (s new : Server) (seen : Device) (port : Port) (stat
   state_then = ap state_of (found_then laws s new seen port state k is lives looks b)
 
   finds : ((ports_of then).state port ≡ DeadState) ⊎ FindsSome
-  finds = by b.result.next refl b.is
+  finds = by b.anew.result.next refl b.anew.is
     where
-      reset : (token : Stopped) → b.result.next ≡ next.Restart token → b.found ≢ Unready DeadState → ResetsLink port made
+      reset : (token : Stopped) → b.anew.result.next ≡ next.Restart token → b.found ≢ Unready DeadState → ResetsLink port made
       reset token so alive =
           let late = afterwards laws s new seen port state k is lives looks b in
-          resets_since port looks.driven.accesses (b.gives_up.mends.accesses ++ late.driven.accesses) (resets_since port b.gives_up.mends.accesses late.driven.accesses
+          resets_since port looks.driven.accesses (b.anew.gives_up.mends.accesses ++ late.driven.accesses) (resets_since port b.anew.gives_up.mends.accesses late.driven.accesses
           (⊎_elim (λ lost. let z : Hung ≡ Lost = lost.0 in absurd cc) (λ resets. resets) (late.resets token so alive)))
 
-      some : (token : Stopped) → b.result.next ≡ next.Restart token → (booted : Booted) → booted.found ≡ b.found → BootsAgain (wanted_of s.wanted port.0) port booted b.stopped new.device → ((ports_of then).state port ≡ DeadState) ⊎ FindsSome
+      some : (token : Stopped) → b.anew.result.next ≡ next.Restart token → (booted : Booted) → booted.found ≡ b.found → BootsAgain (wanted_of s.wanted port.0) port booted b.anew.stopped new.device → ((ports_of then).state port ≡ DeadState) ⊎ FindsSome
       some token so booted same boots = ⊎_elim
           (λ (shows : ShowsDisk (state_of b.found)). inr (record {
             booted = booted;
@@ -179,17 +179,17 @@ module _ (laws : LawsBelow) (s new : Server) (seen : Device) (port : Port) (stat
           more)
           (shows_or_not b.found)
 
-      by : (n : Next) → b.result.next ≡ n → IsFoundAnew (wanted_of s.wanted port.0) port n b.stopped new.device b.found → ((ports_of then).state port ≡ DeadState) ⊎ FindsSome
+      by : (n : Next) → b.anew.result.next ≡ n → IsFoundAnew (wanted_of s.wanted port.0) port n b.anew.stopped new.device b.found → ((ports_of then).state port ≡ DeadState) ⊎ FindsSome
       by (next.Running token) so none = absurd none
       by (next.Restart token) so (booted, same, boots) = some token so booted same boots
       by next.Dead so (dead, same) = inl (state_then ∙ ap state_of dead)
 
   -- the moment at which it saw a device
   sees : (f : FindsSome) → ShowsDisk (state_of f.booted.found) → SeesOver port s.device f.boots.asked new.device
-  sees f shows = booted_sees laws port (wanted_of s.wanted port.0) f.booted first s.device b.stopped new.device k.on (until laws s new seen port state k is lives looks b) (until_of laws s new seen port state k is lives looks b) f.boots shows
+  sees f shows = booted_sees laws port (wanted_of s.wanted port.0) f.booted first s.device b.anew.stopped new.device k.on (until laws s new seen port state k is lives looks b) (until_of laws s new seen port state k is lives looks b) f.boots shows
 
   -- where no disk was in, it saw none
-  saw_none : NoneComes port.0 s.device new.device → (f : FindsSome) → HasBadDisk (ports_of s) port → (s.device.port port.0).ssts_det ≢ 3 → (ports_of then).state port ≡ Absent
+  saw_none : NoneComes port.0 s.device new.device → (f : FindsSome) → IsUnfitOrForeign (ports_of s) port → (s.device.port port.0).ssts_det ≢ 3 → (ports_of then).state port ≡ Absent
   saw_none comes f bad out = ⊎_elim
       (λ shows.
       let x = sees f shows in
@@ -218,13 +218,13 @@ module _ (laws : LawsBelow) (s new : Server) (seen : Device) (port : Port) (stat
     changed = λ bad came. ⊎_elim (λ dead. inr (inl dead)) (λ f. ⊎_elim (λ shows. inr (inr (f.resets, (clear f shows).clear.serr_x (since f shows comes), fresh_then f))) (λ absent. inl absent) f.shows) finds;
   }
     where
-      fresh_then : (f : FindsSome) → IsFreshOrGone (new.device.port port.0)
+      fresh_then : (f : FindsSome) → IsFreshOrUnshown (new.device.port port.0)
       fresh_then f = reset_fresh_or_gone laws port made s.device new.device f.resets (does laws s new seen port state k is lives looks b) comes
 
   -- ---- trouble
 
-  stopped_on : IsOn b.stopped
-  stopped_on = laws.of_on port s.device b.stopped k.on (record { accesses = first; all = until laws s new seen port state k is lives looks b; only = until_of laws s new seen port state k is lives looks b })
+  stopped_on : IsOn b.anew.stopped
+  stopped_on = laws.of_on port s.device b.anew.stopped k.on (record { accesses = first; all = until laws s new seen port state k is lives looks b; only = until_of laws s new seen port state k is lives looks b })
 
   -- it is ready then
   module _ (f : FindsSome) (ready : (ports_of then).state port ≡ ReadyState) where
@@ -238,18 +238,18 @@ module _ (laws : LawsBelow) (s new : Server) (seen : Device) (port : Port) (stat
     low_port = (k.there port.0 (ap is_served is)).0
 
     shows_trouble : ShowsTrouble port.0 s.device new.device
-    shows_trouble = boot_shows laws port low_port (wanted_of s.wanted port.0) found.0 f.booted s.device b.stopped new.device new.device stopped_on f.boots found.1 nothing
+    shows_trouble = boot_shows laws port low_port (wanted_of s.wanted port.0) found.0 f.booted s.device b.anew.stopped new.device new.device stopped_on f.boots found.1 nothing
 
     runs_well : PlugsNone port.0 s.device new.device → (GainsRunning (IsFaultOf port.0) port.0 s.device new.device → ⊥) → (GainsRunning (IsFatalOf port.0) port.0 s.device new.device → ⊥) → RunsWell (new.device.port port.0)
-    runs_well = booted_well laws port low_port (wanted_of s.wanted port.0) found.0 f.booted s.device b.stopped new.device new.device stopped_on f.boots found.1 nothing (whole laws s new seen port state k is lives looks b).1.on
-        (grows_over laws first s.device b.stopped (until laws s new seen port state k is lives looks b))
+    runs_well = booted_well laws port low_port (wanted_of s.wanted port.0) found.0 f.booted s.device b.anew.stopped new.device new.device stopped_on f.boots found.1 nothing (whole laws s new seen port state k is lives looks b).1.on
+        (grows_over laws first s.device b.anew.stopped (until laws s new seen port state k is lives looks b))
 
   -- a dead port isn't ready
   some_found : (ports_of then).state port ≡ ReadyState → FindsSome
   some_found ready = ⊎_elim (λ dead. let z : DeadState ≡ ReadyState = sym dead ∙ ready in absurd cc) (λ f. f) finds
 
   abbrev evidence : Evidence
-  evidence = evidence_tried (stopped_of port b.result.next) (stuck_if port b.found)
+  evidence = evidence_tried (stopped_of port b.anew.result.next) (stuck_if port b.found)
 
   pub boot_does : DoesTried port evidence made s then
   boot_does = record {
@@ -267,4 +267,4 @@ module _ (laws : LawsBelow) (s new : Server) (seen : Device) (port : Port) (stat
   }
     where
       stops : IsInterrupted evidence port
-      stops = interrupted (wanted_of s.wanted port.0) port b.result.next b.stopped new.device b.found b.is
+      stops = interrupted (wanted_of s.wanted port.0) port b.anew.result.next b.anew.stopped new.device b.found b.anew.is

@@ -18,7 +18,7 @@ use Rattle.agreement.specs.Links.{IsPlugging, PlugsNone}
 use Rattle.agreement.specs.Vacant.{IsFreshIfShown, IsVacant}
 use Rattle.block_machine.specs.Events.{ShowsDisk}
 use Rattle.driver_history.specs.Evidence.{Gains, ShowsChange}
-use Rattle.driver_history.specs.Histories.{IsFreshOrGone}
+use Rattle.driver_history.specs.Histories.{IsFreshOrUnshown}
 use Rattle.driver_history.specs.Trace.{ResetsLink}
 use Rattle.host_boot.specs.Again.{BootsStopped, EndsUnready}
 use Rattle.host_boot.specs.declared.Found.{Found}
@@ -61,10 +61,10 @@ module _ (laws : LawsBelow) (port : Port) where
       let early = laws.looks.grows_more old x.0 sent (grows_over laws r.before old x.0 x.1) (laws.looks.access_grows (Writing (Px port Sctl) r.sending) x.0 sent x.2.1) in
       stays_so laws port IsFreshIfShown (laws.fresh_on port) rest sent new x.2.2 (none_parts old sent new early (grows_over laws rest sent new x.2.2) none).1 (laws.fresh_reset port r.sending x.0 sent r.sends x.2.1)
 
-  fresh_or_gone : (p : PortState) → IsFreshIfShown p → IsFreshOrGone p
+  fresh_or_gone : (p : PortState) → IsFreshIfShown p → IsFreshOrUnshown p
   fresh_or_gone p fresh = ⊎_elim (λ (shows : p.ssts_det ≡ 3). inl (fresh shows)) (λ (gone : p.ssts_det ≢ 3). inr gone) (cases_eq p.ssts_det 3)
 
-  pub reset_fresh_or_gone : (accesses : List Access) (old new : Device) → ResetsLink port accesses → DoesAll accesses old new → NoneComes port.0 old new → IsFreshOrGone (new.port port.0)
+  pub reset_fresh_or_gone : (accesses : List Access) (old new : Device) → ResetsLink port accesses → DoesAll accesses old new → NoneComes port.0 old new → IsFreshOrUnshown (new.port port.0)
   reset_fresh_or_gone accesses old new r does none = fresh_or_gone (new.port port.0) (reset_fresh accesses old new r does none)
 
   -- a device that showed, and shows no more, has gone

@@ -36,7 +36,7 @@ use Rattle.request_queue.specs.Entries.{asks_of}
 use Rattle.server_history.specs.Below.{LawsBelow}
 use Rattle.server_history.specs.Server.{AreKept, IsKept, IsMachineOf, IsPortOf, IsSettled, Server, is_served, mode_at, mode_in, plain_mode, state_of, usable_of, use_of}
 use Rattle.server_history.specs.Tried.{BootsOnce, IsFoundAnew, IsLookedAt, TriesPort}
-use Rattle.server_history.specs.Turns.{HasPart, InTry, TriesOther, moment_of}
+use Rattle.server_history.specs.Turns.{HasPart, InTry, TriesUnready, moment_of}
 use Rattle.server_history.specs.declared.Trouble.TheVariants.{Hung}
 use Rattle.server_history.proofs.Anew.{accesses, after_it, book_left, does, found_then, its_stand, listed, looking_part, low, never_ready, no_disk, only, others, silent, stuck_if, tells, then_is, unready, until, until_of, whole}
 use Rattle.server_history.proofs.Driving.{driven_as}
@@ -69,7 +69,7 @@ module _ (laws : LawsBelow) (s new : Server) (seen : Device) (port : Port) (stat
   then = then_is laws s new seen port state k is lives looks b
 
   abbrev part : List Access
-  part = b.gives_up.mends.accesses
+  part = b.anew.gives_up.mends.accesses
 
   small : port.0 < 4
   small = low laws s seen port state k is lives looks
@@ -89,8 +89,8 @@ module _ (laws : LawsBelow) (s new : Server) (seen : Device) (port : Port) (stat
     abbrev at : IsMachineOf (record s { device = seen }) n
     at = looked.2
 
-    p : IsPassed port.0 b.result.next b.found seen new.device (record { uses = at.uses; parked = at.parked }) n
-    p = passed laws (wanted_of s.wanted port.0) port Hung no_disk b.result.next part seen b.stopped new.device b.found b.gives_up.mends.does.slots (after_it laws s new seen port state k is lives looks b)
+    p : IsPassed port.0 b.anew.result.next b.found seen new.device (record { uses = at.uses; parked = at.parked }) n
+    p = passed laws (wanted_of s.wanted port.0) port Hung no_disk b.anew.result.next part seen b.anew.stopped new.device b.found b.anew.gives_up.mends.does.slots (after_it laws s new seen port state k is lives looks b)
         (record { uses = at.uses; parked = at.parked }) n (laws.basic.reached m looked.0 reached looked.1) at.knows
 
     abbrev w : Machine
@@ -125,7 +125,7 @@ module _ (laws : LawsBelow) (s new : Server) (seen : Device) (port : Port) (stat
     stands : IsMachineOf then w
     stands = record {
       uses = p.slots.uses;
-      used = uses_then port.0 b.result.next b.found s.ports s.slots b.slots (record { uses = at.uses; parked = at.parked }) p.slots (listed laws s new seen port state k is lives looks b)
+      used = uses_then port.0 b.anew.result.next b.found s.ports s.slots b.slots (record { uses = at.uses; parked = at.parked }) p.slots (listed laws s new seen port state k is lives looks b)
           (let four = k.four in let l = small in omega (arith, four, l)) b.unused.free p.left at.used;
       parked = p.slots.parked;
       unparked = unparked;
@@ -164,13 +164,13 @@ module _ (laws : LawsBelow) (s new : Server) (seen : Device) (port : Port) (stat
 
     -- where it shows a disk then, one was in
     had : HadDisk (moment_of s m) steps (moment_of then (after m steps)) port
-    had shows = by b.result.next b.is (subst (λ (f : Found). ShowsDisk (state_of f)) (found_then laws s new seen port state k is lives looks b) shows)
+    had shows = by b.anew.result.next b.anew.is (subst (λ (f : Found). ShowsDisk (state_of f)) (found_then laws s new seen port state k is lives looks b) shows)
       where
-        by : (after_it : Next) → IsFoundAnew (wanted_of s.wanted port.0) port after_it b.stopped new.device b.found → ShowsDisk (state_of b.found) → (m.present port ≡ true) ⊎ (list_any (changes_disk port) steps ≡ true)
+        by : (after_it : Next) → IsFoundAnew (wanted_of s.wanted port.0) port after_it b.anew.stopped new.device b.found → ShowsDisk (state_of b.found) → (m.present port ≡ true) ⊎ (list_any (changes_disk port) steps ≡ true)
         by (next.Running token) none disk = absurd none
         by next.Dead (dead, same) disk = absurd (subst (λ (f : Found). ShowsDisk (state_of f)) dead disk)
         by (next.Restart token) (booted, so, boots) disk =
-            booted_had laws port s (wanted_of s.wanted port.0) booted (looks.driven.accesses ++ part) b.stopped new.device new.device k.on (until laws s new seen port state k is lives looks b)
+            booted_had laws port s (wanted_of s.wanted port.0) booted (looks.driven.accesses ++ part) b.anew.stopped new.device new.device k.on (until laws s new seen port state k is lives looks b)
             (until_of laws s new seen port state k is lives looks b) boots (subst (λ (f : Found). ShowsDisk (state_of f)) (sym so) disk) (laws.looks.grows_none new.device) m stood steps backed
 
     adds : AddsTried port s then m
@@ -181,7 +181,7 @@ module _ (laws : LawsBelow) (s new : Server) (seen : Device) (port : Port) (stat
   kept_then : IsKept then
   kept_then =
       let w = whole laws s new seen port state k is lives looks b in
-      replaced_kept laws port s k small new.device w.0 w.1 s.table b.found s.remembered b.mode b.slots s.kept s.book (ap is_served is) (its_stand laws s new seen port state k is lives looks b) b.mode_is b.unused
+      replaced_kept laws port s k small new.device w.0 w.1 s.table b.found s.remembered b.mode b.slots s.kept s.book (ap is_served is) (its_stand laws s new seen port state k is lives looks b) b.anew.mode_is b.unused
       (book_left laws s new seen port state k is lives looks b) k.four_remembered k.four_kept k.few_kept (after k.machine (steps k.machine k.reached k.stands)) (laws.basic.reached k.machine _ k.reached (may k.machine k.reached k.stands))
       (then_stands k.machine k.reached k.stands)
 
@@ -205,7 +205,7 @@ module _ (laws : LawsBelow) (s new : Server) (seen : Device) (port : Port) (stat
         own = All-weaker (IsPart port) IsDriversOwn (λ access x. x.0) _ its;
         others = others laws s new seen port state k is lives looks b;
         silent = silent laws s new seen port state k is lives looks b;
-        makes = λ m reached stood. makes_try laws port s k (unready laws s new seen port state k is lives looks b) then settled_then (stopped_of port b.result.next) (stuck_if port b.found) _ (tells laws s new seen port state k is lives looks b) (boot_does laws s new seen port state k is lives looks b) m stood
+        makes = λ m reached stood. makes_try laws port s k (unready laws s new seen port state k is lives looks b) then settled_then (stopped_of port b.anew.result.next) (stuck_if port b.found) _ (tells laws s new seen port state k is lives looks b) (boot_does laws s new seen port state k is lives looks b) m stood
             (adds m reached stood);
       }
 
@@ -318,5 +318,5 @@ turns laws s new port t tries looks = ⊎_elim
     whole_rest : tries.result ≡ false → IsFollowed (IsLooking port) AnyUse s.device tries.seen → IsKept (record s { device = tries.seen }) → HasPart InTry port [] s new × IsSettled new
     whole_rest none its kept = subst (λ (n : Server). HasPart InTry port [] s n × IsSettled n) (sym (tries.left none)) (rests laws s tries.seen port tries.state t tries.is its tries.result tries.looks none kept)
 
-pub tried : LawsBelow → (s new : Server) (port : Port) → IsSettled s → (tries : TriesPort port s new) → (tries.state ≢ DeadState → IsFollowed (IsLooking port) AnyUse s.device tries.seen) → TriesOther port s new × IsSettled new
+pub tried : LawsBelow → (s new : Server) (port : Port) → IsSettled s → (tries : TriesPort port s new) → (tries.state ≢ DeadState → IsFollowed (IsLooking port) AnyUse s.device tries.seen) → TriesUnready port s new × IsSettled new
 tried laws s new port t tries looks = let x = turns laws s new port t tries looks in (record { does = tries; part = x.0 }, x.1)

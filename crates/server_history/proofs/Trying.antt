@@ -129,12 +129,14 @@ module _ (laws : LawsBelow) (port : Port) (old : Server) (k : IsKept old) (unrea
       ties : TiesTurn InTry port [] accesses old new m its x.steps
       ties = (
         record {
-          finds = λ ready. absurd (unready ready);
-          faults = λ alone. absurd (unready alone.ready);
-          tries = λ served comes. did.tries m comes;
-          boots = (λ ready. absurd (unready ready), did.boots);
-          trouble = did.trouble m;
-          well = did.well m;
+          ties = record {
+            finds = λ ready. absurd (unready ready);
+            faults = λ alone. absurd (unready alone.ready);
+            tries = λ served comes. did.tries m comes;
+            boots = (λ ready. absurd (unready ready), did.boots);
+            trouble = did.trouble m;
+            well = did.well m;
+          };
           heeds = λ ready. absurd (unready ready);
         },
         did.linked m,

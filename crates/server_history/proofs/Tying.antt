@@ -29,7 +29,7 @@ use Rattle.block_machine.specs.declared.due.Mode.{Mode}
 use Rattle.block_machine.proofs.Calm.{counts_none}
 use Rattle.server_history.proofs.Members.{into_map, map_in}
 use Rattle.driver_history.specs.Evidence.{ShowsFailure, ShowsLoss}
-use Rattle.driver_history.specs.Histories.{FindsDone, HasBadDisk, IsAnsweredOk, IsIssuedOn}
+use Rattle.driver_history.specs.Histories.{FindsDone, IsUnfitOrForeign, IsAnsweredOk, IsIssuedOn}
 use Rattle.driver_history.specs.Trace.{ReadsMasks}
 use Rattle.host_boot.specs.Taken.{found_of}
 use Rattle.port_look.specs.Looks.{IsLooking}
@@ -271,7 +271,7 @@ module _ (laws : LawsBelow) (port : Port) (replies : List Reply) (old new : Serv
     uninterrupted : IsInterrupted its port → ⊥
     uninterrupted i = ⊎_elim (nowhere port) (nowhere port) i
 
-    not_bad : HasBadDisk (ports_of old) port → ⊥
+    not_bad : IsUnfitOrForeign (ports_of old) port → ⊥
     not_bad (inl foreign) = let z : Foreign ≡ ReadyState = sym foreign ∙ ready in cc
     not_bad (inr (cause, unfit)) = let z : Unfit cause ≡ ReadyState = sym unfit ∙ ready in cc
 
@@ -302,16 +302,18 @@ module _ (laws : LawsBelow) (port : Port) (replies : List Reply) (old new : Serv
 
     pub ties : TiesTurn InService port replies list.driven.accesses old new m its steps
     ties = record {
-      finds = λ is e own. finding turn.quiet e own;
-      faults = λ alone. absurd (unfailing (inr alone.shows.fault));
-      tries = λ served coming. record {
-        shown = λ absent det. absurd (not_absent absent);
-        absent = λ absent det fresh. absurd (not_absent absent);
-        missing = λ bad. absurd (not_bad bad);
-        changed = λ bad. absurd (not_bad bad);
+      ties = record {
+        finds = λ is e own. finding turn.quiet e own;
+        faults = λ alone. absurd (unfailing (inr alone.shows.fault));
+        tries = λ served coming. record {
+          shown = λ absent det. absurd (not_absent absent);
+          absent = λ absent det fresh. absurd (not_absent absent);
+          missing = λ bad. absurd (not_bad bad);
+          changed = λ bad. absurd (not_bad bad);
+        };
+        boots = (λ is trouble. absurd (⊎_elim (λ fatal. unfailing (inl fatal)) never_lost trouble), inl same);
+        trouble = trouble_shown laws port (slots_at old.slots port.0) replies (instant_of old m) new.device turn kept.on turn.quiet its (ports_of new);
+        well = λ i. absurd (uninterrupted i);
       };
-      boots = (λ is trouble. absurd (⊎_elim (λ fatal. unfailing (inl fatal)) never_lost trouble), inl same);
-      trouble = trouble_shown laws port (slots_at old.slots port.0) replies (instant_of old m) new.device turn kept.on turn.quiet its (ports_of new);
-      well = λ i. absurd (uninterrupted i);
       heeds = λ is. serves_ready;
     }

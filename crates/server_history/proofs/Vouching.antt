@@ -24,10 +24,10 @@ use Rattle.host_boot.specs.declared.Found.TheVariants.{Unserved, Ready, Unready}
 use Rattle.identify.specs.declared.DiskInfo.{DiskInfo}
 use Rattle.port_control.specs.Engines.{Sticks}
 use Rattle.server_history.specs.Below.{LawsBelow}
-use Rattle.server_history.specs.Rebooted.{IsRebootedBy}
+use Rattle.server_history.proofs.RebootedBy.{IsRebootedBy}
 use Rattle.server_history.specs.Resets.{IsTakenAgain, ResetsServer}
 use Rattle.server_history.specs.Server.{Server, is_served, ports_of, state_of}
-use Rattle.server_history.specs.Stalled.{IsBooked}
+use Rattle.server_history.specs.Stalled.{KeepsBooks}
 use Rattle.server_history.specs.Turns.{instant_of}
 use Rattle.server_history.proofs.Becoming.{dead_is}
 use Rattle.server_history.proofs.Booted.{DidBoot}
@@ -92,7 +92,7 @@ notes_over laws port (access ∷ list) old new on all (mid, does, rest) =
 
 -- ---- the whole
 
-module _ (laws : LawsBelow) (s new : Server) (replies : List Reply) (k : IsBooked s) (r : ResetsServer replies s new) where
+module _ (laws : LawsBelow) (s new : Server) (replies : List Reply) (k : KeepsBooks s) (r : ResetsServer replies s new) where
   abbrev t : IsTakenAgain s r.taken
   t = r.takes
 

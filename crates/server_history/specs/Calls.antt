@@ -23,7 +23,7 @@ use Rattle.block_machine.specs.Histories.{Instant}
 use Rattle.block_machine.specs.Ports.{Evidence, IsInterrupted, Ports, SamePort}
 use Rattle.driver_history.specs.Evidence.{IsEvidencedOf, ShowsChange, ShowsFailure}
 use Rattle.error_recovery.specs.Evidence.{BringsLog, HasFailed, GainsRunning}
-use Rattle.driver_history.specs.Histories.{BootsAnew, HasFaultAlone, LosesNoTrouble, RunsWellAnew, HasBadDisk, TriesDisk}
+use Rattle.driver_history.specs.Histories.{BootsAnew, HasFaultAlone, LosesNoTrouble, RunsWellAnew, IsUnfitOrForeign, TriesDisk}
 use Rattle.driver_history.specs.Parts.{HasTurnIn, NamesAlike, all_of, EndsLinked}
 use Rattle.driver_history.specs.Trace.{ClearsNone, ResetsLink}
 use Rattle.port_control.specs.Engines.{Stops}
@@ -103,7 +103,7 @@ pub record CallLaws : Type 0 where
       → RunsWellAnew turn t.turn (record { device = t.start; moment = begun }) ended t.end port → RunsWellAnew call (all_of t) old ports new port
   -- a disk that is tried in a port's turn
   pub call_tries : (port : Port) (old : Instant Device) (begun : Moment) (ended ports : Ports) (new : Device) → IsOn old.device → (t : HasTurnIn port old.device new) → IsOn t.end
-      → SamePort ended ports port → SamePort old.moment.ports begun.ports port → (HasBadDisk old.moment.ports port → HasDeviceOrNone (old.device.port port.0))
+      → SamePort ended ports port → SamePort old.moment.ports begun.ports port → (IsUnfitOrForeign old.moment.ports port → HasDeviceOrNone (old.device.port port.0))
       → EndsLinked port (record { device = t.start; moment = begun }) ended t.end → (NoneComes port.0 t.start t.end → TriesDisk t.turn (record { device = t.start; moment = begun }) ended t.end port)
       → NoneComes port.0 old.device new → TriesDisk (all_of t) old ports new port
   pub call_linked : (port : Port) (old : Instant Device) (begun : Moment) (ended ports : Ports) (new : Device) → IsOn old.device → (t : HasTurnIn port old.device new) → IsOn t.end

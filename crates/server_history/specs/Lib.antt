@@ -5,7 +5,6 @@ pub mod Histories
 pub mod Served
 pub mod Mended
 pub mod Resets
-pub mod Rebooted
 pub mod Tried
 pub mod Turns
 pub mod After

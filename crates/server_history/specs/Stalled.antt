@@ -21,7 +21,7 @@ use Rattle.server_history.specs.Server.{Server, IsMachineOf, OwnsClientFrames, d
 -- idle, has no slot that is used, and nobody waits for it. Of each of the four ports a disk may be remembered, and there is a place for the loan of each of its
 -- requests that is issued beside those that are kept. Grants are as a configuration may give them; requests are as they were accepted, in order, of served ports, and by ids that were handed out; and some machine that a
 -- history leads to stands for the server.
-pub record IsBooked (s : Server) : Type 0 where
+pub record KeepsBooks (s : Server) : Type 0 where
   pub room : DRIVER_BYTES ≤ s.device.size
   pub served : (port : ℕ) → port < 4 → (is_served (found_of s.ports port) ≡ true) ↔ IsServed (wanted_of s.wanted port) port s.device
   pub few : (port : ℕ) → is_served (found_of s.ports port) ≡ true → port < 4
@@ -49,7 +49,7 @@ AreDead found = (port : ℕ) → is_served (found_of found port) ≡ true → fo
 -- What holds of a server between calls since a reset that got stuck: the adapter isn't on (HR is still one, or AE fell when the reset ended unseen), and each port that is
 -- served is dead. Requests from before that reset may wait for the service that tells them.
 pub record IsStalled (s : Server) : Type 0 where
-  pub booked : IsBooked s
+  pub booked : KeepsBooks s
   pub off : IsOn s.device → ⊥
   pub dead : AreDead s.ports
 

@@ -34,16 +34,19 @@ IsFoundAnew wanted port (next.Running token) old new found = ⊥
 IsFoundAnew wanted port (next.Restart token) old new found = (booted : Booted) × (booted.found ≡ found) × BootsAgain wanted port booted old new
 IsFoundAnew wanted port next.Dead old new found = (found ≡ Unready Dead) × (new ≡ old)
 
--- The port was given up, with no command outstanding, and booted. It is found to be this then, takes commands so, and uses no slot. (The disk that it was
--- last ready with is remembered, if there was one.)
-pub record BootsOnce (port : Port) (old new : Server) : Type 0 where
+-- The port was given up, with no command outstanding, and booted. It is found to be this then, and takes commands so.
+pub record FindsAnew (wanted : Wanted) (port : Port) (found : Found) (mode : Mode) (old new : Device) : Type 0 where
   pub result : Recovered
   pub stopped : Device
-  pub gives_up : GivesUp port 0 true result old.device stopped
+  pub gives_up : GivesUp port 0 true result old stopped
+  pub is : IsFoundAnew wanted port result.next stopped new found
+  pub mode_is : mode ≡ mode_found new.cap found
+
+-- So it was, and uses no slot. (The disk that it was last ready with is remembered, if there was one.)
+pub record BootsOnce (port : Port) (old new : Server) : Type 0 where
   pub found : Found
-  pub is : IsFoundAnew (wanted_of old.wanted port.0) port result.next stopped new.device found
   pub mode : Mode
-  pub mode_is : mode ≡ mode_found new.device.cap found
+  pub anew : FindsAnew (wanted_of old.wanted port.0) port found mode old.device new.device
   pub slots : PortSlots
   pub unused : AreUnused mode slots
   pub server : new ≡ record old {

@@ -12,7 +12,7 @@ use Rattle.adapter.specs.declared.tape.Fault as tape_fault
 use Rattle.agreement.specs.Agrees.{port_at}
 use Rattle.agreement.specs.Driven.{IsOf, SendsNone}
 use Rattle.agreement.specs.Driver.{IsBacked}
-use Rattle.block_machine.specs.Events.{Ask, AllGrounded, AllLawful, AllMay, AnswersEnded, Belong, FindsAnother, HadDisk, IsDevices, IssuesLast, Moment, NoneKeepsIssue, Served, Service, Tells, Tick, UnplugsAll}
+use Rattle.block_machine.specs.Events.{Ask, AllGrounded, AllLawful, AllMay, AnswersEnded, Belong, FindsAnother, HadDisk, HeedsAt, IsDevices, IssuesLast, Moment, NoneKeepsIssue, Served, Service, Tells, Tick, UnplugsAll, moment_after}
 use Rattle.block_machine.specs.Due.{of_port}
 use Rattle.block_machine.specs.Histories.{Happening, Instant, IsReached}
 use Rattle.block_machine.specs.Left.{after}
@@ -103,6 +103,11 @@ turn_of turn replies new evidence steps = record {
   device = new.device;
 }
 
+-- What a call does of a port: its part in what ties the device to the event, and it heeds what it finds of the port.
+pub record DoesPort (old : Instant Device) (h : Happening Device DeviceStep) (accesses : List Access) (port : Port) : Type 0 where
+  pub ties : TiesPort old h accesses port
+  pub heeds : HeedsAt port h.event.ask old.moment h.event.evidence h.event.steps (moment_after old.moment h.event)
+
 -- What a call does of a port's trouble: none is lost unless the port was stopped, and then it runs well anew.
 pub record HeedsTrouble (port : Port) (accesses : List Access) (old : Instant Device) (evidence : Evidence) (ports : Ports) (new : Device) : Type 0 where
   pub trouble : LosesNoTrouble evidence old ports new port
@@ -112,11 +117,11 @@ pub record HeedsTrouble (port : Port) (accesses : List Access) (old : Instant De
 -- restarts the port it has done what a call does of trouble.
 abbrev pub TiesTurn : Turn → Port → List Reply → List Access → Server → Server → Machine → Evidence → List Step → Type 0
 TiesTurn InService port replies accesses old new m evidence steps =
-    TiesPort (instant_of old m) (turn_of InService replies new evidence steps) accesses port
+    DoesPort (instant_of old m) (turn_of InService replies new evidence steps) accesses port
 TiesTurn InRestart port replies accesses old new m evidence steps =
     HeedsTrouble port accesses (instant_of old m) evidence (ports_of new) new.device
 TiesTurn InTry port replies accesses old new m evidence steps =
-    TiesPort (instant_of old m) (turn_of InTry replies new evidence steps) accesses port × EndsLinked port (instant_of old m) (ports_of new) new.device
+    DoesPort (instant_of old m) (turn_of InTry replies new evidence steps) accesses port × EndsLinked port (instant_of old m) (ports_of new) new.device
 TiesTurn AtRest port replies accesses old new m evidence steps = Unit {0}
 
 -- What was done was found by a reading of the masks, in which the bits of each slot that wasn't used when the turn began were clear. (The bytes of such a slot may say
@@ -206,7 +211,7 @@ pub record ServesPort (port : Port) (replies : List Reply) (old new : Server) : 
   pub part : HasPart InService port replies old new
 
 -- What serving a port that isn't ready does: it is looked at, and tried where it may have a disk, which is a part of a service.
-pub record TriesOther (port : Port) (old new : Server) : Type 0 where
+pub record TriesUnready (port : Port) (old new : Server) : Type 0 where
   pub does : TriesPort port old new
   pub part : HasPart InTry port [] old new
 
@@ -222,7 +227,7 @@ TakeTurns Such Other port (Unserved ∷ rest) replies old new = TakeTurns Such O
 
 -- so they are served
 abbrev pub ServePorts : ℕ → List Found → List Reply → Server → Server → Type 0
-ServePorts port found replies old new = TakeTurns ServesPort TriesOther port found replies old new
+ServePorts port found replies old new = TakeTurns ServesPort TriesUnready port found replies old new
 
 -- ---- a tick
 

@@ -44,7 +44,7 @@ ghost use Rattle.block_machine.specs.State.{Machine};
 ghost use Rattle.server_history.specs.Histories.{Adds, HasBegun, load_said, store_said};
 ghost use Rattle.server_history.specs.Served.{Accepts, AnswersDone, AnswersOne, HasNone, IsMaskOf, IssuesAll, IssuesOne, accepting};
 ghost use Rattle.server_history.specs.Tried.{TriesPort};
-ghost use Rattle.server_history.specs.Turns.{HasPart, InRestart, ServePorts, ServesPort, Ticks, TriesOther, a_tick_older};
+ghost use Rattle.server_history.specs.Turns.{HasPart, InRestart, ServePorts, ServesPort, Ticks, TriesUnready, a_tick_older};
 ghost use Rattle.server_history.specs.declared.Trouble.TheVariants.{Hung};
 ghost use Rattle.server_history.specs.Server.{AreOfTwo, Server, mode_found, IsKept, IsLentOut, IsNewServer, IsSettled, kept_at, mode_in, ports_of, situation_of, slots_at, state_of, used_for};
 ghost use Rattle.slots.specs.Uses.{IsLowestFree, IsTaken};
@@ -302,7 +302,7 @@ pub fn an_unready_port_is_tried()
         → GivesUp port 0 true result seen stopped → result.next ≡ Restart token
         → (token.port ≡ port) × IsBootable port stopped × IsStopped (stopped.port port.0) }
     ensures tried { (s new : Server) (port : Port) → IsSettled s → (tries : TriesPort port s new)
-        → (tries.state ≢ Dead → IsFollowed (IsLooking port) AnyUse s.device tries.seen) → TriesOther port s new × IsSettled new }
+        → (tries.state ≢ Dead → IsFollowed (IsLooking port) AnyUse s.device tries.seen) → TriesUnready port s new × IsSettled new }
 {
     the_laws_below_hold();
 }

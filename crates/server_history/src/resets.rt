@@ -6,7 +6,7 @@ ghost use Rattle.server_history.specs.Ended.{ResetLaws};
 ghost use Rattle.server_history.specs.Histories.{Adds};
 ghost use Rattle.server_history.specs.Resets.{IsTakenAgain, IssuePorts, MaySettle, ResetsServer, SettlePorts};
 ghost use Rattle.server_history.specs.Server.{IsKept, IsSettled, Server};
-ghost use Rattle.server_history.specs.Stalled.{IsBooked};
+ghost use Rattle.server_history.specs.Stalled.{KeepsBooks};
 
 use super::lawful::the_laws_below_hold;
 use agreement::facts::switching_on;
@@ -28,9 +28,9 @@ fn reset_laws_hold()
 
 /// A server goes on once its adapter was taken over again and its requests met their fates; and once what is due was issued, nothing is due.
 pub fn a_reset_server_goes_on()
-    ensures settle { (s taken : Server) → IsBooked s → IsTakenAgain s taken → MaySettle taken }
-    ensures kept { (s taken settled : Server) (replies : List Reply) → IsBooked s → IsTakenAgain s taken → SettlePorts 0 taken.ports replies taken settled → IsKept settled }
-    ensures settled { (s taken settled new : Server) (replies : List Reply) → IsBooked s → IsTakenAgain s taken → SettlePorts 0 taken.ports replies taken settled
+    ensures settle { (s taken : Server) → KeepsBooks s → IsTakenAgain s taken → MaySettle taken }
+    ensures kept { (s taken settled : Server) (replies : List Reply) → KeepsBooks s → IsTakenAgain s taken → SettlePorts 0 taken.ports replies taken settled → IsKept settled }
+    ensures settled { (s taken settled new : Server) (replies : List Reply) → KeepsBooks s → IsTakenAgain s taken → SettlePorts 0 taken.ports replies taken settled
         → IssuePorts 0 taken.ports settled new → IsSettled new }
 {
     reset_laws_hold();
@@ -38,7 +38,7 @@ pub fn a_reset_server_goes_on()
 
 /// A reset that ends adds an event.
 pub fn resets_add()
-    ensures { (s new : Server) (replies : List Reply) → IsBooked s → ResetsServer replies s new → Adds s new Reset (WasReset (Some replies)) }
+    ensures { (s new : Server) (replies : List Reply) → KeepsBooks s → ResetsServer replies s new → Adds s new Reset (WasReset (Some replies)) }
 {
     reset_laws_hold();
 }

@@ -23,14 +23,14 @@ ghost use Rattle.request_queue.specs.Entries.{Held};
 ghost use Rattle.server_history.specs.Histories.{AddsEvent, AddsStalled, load_said, store_said};
 ghost use Rattle.server_history.specs.Resets.{MaySettle, SettlePorts, SettlesPort};
 ghost use Rattle.server_history.specs.Server.{AreOfTwo, IsKept, IsLentOut, Server, kept_at, ports_of, situation_of};
-ghost use Rattle.server_history.specs.Stalled.{GetsStuck, IsBooked, IsStalled};
+ghost use Rattle.server_history.specs.Stalled.{GetsStuck, KeepsBooks, IsStalled};
 
 use super::lawful::{living_laws_hold, the_laws_below_hold};
 
 /// What holds of a server at each moment of a call holds of its book, whether or not its adapter is on.
 pub fn a_server_is_booked()
-    ensures kept { (s : Server) → IsKept s → IsBooked s }
-    ensures settle { (s : Server) → IsBooked s → MaySettle s }
+    ensures kept { (s : Server) → IsKept s → KeepsBooks s }
+    ensures settle { (s : Server) → KeepsBooks s → MaySettle s }
 {
     the_laws_below_hold();
 }
@@ -38,11 +38,11 @@ pub fn a_server_is_booked()
 /// What is kept may be given back, whether or not the adapter is on: the frames of each kept loan are lent to its request, which isn't unanswered, and of which
 /// there is no other loan.
 pub fn booked_loans_are_lent()
-    ensures lent { (s : Server) (port : ℕ) → IsBooked s → All (IsLentOut s.table) (kept_at s.kept port) }
-    ensures two { (s : Server) (port : ℕ) → IsBooked s → AllPairs AreOfTwo (kept_at s.kept port) }
-    ensures one { (s : Server) (port other : ℕ) (a b : Lending) → IsBooked s → Contains (kept_at s.kept port) a → Contains (kept_at s.kept other) b
+    ensures lent { (s : Server) (port : ℕ) → KeepsBooks s → All (IsLentOut s.table) (kept_at s.kept port) }
+    ensures two { (s : Server) (port : ℕ) → KeepsBooks s → AllPairs AreOfTwo (kept_at s.kept port) }
+    ensures one { (s : Server) (port other : ℕ) (a b : Lending) → KeepsBooks s → Contains (kept_at s.kept port) a → Contains (kept_at s.kept other) b
         → a.request ≡ b.request → (port ≡ other) × (a ≡ b) }
-    ensures answered { (s : Server) (port : ℕ) (loan : Lending) (e : Held) → IsBooked s → Contains (kept_at s.kept port) loan → Contains s.book e
+    ensures answered { (s : Server) (port : ℕ) (loan : Lending) (e : Held) → KeepsBooks s → Contains (kept_at s.kept port) loan → Contains s.book e
         → e.entry.id ≢ loan.request }
 {
     living_laws_hold();
@@ -57,7 +57,7 @@ pub fn settling_goes_on()
 
 /// A reset that gets stuck adds an event, whether or not the last one did.
 pub fn stuck_resets_add()
-    ensures { (s new : Server) → IsBooked s → GetsStuck s new → AddsStalled s new Reset (WasReset None) }
+    ensures { (s new : Server) → KeepsBooks s → GetsStuck s new → AddsStalled s new Reset (WasReset None) }
 {
     the_laws_below_hold();
 }

@@ -21,7 +21,7 @@ heeds_fault wanted first past h port history asks asked failure =
     let evidenced = history.2.evidenced.port port in
     let failed = evidenced.failed_all asked failure in
     let serves : ServesReady old.moment h.event.evidence h.event.steps (moment_after old.moment h.event) port =
-    subst (λ (ask : Ask DeviceStep). HeedsAt port ask old.moment h.event.evidence h.event.steps (moment_after old.moment h.event)) asks ties.heeds asked in
+    subst (λ (ask : Ask DeviceStep). HeedsAt port ask old.moment h.event.evidence h.event.steps (moment_after old.moment h.event)) asks (history.1.heeds port) asked in
     record {
       ended = serves.ended;
       stopped = serves.interrupts (inl failed);

@@ -6,7 +6,7 @@ pub loop-reading-init : goal.loop-reading-init
 loop-reading-init g c = resetting_begins c.laws_hold.ensures _ _ c.write.ensures
 
 pub returns-then-not-is_resetting-clause-reset : goal.returns-then-not-is_resetting-clause-reset
-returns-then-not-is_resetting-clause-reset g c = resetting_ends c.laws_hold.ensures _ _ _ _ _ c.loop-reading.invariant c.read.ensures (sym c.is_resetting.ensures ∙ c.if-not-is_resetting.true)
+returns-then-not-is_resetting-clause-reset g c = resetting_ends c.laws_hold.ensures _ _ _ _ _ c.loop-reading.invariant c.read.ensures (omega arith) (sym c.is_resetting.ensures ∙ c.if-not-is_resetting.true)
 
 pub loop-reading-preserved : goal.loop-reading-preserved
 loop-reading-preserved g c = resetting_goes_on c.laws_hold.ensures _ _ _ _ _ c.loop-reading.invariant c.read.ensures (sym c.is_resetting.ensures ∙ c.if-not-is_resetting.false)

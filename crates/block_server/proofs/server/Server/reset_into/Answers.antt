@@ -6,7 +6,7 @@ use Rattle.server_history.specs.Histories.{Adds, AddsEvent, AddsStalled}
 use Rattle.server_history.specs.Kept.{MayGoBack}
 use Rattle.server_history.specs.Resets.{IsTakenAgain, ResetsServer, SettlePorts}
 use Rattle.server_history.specs.Server.{Server, plain_mode}
-use Rattle.server_history.specs.Stalled.{GetsStuck, IsBooked}
+use Rattle.server_history.specs.Stalled.{GetsStuck, KeepsBooks}
 use Rattle.block_server.specs.Resetting.{LendsBook, LendsPorts, with_book, with_issues}
 use Rattle.block_server.specs.Seen.{seen}
 use Rattle.block_server.specs.View.{ServerView, server_of}
@@ -39,7 +39,7 @@ stuck_then : (g : Over) (c : After-self-in-Err-3-1 g) → AddsStalled (server_of
 stuck_then g c =
     let device = g.A.Adapter.device in
     let s = server_of device (seen c.self.inside) in
-    let booked : IsBooked s = holds_either c.self.inside.stuck c.self.invariant (λ _ settled. c.a_server_is_booked.ensures.kept s settled.kept) (λ _ stalled. stalled.booked) in
+    let booked : KeepsBooks s = holds_either c.self.inside.stuck c.self.invariant (λ _ settled. c.a_server_is_booked.ensures.kept s settled.kept) (λ _ stalled. stalled.booked) in
     c.stuck_resets_add.ensures s (stuck_server g c) booked (got_stuck g c)
 
 pub invariant_of-self : goal.invariant_of-self
@@ -62,7 +62,7 @@ returns-in-Err-clause-resets g c =
 pub give_all_back-requires : goal.give_all_back-requires
 give_all_back-requires g c =
     let s = server_of g.A.Adapter.device (seen c.self.inside) in
-    let booked : IsBooked s = holds_either c.self.inside.stuck c.self.invariant (λ _ settled. c.a_server_is_booked.ensures.kept s settled.kept) (λ _ stalled. stalled.booked) in
+    let booked : KeepsBooks s = holds_either c.self.inside.stuck c.self.invariant (λ _ settled. c.a_server_is_booked.ensures.kept s settled.kept) (λ _ stalled. stalled.booked) in
     let laws = c.booked_loans_are_lent.ensures in
     subst (λ (table : Table). MayGoBack table c.self.inside.kept) (sym c.deref_mut.ensures.value)
     (reviving.may_go s booked (λ port. laws.lent s port booked) (λ port. laws.two s port booked) (λ port other a b. laws.one s port other a b booked))
@@ -71,7 +71,7 @@ pub settle_ports-requires-clause-lends : goal.settle_ports-requires-clause-lends
 settle_ports-requires-clause-lends g c =
     let device = g.A.Adapter.device in
     let s = server_of device (seen c.self.inside) in
-    let booked : IsBooked s = holds_either c.self.inside.stuck c.self.invariant (λ _ settled. c.a_server_is_booked.ensures.kept s settled.kept) (λ _ stalled. stalled.booked) in
+    let booked : KeepsBooks s = holds_either c.self.inside.stuck c.self.invariant (λ _ settled. c.a_server_is_booked.ensures.kept s settled.kept) (λ _ stalled. stalled.booked) in
     let taken = reviving.taken_server s (device c.take_over-host.new.adapter) c.give_all_back.new.table c.take_over-host.result c.disks_of-disks.result c.modes_of-self-inside.result c.unused_slots-self-inside-2.result c.give_all_back.new.kept in
     let takes : IsTakenAgain s taken =
     reviving.takes_again s (device c.reset.new.adapter) (device c.take_over-host.new.adapter) c.in_default.ensures.reset c.deref_mut.result.now c.give_all_back.new.table c.give_all_back.new.kept c.deref_mut.ensures.value
@@ -86,7 +86,7 @@ pub issue_ports-requires : goal.issue_ports-requires
 issue_ports-requires g c =
     let device = g.A.Adapter.device in
     let s = server_of device (seen c.self.inside) in
-    let booked : IsBooked s = holds_either c.self.inside.stuck c.self.invariant (λ _ settled. c.a_server_is_booked.ensures.kept s settled.kept) (λ _ stalled. stalled.booked) in
+    let booked : KeepsBooks s = holds_either c.self.inside.stuck c.self.invariant (λ _ settled. c.a_server_is_booked.ensures.kept s settled.kept) (λ _ stalled. stalled.booked) in
     let taken = reviving.taken_server s (device c.take_over-host.new.adapter) c.give_all_back.new.table c.take_over-host.result c.disks_of-disks.result c.modes_of-self-inside.result c.unused_slots-self-inside-2.result c.give_all_back.new.kept in
     let takes : IsTakenAgain s taken =
     reviving.takes_again s (device c.reset.new.adapter) (device c.take_over-host.new.adapter) c.in_default.ensures.reset c.deref_mut.result.now c.give_all_back.new.table c.give_all_back.new.kept c.deref_mut.ensures.value
@@ -121,7 +121,7 @@ was_reset : (g : Over) (c : After-issue_ports g) → ResetsServer c.settle_ports
 was_reset g c =
     let device = g.A.Adapter.device in
     let s = server_of device (seen c.self.inside) in
-    let booked : IsBooked s = holds_either c.self.inside.stuck c.self.invariant (λ _ settled. c.a_server_is_booked.ensures.kept s settled.kept) (λ _ stalled. stalled.booked) in
+    let booked : KeepsBooks s = holds_either c.self.inside.stuck c.self.invariant (λ _ settled. c.a_server_is_booked.ensures.kept s settled.kept) (λ _ stalled. stalled.booked) in
     let taken = reviving.taken_server s (device c.take_over-host.new.adapter) c.give_all_back.new.table c.take_over-host.result c.disks_of-disks.result c.modes_of-self-inside.result c.unused_slots-self-inside-2.result c.give_all_back.new.kept in
     let takes : IsTakenAgain s taken =
     reviving.takes_again s (device c.reset.new.adapter) (device c.take_over-host.new.adapter) c.in_default.ensures.reset c.deref_mut.result.now c.give_all_back.new.table c.give_all_back.new.kept c.deref_mut.ensures.value

@@ -3,7 +3,7 @@ use Rattle.ata_types.specs.declared.request.Reply.{Reply}
 use Rattle.block_server.specs.View.{ServerView, server_of}
 use Rattle.host_boot.specs.Taken.{found_of}
 use Rattle.host_boot.specs.declared.Found.{Found}
-use Rattle.server_history.specs.Turns.{ServePorts, ServesPort, TriesOther}
+use Rattle.server_history.specs.Turns.{ServePorts, ServesPort, TriesUnready}
 use Rattle.block_server.specs.Calls.{ServicesBy}
 use Rattle.block_server.proofs.Turns.{all_turns, no_turn, one_turn, other_turn}
 use Rattle.block_server.proofs.Standing.{by_on, now_on}
@@ -27,7 +27,7 @@ loop-number-preserved g c =
                 let W : List Reply → Type 0 = λ told. ServePorts 0 c.args.self.now.ports told (server_of device c.args.self.now) new in
                 subst W (sym (ap (λ (told : List Reply). told ++ later) served.1 ∙ append_assoc c.loop-number.replies.items served.0 later))
                 (so_far.rest (served.0 ++ later) new
-                (one_turn ServesPort TriesOther ports c.loop-number.number low w.in-Ready.field-0 s (server_of device w.serve_port.new.self) new served.0 later w.in-Ready.is w.serve_port.ensures.settled served.2 more));
+                (one_turn ServesPort TriesUnready ports c.loop-number.number low w.in-Ready.field-0 s (server_of device w.serve_port.new.self) new served.0 later w.in-Ready.is w.serve_port.ensures.settled served.2 more));
             ports = λ q more. w.serve_port.ensures.ports q (λ same. omega (arith, more, same)) ∙ so_far.ports q (omega (arith, more));
             room = w.serve_port.ensures.room;
             on = w.serve_port.ensures.on;
@@ -35,13 +35,13 @@ loop-number-preserved g c =
       | in-Unready w ↦ rw (w.self-is, w.replies-is) (record {
         rest = λ later new more.
             so_far.rest later new
-            (other_turn ServesPort TriesOther ports c.loop-number.number low w.in-Unready.state s (server_of device w.try_port.new.self) new later w.in-Unready.is w.try_port.ensures.settled w.try_port.ensures.tries more);
+            (other_turn ServesPort TriesUnready ports c.loop-number.number low w.in-Unready.state s (server_of device w.try_port.new.self) new later w.in-Unready.is w.try_port.ensures.settled w.try_port.ensures.tries more);
         ports = λ q more. w.try_port.ensures.ports q (λ same. omega (arith, more, same)) ∙ so_far.ports q (omega (arith, more));
         room = let same = ap length w.try_port.ensures.book in let room = so_far.room in omega (arith, same, room);
         on = w.try_port.ensures.on;
       })
       | in-Unserved w ↦ rw (w.self-is, w.replies-is) (record {
-        rest = λ later new more. so_far.rest later new (no_turn ServesPort TriesOther ports c.loop-number.number low s new later w.in-Unserved.is more);
+        rest = λ later new more. so_far.rest later new (no_turn ServesPort TriesUnready ports c.loop-number.number low s new later w.in-Unserved.is more);
         ports = λ q more. so_far.ports q (omega (arith, more));
         room = so_far.room;
         on = so_far.on;
@@ -54,7 +54,7 @@ served g c =
     let device = g.A.Adapter.device in
     let ports = c.self.inside.ports in
     let four : length ports ≡ 4 = search rules in
-    all_turns ServesPort TriesOther ports c.args.self.now.ports c.loop-number.number c.loop-number.replies.items (server_of device c.args.self.now) (server_of device c.loop-number.self)
+    all_turns ServesPort TriesUnready ports c.args.self.now.ports c.loop-number.number c.loop-number.replies.items (server_of device c.args.self.now) (server_of device c.loop-number.self)
     (omega (arith, four, c.loop-number-test.false)) c.loop-number.invariant.rest
 
 pub returns-clause-services : goal.returns-clause-services

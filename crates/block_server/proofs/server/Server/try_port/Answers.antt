@@ -1,9 +1,9 @@
 use Rattle.std.proofs.Common.{ℕ, ◌≡◌, length, rules, sym, subst}
 use Rattle.host_boot.specs.Taken.{found_of, wanted_of}
 use Rattle.host_boot.specs.declared.Found.TheVariants.{Unready}
-use Rattle.server_history.specs.Turns.{TriesOther}
+use Rattle.server_history.specs.Turns.{TriesUnready}
 use Rattle.block_server.specs.Seen.{seen}
-use Rattle.block_server.specs.Trying.{FindsAnew}
+use Rattle.server_history.specs.Tried.{FindsAnew}
 use Rattle.block_server.specs.View.{ServerView, server_of}
 use Rattle.block_server.proofs.Standing.{is_on, of_on, still, to_on}
 use Rattle.block_server.proofs.Anew as anew
@@ -27,7 +27,7 @@ returns-then-not-finds_news-clause-tries g c =
     let device = g.A.Adapter.device in
     let U : ServerView g.row.A.Denot → Type 0 = λ x. found_of x.ports c.args.port.0 ≡ Unready c.args.state in
     let s = server_of device (seen c.self.inside) in
-    let T : ServerView g.row.A.Denot → Type 0 = λ x. TriesOther c.args.port (server_of device x) (record s { device = device c.finds_news.new.adapter }) in
+    let T : ServerView g.row.A.Denot → Type 0 = λ x. TriesUnready c.args.port (server_of device x) (record s { device = device c.finds_news.new.adapter }) in
     subst T c.self.view_is
     (anew.left_settles c.an_unready_port_is_tried.ensures.tried s c.args.port c.args.state (subst U (sym c.self.view_is) c.requires.unready) (is_on g.A.Adapter.device (seen c.self.inside) c.args.self.now c.self.view_is c.requires.on c.self.invariant)
     (device c.finds_news.new.adapter) c.if-not-finds_news.ensures.looks c.if-not-finds_news.ensures.followed).0
@@ -78,7 +78,7 @@ returns-clause-tries g c =
     let F : ℕ → Type 0 = λ n. FindsAnew (wanted_of v.wanted n) c.args.port c.find_anew-found.result.0 c.find_anew-found.result.1 (device c.finds_news.new.adapter) (device c.find_anew-found.new.adapter) in
     let places : length c.new.result.places ≡ 32 = search rules in
     let new = anew.found_anew (server_of device v) (device c.find_anew-found.new.adapter) c.find_anew-found.result.0 c.find_anew-found.result.1 c.new.result c.from-number.result in
-    let T : ServerView g.row.A.Denot → Type 0 = λ x. TriesOther c.args.port (server_of device x) new in
+    let T : ServerView g.row.A.Denot → Type 0 = λ x. TriesUnready c.args.port (server_of device x) new in
     subst T c.self.view_is
     (anew.booted_settles c.an_unready_port_is_tried.ensures.tried (server_of device v) c.args.port c.args.state (subst U (sym c.self.view_is) c.requires.unready) (is_on g.A.Adapter.device (seen c.self.inside) c.args.self.now c.self.view_is c.requires.on c.self.invariant)
     (device c.finds_news.new.adapter) c.if-not-finds_news.ensures.looks c.if-not-finds_news.ensures.followed (device c.find_anew-found.new.adapter) c.find_anew-found.result.0 c.find_anew-found.result.1 c.new.result
