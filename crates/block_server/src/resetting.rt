@@ -23,7 +23,7 @@ use server_history::stalled::settling_goes_on;
 use slots::Slots;
 
 /// The disk that a port is ready with, or was last ready with, which is the remembered one.
-fn disk_of(found: &Found, remembered: &Option<DiskInfo>) -> Option<DiskInfo>
+pub(crate) fn disk_of(found: &Found, remembered: &Option<DiskInfo>) -> Option<DiskInfo>
     ensures { result ≡ disk_of found.now remembered.now }
 {
     match found {

@@ -58,7 +58,7 @@ fn said_with(told: Told, replies: Replies) -> Said
 impl<A: Stepped> Server<A> {
     ghost use Rattle.block_server.specs.Running.{Answered, RanInto};
 
-    /// Makes the call. What a service, a tick or a reset answered is all that `replies` has then; another call leaves it.
+    /// Makes the call. What a service, a tick, or a reset that ends answered is all that `replies` has then; of what it has after another call nothing is told.
     pub fn answer(&mut self, event: &Event, replies: &mut Replies) -> Told
         ensures { Answered A.device event.now (with_replies result replies.new.items) self.old self.new }
     {

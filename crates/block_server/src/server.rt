@@ -8,7 +8,7 @@ use crate::kept::{KeptLoans, end_all, give_all_back, none_kept};
 use crate::modes::{PLAIN, modes_of, ready_ports, unused_slots};
 use crate::port::{issue_due, issue_where_ready};
 use crate::recovery::{find_after, mend_rest, order_from, prospect_of, trouble_of};
-use crate::resetting::{disks_of, issue_ports, settle_ports, stuck_ports};
+use crate::resetting::{disk_of, disks_of, issue_ports, settle_ports, stuck_ports};
 use crate::trying::{find_anew, finds_news};
 use adapter::{Adapter, DeviceStep, Stepped};
 use ata_types::{
@@ -204,14 +204,8 @@ impl<A: Adapter> Server<A> {
     fn disk(&self, port: Port) -> Option<DiskInfo>
         ensures { result ≡ disk_of (found_of self.now.ports port.0) (remembered_at self.now.remembered port.0) }
     {
-        match self.found(port) {
-            Found::Ready(info) => Some(info),
-            _ => self
-                .remembered
-                .get(usize::from(port.0))
-                .copied()
-                .unwrap_or(None),
-        }
+        let remembered = self.remembered.get(usize::from(port.0)).copied().flatten();
+        disk_of(&self.found(port), &remembered)
     }
 
     /// How many sectors that disk has; 0 where there is none.
@@ -581,6 +575,7 @@ impl<A: Adapter> Server<A> {
         the_book_stays_in_order();
         replies.clear();
         if self.stuck {
+            // No port is ready, so no request gets older.
             return;
         }
         let ports = self.ports;
@@ -624,10 +619,9 @@ impl<A: Adapter> Server<A> {
         stuck_resets_add();
         the_book_stays_in_order();
         replies.clear();
-        let disks = disks_of(&self.ports, &self.remembered);
+        self.remembered = disks_of(&self.ports, &self.remembered);
         if let Err(stuck) = reset(&mut self.adapter) {
             self.ports = stuck_ports(&self.ports);
-            self.remembered = disks;
             self.modes = [PLAIN; PORTS];
             self.slots = unused_slots(&self.modes);
             self.stuck = true;
@@ -636,7 +630,6 @@ impl<A: Adapter> Server<A> {
         give_all_back(&mut self.kept, &mut self.table);
         let host = take_over(&mut self.adapter, &self.wanted);
         self.ports = host.ports;
-        self.remembered = disks;
         self.modes = modes_of(&host);
         self.slots = unused_slots(&self.modes);
         self.stuck = false;

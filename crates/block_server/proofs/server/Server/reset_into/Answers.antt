@@ -14,28 +14,28 @@ use Rattle.block_server.proofs.Reviving as reviving
 use Rattle.block_server.proofs.Standing.{holds_either}
 use Rattle.block_server.proofs.server.Server.reset_into.Given.{Over}
 use Rattle.block_server.proofs.server.Server.reset_into.Goals as goal
-use Rattle.block_server.proofs.server.Server.reset_into.Goals.{After-self-in-Err-3-1, After-deref_mut, After-settle_ports-arg-5-1, After-issue_ports-arg-5-1, After-issue_ports}
+use Rattle.block_server.proofs.server.Server.reset_into.Goals.{After-self-in-Err-4-1, After-deref_mut, After-settle_ports-arg-5-1, After-issue_ports-arg-5-1, After-issue_ports}
 
 -- ---- the adapter didn't end its reset
 
 -- the server then
-abbrev stuck_server : (g : Over) (c : After-self-in-Err-3-1 g) → Server
+abbrev stuck_server : (g : Over) (c : After-self-in-Err-4-1 g) → Server
 stuck_server g c = record (server_of g.A.Adapter.device (seen c.self.inside)) {
   device = g.A.Adapter.device c.reset.new.adapter;
   ports = c.stuck_ports-self-inside.result;
-  remembered = c.disks_of-disks.result;
+  remembered = c.disks_of-self-inside.result;
   modes = plain_mode ∷ plain_mode ∷ plain_mode ∷ plain_mode ∷ [];
   slots = c.unused_slots-self-inside.result;
 }
 
-got_stuck : (g : Over) (c : After-self-in-Err-3-1 g) → GetsStuck (server_of g.A.Adapter.device (seen c.self.inside)) (stuck_server g c)
+got_stuck : (g : Over) (c : After-self-in-Err-4-1 g) → GetsStuck (server_of g.A.Adapter.device (seen c.self.inside)) (stuck_server g c)
 got_stuck g c =
     let device = g.A.Adapter.device in
-    reviving.gets_stuck (server_of device (seen c.self.inside)) (device c.reset.new.adapter) c.in-Err.ensures.stuck c.stuck_ports-self-inside.result c.stuck_ports-self-inside.ensures c.disks_of-disks.result
-    c.disks_of-disks.ensures (search rules) c.unused_slots-self-inside.result
+    reviving.gets_stuck (server_of device (seen c.self.inside)) (device c.reset.new.adapter) c.in-Err.ensures.stuck c.stuck_ports-self-inside.result c.stuck_ports-self-inside.ensures c.disks_of-self-inside.result
+    c.disks_of-self-inside.ensures (search rules) c.unused_slots-self-inside.result
     (record { four = search rules; places = c.unused_slots-self-inside.ensures.places; usable = c.unused_slots-self-inside.ensures.usable; unused = c.unused_slots-self-inside.ensures.unused })
 
-stuck_then : (g : Over) (c : After-self-in-Err-3-1 g) → AddsStalled (server_of g.A.Adapter.device (seen c.self.inside)) (stuck_server g c) Reset (WasReset None)
+stuck_then : (g : Over) (c : After-self-in-Err-4-1 g) → AddsStalled (server_of g.A.Adapter.device (seen c.self.inside)) (stuck_server g c) Reset (WasReset None)
 stuck_then g c =
     let device = g.A.Adapter.device in
     let s = server_of device (seen c.self.inside) in
@@ -72,13 +72,13 @@ settle_ports-requires-clause-lends g c =
     let device = g.A.Adapter.device in
     let s = server_of device (seen c.self.inside) in
     let booked : KeepsBooks s = holds_either c.self.inside.stuck c.self.invariant (λ _ settled. c.a_server_is_booked.ensures.kept s settled.kept) (λ _ stalled. stalled.booked) in
-    let taken = reviving.taken_server s (device c.take_over-host.new.adapter) c.give_all_back.new.table c.take_over-host.result c.disks_of-disks.result c.modes_of-self-inside.result c.unused_slots-self-inside-2.result c.give_all_back.new.kept in
+    let taken = reviving.taken_server s (device c.take_over-host.new.adapter) c.give_all_back.new.table c.take_over-host.result c.disks_of-self-inside.result c.modes_of-self-inside.result c.unused_slots-self-inside-2.result c.give_all_back.new.kept in
     let takes : IsTakenAgain s taken =
     reviving.takes_again s (device c.reset.new.adapter) (device c.take_over-host.new.adapter) c.in_default.ensures.reset c.deref_mut.result.now c.give_all_back.new.table c.give_all_back.new.kept c.deref_mut.ensures.value
-    c.give_all_back.ensures.back c.give_all_back.ensures.empty c.give_all_back.ensures.four c.take_over-host.result c.take_over-host.ensures.taken c.take_over-host.ensures.four c.disks_of-disks.result c.disks_of-disks.ensures (search rules)
+    c.give_all_back.ensures.back c.give_all_back.ensures.empty c.give_all_back.ensures.four c.take_over-host.result c.take_over-host.ensures.taken c.take_over-host.ensures.four c.disks_of-self-inside.result c.disks_of-self-inside.ensures (search rules)
     c.modes_of-self-inside.result (search rules) c.modes_of-self-inside.ensures.found c.unused_slots-self-inside-2.result
     (record { four = search rules; places = c.unused_slots-self-inside-2.ensures.places; usable = c.unused_slots-self-inside-2.ensures.usable; unused = c.unused_slots-self-inside-2.ensures.unused }) in
-    let lent : LendsBook taken c.deref_mut-2.result.now c.self.inside.book c.give_all_back.new.kept c.disks_of-disks.result c.take_over-host.result.ports =
+    let lent : LendsBook taken c.deref_mut-2.result.now c.self.inside.book c.give_all_back.new.kept c.disks_of-self-inside.result c.take_over-host.result.ports =
     record { may = c.a_reset_server_goes_on.ensures.settle s taken booked takes; table_is = sym c.deref_mut-2.ensures.value; book_is = refl; kept_is = refl; remembered_are = refl; ports_are = refl } in
     (taken, lent)
 
@@ -87,13 +87,13 @@ issue_ports-requires g c =
     let device = g.A.Adapter.device in
     let s = server_of device (seen c.self.inside) in
     let booked : KeepsBooks s = holds_either c.self.inside.stuck c.self.invariant (λ _ settled. c.a_server_is_booked.ensures.kept s settled.kept) (λ _ stalled. stalled.booked) in
-    let taken = reviving.taken_server s (device c.take_over-host.new.adapter) c.give_all_back.new.table c.take_over-host.result c.disks_of-disks.result c.modes_of-self-inside.result c.unused_slots-self-inside-2.result c.give_all_back.new.kept in
+    let taken = reviving.taken_server s (device c.take_over-host.new.adapter) c.give_all_back.new.table c.take_over-host.result c.disks_of-self-inside.result c.modes_of-self-inside.result c.unused_slots-self-inside-2.result c.give_all_back.new.kept in
     let takes : IsTakenAgain s taken =
     reviving.takes_again s (device c.reset.new.adapter) (device c.take_over-host.new.adapter) c.in_default.ensures.reset c.deref_mut.result.now c.give_all_back.new.table c.give_all_back.new.kept c.deref_mut.ensures.value
-    c.give_all_back.ensures.back c.give_all_back.ensures.empty c.give_all_back.ensures.four c.take_over-host.result c.take_over-host.ensures.taken c.take_over-host.ensures.four c.disks_of-disks.result c.disks_of-disks.ensures (search rules)
+    c.give_all_back.ensures.back c.give_all_back.ensures.empty c.give_all_back.ensures.four c.take_over-host.result c.take_over-host.ensures.taken c.take_over-host.ensures.four c.disks_of-self-inside.result c.disks_of-self-inside.ensures (search rules)
     c.modes_of-self-inside.result (search rules) c.modes_of-self-inside.ensures.found c.unused_slots-self-inside-2.result
     (record { four = search rules; places = c.unused_slots-self-inside-2.ensures.places; usable = c.unused_slots-self-inside-2.ensures.usable; unused = c.unused_slots-self-inside-2.ensures.unused }) in
-    let lent : LendsBook taken c.deref_mut-2.result.now c.self.inside.book c.give_all_back.new.kept c.disks_of-disks.result c.take_over-host.result.ports =
+    let lent : LendsBook taken c.deref_mut-2.result.now c.self.inside.book c.give_all_back.new.kept c.disks_of-self-inside.result c.take_over-host.result.ports =
     record { may = c.a_reset_server_goes_on.ensures.settle s taken booked takes; table_is = sym c.deref_mut-2.ensures.value; book_is = refl; kept_is = refl; remembered_are = refl; ports_are = refl } in
     let settled = with_book taken c.settle_ports.new.table c.settle_ports.new.book c.settle_ports.new.kept in
     let all = c.settle_ports.ensures.settles taken lent in
@@ -108,7 +108,7 @@ after g c = record (server_of g.A.Adapter.device (seen c.self.inside)) {
   device = g.A.Adapter.device c.issue_ports.new.adapter;
   table = c.settle_ports.new.table;
   ports = c.take_over-host.result.ports;
-  remembered = c.disks_of-disks.result;
+  remembered = c.disks_of-self-inside.result;
   modes = c.modes_of-self-inside.result;
   slots = c.issue_ports.new.slots;
   kept = c.settle_ports.new.kept;
@@ -122,13 +122,13 @@ was_reset g c =
     let device = g.A.Adapter.device in
     let s = server_of device (seen c.self.inside) in
     let booked : KeepsBooks s = holds_either c.self.inside.stuck c.self.invariant (λ _ settled. c.a_server_is_booked.ensures.kept s settled.kept) (λ _ stalled. stalled.booked) in
-    let taken = reviving.taken_server s (device c.take_over-host.new.adapter) c.give_all_back.new.table c.take_over-host.result c.disks_of-disks.result c.modes_of-self-inside.result c.unused_slots-self-inside-2.result c.give_all_back.new.kept in
+    let taken = reviving.taken_server s (device c.take_over-host.new.adapter) c.give_all_back.new.table c.take_over-host.result c.disks_of-self-inside.result c.modes_of-self-inside.result c.unused_slots-self-inside-2.result c.give_all_back.new.kept in
     let takes : IsTakenAgain s taken =
     reviving.takes_again s (device c.reset.new.adapter) (device c.take_over-host.new.adapter) c.in_default.ensures.reset c.deref_mut.result.now c.give_all_back.new.table c.give_all_back.new.kept c.deref_mut.ensures.value
-    c.give_all_back.ensures.back c.give_all_back.ensures.empty c.give_all_back.ensures.four c.take_over-host.result c.take_over-host.ensures.taken c.take_over-host.ensures.four c.disks_of-disks.result c.disks_of-disks.ensures (search rules)
+    c.give_all_back.ensures.back c.give_all_back.ensures.empty c.give_all_back.ensures.four c.take_over-host.result c.take_over-host.ensures.taken c.take_over-host.ensures.four c.disks_of-self-inside.result c.disks_of-self-inside.ensures (search rules)
     c.modes_of-self-inside.result (search rules) c.modes_of-self-inside.ensures.found c.unused_slots-self-inside-2.result
     (record { four = search rules; places = c.unused_slots-self-inside-2.ensures.places; usable = c.unused_slots-self-inside-2.ensures.usable; unused = c.unused_slots-self-inside-2.ensures.unused }) in
-    let lent : LendsBook taken c.deref_mut-2.result.now c.self.inside.book c.give_all_back.new.kept c.disks_of-disks.result c.take_over-host.result.ports =
+    let lent : LendsBook taken c.deref_mut-2.result.now c.self.inside.book c.give_all_back.new.kept c.disks_of-self-inside.result c.take_over-host.result.ports =
     record { may = c.a_reset_server_goes_on.ensures.settle s taken booked takes; table_is = sym c.deref_mut-2.ensures.value; book_is = refl; kept_is = refl; remembered_are = refl; ports_are = refl } in
     let settled = with_book taken c.settle_ports.new.table c.settle_ports.new.book c.settle_ports.new.kept in
     let all = c.settle_ports.ensures.settles taken lent in
