@@ -33,7 +33,7 @@ use Rattle.identify.specs.declared.DiskInfo.{DiskInfo}
 use Rattle.identify.specs.declared.wanted.Wanted.{Wanted}
 use Rattle.server_history.specs.Histories.{Leads}
 use Rattle.server_history.specs.Server.{is_served, ports_of, state_of}
-use Rattle.block_server.specs.Healthy.{EachSince, IsServedWell, IsSound, ServesHealthyPorts, none, one_more}
+use Rattle.block_server.specs.Healthy.{EachSince, IsServedWell, IsSound, KeepsPromise, none, one_more}
 use Rattle.block_server.specs.Made.{IsNew}
 use Rattle.block_server.specs.Running.{AddEach, Ran}
 use Rattle.block_server.specs.View.{ServerView, server_of}
@@ -216,7 +216,7 @@ module _ (laws : HistoryLaws) where
           (since_before h others.0 served, others.1, others.2)
 
     pub serves_healthy : (past : List (Happening Device DeviceStep)) (old new : ServerView A) (events : List Event) (said : List Said)
-        → Ran device old new events said → Leads first past (server_of device old) → ServesHealthyPorts device first past old new events said
+        → Ran device old new events said → Leads first past (server_of device old) → KeepsPromise device first past old new events said
     serves_healthy past old new events said ran leads =
         let x = run_adds device old new events said first past ran leads in
         record {

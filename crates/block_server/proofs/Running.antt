@@ -17,6 +17,12 @@ use Rattle.server_history.specs.Server.{Server, IsSettled, ports_of, state_of}
 use Rattle.block_server.specs.declared.types.Event.{Event}
 use Rattle.block_server.specs.declared.types.Said.{Said}
 
+-- What was said stands at the end of the list.
+pub record RanInto {A : Type 0} (device : A → Device) (old new : ServerView A) (events : List Event) (before after : List Said) : Type 0 where
+  pub said : List Said
+  pub told : after ≡ before ++ said
+  pub ran : Ran device old new events said
+
 module _ {A : Type 0} (device : A → Device) where
   pub ran_none : (s : ServerView A) → Ran device s s [] []
   ran_none s = refl

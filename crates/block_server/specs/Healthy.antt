@@ -1,5 +1,5 @@
 -- Lists of calls, on ports where nothing goes wrong, and on ports where commands fail or fatal errors come (this project's own).
-use Rattle.std.specs.Prelude.{ℕ, true, false, ◌≡◌, ◌≢◌, List, [], ◌∷◌, Contains}
+use Rattle.std.specs.Prelude.{ℕ, true, false, ◌≡◌, ◌≢◌, List, [], ◌∷◌, ◌++◌, Contains}
 use Rattle.ata_types.specs.declared.Port.{Port}
 use Rattle.ata_types.specs.declared.PortState.TheVariants.{Ready}
 use Rattle.ata_types.specs.declared.request.Outcome.{Outcome}
@@ -22,7 +22,7 @@ use Rattle.driver_history.specs.Moves.{KeepsMoves}
 use Rattle.host_boot.specs.Taken.{found_of}
 use Rattle.server_history.specs.Histories.{Leads}
 use Rattle.server_history.specs.Server.{state_of}
-use Rattle.block_server.specs.Running.{AddEach}
+use Rattle.block_server.specs.Running.{AddEach, Ran}
 use Rattle.block_server.specs.View.{ServerView, server_of}
 use Rattle.block_server.specs.declared.types.Event.{Event}
 use Rattle.block_server.specs.declared.types.Said.{Said}
@@ -77,7 +77,7 @@ pub record IsSound (first : Instant Device) (past : List (Happening Device Devic
 -- sound. And a port that is ready and runs well before the list, and on which nothing goes wrong until its end (no fault, no fatal error, no
 -- disk that goes or comes), is served well by each of its calls, and is ready and runs well after it, unless one of them is a reset, which boots each port, or a tick that brings a request
 -- of the port to its age of three: that restarts the port, since nothing else tells that a request hangs.
-pub record ServesHealthyPorts {A : Type 0} (device : A → Device) (first : Instant Device) (past : List (Happening Device DeviceStep))
+pub record KeepsPromise {A : Type 0} (device : A → Device) (first : Instant Device) (past : List (Happening Device DeviceStep))
     (old new : ServerView A) (events : List Event) (said : List Said) : Type 0 where
   pub later : List (Happening Device DeviceStep)
   pub adds : AddEach device first past old events said later new
@@ -89,3 +89,12 @@ pub record ServesHealthyPorts {A : Type 0} (device : A → Device) (first : Inst
       → EachSince (λ before h. (h.event.ask ≢ Reset) × (h.event.ask ≡ Tick → IsHung (now first before).moment port → ⊥)) past later
       → EachSince (λ before h. IsServedWell port (now first before) h) past later
       × (state_of (found_of new.ports port.0) ≡ Ready) × RunsWell ((device new.adapter).port port.0)
+
+-- The calls of a list were made one after another, what they said stands at the end of what had been said, and they keep the promise, after each history that leads to
+-- the server before them. (There is one since it was made: `IsNew`.)
+pub record RunsAsPromised {A : Type 0} (device : A → Device) (old new : ServerView A) (events : List Event) (before after : List Said) : Type 0 where
+  pub said : List Said
+  pub told : after ≡ before ++ said
+  pub ran : Ran device old new events said
+  pub keeps : (first : Instant Device) (past : List (Happening Device DeviceStep)) → Leads first past (server_of device old)
+      → KeepsPromise device first past old new events said

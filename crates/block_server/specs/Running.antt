@@ -109,9 +109,3 @@ AddEach {A} device first past old (event ∷ events) (one ∷ more) later new =
     × (h.event.said ≡ said_of one) × Leads first (h ∷ past) (server_of device mid)
     × AddEach device first (h ∷ past) mid events more later new
 AddEach device first past old _ _ later new = ⊥
-
--- What was said stands at the end of the list.
-pub record RanInto {A : Type 0} (device : A → Device) (old new : ServerView A) (events : List Event) (before after : List Said) : Type 0 where
-  pub said : List Said
-  pub told : after ≡ before ++ said
-  pub ran : Ran device old new events said

@@ -11,7 +11,7 @@ ghost use Rattle.configuration.specs.declared.Config.{Config};
 ghost use Rattle.host_boot.specs.Taken.{found_of};
 ghost use Rattle.server_history.specs.Histories.{Leads};
 ghost use Rattle.server_history.specs.Server.{state_of};
-ghost use Rattle.block_server.specs.Healthy.{ServesHealthyPorts};
+ghost use Rattle.block_server.specs.Healthy.{KeepsPromise};
 ghost use Rattle.block_server.specs.Made.{IsNew};
 ghost use Rattle.block_server.specs.Running.{AddEach, Answers, Ran, ask_of, said_of};
 ghost use Rattle.block_server.specs.View.{ServerView, server_of};
@@ -45,10 +45,10 @@ pub fn runs_are_histories<A: Stepped>()
 /// each call issues exactly what is due, each service answers what has ended, with Ok, and nothing else, and the port stays as it is, unless a tick
 /// restarts it. And on each port, ready or not, each call does its part; and on one that is ready when a service begins, what was seen done is answered, and the service heeds commands that
 /// failed, fatal errors and lost disks that the port showed then.
-pub fn runs_serve_healthy_ports<A: Stepped>()
+pub fn runs_keep_their_promise<A: Stepped>()
     ensures { (old new : ServerView A) (events : List Event) (said : List Said) (first : Instant Device)
         (past : List (Happening Device DeviceStep)) → Ran A.device old new events said → Leads first past (server_of A.device old)
-        → ServesHealthyPorts A.device first past old new events said }
+        → KeepsPromise A.device first past old new events said }
 {
     seen_are_answered();
     shown_faults_are_heeded();

@@ -3,6 +3,7 @@ ghost use Rattle.std.specs.Prelude.{◌≡◌, ◌<◌, ◌≤◌, ◌+◌, OnOk
 ghost use Rattle.std.specs.Vec.{vec_capacity};
 ghost use Rattle.block_server.specs.Running.{with_replies};
 
+use crate::laws::runs_keep_their_promise;
 use crate::{Event, RunStopped, Said, Server, Told};
 use adapter::{Adapter, Stepped};
 use arrayvec::ArrayVec;
@@ -56,7 +57,8 @@ fn said_with(told: Told, replies: Replies) -> Said
 }
 
 impl<A: Stepped> Server<A> {
-    ghost use Rattle.block_server.specs.Running.{Answered, RanInto};
+    ghost use Rattle.block_server.specs.Running.{Answered};
+    ghost use Rattle.block_server.specs.Healthy.{RunsAsPromised};
 
     /// Makes the call. What a service, a tick, or a reset that ends answered is all that `replies` has then; of what it has after another call nothing is told.
     pub fn answer(&mut self, event: &Event, replies: &mut Replies) -> Told
@@ -93,11 +95,12 @@ impl<A: Stepped> Server<A> {
     /// Makes the calls in order, and puts what each answered at the end of `out`. Where memory for that is refused, the
     /// events before `at` are done, and no other.
     pub fn run(&mut self, events: &[Event], out: &mut Vec<Said>) -> Result<(), RunStopped>
-        ensures done { OnOk result (RanInto A.device self.old self.new events.now out.old.items out.new.items) }
+        ensures done { OnOk result (RunsAsPromised A.device self.old self.new events.now out.old.items out.new.items) }
         ensures stopped { IfErr result (λ e. e.at < length events.now) }
         ensures ample { vec_len out.old + length events.now ≤ vec_capacity out.old → IsOk result }
-        ensures begun { IfErr result (λ e. RanInto A.device self.old self.new (take e.at events.now) out.old.items out.new.items) }
+        ensures begun { IfErr result (λ e. RunsAsPromised A.device self.old self.new (take e.at events.now) out.old.items out.new.items) }
     {
+        runs_keep_their_promise::<A>();
         for (at, event) in events.iter().enumerate() {
             if out.reserve(1).is_err() {
                 return Err(RunStopped { at });

@@ -1,5 +1,6 @@
 use Rattle.std.proofs.Common.{◌<◌, ◌++◌, ◌∷◌, List, sym, ◌∙◌, ap, subst, [], append_assoc, length, take, arith, rules}
-use Rattle.std.proofs.lemmas.List.{append-nil, take_more}
+use Rattle.std.proofs.lemmas.List.{append-nil, take_all, take_more}
+use Rattle.block_server.specs.Healthy.{RunsAsPromised}
 use Rattle.block_server.specs.Running.{Answered, Ran}
 use Rattle.block_server.specs.declared.types.Event.{Event}
 use Rattle.block_server.specs.declared.types.Said.{Said}
@@ -35,3 +36,15 @@ loop-at-preserved g c =
 
 pub returns-then-is_err-clause-ample : goal.returns-then-is_err-clause-ample
 returns-then-is_err-clause-ample g c = search rules
+
+pub returns-clause-done : goal.returns-clause-done
+returns-clause-done g c =
+    let r = c.loop-at.invariant.ran in
+    let P : List Event → Type 0 = λ events. RunsAsPromised g.A.Adapter.device c.args.self.now c.loop-at.self events c.args.out.now.items c.loop-at.out.items in
+    subst P (take_all c.loop-at.at c.args.events.now (omega arith))
+    (record { said = r.said; told = r.told; ran = r.ran; keeps = λ first past leads. c.runs_keep_their_promise.ensures _ _ _ _ first past r.ran leads })
+
+pub returns-then-is_err-clause-begun : goal.returns-then-is_err-clause-begun
+returns-then-is_err-clause-begun g c =
+    let r = c.loop-at.invariant.ran in
+    record { said = r.said; told = c.reserve.ensures.items ∙ r.told; ran = r.ran; keeps = λ first past leads. c.runs_keep_their_promise.ensures _ _ _ _ first past r.ran leads }

@@ -1,6 +1,6 @@
 use Rattle.std.proofs.Common.{◌≡◌, ◌+◌, ◌≤◌, take, vec_len}
 use Rattle.std.specs.Vec.{vec_capacity}
-use Rattle.block_server.specs.Running.{RanInto}
+use Rattle.block_server.proofs.Running.{RanInto}
 use Rattle.block_server.proofs.server.Server.run.Given as goal
 
 abbrev pub invariant-loop-at : goal.invariant-loop-at

@@ -1,5 +1,5 @@
 use Rattle.block_server.proofs.Healthy.{serves_healthy}
-use Rattle.block_server.proofs.laws.runs_serve_healthy_ports.Goals as goal
+use Rattle.block_server.proofs.laws.runs_keep_their_promise.Goals as goal
 
 pub returns : goal.returns
 returns g c old new events said first past = serves_healthy (record {
