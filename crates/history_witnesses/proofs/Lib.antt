@@ -27,3 +27,5 @@ mod Rebooted
 mod Broken
 mod Aging
 mod Hung
+mod Booting
+mod Resetting

@@ -8,3 +8,4 @@ pub mod Queued
 pub mod Restart
 pub mod Fatal
 pub mod Hung
+pub mod Reset

@@ -6,6 +6,7 @@ ghost use Rattle.history_witnesses.specs.Hung.{HungPortIsAHistory};
 ghost use Rattle.history_witnesses.specs.Loss.{LossIsAHistory};
 ghost use Rattle.history_witnesses.specs.Queued.{OrderIsFree};
 ghost use Rattle.history_witnesses.specs.Recovery.{RecoveryTies};
+ghost use Rattle.history_witnesses.specs.Reset.{ResetIsAHistory};
 
 /// There is an instant at which a history may begin with ports that are ready.
 pub fn a_ready_port_has_begun()
@@ -45,4 +46,10 @@ pub fn a_fatal_error_is_a_history()
 /// that is asked of its calls is met.
 pub fn a_hung_port_is_a_history()
     ensures { HungPortIsAHistory }
+{}
+
+/// There is a history with a reset that ends, which boots both ports, tells the read that was issued so, and gives its frame back: all that is asked of its
+/// calls is met.
+pub fn an_ended_reset_is_a_history()
+    ensures { ResetIsAHistory }
 {}
