@@ -29,3 +29,5 @@ mod Aging
 mod Hung
 mod Booting
 mod Resetting
+mod Trying
+mod Tried

@@ -52,7 +52,7 @@ use Rattle.history_witnesses.proofs.Submitting.{issued, pages, submitted}
 
 -- ---- the call
 
-abbrev unfit_ports : Ports
+abbrev pub unfit_ports : Ports
 unfit_ports = showing plain_disks.info (true ∷ true ∷ []) (Unfit 8 ∷ Unfit 8 ∷ [])
 
 -- both ports were stopped, and port 0 has lost its disk
@@ -68,31 +68,31 @@ steps = answer ∷ Release ∷ []
 abbrev replies : List Reply
 replies = record { id = first_id; client = asked.client; outcome = outcome.Unplugged } ∷ []
 
-abbrev reset : Happening Device DeviceStep
+abbrev pub reset : Happening Device DeviceStep
 reset = record {
   event = record { ask = Reset; said = WasReset (Some replies); evidence = evidence; steps = steps; ports = unfit_ports };
   device = rebooted;
 }
 
-abbrev answered : Machine
+abbrev pub answered : Machine
 answered = after issuing steps
 
-abbrev rebooted_at : Instant Device
+abbrev pub rebooted_at : Instant Device
 rebooted_at = record { device = rebooted; moment = record { machine = answered; ports = unfit_ports } }
 
 -- ---- the ports
 
-not_ready : (n : ℕ) → unfit_ports.state (port_at n) ≡ Ready → ⊥
+pub not_ready : (n : ℕ) → unfit_ports.state (port_at n) ≡ Ready → ⊥
 not_ready zero is = let x : Unfit 8 ≡ Ready = is in cc
 not_ready (suc zero) is = let x : Unfit 8 ≡ Ready = is in cc
 not_ready (suc (suc n)) is = let x : Absent ≡ Ready = is in cc
 
-not_dead : (n : ℕ) → unfit_ports.state (port_at n) ≡ Dead → ⊥
+pub not_dead : (n : ℕ) → unfit_ports.state (port_at n) ≡ Dead → ⊥
 not_dead zero is = let x : Unfit 8 ≡ Dead = is in cc
 not_dead (suc zero) is = let x : Unfit 8 ≡ Dead = is in cc
 not_dead (suc (suc n)) is = let x : Absent ≡ Dead = is in cc
 
-fit : AreFit unfit_ports
+pub fit : AreFit unfit_ports
 fit = record {
   few = (fit_ready plain_disks).few;
   absent = λ port is. absent_of port.0 is;
@@ -111,12 +111,12 @@ fit = record {
     cause_of (suc (suc n)) cause is = absurd (let x : Absent ≡ Unfit cause = is in cc)
 
 -- each served port is named as stopped, and no other
-stopped_served : (n : ℕ) → both.served (port_at n) ≡ true → Contains evidence.stopped (port_at n)
+pub stopped_served : (n : ℕ) → both.served (port_at n) ≡ true → Contains evidence.stopped (port_at n)
 stopped_served zero is = (0, omega arith, refl)
 stopped_served (suc zero) is = (1, omega arith, refl)
 stopped_served (suc (suc n)) is = absurd (true≢false (sym is))
 
-served_stopped : (n : ℕ) → Contains evidence.stopped (port_at n) → both.served (port_at n) ≡ true
+pub served_stopped : (n : ℕ) → Contains evidence.stopped (port_at n) → both.served (port_at n) ≡ true
 served_stopped zero h = refl
 served_stopped (suc zero) h = refl
 served_stopped (suc (suc n)) h = absurd (⊎_elim
@@ -174,7 +174,7 @@ answers = record {
   reboots = λ port. reboots port.0;
 }
 
-happens : Happens submitted_at.moment reset.event
+pub happens : Happens submitted_at.moment reset.event
 happens = record {
   may = ((tt, tt), (0, omega arith, refl));
   belong = ((tt, inr tt), inr tt);
@@ -329,7 +329,7 @@ knows = agreeing answered no_slots pages read_memory (unfit 0) (unfit 1)
     present (suc zero) = refl
     present (suc (suc n)) = refl
 
-holds_of : (n : ℕ) → HoldsOf (wanted_of (Any ∷ Any ∷ []) n) no_slots rebooted_at (port_at n) (unfit_ports.served (port_at n)) (unfit_ports.state (port_at n))
+pub holds_of : (n : ℕ) → HoldsOf (wanted_of (Any ∷ Any ∷ []) n) no_slots rebooted_at (port_at n) (unfit_ports.served (port_at n)) (unfit_ports.state (port_at n))
 holds_of zero = record {
   on = record { ae = refl; no_reset = refl };
   ends = (
@@ -354,7 +354,7 @@ holds_of (suc zero) = record {
 }
 holds_of (suc (suc n)) = unserved_at no_slots rebooted_at (suc (suc n)) refl refl (record { free = λ slot. refl; unparked = refl }) (λ e here. absurd (nowhere e here)) (λ e kept. absurd (nowhere e kept))
 
-ties : Ties (Any ∷ Any ∷ []) submitted_at reset
+pub ties : Ties (Any ∷ Any ∷ []) submitted_at reset
 ties = record {
   accesses = rebooting;
   came = (does, own, of_ports, record { rest = Reading Ghc 0 ∷ Writing Ghc 0x80000002 ∷ (booting 0 ++ booting 1); here = refl }, (record { ae = refl; no_reset = refl }, refl));

@@ -7,6 +7,7 @@ ghost use Rattle.history_witnesses.specs.Loss.{LossIsAHistory};
 ghost use Rattle.history_witnesses.specs.Queued.{OrderIsFree};
 ghost use Rattle.history_witnesses.specs.Recovery.{RecoveryTies};
 ghost use Rattle.history_witnesses.specs.Reset.{ResetIsAHistory};
+ghost use Rattle.history_witnesses.specs.Tried.{TriedPortIsAHistory};
 
 /// There is an instant at which a history may begin with ports that are ready.
 pub fn a_ready_port_has_begun()
@@ -52,4 +53,9 @@ pub fn a_hung_port_is_a_history()
 /// calls is met.
 pub fn an_ended_reset_is_a_history()
     ensures { ResetIsAHistory }
+{}
+
+/// There is a history in which an unfit disk is taken out, and the service that follows makes its port absent: all that is asked of its calls is met.
+pub fn a_tried_port_is_a_history()
+    ensures { TriedPortIsAHistory }
 {}
