@@ -8,7 +8,7 @@ use Rattle.std.proofs.lemmas.Bool.{cases_lt}
 use Rattle.hba_regs.specs.Bits.{bit}
 use Rattle.adapter.specs.Memory.{changed}
 use Rattle.device_model.proofs.Absurd.{true-false}
-use Rattle.adapter.proofs.Changed.{fun_ext, changed_same, changed_other}
+use Rattle.device_model.proofs.Places.{fun_ext, changed_same, changed_other}
 use Rattle.device_model.specs.Bits.{bits_of}
 
 -- a bit is nought or one

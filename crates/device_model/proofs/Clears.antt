@@ -1,7 +1,7 @@
 -- A clear that a model makes, or leaves.
 use Rattle.std.proofs.Common.{ℕ, Bool, true, false, ◌≡◌, ◌<◌, ◌≤◌, ◌+◌, ◌-◌, min, ◌⊎◌, List, [], ◌∷◌, Option, Some, length, refl, sym, ◌∙◌, ap, subst, inl, inr, arith, zero, suc, drop, take}
 use Rattle.std.proofs.lemmas.Bool.{cases_lt}
-use Rattle.std.specs.Prelude.{if◌then◌else◌, map}
+use Rattle.std.specs.Prelude.{if◌then◌else◌, option_map, slice_set}
 use Rattle.adapter.specs.Asked.{DoesClear}
 use Rattle.adapter.specs.Commands.{is_queued}
 use Rattle.adapter.specs.Device.{Disk, PortState, Taken, Device}
@@ -13,22 +13,24 @@ use Rattle.adapter.specs.declared.command.Operation.TheVariants.{Trim}
 use Rattle.ata_types.specs.declared.Port.{Port}
 use Rattle.ata_types.specs.declared.Slot.{Slot}
 use Rattle.sector_store.specs.declared.store.Failures.{Failures}
-use Rattle.device_model.specs.Disks.{disk_over}
+use Rattle.device_model.specs.Disks.{bay_of, disk_over, failing, failures_of, says_of}
 use Rattle.device_model.specs.Does.{ClearsFewer, HasCleared, HasFailed, IsCause}
-use Rattle.device_model.specs.Modelled.{device_at, outside_at}
-use Rattle.device_model.specs.Paged.{GainsPages}
+use Rattle.device_model.specs.Modelled.{device_at, media_of, outside_at}
+use Rattle.device_model.specs.Paged.{GainsPages, naming}
 use Rattle.device_model.specs.Slots.{IsNextRun}
 use Rattle.device_model.specs.Trims.{HasClear, next_uncleared, span, uncleared}
 use Rattle.device_model.specs.View.{taken_of}
-use Rattle.device_model.specs.Whole.{Outside, device_of, outside_cleared, outside_of}
+use Rattle.device_model.specs.Whole.{HasDisks, Outside, device_of, outside_cleared}
+use Rattle.device_model.specs.declared.bay.Bay.{Bay}
 use Rattle.device_model.specs.declared.clearing.Run.{Run}
 use Rattle.device_model.specs.declared.hardware.Hardware.{Hardware}
 use Rattle.device_model.specs.declared.model.Model.{Model}
 use Rattle.device_model.specs.declared.port.TakenCommand.{TakenCommand}
-use Rattle.device_model.proofs.Finishing.{here_after, taken_after, next_has_clear, outside_zeros, sized_zero, still_works}
+use Rattle.device_model.proofs.Finishing.{here_after, taken_after, next_has_clear, still_works}
 use Rattle.device_model.proofs.Doing.{IsFailed}
 use Rattle.device_model.proofs.Telling.{gains_none, gains_one}
 use Rattle.device_model.proofs.Trimming.{next_on, next_one, span_most, span_sectors}
+use Rattle.device_model.proofs.TwoDisks.{has_disks, outside_kept, outside_zeros, store_says, with_store}
 
 -- where sectors can be cleared, each number of them that can be cleared at once, and is on the disk, may be
 pub may_clear : (d : Device) (port slot most first count : ℕ) (t : Taken) → HasClear d port slot most t → first ≡ next_uncleared t →
@@ -46,12 +48,12 @@ may_clear d port slot most first count t has start few on_disk =
     }
 
 -- and where a clear may be made, sectors can be cleared
-pub can_clear : (h : Hardware) (disk : Disk) (other : Option (ℕ → List ℕ)) (plugged : List Disk) (port slot first count : ℕ) (t : Taken) → 1 ≤ count →
-    MayClear (device_of h (outside_of disk other plugged)) port slot t first count → HasClear (device_of h (outside_of disk other plugged)) port slot count t
-can_clear h disk other plugged port slot first count t some can = record {
-  has_disk = elim can.inside [
+pub can_clear : (d : Device) (port slot first count : ℕ) (t : Taken) → ((sector : ℕ) → sector < (d.port port).disk.size → HasDisks d port) → 1 ≤ count →
+    MayClear d port slot t first count → HasClear d port slot count t
+can_clear d port slot first count t sized some can = record {
+  has_disks = elim can.inside [
     | inl none ↦ absurd (omega (arith, some, none))
-    | inr fits ↦ sized_zero disk other plugged port first (omega (arith, fits, some))
+    | inr fits ↦ sized first (omega (arith, fits, some))
   ];
   works = can.works;
   trim = can.trim;
@@ -76,6 +78,9 @@ module _ (old new : Device) (port slot most first count : ℕ) (t : Taken) (has 
   cleared_taken : (new.port port).taken slot ≡ Some further
   cleared_taken = ap (λ (p : PortState). p.taken slot) cleared_port ∙ taken_after (old.port port) slot (Some further)
 
+  disks : HasDisks old port → HasDisks new port
+  disks has none = has (sym (ap (λ (p : PortState). p.plugged) cleared_port) ∙ none)
+
   -- all that could be is cleared
   pub all_cleared : count ≡ span most t → HasCleared old new port slot most
   all_cleared whole = record {
@@ -90,7 +95,7 @@ module _ (old new : Device) (port slot most first count : ℕ) (t : Taken) (has 
       let next = next_on most count t more has.enough in
       let P : PortState → Type 0 = λ p. IsWorking p Trim in
       record {
-        has_disk = has.has_disk;
+        has_disks = disks has.has_disks;
         works = record {
           taken = cleared_taken;
           working = subst P (sym cleared_port) (still_works (old.port port) (with_clear (old.port port) slot t first count) Trim has.works.working refl refl refl refl refl);
@@ -104,10 +109,10 @@ module _ (old new : Device) (port slot most first count : ℕ) (t : Taken) (has 
   pub cleared_size : (new.port port).disk.size ≡ (old.port port).disk.size
   cleared_size = ap (λ (p : PortState). p.disk.size) cleared_port
 
--- what the hardware has found to clear can be, on port 0
-pub found_clear : (h : Hardware) (o : Outside) (d : Device) (port slot most : ℕ) (run : Run) (r : TakenCommand) → port ≡ 0 → device_of h o ≡ d →
+-- what the hardware has found to clear can be, on a port that has disks
+pub found_clear : (h : Hardware) (o : Outside) (d : Device) (port slot most : ℕ) (run : Run) (r : TakenCommand) → HasDisks d port → device_of h o ≡ d →
     IsNextRun h port slot most run r → HasClear d port slot most (taken_of r)
-found_clear h o d port slot most run r at_zero same is = next_has_clear h o d port slot most r at_zero same is.holds is.can
+found_clear h o d port slot most run r has same is = next_has_clear h o d port slot most r has same is.holds is.can
 
 -- So many of the next sectors of a trim are cleared, or none: the rest is as it was, and the next one, if there is one, can be cleared.
 pub record IsPart {S : Type 0} (size : S → ℕ) (told : S → Option (ℕ → List ℕ)) (p : Port) (slot : Slot) (most first count : ℕ) (t : Taken) (old new : Model S) : Type 0 where
@@ -118,32 +123,31 @@ pub record IsPart {S : Type 0} (size : S → ℕ) (told : S → Option (ℕ → 
   pub disk_size : ((device_at size told new).port p.0).disk.size ≡ ((device_at size told old).port p.0).disk.size
   pub pages : GainsPages size old new
 
-module _ {S : Type 0} (size : S → ℕ) (told : S → Option (ℕ → List ℕ)) (failures : S → Option Failures) (p : Port) (slot : Slot) (most : ℕ) (m : Model S)
-    (h new : Hardware) (disk : S) (first count : ℕ) (r : TakenCommand) (at_zero : p.0 ≡ 0) (same : (o : Outside) → device_of h o ≡ device_of m.hardware o) where
+module _ {S : Type 0} (size : S → ℕ) (told : S → Option (ℕ → List ℕ)) (failures : S → Option Failures) (p : Port) (slot : Slot) (most : ℕ) (m then_model : Model S)
+    (a b : Bay S) (was : bay_of m p.0 ≡ Some a) (items : then_model.bays.items ≡ slice_set m.bays.items p.0 (Some b)) (rest : b ≡ with_store a b.disk.store)
+    (h : Hardware) (first count : ℕ) (r : TakenCommand) (same : (o : Outside) → device_of h o ≡ device_of m.hardware o) where
   abbrev old_device : Device
   old_device = device_at size told m
 
-  abbrev then_model : Model S
-  then_model = record m { hardware = new; disk = disk }
+  abbrev old_disk : Disk
+  old_disk = disk_over a.which (size a.disk.store) (told a.disk.store)
 
-  pub size_is : (old_device.port p.0).disk.size ≡ size m.disk
-  size_is = ap (λ (q : ℕ). (old_device.port q).disk.size) at_zero
+  abbrev new_disk : Disk
+  new_disk = disk_over a.which (size b.disk.store) (told b.disk.store)
 
-  abbrev was : List Disk
-  was = map (λ s. disk_over s.which (size s.store.value) (told s.store.value)) m.plugged.items
+  pub size_is : (old_device.port p.0).disk.size ≡ size a.disk.store
+  size_is = ap (λ x. (media_of size told x).disk.size) was
 
-  module _ (cleared : (o : Outside) → device_of new (outside_cleared o p.0 first count) ≡ after (Clear p.0 slot.0 (taken_of r) first count) (device_of h o))
-      (zeros : disk_over m.which (size disk) (told disk) ≡ disk_cleared (disk_over m.which (size m.disk) (told m.disk)) first count) where
+  module _ (cleared : (o : Outside) → device_of then_model.hardware (outside_cleared o p.0 first count) ≡ after (Clear p.0 slot.0 (taken_of r) first count) (device_of h o))
+      (zeros : new_disk ≡ disk_cleared old_disk first count) where
     clear_effect : device_at size told then_model ≡ after (Clear p.0 slot.0 (taken_of r) first count) old_device
     clear_effect =
         let o : Outside = outside_at size told m in
-        let behind : outside_of (disk_over m.which (size disk) (told disk)) (told m.other) was ≡ outside_cleared o p.0 first count =
-        outside_zeros (disk_over m.which (size m.disk) (told m.disk)) (disk_over m.which (size disk) (told disk)) (told m.other) was first count zeros
-        ∙ ap (λ (q : ℕ). outside_cleared o q first count) (sym at_zero) in
-        ap (λ (x : Outside). device_of new x) behind ∙ (cleared o ∙ ap (λ (d : Device). after (Clear p.0 slot.0 (taken_of r) first count) d) (same o))
+        ap (λ (x : Outside). device_of then_model.hardware x) (outside_zeros m then_model p.0 a b was items rest size told first count zeros)
+        ∙ (cleared o ∙ ap (λ (d : Device). after (Clear p.0 slot.0 (taken_of r) first count) d) (same o))
 
     some_part : HasClear old_device p.0 slot.0 most (taken_of r) → first ≡ next_uncleared (taken_of r) → 1 ≤ count → count ≤ span most (taken_of r) →
-        first + count ≤ size m.disk → IsPart size told p slot most first count (taken_of r) m then_model
+        first + count ≤ size a.disk.store → IsPart size told p slot most first count (taken_of r) m then_model
     some_part has start some few on_disk =
         let end : first + count ≤ (old_device.port p.0).disk.size = let is = size_is in omega (arith, on_disk, is) in
         let limit = span_most most (taken_of r) in
@@ -166,11 +170,11 @@ module _ {S : Type 0} (size : S → ℕ) (told : S → Option (ℕ → List ℕ)
         }
 
   -- none is
-  none_part : count ≡ 0 → new ≡ h → told disk ≡ told m.disk → size disk ≡ size m.disk → HasClear old_device p.0 slot.0 most (taken_of r) →
-      IsPart size told p slot most first count (taken_of r) m then_model
+  none_part : count ≡ 0 → then_model.hardware ≡ h → told b.disk.store ≡ told a.disk.store → size b.disk.store ≡ size a.disk.store →
+      HasClear old_device p.0 slot.0 most (taken_of r) → IsPart size told p slot most first count (taken_of r) m then_model
   none_part none left tells sizes has =
-      let kept : device_at size told then_model ≡ old_device =
-      (λ i. device_of (left i) (outside_of (disk_over m.which (sizes i) (tells i)) (told m.other) was)) ∙ same (outside_at size told m) in
+      let around : outside_at size told then_model ≡ outside_at size told m = outside_kept m then_model p.0 a b was items rest size told sizes tells in
+      let kept : device_at size told then_model ≡ old_device = (λ i. device_of (left i) (around i)) ∙ same (outside_at size told m) in
       let t : Taken = taken_of r in
       let here : t ≡ record t { cleared = t.cleared + count } =
       let number : t.cleared ≡ t.cleared + count = omega (arith, none) in ap (λ (n : ℕ). record t { cleared = n }) number in
@@ -184,17 +188,17 @@ module _ {S : Type 0} (size : S → ℕ) (told : S → Option (ℕ → List ℕ)
         more = λ fewer.
             subst (λ (x : Taken). HasClear (device_at size told then_model) p.0 slot.0 1 x) here
             (subst P (sym kept)
-            (record { has_disk = has.has_disk; works = has.works; trim = has.trim; moved = has.moved; some = omega arith; enough = omega (arith, some, enough) }));
+            (record { has_disks = has.has_disks; works = has.works; trim = has.trim; moved = has.moved; some = omega arith; enough = omega (arith, some, enough) }));
         disk_size = ap (λ (d : Device). (d.port p.0).disk.size) kept;
         pages = gains_none size m then_model (ap (λ (d : Device). d.tape) kept);
       }
 
   -- as many as the store has cleared
   pub is_part : HasClear old_device p.0 slot.0 most (taken_of r) → first ≡ next_uncleared (taken_of r) → count ≤ span most (taken_of r) →
-      (1 ≤ count → first + count ≤ size m.disk) → (count ≡ 0 → new ≡ h) → (count ≡ 0 → told disk ≡ told m.disk) → size disk ≡ size m.disk →
-      (1 ≤ count → (o : Outside) → device_of new (outside_cleared o p.0 first count) ≡ after (Clear p.0 slot.0 (taken_of r) first count) (device_of h o)) →
-      (1 ≤ count → disk_over m.which (size disk) (told disk) ≡ disk_cleared (disk_over m.which (size m.disk) (told m.disk)) first count) →
-      IsPart size told p slot most first count (taken_of r) m then_model
+      (1 ≤ count → first + count ≤ size a.disk.store) → (count ≡ 0 → then_model.hardware ≡ h) → (count ≡ 0 → told b.disk.store ≡ told a.disk.store) →
+      size b.disk.store ≡ size a.disk.store →
+      (1 ≤ count → (o : Outside) → device_of then_model.hardware (outside_cleared o p.0 first count) ≡ after (Clear p.0 slot.0 (taken_of r) first count) (device_of h o)) →
+      (1 ≤ count → new_disk ≡ disk_cleared old_disk first count) → IsPart size told p slot most first count (taken_of r) m then_model
   is_part has start few on_disk left tells sizes cleared zeros =
       elim (cases_lt 0 count) [
         | inl some ↦ some_part (cleared (omega (arith, some))) (zeros (omega (arith, some))) has start (omega (arith, some)) few (on_disk (omega (arith, some)))
@@ -202,35 +206,37 @@ module _ {S : Type 0} (size : S → ℕ) (told : S → Option (ℕ → List ℕ)
       ]
 
   -- of a run that the hardware has found, as far as it is on the disk
-  pub cut_part : (run on : Run) (sectors : ℕ) → first ≡ run.first → IsNextRun h p.0 slot.0 most run r → sectors ≡ size m.disk → on.first + on.count ≤ sectors →
+  pub cut_part : (run on : Run) (sectors : ℕ) → first ≡ run.first → IsNextRun h p.0 slot.0 most run r → sectors ≡ size a.disk.store → on.first + on.count ≤ sectors →
       on.count ≡ min run.count (sectors - run.first) → (1 ≤ on.count → on.first ≡ run.first) → count ≤ on.count →
-      disk_over m.which (size disk) (told disk) ≡ disk_cleared (disk_over m.which (size m.disk) (told m.disk)) on.first count →
-      (count ≡ 0 → told disk ≡ told m.disk) → size disk ≡ size m.disk → (count ≡ 0 → new ≡ h) →
-      (1 ≤ count → (o : Outside) → device_of new (outside_cleared o p.0 first count) ≡ after (Clear p.0 slot.0 (taken_of r) first count) (device_of h o)) →
+      new_disk ≡ disk_cleared old_disk on.first count → (count ≡ 0 → told b.disk.store ≡ told a.disk.store) → size b.disk.store ≡ size a.disk.store →
+      (count ≡ 0 → then_model.hardware ≡ h) →
+      (1 ≤ count → (o : Outside) → device_of then_model.hardware (outside_cleared o p.0 first count) ≡ after (Clear p.0 slot.0 (taken_of r) first count) (device_of h o)) →
       IsPart size told p slot most first count (taken_of r) m then_model
   cut_part run on sectors at is listed inside cut begins few zeros tells sizes left cleared =
       let whole : run.count ≡ span most (taken_of r) = is.count_is in
       let start : first ≡ next_uncleared (taken_of r) = at ∙ is.first_is in
       let on_first : 1 ≤ count → on.first ≡ first = λ (some : 1 ≤ count). begins (omega (arith, some, few)) ∙ sym at in
-      is_part (found_clear h (outside_at size told m) old_device p.0 slot.0 most run r at_zero (same (outside_at size told m)) is) start (omega (arith, few, cut, whole))
-      (λ some. let here = on_first some in omega (arith, here, inside, listed, few)) left tells sizes cleared
-      (λ some. zeros ∙ ap (λ (k : ℕ). disk_cleared (disk_over m.which (size m.disk) (told m.disk)) k count) (on_first some))
+      is_part (found_clear h (outside_at size told m) old_device p.0 slot.0 most run r (has_disks size told m p.0 a was) (same (outside_at size told m)) is) start
+      (omega (arith, few, cut, whole)) (λ some. let here = on_first some in omega (arith, here, inside, listed, few)) left tells sizes cleared
+      (λ some. zeros ∙ ap (λ (k : ℕ). disk_cleared old_disk k count) (on_first some))
 
   -- the next one can't be: its command fails on it
   pub part_fails : (small : slot.0 < 32) → HasClear old_device p.0 slot.0 most (taken_of r) → IsPart size told p slot most first count (taken_of r) m then_model →
-      count < span most (taken_of r) → (error : ℕ) → (last : Model S) → last.which ≡ m.which → failures last.disk ≡ failures disk →
-      IsCause true (first + count) (size m.disk) error (failures m.disk) (failures disk) → first ≡ next_uncleared (taken_of r) →
+      count < span most (taken_of r) → (error : ℕ) → (last : Model S) → failures_of failures last p.0 ≡ failures b.disk.store →
+      IsCause true (first + count) (size a.disk.store) error (failures a.disk.store) (failures b.disk.store) → first ≡ next_uncleared (taken_of r) →
       IsFailed size told failures p slot error (record (taken_of r) { cleared = r.cleared + count }) then_model last →
       HasFailed size told failures (asked.Clear p slot most) m last
-  part_fails small has part fewer error last which fine cause start failed =
+  part_fails small has part fewer error last fine cause start failed =
       let t : Taken = record (taken_of r) { cleared = r.cleared + count } in
       let more = part.more fewer in
       let next : next_uncleared t ≡ next_uncleared (taken_of r) + count = (next_on most count (taken_of r) fewer has.enough).1 in
       let sector : first + count ≡ next_uncleared t = (let same : first + count ≡ next_uncleared (taken_of r) + count = ap (λ (k : ℕ). k + count) start in same) ∙ sym next in
-      let sizes : size m.disk ≡ ((device_at size told then_model).port p.0).disk.size = sym size_is ∙ sym part.disk_size in
-      let P : Option Failures → Type 0 = λ now. IsCause true (next_uncleared t) ((device_at size told then_model).port p.0).disk.size error (failures m.disk) now in
-      let Q : ℕ → Type 0 = λ n. IsCause true (next_uncleared t) n error (failures m.disk) (failures disk) in
-      let R : ℕ → Type 0 = λ k. IsCause true k (size m.disk) error (failures m.disk) (failures disk) in
+      let sizes : size a.disk.store ≡ ((device_at size told then_model).port p.0).disk.size = sym size_is ∙ sym part.disk_size in
+      let then_size : ℕ = ((device_at size told then_model).port p.0).disk.size in
+      let P : Option Failures → Option Failures → Type 0 = λ before now. IsCause true (next_uncleared t) then_size error before now in
+      let Q : ℕ → Type 0 = λ n. IsCause true (next_uncleared t) n error (failures a.disk.store) (failures b.disk.store) in
+      let R : ℕ → Type 0 = λ k. IsCause true k (size a.disk.store) error (failures a.disk.store) (failures b.disk.store) in
+      let before : failures a.disk.store ≡ failures_of failures m p.0 = sym (ap (failing failures) was) in
       let plain : is_queued t.meaning.operation ≡ false = ap is_queued has.trim in
       let one : failed.fault.t ≡ t = failed.same in (
         device_at size told then_model,
@@ -239,9 +245,11 @@ module _ {S : Type 0} (size : S → ℕ) (told : S → Option (ℕ → List ℕ)
           t = t;
           clear = more;
           error = error;
-          cause = subst P (sym fine) (subst Q sizes (subst R sector cause));
+          cause = subst (λ x. P x (failures_of failures last p.0)) before (subst (P (failures a.disk.store)) (sym fine) (subst Q sizes (subst R sector cause)));
           can = subst (λ (x : Taken). Can (Fault p.0 slot.0 error 0 x) (device_at size told then_model)) one failed.fault.can;
           effect = failed.fault.effect ∙ ap (λ (x : Taken). after (Fault p.0 slot.0 error 0 x) (device_at size told then_model)) one;
-          log = failed.says ∙ ap (λ (b : Bool). if b then record m.says { log = Some (record { tag = slot.0; error = error }) } else m.says) plain;
+          log = failed.says
+              ∙ (ap (λ (x : Bool). if x then option_map (naming (record { tag = slot.0; error = error })) (says_of then_model p.0) else says_of then_model p.0) plain
+              ∙ store_says m then_model p.0 a b was items rest p.0);
         },
       )

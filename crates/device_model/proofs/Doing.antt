@@ -1,5 +1,6 @@
 -- What a model makes of a step that it is told.
-use Rattle.std.proofs.Common.{ℕ, Bool, true, false, ◌≡◌, ◌<◌, ◌≤◌, ◌^◌, ◌⊎◌, ◌∙◌, List, Option, Some, refl, sym, ap, subst, inl, inr}
+use Rattle.std.proofs.Common.{ℕ, Bool, true, false, ◌≡◌, ◌≢◌, ◌<◌, ◌≤◌, ◌^◌, ◌⊎◌, ◌∙◌, List, Option, Some, refl, sym, ap, subst, inl, inr}
+use Rattle.std.specs.Prelude.{option_map}
 use Rattle.adapter.specs.Asked.{DoesFault, GoesOn}
 use Rattle.adapter.specs.declared.access.DeviceStep.TheVariants as asked
 use Rattle.ata_types.specs.declared.Port.{Port}
@@ -11,26 +12,29 @@ use Rattle.adapter.proofs.Runs.{Steps-refl}
 use Rattle.adapter.specs.Steps.{Can, Steps}
 use Rattle.adapter.specs.Steps.Step.{Fault}
 use Rattle.sector_store.specs.declared.store.Failures.{Failures}
-use Rattle.device_model.specs.Does.{AnswersStep, AsksStore, ClearsFewer, Did, FailsToClear, FailsToMove, GoesOnSo, HasFailed, IsLeftOut, LacksMemory, NeedsAddresses, NoneFails, StepKeeps, Possible, says_failed}
-use Rattle.device_model.specs.Disks.{store_of}
+use Rattle.device_model.specs.Does.{AnswersStep, AsksStore, ClearsFewer, Did, FailsToClear, FailsToMove, GoesOnSo, HasFailed, IsLeftOut, LacksMemory, NeedsAddresses, NoneFails, StepKeeps, Possible, asked_port, says_failed}
+use Rattle.device_model.specs.Disks.{bay_of, disk_in, disk_of, failures_of, identity_of, says_of, which_of}
 use Rattle.device_model.specs.Modelled.{device_at}
 use Rattle.device_model.specs.Paged.{GainsPages}
-use Rattle.device_model.proofs.TwoDisks.{in_kept}
+use Rattle.device_model.proofs.TwoDisks.{each_port, failures_kept, identity_kept}
 use Rattle.device_model.specs.Sent.{SendsEnd}
 use Rattle.device_model.proofs.Posting.{did_may}
 use Rattle.device_model.proofs.Absurd.{some_one}
 use Rattle.device_model.specs.Finishing.{HasRoom}
 use Rattle.device_model.proofs.Telling.{gains_none, gains_on}
+use Rattle.device_model.specs.declared.bay.Bay.{Bay}
+use Rattle.device_model.specs.declared.disks.ModelDisk.{ModelDisk}
 use Rattle.device_model.specs.declared.disks.Which.{Which}
 use Rattle.device_model.specs.declared.model.Model.{Model}
 use Rattle.device_model.specs.declared.model.Queued.{Queued}
 use Rattle.std.specs.Global.{Vec}
 
--- what stays while a command goes on
-pub record Meanwhile {S : Type 0} (size : S → ℕ) (old new : Model S) : Type 0 where
+-- what stays while a command of a port goes on
+pub record Meanwhile {S : Type 0} (size : S → ℕ) (port : ℕ) (old new : Model S) : Type 0 where
   pub held : new.held ≡ old.held
-  pub says : new.says ≡ old.says
-  pub which : new.which ≡ old.which
+  pub says : says_of new port ≡ says_of old port
+  pub which : which_of new port ≡ which_of old port
+  pub others : (q : ℕ) → q ≢ port → bay_of new q ≡ bay_of old q
   pub pages : GainsPages size old new
   pub keeps : StepKeeps size old new
   pub starved : new.hardware.starved ≡ old.hardware.starved
@@ -43,23 +47,41 @@ same_flag false false forth back = refl
 
 module _ {S : Type 0} (size : S → ℕ) (told : S → Option (ℕ → List ℕ)) (failures : S → Option Failures) where
   pub keeps_same : (m : Model S) → StepKeeps size m m
-  keeps_same m = record { sectors = λ _. refl; out = λ _ _. refl; queue = refl; accesses = refl }
+  keeps_same m = record { identities = λ _ _. refl; out = λ _ _ _. refl; queue = refl; accesses = refl }
 
-  pub keeps_on : (a b c : Model S) → b.which ≡ a.which → StepKeeps size a b → StepKeeps size b c → StepKeeps size a c
+  pub keeps_on : (a b c : Model S) → ((q : ℕ) → which_of b q ≡ which_of a q) → StepKeeps size a b → StepKeeps size b c → StepKeeps size a c
   keeps_on a b c same first then = record {
-    out = λ w ne. then.out w (λ is. ne (is ∙ same)) ∙ first.out w ne;
-    sectors = λ w. then.sectors w ∙ first.sectors w;
+    out = λ q w ne. then.out q w (λ is. ne (sym (same q) ∙ is)) ∙ first.out q w ne;
+    identities = λ q w. then.identities q w ∙ first.identities q w;
     queue = then.queue ∙ first.queue;
     accesses = then.accesses ∙ first.accesses;
   }
 
-  pub meanwhile_on : (a b c : Model S) → Meanwhile size a b → Meanwhile size b c → Meanwhile size a c
-  meanwhile_on a b c first then = record {
+  -- what is so of the port is so of each, where no other one's disks are others
+  pub whichs : (port : ℕ) (a b : Model S) → which_of b port ≡ which_of a port → ((q : ℕ) → q ≢ port → bay_of b q ≡ bay_of a q) → (q : ℕ) → which_of b q ≡ which_of a q
+  whichs port a b here others = each_port (option_map (λ (x : Bay S). x.which)) a b port here others
+
+  pub all_say : (port : ℕ) (a b : Model S) → says_of b port ≡ says_of a port → ((q : ℕ) → q ≢ port → bay_of b q ≡ bay_of a q) → (q : ℕ) → says_of b q ≡ says_of a q
+  all_say port a b here others = each_port (option_map (λ (x : Bay S). x.says)) a b port here others
+
+  pub all_identities : (port : ℕ) (a b : Model S) → which_of b port ≡ which_of a port → ((q : ℕ) → q ≢ port → bay_of b q ≡ bay_of a q) → StepKeeps size a b →
+      (q : ℕ) → identity_of size b q ≡ identity_of size a q
+  all_identities port a b which others keeps q = identity_kept size a b q (whichs port a b which others q) (keeps.identities q)
+
+  -- pages that are gained later are as the disks said before
+  pub pages_on : (port : ℕ) (a b c : Model S) → says_of b port ≡ says_of a port → which_of b port ≡ which_of a port → ((q : ℕ) → q ≢ port → bay_of b q ≡ bay_of a q) →
+      StepKeeps size a b → GainsPages size a b → GainsPages size b c → GainsPages size a c
+  pages_on port a b c says which others keeps first then =
+      gains_on size a b c (all_say port a b says others) (all_identities port a b which others keeps) first then
+
+  pub meanwhile_on : (port : ℕ) (a b c : Model S) → Meanwhile size port a b → Meanwhile size port b c → Meanwhile size port a c
+  meanwhile_on port a b c first then = record {
     held = then.held ∙ first.held;
     says = then.says ∙ first.says;
     which = then.which ∙ first.which;
-    pages = gains_on size a b c first.says first.which (in_kept size a b first.which first.keeps.sectors) first.pages then.pages;
-    keeps = keeps_on a b c first.which first.keeps then.keeps;
+    others = λ q ne. then.others q ne ∙ first.others q ne;
+    pages = pages_on port a b c first.says first.which first.others first.keeps first.pages then.pages;
+    keeps = keeps_on a b c (whichs port a b first.which first.others) first.keeps then.keeps;
     starved = then.starved ∙ first.starved;
   }
 
@@ -70,6 +92,7 @@ module _ {S : Type 0} (size : S → ℕ) (told : S → Option (ℕ → List ℕ)
     held = refl;
     says = refl;
     which = refl;
+    others = λ _ _. refl;
     disks = λ _. refl;
     why = λ _ possible. absurd (never possible);
     keeps = keeps_same m;
@@ -101,7 +124,7 @@ module _ {S : Type 0} (size : S → ℕ) (told : S → Option (ℕ → List ℕ)
 
   -- the same, whatever is queued
   keeps_queued : (old new : Model S) (q : Vec Queued) → StepKeeps size old new → StepKeeps size (record old { queue = q }) (record new { queue = q })
-  keeps_queued old new q k = record { out = k.out; sectors = k.sectors; queue = refl; accesses = k.accesses }
+  keeps_queued old new q k = record { out = k.out; identities = k.identities; queue = refl; accesses = k.accesses }
 
   pub answers_queued : (s : DeviceStep) (answer : Bool) (old new : Model S) (q : Vec Queued) → AnswersStep size told failures s answer old new →
       AnswersStep size told failures s answer (record old { queue = q }) (record new { queue = q })
@@ -114,6 +137,7 @@ module _ {S : Type 0} (size : S → ℕ) (told : S → Option (ℕ → List ℕ)
       ];
       held = a.1.held;
       which = a.1.which;
+      others = a.1.others;
       pages = record { gained = a.1.pages.gained; tape = a.1.pages.tape; pages = a.1.pages.pages };
       disks = a.1.disks;
       keeps = keeps_queued old new q a.1.keeps;
@@ -125,6 +149,7 @@ module _ {S : Type 0} (size : S → ℕ) (told : S → Option (ℕ → List ℕ)
     held = a.held;
     says = a.says;
     which = a.which;
+    others = a.others;
     disks = a.disks;
     why = a.why;
     keeps = keeps_queued old new q a.keeps;
@@ -135,45 +160,57 @@ module _ {S : Type 0} (size : S → ℕ) (told : S → Option (ℕ → List ℕ)
   -- A Finish came to a step that was left, for which there was room, and which was possible. So it has no address.
   pub cut_short : (s : DeviceStep) (p : Port) (slot : Slot) (did : Bool) (old mid new : Model S) → Possible (asked.Finish p slot) (device_at size told old) →
       (did ≡ true → GoesOn (SendsEnd slot.0) p.0 slot.0 (device_at size told old) (device_at size told mid)) → (did ≡ false → device_at size told mid ≡ device_at size told old) →
-      Meanwhile size old mid → ((AsksStore (asked.Finish p slot) (device_at size told old) → ⊥) → (which : Which) → store_of mid which ≡ store_of old which) →
-      (did ≡ false → (which : Which) → store_of mid which ≡ store_of old which) → NoneFails failures old mid → IsLeftOut size told failures s mid new →
+      Meanwhile size p.0 old mid → ((AsksStore (asked.Finish p slot) (device_at size told old) → ⊥) → (which : Which) → disk_of mid p.0 which ≡ disk_of old p.0 which) →
+      (did ≡ false → (which : Which) → disk_of mid p.0 which ≡ disk_of old p.0 which) → NoneFails failures old mid → asked_port s ≡ p.0 → IsLeftOut size told failures s mid new →
       ((device_at size told old).size ≤ 2 ^ 32 → NeedsAddresses s (device_at size told mid)) → Possible s (device_at size told mid) →
-      (LacksMemory s (device_at size told mid) mid.hardware mid.plugged → ⊥) → (t : Taken) → ((device_at size told mid).port p.0).taken slot.0 ≡ Some t →
+      (LacksMemory s (device_at size told mid) mid.hardware (bay_of mid (asked_port s)) → ⊥) → (t : Taken) → ((device_at size told mid).port p.0).taken slot.0 ≡ Some t →
       AnswersStep size told failures (asked.Finish p slot) did old new
-  cut_short s p slot did old mid new may went stayed meanwhile same untouched none step needs possible room t taken = by did went stayed untouched
+  cut_short s p slot did old mid new may went stayed meanwhile same untouched none at step needs possible room t taken = by did went stayed untouched
     where
+      -- what it leaves of its port
+      of_port : {X : Type 0} (f : Model S → ℕ → X) → f new (asked_port s) ≡ f mid (asked_port s) → f new p.0 ≡ f mid p.0
+      of_port f here = subst (λ q. f new q ≡ f mid q) at here
+
+      others : (q : ℕ) → q ≢ p.0 → bay_of new q ≡ bay_of mid q
+      others q ne = step.others q (λ is. ne (is ∙ at))
+
+      disks : (q : ℕ) (which : Which) → disk_of new q which ≡ disk_of mid q which
+      disks q which = each_port (option_map (λ (x : Bay S). disk_in x which)) mid new p.0 (of_port (λ m k. disk_of m k which) (step.disks which)) others q
+
       unserved : (device_at size told old).size ≤ 2 ^ 32 → ⊥
       unserved small_enough = room (step.why (needs small_enough) possible).0
 
       told_before : new.hardware.starved ≡ true → mid.hardware.starved ≡ true
       told_before now = elim (step.starved_since now) [ inl before ↦ before | inr lacks ↦ absurd (room lacks.1) ]
 
-      all : Meanwhile size old new
-      all = meanwhile_on old mid new meanwhile (record {
+      all : Meanwhile size p.0 old new
+      all = meanwhile_on p.0 old mid new meanwhile (record {
         held = step.held;
-        says = step.says;
-        which = step.which;
+        says = of_port says_of step.says;
+        which = of_port which_of step.which;
+        others = others;
         pages = gains_none size mid new (ap (λ (d : Device). d.tape) step.device);
         keeps = step.keeps;
         starved = same_flag mid.hardware.starved new.hardware.starved step.starved_on told_before;
       })
 
       by : (b : Bool) → (b ≡ true → GoesOn (SendsEnd slot.0) p.0 slot.0 (device_at size told old) (device_at size told mid)) →
-          (b ≡ false → device_at size told mid ≡ device_at size told old) → (b ≡ false → (which : Which) → store_of mid which ≡ store_of old which) →
+          (b ≡ false → device_at size told mid ≡ device_at size told old) → (b ≡ false → (which : Which) → disk_of mid p.0 which ≡ disk_of old p.0 which) →
           AnswersStep size told failures (asked.Finish p slot) b old new
       by true on stays first = (
         may,
         record {
           came = inl (record {
             asked = subst (λ (d : Device). GoesOn (SendsEnd slot.0) p.0 slot.0 (device_at size told old) d) (sym step.device) (on refl);
-            fine = λ which. ap failures (step.disks which) ∙ none which;
+            fine = λ q which. ap (option_map (λ (x : ModelDisk S). failures x.store)) (disks q which) ∙ none q which;
             says = all.says;
             ends = λ small_enough. absurd (unserved small_enough);
           });
           held = all.held;
           which = all.which;
+          others = all.others;
           pages = all.pages;
-          disks = λ never which. step.disks which ∙ same never which;
+          disks = λ never which. disks p.0 which ∙ same never which;
           keeps = all.keeps;
           starved = all.starved;
         },
@@ -183,7 +220,8 @@ module _ {S : Type 0} (size : S → ℕ) (told : S → Option (ℕ → List ℕ)
         held = all.held;
         says = all.says;
         which = all.which;
-        disks = λ which. step.disks which ∙ first refl which;
+        others = all.others;
+        disks = λ which. disks p.0 which ∙ first refl which;
         why = λ served _.
             let there = ap (λ (d : Device). (d.port p.0).taken slot.0) (sym (stays refl)) ∙ taken in
             absurd (unserved (served t there));
@@ -200,23 +238,25 @@ module _ {S : Type 0} (size : S → ℕ) (told : S → Option (ℕ → List ℕ)
 
   module _ (p : Port) (slot : Slot) (did : Bool) (old mid new : Model S) (may : Possible (asked.Finish p slot) (device_at size told old))
       (went : did ≡ true → GoesOn (SendsEnd slot.0) p.0 slot.0 (device_at size told old) (device_at size told mid))
-      (stayed : did ≡ false → device_at size told mid ≡ device_at size told old) (meanwhile : Meanwhile size old mid)
+      (stayed : did ≡ false → device_at size told mid ≡ device_at size told old) (meanwhile : Meanwhile size p.0 old mid)
       (asks : AsksStore (asked.Finish p slot) (device_at size told old)) (none : NoneFails failures old mid) where
-    fine : failures mid.disk ≡ failures old.disk
-    fine = in_kept failures old mid meanwhile.which none
+    fine : failures_of failures mid p.0 ≡ failures_of failures old p.0
+    fine = failures_kept failures old mid p.0 meanwhile.which (none p.0)
 
     -- a Finish came to a sector on which its command failed
-    fails_finish : new.held ≡ mid.held → new.which ≡ mid.which → GainsPages size mid new → StepKeeps size mid new → new.hardware.starved ≡ mid.hardware.starved →
+    fails_finish : new.held ≡ mid.held → which_of new p.0 ≡ which_of mid p.0 → ((q : ℕ) → q ≢ p.0 → bay_of new q ≡ bay_of mid q) → GainsPages size mid new →
+        StepKeeps size mid new → new.hardware.starved ≡ mid.hardware.starved →
         HasFailed size told failures (asked.Finish p slot) old new → AnswersStep size told failures (asked.Finish p slot) true old new
-    fails_finish held which pages keeps starved failed = (
+    fails_finish held which others pages keeps starved failed = (
       may,
       record {
         came = inr failed;
         held = held ∙ meanwhile.held;
         which = which ∙ meanwhile.which;
-        pages = gains_on size old mid new meanwhile.says meanwhile.which (in_kept size old mid meanwhile.which meanwhile.keeps.sectors) meanwhile.pages pages;
+        others = λ q ne. others q ne ∙ meanwhile.others q ne;
+        pages = pages_on p.0 old mid new meanwhile.says meanwhile.which meanwhile.others meanwhile.keeps meanwhile.pages pages;
         disks = λ never. absurd (never asks);
-        keeps = keeps_on old mid new meanwhile.which meanwhile.keeps keeps;
+        keeps = keeps_on old mid new (whichs p.0 old mid meanwhile.which meanwhile.others) meanwhile.keeps keeps;
         starved = starved ∙ meanwhile.starved;
       },
     )
@@ -224,21 +264,21 @@ module _ {S : Type 0} (size : S → ℕ) (told : S → Option (ℕ → List ℕ)
     pub move_fails : Did size told failures (asked.Move p slot) mid new → HasFailed size told failures (asked.Move p slot) mid new →
         AnswersStep size told failures (asked.Finish p slot) true old new
     move_fails step f =
-        fails_finish step.held step.which step.pages step.keeps step.starved (
+        fails_finish step.held step.which step.others step.pages step.keeps step.starved (
           device_at size told mid,
           before_it p slot did _ _ went stayed,
-          inl (subst (λ was. FailsToMove p.0 slot.0 was (failures new.disk) old.says new.says (device_at size told mid) (device_at size told new)) fine
-              (subst (λ says. FailsToMove p.0 slot.0 (failures mid.disk) (failures new.disk) says new.says (device_at size told mid) (device_at size told new)) meanwhile.says f)),
+          inl (subst (λ was. FailsToMove p.0 slot.0 was (failures_of failures new p.0) (says_of old p.0) (says_of new p.0) (device_at size told mid) (device_at size told new)) fine
+              (subst (λ says. FailsToMove p.0 slot.0 (failures_of failures mid p.0) (failures_of failures new p.0) says (says_of new p.0) (device_at size told mid) (device_at size told new)) meanwhile.says f)),
         )
 
     pub clear_fails : (most : ℕ) → Did size told failures (asked.Clear p slot most) mid new → HasFailed size told failures (asked.Clear p slot most) mid new →
         AnswersStep size told failures (asked.Finish p slot) true old new
     clear_fails most step (last, cleared, f) =
-        fails_finish step.held step.which step.pages step.keeps step.starved (
+        fails_finish step.held step.which step.others step.pages step.keeps step.starved (
           last,
           on cleared,
-          inr (subst (λ was. FailsToClear p.0 slot.0 was (failures new.disk) old.says new.says last (device_at size told new)) fine
-              (subst (λ says. FailsToClear p.0 slot.0 (failures mid.disk) (failures new.disk) says new.says last (device_at size told new)) meanwhile.says f)),
+          inr (subst (λ was. FailsToClear p.0 slot.0 was (failures_of failures new p.0) (says_of old p.0) (says_of new p.0) last (device_at size told new)) fine
+              (subst (λ says. FailsToClear p.0 slot.0 (failures_of failures mid p.0) (failures_of failures new p.0) says (says_of new p.0) last (device_at size told new)) meanwhile.says f)),
         )
       where
         on : (last ≡ device_at size told mid) ⊎ ClearsFewer p.0 slot.0 most (device_at size told mid) last →
@@ -254,11 +294,12 @@ module _ {S : Type 0} (size : S → ℕ) (told : S → Option (ℕ → List ℕ)
   pub record IsFailed (p : Port) (slot : Slot) (error : ℕ) (t : Taken) (old new : Model S) : Type 0 where
     pub fault : DoesFault p.0 slot.0 error (device_at size told old) (device_at size told new)
     pub same : fault.t ≡ t
-    pub says : new.says ≡ says_failed (Some t) slot.0 error old.says
+    pub says : says_of new p.0 ≡ says_failed (Some t) slot.0 error (says_of old p.0)
     pub held : new.held ≡ old.held
-    pub which : new.which ≡ old.which
+    pub which : which_of new p.0 ≡ which_of old p.0
+    pub others : (q : ℕ) → q ≢ p.0 → bay_of new q ≡ bay_of old q
     pub pages : GainsPages size old new
-    pub stores : (which : Which) → store_of new which ≡ store_of old which
+    pub disks : (which : Which) → disk_of new p.0 which ≡ disk_of old p.0 which
     pub keeps : StepKeeps size old new
     pub starved : new.hardware.starved ≡ old.hardware.starved
 
@@ -272,11 +313,12 @@ module _ {S : Type 0} (size : S → ℕ) (told : S → Option (ℕ → List ℕ)
             record {
               fault = whole.asked;
               same = one;
-              says = whole.says ∙ ap (λ (x : Option Taken). says_failed x slot.0 error old.says) can.taken;
+              says = whole.says ∙ ap (λ (x : Option Taken). says_failed x slot.0 error (says_of old p.0)) can.taken;
               held = a.1.held;
               which = a.1.which;
+              others = a.1.others;
               pages = a.1.pages;
-              stores = a.1.disks (λ never. never);
+              disks = a.1.disks (λ never. never);
               keeps = a.1.keeps;
               starved = a.1.starved;
             }
@@ -286,26 +328,32 @@ module _ {S : Type 0} (size : S → ℕ) (told : S → Option (ℕ → List ℕ)
   -- ---- what the model does by itself
 
   pub goes_so_same : (m : Model S) → GoesOnSo size m m
-  goes_so_same m = record { held = refl; says = refl; which = refl; pages = gains_none size m m refl; keeps = keeps_same m; starved_on = λ yes. yes }
+  goes_so_same m = record { held = refl; says = λ _. refl; which = λ _. refl; pages = gains_none size m m refl; keeps = keeps_same m; starved_on = λ yes. yes }
 
   pub goes_so_on : (a b c : Model S) → GoesOnSo size a b → GoesOnSo size b c → GoesOnSo size a c
   goes_so_on a b c first then = record {
     held = then.held ∙ first.held;
-    says = then.says ∙ first.says;
-    which = then.which ∙ first.which;
-    pages = gains_on size a b c first.says first.which (in_kept size a b first.which first.keeps.sectors) first.pages then.pages;
+    says = λ q. then.says q ∙ first.says q;
+    which = λ q. then.which q ∙ first.which q;
+    pages = gains_on size a b c first.says (λ q. identity_kept size a b q (first.which q) (first.keeps.identities q)) first.pages then.pages;
     keeps = keeps_on a b c first.which first.keeps then.keeps;
     starved_on = λ yes. then.starved_on (first.starved_on yes);
   }
 
   pub finish_goes_so : (p : Port) (slot : Slot) (answer : Bool) (old new : Model S) → AnswersStep size told failures (asked.Finish p slot) answer old new →
-      (answer ≡ true → new.says ≡ old.says) → GoesOnSo size old new
-  finish_goes_so p slot true old new a says =
-      record { held = a.1.held; says = says refl; which = a.1.which; pages = a.1.pages; keeps = a.1.keeps; starved_on = λ yes. a.1.starved ∙ yes }
+      (answer ≡ true → says_of new p.0 ≡ says_of old p.0) → GoesOnSo size old new
+  finish_goes_so p slot true old new a says = record {
+    held = a.1.held;
+    says = all_say p.0 old new (says refl) a.1.others;
+    which = whichs p.0 old new a.1.which a.1.others;
+    pages = a.1.pages;
+    keeps = a.1.keeps;
+    starved_on = λ yes. a.1.starved ∙ yes;
+  }
   finish_goes_so p slot false old new a says = record {
     held = a.held;
-    says = a.says;
-    which = a.which;
+    says = all_say p.0 old new a.says a.others;
+    which = whichs p.0 old new a.which a.others;
     pages = gains_none size old new (ap (λ (d : Device). d.tape) a.device);
     keeps = a.keeps;
     starved_on = a.starved_on;

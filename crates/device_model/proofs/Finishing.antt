@@ -1,38 +1,36 @@
 -- A command that may be done is taken, goes on piece by piece and clear by clear, and ends.
-use Rattle.std.proofs.Common.{ℕ, Bool, true, false, zero, suc, ◌≡◌, ◌<◌, ◌≤◌, ◌+◌, ◌⊎◌, ◌&&◌, List, [], ◌∷◌, ◌++◌, length, slice_index, slice_index_or, Option, None, Some, refl, sym, ◌∙◌, ap, subst, inl, inr, arith}
-use Rattle.std.specs.Prelude.{is_some, if◌then◌else◌}
-use Rattle.std.proofs.lemmas.Bool.Decides.{eqb_tells}
+use Rattle.std.proofs.Common.{[], ◌∷◌, ℕ, Bool, true, false, zero, suc, ◌≡◌, ◌<◌, ◌≤◌, ◌+◌, ◌⊎◌, List, length, slice_index, slice_index_or, Option, None, Some, refl, sym, ◌∙◌, ap, subst, inl, inr, arith}
+use Rattle.std.specs.Prelude.{if◌then◌else◌}
 use Rattle.adapter.specs.Asked.{DoesClear, DoesFetch, DoesMove, DoesDone, DoesOne, DoesSome, Ends, GoesOn}
 use Rattle.adapter.specs.Commands.{Meaning, is_queued, is_ranged}
 use Rattle.adapter.specs.Device.{Disk, Taken, Halt, PortState, Device}
 use Rattle.adapter.specs.Memory.{changed}
 use Rattle.adapter.specs.OneCommand.{IsFreeSlot}
 use Rattle.adapter.specs.Says.{pieces}
-use Rattle.adapter.specs.Steps.{Can, IsWorking, WorksOn, admits, begun, Brings, next_sector, with_fetch, with_move, with_clear, with_done, block_after, disk_after, disk_cleared}
+use Rattle.adapter.specs.Steps.{Can, IsWorking, WorksOn, admits, begun, Brings, next_sector, with_fetch, with_move, with_clear, with_done, block_after}
 use Rattle.adapter.specs.Steps.Step.{Fetch, Move, Done}
 use Rattle.adapter.specs.declared.command.Operation.{Operation}
 use Rattle.adapter.specs.declared.command.Operation.TheVariants.{Trim}
-use Rattle.device_model.proofs.Absurd.{some-none, some_one}
-use Rattle.adapter.proofs.Changed.{fun_ext, changed_same, changed_other}
+use Rattle.device_model.proofs.Absurd.{some-none, some_one, true-false}
+use Rattle.device_model.proofs.Places.{changed_same}
 use Rattle.adapter.proofs.SaysLemmas.{says_meaning, says_places}
 use Rattle.device_model.specs.Does.{HasCleared, HasEnded}
 use Rattle.device_model.specs.Finishing.{HasDisk, HasMove, IsCovered, IsGoing, MayFinish}
 use Rattle.device_model.specs.Sent.{SendsEnd}
 use Rattle.device_model.specs.Slots.{CanClear, HoldsAt, IsNext}
 use Rattle.device_model.specs.Trims.{HasClear, WillClear, span, uncleared}
-use Rattle.device_model.specs.View.{Media, halt_of, held_in, media_after, media_cleared, operation_of, taken_of, blank}
-use Rattle.device_model.specs.Whole.{Outside, device_of, no_media, outside_of, outside_after, outside_cleared, outside_plugged}
+use Rattle.device_model.specs.View.{halt_of, held_in, operation_of, taken_of, blank}
+use Rattle.device_model.specs.Whole.{HasDisks, Outside, device_of}
 use Rattle.device_model.specs.declared.port.PortModel.{PortModel}
 use Rattle.device_model.specs.declared.hardware.Hardware.{Hardware}
 use Rattle.device_model.specs.declared.port.TakenCommand.{TakenCommand}
 use Rattle.device_model.specs.declared.port.Transfer.{Transfer}
 use Rattle.device_model.specs.declared.port.Transfer.TheVariants as transfer
 use Rattle.device_model.specs.declared.steps.NextMove.{NextMove}
-use Rattle.device_model.proofs.Cleared.{cleared_tells}
 use Rattle.device_model.proofs.Posting.{end_rest}
 use Rattle.device_model.proofs.Trimming.{is_a_trim, moved_clears, none_left, some_uncleared, span_less}
 use Rattle.device_model.proofs.SlotLemmas.{slot_taken, taken_slot}
-use Rattle.device_model.proofs.Transfers.{is_trim, still_tells, transfer_of}
+use Rattle.device_model.proofs.Transfers.{is_trim, transfer_of}
 
 cleared : (queued : Bool) (p : PortState) (slot : ℕ) →
     (if queued then (if queued then changed p.sact slot false else p.sact) slot else (if queued then p.ci else changed p.ci slot false) slot) ≡ false
@@ -285,7 +283,7 @@ holds h o port slot t works =
       w.2,
     )
 
--- what a move of port 0 that is possible says of the command
+-- what a move that is possible says of the command
 pub record MoveFits (h : Hardware) (port slot : ℕ) : Type 0 where
   pub r : TakenCommand
   pub holds : HoldsAt (slice_index_or h.ports port blank) slot r
@@ -301,25 +299,15 @@ move_fits h o d port slot t same move =
     let here : HasMove (device_of h o) port slot (taken_of w.0) = subst Q w.2 on_port in
     record { r = w.0; holds = w.1; left = here.left; inside = here.inside }
 
--- what the hardware finds to move next is possible on port 0
-pub next_has_move : (h : Hardware) (o : Outside) (d : Device) (port slot : ℕ) (next : NextMove) (r : TakenCommand) → port ≡ 0 → device_of h o ≡ d →
+-- what the hardware finds to move next is possible on a port that has disks
+pub next_has_move : (h : Hardware) (o : Outside) (d : Device) (port slot : ℕ) (next : NextMove) (r : TakenCommand) → HasDisks d port → device_of h o ≡ d →
     IsNext h port slot next r → HasMove d port slot (taken_of r)
-next_has_move h o d port slot next r at_zero same is =
+next_has_move h o d port slot next r has same is =
     let P : Device → Type 0 = λ x. HasMove x port slot (taken_of r) in
     let place : next.address ≡ slice_index (pieces r.prds) r.moved = is.address_is in
     let there = is.inside in
-    subst P same (record { works = is.holds.works (o.media port); left = is.left; inside = omega (arith, place, there); has_disk = at_zero })
-
--- a port that has a disk with sectors is port 0
-pub sized_zero : (disk : Disk) (other : Option (ℕ → List ℕ)) (plugged : List Disk) (port sector : ℕ) →
-    sector < ((outside_of disk other plugged).media port).disk.size → port ≡ 0
-sized_zero disk other plugged port sector below =
-    elim (eqb_tells port 0) [
-      | inl here ↦ here.1
-      | inr there ↦
-          let none : ((outside_of disk other plugged).media port).disk.size ≡ 0 = rw there.0 refl in
-          absurd (omega (arith, below, none))
-    ]
+    let Q : Device → Type 0 = λ x. HasDisks x port in
+    subst P same (record { works = is.holds.works (o.media port); left = is.left; inside = omega (arith, place, there); has_disks = subst Q (sym same) has })
 
 -- a move of a device is of a sector on its disk, if it is of one
 brings_on_disk : (disk : Disk) (memory : ℕ → ℕ) (t : Taken) (k : Transfer) (bytes : List ℕ) → is_ranged (operation_of k) ≡ true →
@@ -333,43 +321,38 @@ brings_on_disk disk memory t transfer.Flush bytes ranged brings = absurd (cc ran
 brings_on_disk disk memory t transfer.Trim bytes ranged brings = absurd (cc ranged)
 brings_on_disk disk memory t transfer.ReadLog bytes ranged brings = absurd (cc ranged)
 
--- where a move may be made on a port that has a disk, it is possible
-pub has_move : (h : Hardware) (disk : Disk) (other : Option (ℕ → List ℕ)) (plugged : List Disk) (port slot : ℕ) (t : Taken) (bytes : List ℕ) →
-    HasDisk port t.meaning.operation → Can (Move port slot t bytes) (device_of h (outside_of disk other plugged)) →
-    HasMove (device_of h (outside_of disk other plugged)) port slot t
-has_move h disk other plugged port slot t bytes has can =
-    record { works = can.works; left = can.left; inside = can.inside; has_disk = elim has [ inl here ↦ here | inr ranged ↦ on ranged ] }
+-- where a move may be made on a port that has disks, it is possible
+pub has_move : (d : Device) (port slot : ℕ) (t : Taken) (bytes : List ℕ) → ((sector : ℕ) → sector < (d.port port).disk.size → HasDisks d port) →
+    HasDisk d port t.meaning.operation → Can (Move port slot t bytes) d → HasMove d port slot t
+has_move d port slot t bytes sized has can =
+    record { works = can.works; left = can.left; inside = can.inside; has_disks = elim has [ inl here ↦ here | inr ranged ↦ on ranged ] }
   where
-    d : Device
-    d = device_of h (outside_of disk other plugged)
-
-    on : is_ranged t.meaning.operation ≡ true → port ≡ 0
+    on : is_ranged t.meaning.operation ≡ true → HasDisks d port
     on ranged =
         let kind = transfer_of t.meaning.operation in
         let P : Operation → Type 0 = λ o. Brings (d.port port).disk d.memory t o bytes in
-        sized_zero disk other plugged port (next_sector t)
-        (brings_on_disk (d.port port).disk d.memory t kind.0 bytes (ap is_ranged (sym kind.1) ∙ ranged) (subst P kind.1 can.brings))
+        sized (next_sector t) (brings_on_disk (d.port port).disk d.memory t kind.0 bytes (ap is_ranged (sym kind.1) ∙ ranged) (subst P kind.1 can.brings))
 
 -- where a move is left, one is possible
-pub going_has_move : (d : Device) (port slot left clears : ℕ) → port ≡ 0 → (going : IsGoing d port slot (suc left) clears) → HasMove d port slot going.t
-going_has_move d port slot left clears at_zero going =
+pub going_has_move : (d : Device) (port slot left clears : ℕ) → HasDisks d port → (going : IsGoing d port slot (suc left) clears) → HasMove d port slot going.t
+going_has_move d port slot left clears has going =
     let t : Taken = going.t in
     record {
       works = going.works;
       left = omega (arith, going.covered.left_is);
       inside = going.covered.inside t.moved (omega (arith, going.covered.left_is));
-      has_disk = at_zero;
+      has_disks = has;
     }
 
 -- where a clear is left, one is possible
-pub going_has_clear : (d : Device) (port slot clears : ℕ) → port ≡ 0 → (going : IsGoing d port slot 0 (suc clears)) →
+pub going_has_clear : (d : Device) (port slot clears : ℕ) → HasDisks d port → (going : IsGoing d port slot 0 (suc clears)) →
     HasClear d port slot (length (uncleared going.t)) going.t
-going_has_clear d port slot clears at_zero going =
+going_has_clear d port slot clears has going =
     let t : Taken = going.t in
     let all : t.moved ≡ length t.places = omega (arith, going.covered.left_is) in
     let trim = is_a_trim d.memory t clears all going.clearing in
     record {
-      has_disk = at_zero;
+      has_disks = has;
       works = subst (λ (o : Operation). WorksOn (d.port port) slot t o) trim going.works;
       trim = trim;
       moved = all;
@@ -388,14 +371,14 @@ clear_fits h o d port slot most t same clear =
     let here : HasClear (device_of h o) port slot most (taken_of w.0) = subst Q w.2 on_port in
     (w.0, w.1, record { trim = is_trim w.0.transfer here.trim; moved = here.moved; some = here.some; enough = here.enough }, w.2)
 
--- and where the hardware finds one, it is possible on port 0
-pub next_has_clear : (h : Hardware) (o : Outside) (d : Device) (port slot most : ℕ) (r : TakenCommand) → port ≡ 0 → device_of h o ≡ d →
+-- and where the hardware finds one, it is possible on a port that has disks
+pub next_has_clear : (h : Hardware) (o : Outside) (d : Device) (port slot most : ℕ) (r : TakenCommand) → HasDisks d port → device_of h o ≡ d →
     HoldsAt (slice_index_or h.ports port blank) slot r → CanClear r most → HasClear d port slot most (taken_of r)
-next_has_clear h o d port slot most r at_zero same holds can =
+next_has_clear h o d port slot most r has same holds can =
     let P : Device → Type 0 = λ x. HasClear x port slot most (taken_of r) in
     let trim : operation_of r.transfer ≡ Trim = ap operation_of can.trim in
     subst P same (record {
-      has_disk = at_zero;
+      has_disks = subst (λ (x : Device). HasDisks x port) (sym same) has;
       works = subst (λ (x : Operation). WorksOn ((device_of h o).port port) slot (taken_of r) x) trim (holds.works (o.media port));
       trim = trim;
       moved = can.moved;
@@ -403,79 +386,29 @@ next_has_clear h o d port slot most r at_zero same holds can =
       enough = can.enough;
     })
 
--- ---- what is behind port 0 after a move, or a clear
-
-pub outside_zeros : (disk new : Disk) (other : Option (ℕ → List ℕ)) (plugged : List Disk) (first count : ℕ) → new ≡ disk_cleared disk first count →
-    outside_of new other plugged ≡ outside_cleared (outside_of disk other plugged) 0 first count
-outside_zeros disk new other plugged first count is = λ i. record { telling = tells i; media = fun_ext behind i }
-  where
-    old : Outside
-    old = outside_of disk other plugged
-
-    tells : is_some new.sectors && is_some other ≡ (is_some disk.sectors && is_some other)
-    tells = ap (λ b. b && is_some other) (ap (λ (d : Disk). is_some d.sectors) is ∙ cleared_tells disk first count)
-
-    behind : (k : ℕ) → (outside_of new other plugged).media k ≡ (outside_cleared old 0 first count).media k
-    behind k =
-        elim (eqb_tells k 0) [
-          | inl here ↦
-              rw here.1 (ap (λ (d : Disk). record { disk = d; plugged = plugged }) is ∙ sym (changed_same old.media 0 (media_cleared (old.media 0) first count)))
-          | inr there ↦
-              let was : old.media k ≡ no_media = rw there.0 refl in
-              rw there.0 (sym was ∙ sym (changed_other old.media 0 (media_cleared (old.media 0) first count) k there.1))
-        ]
-
-pub outside_moved : (disk new : Disk) (other : Option (ℕ → List ℕ)) (plugged : List Disk) (next : NextMove) (r : TakenCommand) (bytes : List ℕ) →
-    next.transfer ≡ r.transfer → next.sector ≡ next_sector (taken_of r) →
-    new ≡ disk_after (operation_of next.transfer) disk next.sector bytes →
-    outside_of new other plugged ≡ outside_after (outside_of disk other plugged) 0 (taken_of r) bytes
-outside_moved disk new other plugged next r bytes kind sector is = λ i. record { telling = tells i; media = fun_ext behind i }
-  where
-    is_after : new ≡ disk_after (operation_of r.transfer) disk (next_sector (taken_of r)) bytes
-    is_after = is ∙ (λ i. disk_after (operation_of (kind i)) disk (sector i) bytes)
-
-    tells : is_some new.sectors && is_some other ≡ (is_some disk.sectors && is_some other)
-    tells =
-        ap (λ b. b && is_some other)
-        (ap (λ (d : Disk). is_some d.sectors) is_after ∙ still_tells r.transfer disk (next_sector (taken_of r)) bytes)
-
-    behind : (k : ℕ) → (outside_of new other plugged).media k ≡ (outside_after (outside_of disk other plugged) 0 (taken_of r) bytes).media k
-    behind k =
-        let old : Outside = outside_of disk other plugged in
-        elim (eqb_tells k 0) [
-          | inl here ↦
-              rw here.1
-              (ap (λ (d : Disk). record { disk = d; plugged = plugged }) is_after
-              ∙ sym (changed_same old.media 0 (media_after (old.media 0) (taken_of r) bytes)))
-          | inr there ↦
-              let was : old.media k ≡ no_media = rw there.0 refl in
-              rw there.0 (sym was ∙ sym (changed_other old.media 0 (media_after (old.media 0) (taken_of r) bytes) k there.1))
-        ]
-
 -- ---- memory stays as large
 
 pub fetched_size : (port slot : ℕ) (did : Bool) (old new : Device) → (did ≡ true → DoesFetch port slot old new) → (did ≡ false → new ≡ old) → new.size ≡ old.size
 fetched_size port slot true old new fetched same = ap (λ (d : Device). d.size) (fetched refl).effect
 fetched_size port slot false old new fetched same = ap (λ (d : Device). d.size) (same refl)
 
--- ---- what is behind port 0 after a disk was put in, while the other one was put aside
+-- ---- a port past the last one
 
-pub outside_put : (disk last : Disk) (other was : Option (ℕ → List ℕ)) (plugged : List Disk) →
-    is_some disk.sectors && is_some other ≡ (is_some last.sectors && is_some was) →
-    outside_of disk other (plugged ++ disk ∷ []) ≡ outside_plugged (outside_of last was plugged) disk
-outside_put disk last other was plugged tells = λ i. record { telling = tells i; media = fun_ext behind i }
+pub past_last : {X : Type 0} (xs : List X) (k : ℕ) (d : X) → length xs ≤ k → slice_index_or xs k d ≡ d
+past_last [] k d past = refl
+past_last (x ∷ xs) zero d past = absurd (omega (arith, past))
+past_last (x ∷ xs) (suc k) d past = past_last xs k d (omega (arith, past))
+
+-- nothing can be done on it
+pub never_past : (h : Hardware) (o : Outside) (port slot left clears : ℕ) → length h.ports ≤ port → MayFinish (device_of h o) port slot left clears → ⊥
+never_past h o port slot left clears past may = by may.begins
   where
-    old : Outside
-    old = outside_of last was plugged
+    d : Device
+    d = device_of h o
 
-    put : Media
-    put = record { disk = disk; plugged = plugged ++ disk ∷ [] }
+    stopped : ((device_of h o).port port).cr ≡ true → ⊥
+    stopped runs = let off : (slice_index_or h.ports port blank).cr ≡ false = ap (λ (p : PortModel). p.cr) (past_last h.ports port blank past) in true-false runs off
 
-    behind : (k : ℕ) → (outside_of disk other (plugged ++ disk ∷ [])).media k ≡ changed old.media 0 put k
-    behind k =
-        elim (eqb_tells k 0) [
-          | inl here ↦ rw here.1 (sym (changed_same old.media 0 put))
-          | inr there ↦
-              let was : old.media k ≡ no_media = rw there.0 refl in
-              rw there.0 (sym was ∙ sym (changed_other old.media 0 put k there.1))
-        ]
+    by : WorksOn (d.port port) slot may.t may.t.meaning.operation ⊎ (Can (Fetch port slot may.t.meaning may.t.places) d × (may.t ≡ begun may.t.meaning may.t.places)) → ⊥
+    by (inl works) = stopped works.working.running
+    by (inr begins) = stopped begins.0.working.running

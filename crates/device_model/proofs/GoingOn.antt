@@ -6,7 +6,7 @@ use Rattle.adapter.specs.Memory.{changed}
 use Rattle.adapter.specs.Asked.{DoesOne, DoesSome, GoesOn}
 use Rattle.adapter.specs.Steps.{MayLinkUp, with_clear, with_done, with_fetch, with_link, with_move, with_port, with_reset}
 use Rattle.adapter.specs.Steps.Step.{Fall, FrFall, LinkUp}
-use Rattle.adapter.proofs.Changed.{fun_ext, changed_same, changed_other, changed_each}
+use Rattle.device_model.proofs.Places.{fun_ext, changed_same, changed_other, changed_each}
 use Rattle.device_model.proofs.Own.{own_none, own_on, own_one}
 use Rattle.device_model.specs.Bits.{bits_of}
 use Rattle.device_model.specs.Held.{IsPortHeld, IsPortLoose}

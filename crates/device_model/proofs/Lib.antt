@@ -1,3 +1,4 @@
+pub mod Places
 pub mod Absurd
 pub mod Runs
 pub mod Cleared
@@ -25,5 +26,7 @@ pub mod Faults
 pub mod Clears
 pub mod Told
 pub mod Paging
+pub mod SentPages
+pub mod Plugging
 pub mod Waiting
 pub mod SideBySide

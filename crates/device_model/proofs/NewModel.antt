@@ -1,15 +1,17 @@
 -- A new model is idle and sane.
-use Rattle.std.proofs.Common.{ℕ, true, false, zero, suc, ◌≡◌, ◌<◌, ◌≤◌, List, [], ◌∷◌, Option, None, Some, replicate, refl, ap, ◌∙◌, slice_index, subst, inl, inr, arith, ◌&&◌, slice_index_or}
+use Rattle.std.proofs.Common.{ℕ, Bool, true, false, zero, suc, ◌≡◌, ◌<◌, ◌≤◌, List, [], ◌∷◌, Option, None, Some, replicate, refl, ap, ◌∙◌, slice_index, subst, arith, ◌&&◌, slice_index_or}
 use Rattle.std.specs.Prelude.{is_some}
-use Rattle.std.proofs.lemmas.Bool.Decides.{eqb_tells}
 use Rattle.std.proofs.lemmas.Nat.Bits.{bit_at-zero}
 use Rattle.hba_regs.specs.Bits.{bit}
-use Rattle.adapter.specs.Device.{Disk, IsDisk}
+use Rattle.adapter.specs.Device.{IsDisk}
 use Rattle.adapter.specs.Idle.{IsIdlePort}
-use Rattle.device_model.specs.Modelled.{IsReset}
+use Rattle.device_model.specs.Disks.{given_for}
+use Rattle.device_model.specs.Modelled.{IsNewMedia, IsNewPort, IsReset, all_given_tell, all_tell, given_tell, media_of, tells}
+use Rattle.device_model.specs.declared.disks.Disks.{Disks}
+use Rattle.device_model.specs.declared.disks.PortDisks.{PortDisks}
 use Rattle.sector_store.specs.Stores.{AreSectors}
 use Rattle.device_model.specs.View.{Media, port_of, blank}
-use Rattle.device_model.specs.Whole.{outside_of}
+use Rattle.device_model.specs.declared.bay.Bay.{Bay}
 use Rattle.device_model.specs.declared.port.PortModel.{PortModel}
 
 pub zero_bit : (k : ℕ) → bit 0 k ≡ false
@@ -52,14 +54,33 @@ ports_are P a b c d pa pb pc pd (suc (suc zero)) past = pc
 ports_are P a b c d pa pb pc pd (suc (suc (suc zero))) past = pd
 ports_are P a b c d pa pb pc pd (suc (suc (suc (suc k)))) past = past (omega arith)
 
-pub disks_are : (disk : Disk) (other : Option (ℕ → List ℕ)) (plugged : List Disk) → AreSectors disk.size disk.sectors → (port : ℕ) →
-    IsDisk ((outside_of disk other plugged).media port).disk
-disks_are disk other plugged are port =
-    elim (eqb_tells port 0) [
-      | inl here ↦ rw here.0 (λ f e. subst (λ (t : Option (ℕ → List ℕ)). AreSectors disk.size t) e are)
-      | inr there ↦ rw there.0 (λ f e k lt. absurd (omega arith))
-    ]
+-- what is behind a port is a disk, whatever disks the port has
+pub disks_are : {S : Type 0} (size : S → ℕ) (told : S → Option (ℕ → List ℕ)) → ((s : S) → AreSectors (size s) (told s)) → (bay : Option (Bay S)) →
+    IsDisk (media_of size told bay).disk
+disks_are size told are None = λ f e k lt. absurd (omega (arith, lt))
+disks_are size told are (Some b) = λ f e. subst (λ (t : Option (ℕ → List ℕ)). AreSectors (size b.disk.store) t) e (are b.disk.store)
 
 pub both_tell : (told other : Option (ℕ → List ℕ)) → is_some told ≡ true → is_some other ≡ true → is_some told && is_some other ≡ true
 both_tell None other here there = here
 both_tell (Some f) other here there = there
+
+-- where all stores tell, all disks do
+pub all_told : {S : Type 0} (told : S → Option (ℕ → List ℕ)) → ((s : S) → is_some (told s) ≡ true) → (bays : List (Option (Bay S))) → all_tell told bays ≡ true
+all_told told all [] = refl
+all_told told all (None ∷ bays) = all_told told all bays
+all_told told all (Some b ∷ bays) =
+    ap (λ x. x && all_tell told bays) (both_tell (told b.disk.store) (told b.other.store) (all b.disk.store) (all b.other.store)) ∙ all_told told all bays
+
+-- a new port has in it what is given for it
+pub new_port : {S : Type 0} (size : S → ℕ) (told : S → Option (ℕ → List ℕ)) (given : Option (PortDisks S)) (p : PortModel) (m : Media) → p.present ≡ is_some given →
+    IsNewMedia size told given m → IsNewPort size told given (port_of p m)
+new_port size told None p m present is = (present, ap (λ (x : Media). x.plugged) is)
+new_port size told (Some disks) p m present is = (present, is.0, is.1)
+
+-- for a port past the last one none is given
+pub past_given : {S : Type 0} (d : Disks S) (k : ℕ) → 4 ≤ k → given_for d k ≡ None
+past_given d zero past = absurd (omega (arith, past))
+past_given d (suc zero) past = absurd (omega (arith, past))
+past_given d (suc (suc zero)) past = absurd (omega (arith, past))
+past_given d (suc (suc (suc zero))) past = absurd (omega (arith, past))
+past_given d (suc (suc (suc (suc k)))) past = refl

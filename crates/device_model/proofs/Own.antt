@@ -10,7 +10,7 @@ use Rattle.adapter.specs.Memory.{changed}
 use Rattle.adapter.specs.declared.access.FatalError.{FatalError}
 use Rattle.adapter.specs.declared.command.Operation.{Operation}
 use Rattle.device_model.proofs.Absurd.{some-none, some_one, true-false}
-use Rattle.adapter.proofs.Changed.{changed_other, changed_same}
+use Rattle.device_model.proofs.Places.{changed_other, changed_same}
 use Rattle.adapter.specs.Steps.{Step, Can, Steps, after, begun, block_after, with_clear, with_done, with_fault, with_fetch, with_move}
 use Rattle.adapter.proofs.Runs.{Steps-one, Steps-refl, Steps-trans}
 use Rattle.adapter.specs.Steps.Step.{Fetch, FetchFault, Move, Clear, Done, Fault, Fatal, Fall, FrFall, LinkUp, Unplug, Plug, ResetEnds, Scribble}
@@ -56,44 +56,44 @@ reset_steps was held old new (inr ends) = Steps-one ResetEnds old new ends.0 end
 
 -- ---- the steps of one slot's command
 
--- they neither put a disk into port 0 nor take one out
-present_with : (f : ℕ → PortState) (port : ℕ) (p : PortState) → p.present ≡ (f port).present → (changed f port p 0).present ≡ (f 0).present
-present_with f port p same =
-    elim (eqb_tells 0 port) [
+-- they neither put a disk into a port nor take one out
+present_with : (q : ℕ) (f : ℕ → PortState) (port : ℕ) (p : PortState) → p.present ≡ (f port).present → (changed f port p q).present ≡ (f q).present
+present_with q f port p same =
+    elim (eqb_tells q port) [
       | inl here ↦
-          let P : ℕ → Type 0 = λ q. (changed f port p q).present ≡ (f q).present in
+          let P : ℕ → Type 0 = λ k. (changed f port p k).present ≡ (f k).present in
           subst P (sym here.1) (ap (λ (x : PortState). x.present) (changed_same f port p) ∙ same)
-      | inr there ↦ ap (λ (x : PortState). x.present) (changed_other f port p 0 there.1)
+      | inr there ↦ ap (λ (x : PortState). x.present) (changed_other f port p q there.1)
     ]
 
-pub one_keeps_present : (port slot : ℕ) (old new : Device) → DoesOne (SendsEnd slot) port slot old new → (new.port 0).present ≡ (old.port 0).present
-one_keeps_present port slot old new (inl f) =
-    ap (λ (d : Device). (d.port 0).present) f.effect ∙ present_with old.port port (with_fetch (old.port port) slot f.meaning f.places) refl
-one_keeps_present port slot old new (inr (inl m)) =
-    ap (λ (d : Device). (d.port 0).present) m.effect ∙ present_with old.port port (with_move (old.port port) slot m.t m.bytes) refl
-one_keeps_present port slot old new (inr (inr (inr (most, c)))) =
-    ap (λ (d : Device). (d.port 0).present) c.effect ∙ present_with old.port port (with_clear (old.port port) slot c.t c.first c.count) refl
-one_keeps_present port slot old new (inr (inr (inl e))) =
-    ap (λ (d : Device). (d.port 0).present) (end_rest port slot e.done.flag e.done.t.meaning.operation e.mid new e.posts)
-    ∙ (ap (λ (d : Device). (d.port 0).present) e.done.effect ∙ present_with old.port port (with_done (old.port port) slot e.done.flag e.done.t.meaning.operation) refl)
+pub one_keeps_present : (q : ℕ) (port slot : ℕ) (old new : Device) → DoesOne (SendsEnd slot) port slot old new → (new.port q).present ≡ (old.port q).present
+one_keeps_present q port slot old new (inl f) =
+    ap (λ (d : Device). (d.port q).present) f.effect ∙ present_with q old.port port (with_fetch (old.port port) slot f.meaning f.places) refl
+one_keeps_present q port slot old new (inr (inl m)) =
+    ap (λ (d : Device). (d.port q).present) m.effect ∙ present_with q old.port port (with_move (old.port port) slot m.t m.bytes) refl
+one_keeps_present q port slot old new (inr (inr (inr (most, c)))) =
+    ap (λ (d : Device). (d.port q).present) c.effect ∙ present_with q old.port port (with_clear (old.port port) slot c.t c.first c.count) refl
+one_keeps_present q port slot old new (inr (inr (inl e))) =
+    ap (λ (d : Device). (d.port q).present) (end_rest port slot e.done.flag e.done.t.meaning.operation e.mid new e.posts)
+    ∙ (ap (λ (d : Device). (d.port q).present) e.done.effect ∙ present_with q old.port port (with_done (old.port port) slot e.done.flag e.done.t.meaning.operation) refl)
 
-pub fault_keeps_present : (port slot error : ℕ) (old new : Device) → DoesFault port slot error old new → (new.port 0).present ≡ (old.port 0).present
-fault_keeps_present port slot error old new f =
-    ap (λ (d : Device). (d.port 0).present) f.effect
-    ∙ present_with old.port port (with_fault (old.port port) (is_queued f.t.meaning.operation) error 0) refl
+pub fault_keeps_present : (q : ℕ) (port slot error : ℕ) (old new : Device) → DoesFault port slot error old new → (new.port q).present ≡ (old.port q).present
+fault_keeps_present q port slot error old new f =
+    ap (λ (d : Device). (d.port q).present) f.effect
+    ∙ present_with q old.port port (with_fault (old.port port) (is_queued f.t.meaning.operation) error 0) refl
 
-pub fatal_keeps_present : (port : ℕ) (error : FatalError) (old new : Device) → DoesFatal port error old new → (new.port 0).present ≡ (old.port 0).present
-fatal_keeps_present port error old new f =
-    ap (λ (d : Device). (d.port 0).present) f.effect
-    ∙ present_with old.port port (record (old.port port) { is = changed (old.port port).is (fatal_bit error) true; broken = true }) refl
+pub fatal_keeps_present : (q : ℕ) (port : ℕ) (error : FatalError) (old new : Device) → DoesFatal port error old new → (new.port q).present ≡ (old.port q).present
+fatal_keeps_present q port error old new f =
+    ap (λ (d : Device). (d.port q).present) f.effect
+    ∙ present_with q old.port port (record (old.port port) { is = changed (old.port port).is (fatal_bit error) true; broken = true }) refl
 
-pub senseless_keeps_present : (port slot : ℕ) (old new : Device) → new ≡ after (FetchFault port slot false 0) old → (new.port 0).present ≡ (old.port 0).present
-senseless_keeps_present port slot old new effect =
-    ap (λ (d : Device). (d.port 0).present) effect ∙ present_with old.port port (with_fault (old.port port) false 4 0) refl
+pub senseless_keeps_present : (q : ℕ) (port slot : ℕ) (old new : Device) → new ≡ after (FetchFault port slot false 0) old → (new.port q).present ≡ (old.port q).present
+senseless_keeps_present q port slot old new effect =
+    ap (λ (d : Device). (d.port q).present) effect ∙ present_with q old.port port (with_fault (old.port port) false 4 0) refl
 
-pub some_keep_present : (n port slot : ℕ) (old new : Device) → DoesSome (SendsEnd slot) n port slot old new → (new.port 0).present ≡ (old.port 0).present
-some_keep_present zero port slot old new same = ap (λ (d : Device). (d.port 0).present) same
-some_keep_present (suc n) port slot old new s = one_keeps_present port slot s.0 new s.2 ∙ some_keep_present n port slot old s.0 s.1
+pub some_keep_present : (q : ℕ) (n port slot : ℕ) (old new : Device) → DoesSome (SendsEnd slot) n port slot old new → (new.port q).present ≡ (old.port q).present
+some_keep_present q zero port slot old new same = ap (λ (d : Device). (d.port q).present) same
+some_keep_present q (suc n) port slot old new s = one_keeps_present q port slot s.0 new s.2 ∙ some_keep_present q n port slot old s.0 s.1
 
 -- whatever command is taken in the slot, or may be, this holds of what it is and of its places
 pub record IsOnly (P : Operation → List ℕ → Type 0) (d : Device) (port slot : ℕ) : Type 0 where

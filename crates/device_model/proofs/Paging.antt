@@ -1,6 +1,6 @@
 -- A command that sends a page, and can be done to its end, as the model does it by itself.
 use Rattle.std.proofs.Common.{ℕ, Bool, zero, suc, true, false, ◌≡◌, ◌≢◌, ◌<◌, ◌≤◌, ◌+◌, ◌^◌, ◌⊎◌, ◌∙◌, List, Option, None, Some, refl, sym, ap, subst, inl, inr, arith}
-use Rattle.std.specs.Prelude.{◌&&◌, not, if◌then◌else◌, is_some}
+use Rattle.std.specs.Prelude.{◌&&◌, not, if◌then◌else◌, is_some, option_map}
 use Rattle.std.proofs.lemmas.Bool.Decides.{eqb_tells}
 use Rattle.adapter.specs.Access.{note, noted}
 use Rattle.adapter.specs.Asked.{DoesFetch, DoesOne, DoesSome, GoesOn}
@@ -13,7 +13,7 @@ use Rattle.adapter.specs.Steps.{Can, IsFetchable, IsWorking, IsAlone, WorksOn, b
 use Rattle.adapter.specs.Steps.Step.{Fetch}
 use Rattle.adapter.specs.declared.command.Operation.{Operation}
 use Rattle.device_model.proofs.Absurd.{some-none, some_one, true-false}
-use Rattle.adapter.proofs.Changed.{changed_other, changed_same}
+use Rattle.device_model.proofs.Places.{changed_other, changed_same}
 use Rattle.adapter.proofs.SaysLemmas.{says_meaning, says_places}
 use Rattle.hba_regs.specs.declared.reg.Reg.{Reg}
 use Rattle.hba_regs.specs.declared.reg.Reg.TheVariants.{Cap, Ghc, Is, Pi, Vs, Cap2, Bohc, Px}
@@ -22,14 +22,17 @@ use Rattle.ata_types.specs.declared.Slot.{Slot}
 use Rattle.adapter.specs.declared.access.DeviceStep.TheVariants as asked
 use Rattle.sector_store.specs.declared.store.Failures.{Failures}
 use Rattle.device_model.specs.Does.{AnswersStep, AsksFor, AsksStore, Completes, Did, StepFails, FailsToClear, FailsToMove}
-use Rattle.device_model.specs.Finishing.{AreInside, HasPage, FindsPage, IsCovered, MayFinish, MayPage, sends_page}
+use Rattle.device_model.specs.Finishing.{AreInside, HasPage, FindsPage, IsBusy, IsCovered, MayFinish, MayPage, sends_page}
 use Rattle.device_model.specs.Modelled.{device_at}
 use Rattle.device_model.specs.Sent.{SendsEnd}
 use Rattle.device_model.specs.Slots.{IsNext}
 use Rattle.device_model.specs.View.{operation_of, taken_of}
-use Rattle.device_model.specs.Whole.{Outside, device_of}
+use Rattle.device_model.specs.Disks.{disk_in, disk_of}
+use Rattle.device_model.specs.Whole.{HasDisks, Outside, device_of}
+use Rattle.device_model.specs.declared.bay.Bay.{Bay}
+use Rattle.device_model.specs.declared.disks.Which.{Which}
 use Rattle.device_model.specs.declared.hardware.Hardware.{Hardware}
-use Rattle.device_model.specs.declared.model.Description.{Description}
+use Rattle.device_model.specs.declared.bay.Description.{Description}
 use Rattle.device_model.specs.declared.model.Model.{Model}
 use Rattle.device_model.specs.declared.port.TakenCommand.{TakenCommand}
 use Rattle.device_model.specs.declared.port.Transfer.{Transfer}
@@ -40,7 +43,7 @@ use Rattle.device_model.proofs.Own.{IsOnly, only_gone}
 use Rattle.device_model.proofs.Posting.{end_rest}
 use Rattle.device_model.proofs.Transfers.{alone_none, page_plain, page_unranged, unranged_plain}
 use Rattle.device_model.proofs.Trimming.{page_cleared, page_clears}
-use Rattle.device_model.proofs.TwoDisks.{in_kept}
+use Rattle.device_model.proofs.TwoDisks.{each_port}
 
 -- a command that sends a page, and whose pieces have addresses of 32 bits
 abbrev pub IsPage : Operation → List ℕ → Type 0
@@ -73,16 +76,14 @@ only_of P d port slot left clears may holds = by may.begins
           subst (λ (x : List ℕ). P m.operation x) same (subst (λ (x : Meaning). P x.operation t.places) meaning holds);
     }
 
-pub has_only : (d : Device) (slot : ℕ) → HasPage d slot → IsOnly IsPage d 0 slot
-has_only d slot has = only_of IsPage d 0 slot has.left 0 has.ready (has.sends, has.low)
+pub has_only : (d : Device) (port slot : ℕ) → HasPage d port slot → IsOnly IsPage d port slot
+has_only d port slot has = only_of IsPage d port slot has.left 0 has.ready (has.sends, has.low)
 
 -- nor afterwards
-pub page_taken : (port slot : ℕ) (did : Bool) (old new : Device) → port ≡ 0 → (did ≡ true → GoesOn (SendsEnd slot) port slot old new) → (did ≡ false → new ≡ old) →
-    HasPage old slot → (t : Taken) → (new.port port).taken slot ≡ Some t → IsPage t.meaning.operation t.places
-page_taken port slot did old new here went same has t is =
-    let Q : ℕ → Type 0 = λ q. GoesOn (SendsEnd slot) q slot old new in
-    let R : ℕ → Type 0 = λ q. (new.port q).taken slot ≡ Some t in
-    (only_gone IsPage (λ o places page. page_plain o page.0) 0 slot did old new (λ e. subst Q here (went e)) same (has_only old slot has)).taken t (subst R here is)
+pub page_taken : (port slot : ℕ) (did : Bool) (old new : Device) → (did ≡ true → GoesOn (SendsEnd slot) port slot old new) → (did ≡ false → new ≡ old) →
+    HasPage old port slot → (t : Taken) → (new.port port).taken slot ≡ Some t → IsPage t.meaning.operation t.places
+page_taken port slot did old new went same has t is =
+    (only_gone IsPage (λ o places page. page_plain o page.0) port slot did old new went same (has_only old port slot has)).taken t is
 
 -- ---- which steps ask the store
 
@@ -94,17 +95,17 @@ abbrev IsUnranged : Operation → List ℕ → Type 0
 IsUnranged operation places = is_ranged operation ≡ false
 
 -- a Finish of it asks for none
-pub page_asks_none : (d : Device) (slot left clears : ℕ) → HasPage d slot → (may : MayFinish d 0 slot left clears) →
+pub page_asks_none : (d : Device) (port slot left clears : ℕ) → HasPage d port slot → (may : MayFinish d port slot left clears) →
     AsksFor may.t.meaning.operation left clears → ⊥
-page_asks_none d slot left clears has may asks = by asks
+page_asks_none d port slot left clears has may asks = by asks
   where
     t : Taken
     t = may.t
 
-    kind : WorksOn (d.port 0) slot t t.meaning.operation ⊎ (Can (Fetch 0 slot t.meaning t.places) d × (t ≡ begun t.meaning t.places)) →
+    kind : WorksOn (d.port port) slot t t.meaning.operation ⊎ (Can (Fetch port slot t.meaning t.places) d × (t ≡ begun t.meaning t.places)) →
         sends_page t.meaning.operation ≡ true
-    kind (inl works) = ((has_only d slot has).taken t works.taken).0
-    kind (inr begins) = ((has_only d slot has).fetched t.meaning t.places begins.0).0
+    kind (inl works) = ((has_only d port slot has).taken t works.taken).0
+    kind (inr begins) = ((has_only d port slot has).fetched t.meaning t.places begins.0).0
 
     by : AsksFor t.meaning.operation left clears → ⊥
     by (inl moves) = true-false moves.0 (page_unranged _ (kind may.begins))
@@ -112,37 +113,38 @@ page_asks_none d slot left clears has may asks = by asks
         let none = page_cleared t.meaning.operation d.memory t clears (kind may.begins) may.clearing in absurd (omega (arith, some, none))
 
 -- so it comes to no sector on which it fails
-page_whole : (slot : ℕ) (was now : Option Failures) (says later : Description) (old new : Device) → HasPage old slot →
-    StepFails (asked.Finish (record { 0 = 0 }) (record { 0 = slot })) was now says later old new → ⊥
-page_whole slot was now says later old new has (mid, before, fails) = by before fails
+page_whole : (p : Port) (s : Slot) (was now : Option Failures) (says later : Option Description) (old new : Device) → HasPage old p.0 s.0 →
+    StepFails (asked.Finish p s) was now says later old new → ⊥
+page_whole p s was now says later old new has (mid, before, fails) = by before fails
   where
-    page : (mid ≡ old) ⊎ GoesOn (SendsEnd slot) 0 slot old mid → (t : Taken) → (mid.port 0).taken slot ≡ Some t → IsPage t.meaning.operation t.places
-    page (inl same) = page_taken 0 slot false old mid refl (λ never. absurd (let no : false ≡ true = never in cc)) (λ _. same) has
-    page (inr went) = page_taken 0 slot true old mid refl (λ _. went) (λ never. absurd (let no : true ≡ false = never in cc)) has
+    page : (mid ≡ old) ⊎ GoesOn (SendsEnd s.0) p.0 s.0 old mid → (t : Taken) → (mid.port p.0).taken s.0 ≡ Some t → IsPage t.meaning.operation t.places
+    page (inl same) = page_taken p.0 s.0 false old mid (λ never. absurd (let no : false ≡ true = never in cc)) (λ _. same) has
+    page (inr went) = page_taken p.0 s.0 true old mid (λ _. went) (λ never. absurd (let no : true ≡ false = never in cc)) has
 
-    by : (mid ≡ old) ⊎ GoesOn (SendsEnd slot) 0 slot old mid →
-        FailsToMove 0 slot was now says later mid new ⊎ FailsToClear 0 slot was now says later mid new → ⊥
+    by : (mid ≡ old) ⊎ GoesOn (SendsEnd s.0) p.0 s.0 old mid →
+        FailsToMove p.0 s.0 was now says later mid new ⊎ FailsToClear p.0 s.0 was now says later mid new → ⊥
     by gone (inl moves) = true-false moves.ranged (page_unranged _ (page gone moves.t moves.move.works.taken).0)
     by gone (inr clears) = true-false (page gone clears.t clears.clear.works.taken).0 (ap sends_page clears.clear.trim)
 
-pub page_completes : {S : Type 0} (size : S → ℕ) (told : S → Option (ℕ → List ℕ)) (failures : S → Option Failures) (old new : Model S) (slot : ℕ) →
-    Did size told failures (asked.Finish (record { 0 = 0 }) (record { 0 = slot })) old new → HasPage (device_at size told old) slot →
-    Completes size told failures (asked.Finish (record { 0 = 0 }) (record { 0 = slot })) old new
-page_completes size told failures old new slot did has =
+pub page_completes : {S : Type 0} (size : S → ℕ) (told : S → Option (ℕ → List ℕ)) (failures : S → Option Failures) (old new : Model S) (p : Port) (s : Slot) →
+    Did size told failures (asked.Finish p s) old new → HasPage (device_at size told old) p.0 s.0 → Completes size told failures (asked.Finish p s) old new
+page_completes size told failures old new p s did has =
     elim did.came [
       | inl whole ↦ whole
-      | inr failed ↦ absurd (page_whole slot (failures old.disk) (failures new.disk) old.says new.says _ _ has failed)
+      | inr failed ↦ absurd (page_whole p s _ _ _ _ _ _ has failed)
     ]
 
-pub finish_keeps : {S : Type 0} (size : S → ℕ) (told : S → Option (ℕ → List ℕ)) (failures : S → Option Failures) (old new : Model S) (slot : ℕ) (answer : Bool) →
-    AnswersStep size told failures (asked.Finish (record { 0 = 0 }) (record { 0 = slot })) answer old new → HasPage (device_at size told old) slot →
-    new.disk ≡ old.disk
-finish_keeps size told failures old new slot true a has =
-    in_kept (λ s. s) old new a.1.which (a.1.disks (λ asks. page_asks_none (device_at size told old) slot _ _ has asks.4 asks.5))
-finish_keeps size told failures old new slot false a has = in_kept (λ s. s) old new a.which a.disks
+-- each disk stays as it is
+pub finish_keeps : {S : Type 0} (size : S → ℕ) (told : S → Option (ℕ → List ℕ)) (failures : S → Option Failures) (old new : Model S) (p : Port) (s : Slot) (answer : Bool) →
+    AnswersStep size told failures (asked.Finish p s) answer old new → HasPage (device_at size told old) p.0 s.0 → (q : ℕ) (w : Which) →
+    disk_of new q w ≡ disk_of old q w
+finish_keeps {S} size told failures old new p s true a has q w =
+    each_port (option_map (λ (b : Bay S). disk_in b w)) old new p.0
+    (a.1.disks (λ asks. page_asks_none (device_at size told old) p.0 s.0 _ _ has asks.4 asks.5) w) a.1.others q
+finish_keeps {S} size told failures old new p s false a has q w = each_port (option_map (λ (b : Bay S). disk_in b w)) old new p.0 (a.disks w) a.others q
 
 -- a Move of what a Finish has begun asks for one only where the Finish does
-pub finish_moves : (p : Port) (s : Slot) (did : Bool) (old new : Device) (left clears : ℕ) → p.0 ≡ 0 → 1 ≤ left →
+pub finish_moves : (p : Port) (s : Slot) (did : Bool) (old new : Device) (left clears : ℕ) → HasDisks old p.0 → 1 ≤ left →
     (did ≡ true → GoesOn (SendsEnd s.0) p.0 s.0 old new) → (did ≡ false → new ≡ old) → MayFinish old p.0 s.0 left clears →
     AsksStore (asked.Move p s) new → AsksStore (asked.Finish p s) old
 finish_moves p s did old new left clears here some went stayed may moves = by (is_ranged may.t.meaning.operation) refl
@@ -155,12 +157,12 @@ finish_moves p s did old new left clears here some went stayed may moves = by (i
         true-false moves.3 (gone.taken moves.1 moves.2.works.taken)
 
 -- and so does a Finish that has a clear left
-pub finish_clears : (p : Port) (s : Slot) (old : Device) (left clears : ℕ) → p.0 ≡ 0 → s.0 < 32 → 1 ≤ clears → MayFinish old p.0 s.0 left clears →
+pub finish_clears : (p : Port) (s : Slot) (old : Device) (left clears : ℕ) → HasDisks old p.0 → s.0 < 32 → 1 ≤ clears → MayFinish old p.0 s.0 left clears →
     AsksStore (asked.Finish p s) old
 finish_clears p s old left clears here small some ready = (here, small, left, clears, ready, inr some)
 
 -- what the hardware moves next is a sector only where a Move moves one
-pub next_moves : (h : Hardware) (o : Outside) (d : Device) (p : Port) (s : Slot) (next : NextMove) (r : TakenCommand) → p.0 ≡ 0 → s.0 < 32 →
+pub next_moves : (h : Hardware) (o : Outside) (d : Device) (p : Port) (s : Slot) (next : NextMove) (r : TakenCommand) → HasDisks d p.0 → s.0 < 32 →
     device_of h o ≡ d → IsNext h p.0 s.0 next r → is_ranged (operation_of next.transfer) ≡ true → AsksStore (asked.Move p s) d
 next_moves h o d p s next r here small same is ranged = (
   small,
@@ -170,7 +172,7 @@ next_moves h o d p s next r here small same is ranged = (
 )
 
 -- and else it is none
-pub next_unranged : (h : Hardware) (o : Outside) (d : Device) (p : Port) (s : Slot) (next : NextMove) (r : TakenCommand) → p.0 ≡ 0 → s.0 < 32 →
+pub next_unranged : (h : Hardware) (o : Outside) (d : Device) (p : Port) (s : Slot) (next : NextMove) (r : TakenCommand) → HasDisks d p.0 → s.0 < 32 →
     device_of h o ≡ d → IsNext h p.0 s.0 next r → (AsksStore (asked.Move p s) d → ⊥) → is_ranged (operation_of next.transfer) ≡ false
 next_unranged h o d p s next r here small same is none = by (is_ranged (operation_of next.transfer)) refl
   where
@@ -193,57 +195,61 @@ plain_right true b e = e
 plain_right false b e = refl
 
 -- no other command is in its slot
-may_only : (d : Device) (slot : ℕ) → MayPage d slot → IsOnly BringsPage d 0 slot
-may_only d slot may = record {
+may_only : (d : Device) (port slot : ℕ) → MayPage d port slot → IsOnly BringsPage d port slot
+may_only d port slot may = record {
   taken = λ u is. some-none is may.can.fetchable.free;
   fetched = λ m places can.
-      let meaning = says_meaning d.memory (d.port 0).bases.clb slot may.meaning m may.places places may.can.says can.says in
+      let meaning = says_meaning d.memory (d.port port).bases.clb slot may.meaning m may.places places may.can.says can.says in
       ap (λ (x : Meaning). sends_page x.operation) (sym meaning) ∙ may.sends;
 }
 
-pub found_only : (d : Device) (slot : ℕ) → MayPage d slot ⊎ HasPage d slot → IsOnly BringsPage d 0 slot
-found_only d slot (inl may) = may_only d slot may
-found_only d slot (inr has) = only_of BringsPage d 0 slot has.left 0 has.ready has.sends
+pub found_only : (d : Device) (port slot : ℕ) → MayPage d port slot ⊎ HasPage d port slot → IsOnly BringsPage d port slot
+found_only d port slot (inl may) = may_only d port slot may
+found_only d port slot (inr has) = only_of BringsPage d port slot has.left 0 has.ready has.sends
 
 -- what a look at a slot has found
-pub found_ends : (d : Device) (slot : ℕ) (ends : Bool) → not ends ≡ false → FindsPage d slot (Some ends) → HasPage d slot
-found_ends d slot true e found = found
-found_ends d slot false e found = absurd (let no : true ≡ false = e in cc)
+pub found_ends : (d : Device) (port slot : ℕ) (ends : Bool) → not ends ≡ false → FindsPage d port slot (Some ends) → HasPage d port slot
+found_ends d port slot true e found = found
+found_ends d port slot false e found = absurd (let no : true ≡ false = e in cc)
 
-pub found_stuck : (d : Device) (slot : ℕ) (ends : Bool) → not ends ≡ true → FindsPage d slot (Some ends) → MayPage d slot × (HasPage d slot → ⊥)
-found_stuck d slot true e found = absurd (let no : false ≡ true = e in cc)
-found_stuck d slot false e found = found
+pub found_stuck : (d : Device) (port slot : ℕ) (ends : Bool) → not ends ≡ true → FindsPage d port slot (Some ends) → MayPage d port slot × (HasPage d port slot → ⊥)
+found_stuck d port slot true e found = absurd (let no : false ≡ true = e in cc)
+found_stuck d port slot false e found = found
 
 -- where a command is taken, none that sends a page may be
-pub taken_bars : (d : Device) (slot k : ℕ) (t : Taken) → (d.port 0).taken slot ≡ Some t → MayPage d k → ⊥
-taken_bars d slot k t is may = some-none is (alone_none (d.port 0) may.meaning.operation (page_plain _ may.sends) may.can.alone slot)
+pub taken_bars : (d : Device) (port slot k : ℕ) (t : Taken) → (d.port port).taken slot ≡ Some t → MayPage d port k → ⊥
+taken_bars d port slot k t is may = some-none is (alone_none (d.port port) may.meaning.operation (page_plain _ may.sends) may.can.alone slot)
 
-fetched_is : (slot : ℕ) (old new : Device) (f : DoesFetch 0 slot old new) → (new.port 0).taken ≡ changed (old.port 0).taken slot (Some (begun f.meaning f.places))
-fetched_is slot old new f =
-    ap (λ (d : Device). (d.port 0).taken) f.effect ∙ ap (λ (p : PortState). p.taken) (changed_same old.port 0 (with_fetch (old.port 0) slot f.meaning f.places))
+fetched_is : (port slot : ℕ) (old new : Device) (f : DoesFetch port slot old new) → (new.port port).taken ≡ changed (old.port port).taken slot (Some (begun f.meaning f.places))
+fetched_is port slot old new f =
+    ap (λ (d : Device). (d.port port).taken) f.effect ∙ ap (λ (p : PortState). p.taken) (changed_same old.port port (with_fetch (old.port port) slot f.meaning f.places))
 
-fetched_taken : (slot : ℕ) (old new : Device) (f : DoesFetch 0 slot old new) → (new.port 0).taken slot ≡ Some (begun f.meaning f.places)
-fetched_taken slot old new f =
-    ap (λ (g : ℕ → Option Taken). g slot) (fetched_is slot old new f) ∙ changed_same (old.port 0).taken slot (Some (begun f.meaning f.places))
+fetched_taken : (port slot : ℕ) (old new : Device) (f : DoesFetch port slot old new) → (new.port port).taken slot ≡ Some (begun f.meaning f.places)
+fetched_taken port slot old new f =
+    ap (λ (g : ℕ → Option Taken). g slot) (fetched_is port slot old new f) ∙ changed_same (old.port port).taken slot (Some (begun f.meaning f.places))
 
--- once it was taken, or was already, no other may be
-pub fetched_bars : (slot k : ℕ) (did : Bool) (old new : Device) → (did ≡ true → DoesFetch 0 slot old new) →
-    (did ≡ false → (m : Meaning) (places : List ℕ) → Can (Fetch 0 slot m places) old → ⊥) → (did ≡ false → new ≡ old) →
-    MayPage old slot ⊎ HasPage old slot → MayPage new k → ⊥
-fetched_bars slot k true old new went never same there = let f = went refl in taken_bars new slot k (begun f.meaning f.places) (fetched_taken slot old new f)
-fetched_bars slot k false old new went never same (inl may) = absurd (never refl may.meaning may.places may.can)
-fetched_bars slot k false old new went never same (inr has) = by has.ready.begins
+-- a port on which a command is taken is busy
+pub busy_bars : (d : Device) (port k : ℕ) → IsBusy d port → MayPage d port k → ⊥
+busy_bars d port k busy = taken_bars d port busy.0 k busy.1 busy.2
+
+-- once it was taken, or was already, the port is
+pub fetched_busy : (port slot : ℕ) (did : Bool) (old new : Device) → (did ≡ true → DoesFetch port slot old new) →
+    (did ≡ false → (m : Meaning) (places : List ℕ) → Can (Fetch port slot m places) old → ⊥) → (did ≡ false → new ≡ old) →
+    MayPage old port slot ⊎ HasPage old port slot → IsBusy new port
+fetched_busy port slot true old new went never same there = let f = went refl in (slot, begun f.meaning f.places, fetched_taken port slot old new f)
+fetched_busy port slot false old new went never same (inl may) = absurd (never refl may.meaning may.places may.can)
+fetched_busy port slot false old new went never same (inr has) = by has.ready.begins
   where
     t : Taken
     t = has.ready.t
 
-    by : WorksOn (old.port 0) slot t t.meaning.operation ⊎ (Can (Fetch 0 slot t.meaning t.places) old × (t ≡ begun t.meaning t.places)) → MayPage new k → ⊥
-    by (inl works) = taken_bars new slot k t (ap (λ (d : Device). (d.port 0).taken slot) (same refl) ∙ works.taken)
+    by : WorksOn (old.port port) slot t t.meaning.operation ⊎ (Can (Fetch port slot t.meaning t.places) old × (t ≡ begun t.meaning t.places)) → IsBusy new port
+    by (inl works) = (slot, t, ap (λ (d : Device). (d.port port).taken slot) (same refl) ∙ works.taken)
     by (inr may) = absurd (never refl t.meaning t.places may.0)
 
 -- and what can be done to its end then, could before
-taken_has : (slot k : ℕ) (old new : Device) → DoesFetch 0 slot old new → HasPage new k → HasPage old slot
-taken_has slot k old new f has = by has.ready.begins
+taken_has : (port slot k : ℕ) (old new : Device) → DoesFetch port slot old new → HasPage new port k → HasPage old port slot
+taken_has port slot k old new f has = by has.ready.begins
   where
     t : Taken
     t = has.ready.t
@@ -251,15 +257,15 @@ taken_has slot k old new f has = by has.ready.begins
     size : new.size ≡ old.size
     size = ap (λ (d : Device). d.size) f.effect
 
-    by : WorksOn (new.port 0) k t t.meaning.operation ⊎ (Can (Fetch 0 k t.meaning t.places) new × (t ≡ begun t.meaning t.places)) → HasPage old slot
+    by : WorksOn (new.port port) k t t.meaning.operation ⊎ (Can (Fetch port k t.meaning t.places) new × (t ≡ begun t.meaning t.places)) → HasPage old port slot
     by (inr may) =
-        absurd (taken_bars new slot k (begun f.meaning f.places) (fetched_taken slot old new f)
+        absurd (taken_bars new port slot k (begun f.meaning f.places) (fetched_taken port slot old new f)
         (record { meaning = t.meaning; places = t.places; sends = has.sends; can = may.0 }))
     by (inl works) =
         elim (eqb_tells k slot) [
           | inl here ↦
-              let P : ℕ → Type 0 = λ q. (new.port 0).taken q ≡ Some t in
-              let one : t ≡ begun f.meaning f.places = some_one (sym (subst P here.1 works.taken) ∙ fetched_taken slot old new f) in
+              let P : ℕ → Type 0 = λ q. (new.port port).taken q ≡ Some t in
+              let one : t ≡ begun f.meaning f.places = some_one (sym (subst P here.1 works.taken) ∙ fetched_taken port slot old new f) in
               let Q : ℕ → Type 0 = λ n. IsCovered t n has.left in
               let R : Taken → Type 0 = λ x. IsCovered x old.size has.left in
               record {
@@ -275,27 +281,27 @@ taken_has slot k old new f has = by has.ready.begins
                 low = subst (λ (x : Taken). AreInside (2 ^ 32) x.places) one has.low;
               }
           | inr there ↦
-              let was : (old.port 0).taken k ≡ Some t =
-              sym (changed_other (old.port 0).taken slot (Some (begun f.meaning f.places)) k there.1)
-              ∙ (ap (λ (g : ℕ → Option Taken). g k) (sym (fetched_is slot old new f)) ∙ works.taken) in
+              let was : (old.port port).taken k ≡ Some t =
+              sym (changed_other (old.port port).taken slot (Some (begun f.meaning f.places)) k there.1)
+              ∙ (ap (λ (g : ℕ → Option Taken). g k) (sym (fetched_is port slot old new f)) ∙ works.taken) in
               let no : (is_queued f.meaning.operation && is_queued t.meaning.operation) ≡ false =
               plain_right (is_queued f.meaning.operation) (is_queued t.meaning.operation) (page_plain _ has.sends) in
               true-false (f.can.alone k t was) no
         ]
 
-pub fetched_has : (slot k : ℕ) (did : Bool) (old new : Device) → (did ≡ true → DoesFetch 0 slot old new) →
-    (did ≡ false → (m : Meaning) (places : List ℕ) → Can (Fetch 0 slot m places) old → ⊥) →
-    MayPage old slot → HasPage new k → HasPage old slot
-fetched_has slot k true old new went never may has = taken_has slot k old new (went refl) has
-fetched_has slot k false old new went never may has = absurd (never refl may.meaning may.places may.can)
+pub fetched_has : (port slot k : ℕ) (did : Bool) (old new : Device) → (did ≡ true → DoesFetch port slot old new) →
+    (did ≡ false → (m : Meaning) (places : List ℕ) → Can (Fetch port slot m places) old → ⊥) →
+    MayPage old port slot → HasPage new port k → HasPage old port slot
+fetched_has port slot k true old new went never may has = taken_has port slot k old new (went refl) has
+fetched_has port slot k false old new went never may has = absurd (never refl may.meaning may.places may.can)
 
 -- one that can be done to its end still can be once it is taken
-pub fetched_left : (slot : ℕ) (did : Bool) (old new : Device) (has : HasPage old slot) → (did ≡ true → DoesFetch 0 slot old new) →
-    (did ≡ false → new ≡ old) → (did ≡ false → (m : Meaning) (places : List ℕ) → Can (Fetch 0 slot m places) old → ⊥) →
-    (now : HasPage new slot) × (now.left ≡ has.left)
-fetched_left slot did old new has went same never =
-    let going = fetched_goes 0 slot has.left 0 did old new has.ready went same never in
-    let page = page_taken 0 slot did old new refl (λ e. goes_one (SendsEnd slot) 0 slot old new (inl (went e))) same has going.t going.works.taken in (
+pub fetched_left : (port slot : ℕ) (did : Bool) (old new : Device) (has : HasPage old port slot) → (did ≡ true → DoesFetch port slot old new) →
+    (did ≡ false → new ≡ old) → (did ≡ false → (m : Meaning) (places : List ℕ) → Can (Fetch port slot m places) old → ⊥) →
+    (now : HasPage new port slot) × (now.left ≡ has.left)
+fetched_left port slot did old new has went same never =
+    let going = fetched_goes port slot has.left 0 did old new has.ready went same never in
+    let page = page_taken port slot did old new (λ e. goes_one (SendsEnd slot) port slot old new (inl (went e))) same has going.t going.works.taken in (
       record {
         left = has.left;
         ready = record { t = going.t; covered = going.covered; clearing = going.clearing; begins = inl going.works };
@@ -319,7 +325,7 @@ total_same v w (suc n) same =
     let here = same n (omega arith) in
     omega (arith, rest, here)
 
-total_less : (v w : ℕ → ℕ) (slot n : ℕ) → slot < n → ((k : ℕ) → k ≢ slot → v k ≡ w k) → v slot < w slot → total v n < total w n
+pub total_less : (v w : ℕ → ℕ) (slot n : ℕ) → slot < n → ((k : ℕ) → k ≢ slot → v k ≡ w k) → v slot < w slot → total v n < total w n
 total_less v w slot zero small others less = absurd (omega (arith, small))
 total_less v w slot (suc n) small others less =
     elim (eqb_tells slot n) [
@@ -335,14 +341,14 @@ total_less v w slot (suc n) small others less =
           omega (arith, rest, last)
     ]
 
--- whether a slot of port 0 is issued, and whether it is taken, as a number
-abbrev pub weight : Device → ℕ → ℕ
-weight d k = (if (d.port 0).ci k then 1 else 0) + (if is_some ((d.port 0).taken k) then 1 else 0)
+-- whether a slot of a port is issued, and whether it is taken, as a number
+abbrev pub weight : Device → (port : ℕ) → ℕ → ℕ
+weight d port k = (if (d.port port).ci k then 1 else 0) + (if is_some ((d.port port).taken k) then 1 else 0)
 
 -- a step of one slot's command leaves the other slots
-weight_with : (old new : Device) (p : PortState) (slot k : ℕ) → new.port 0 ≡ p → p.ci k ≡ (old.port 0).ci k → p.taken k ≡ (old.port 0).taken k →
-    weight new k ≡ weight old k
-weight_with old new p slot k there ci taken =
+weight_with : (old new : Device) (port : ℕ) (p : PortState) (k : ℕ) → new.port port ≡ p → p.ci k ≡ (old.port port).ci k → p.taken k ≡ (old.port port).taken k →
+    weight new port k ≡ weight old port k
+weight_with old new port p k there ci taken =
     ap (λ (x : PortState). (if x.ci k then 1 else 0) + (if is_some (x.taken k) then 1 else 0)) there
     ∙ (λ i. (if ci i then 1 else 0) + (if is_some (taken i) then 1 else 0))
 
@@ -354,48 +360,118 @@ kept_other : (b : Bool) (f : ℕ → Bool) (slot k : ℕ) → k ≢ slot → (if
 kept_other true f slot k ne = refl
 kept_other false f slot k ne = changed_other f slot false k ne
 
-one_elsewhere : (slot : ℕ) (old new : Device) → DoesOne (SendsEnd slot) 0 slot old new → (k : ℕ) → k ≢ slot → weight new k ≡ weight old k
-one_elsewhere slot old new (inl f) k ne =
-    let p : PortState = with_fetch (old.port 0) slot f.meaning f.places in
-    weight_with old new p slot k (ap (λ (d : Device). d.port 0) f.effect ∙ changed_same old.port 0 p)
-    (cleared_other (is_queued f.meaning.operation) (old.port 0).ci slot k ne) (changed_other (old.port 0).taken slot _ k ne)
-one_elsewhere slot old new (inr (inl m)) k ne =
-    let p : PortState = with_move (old.port 0) slot m.t m.bytes in
-    weight_with old new p slot k (ap (λ (d : Device). d.port 0) m.effect ∙ changed_same old.port 0 p) refl (changed_other (old.port 0).taken slot _ k ne)
-one_elsewhere slot old new (inr (inr (inr (most, c)))) k ne =
-    let p : PortState = with_clear (old.port 0) slot c.t c.first c.count in
-    weight_with old new p slot k (ap (λ (d : Device). d.port 0) c.effect ∙ changed_same old.port 0 p) refl (changed_other (old.port 0).taken slot _ k ne)
-one_elsewhere slot old new (inr (inr (inl e))) k ne =
-    let p : PortState = with_done (old.port 0) slot e.done.flag e.done.t.meaning.operation in
-    weight_with old new p slot k
-    (ap (λ (d : Device). d.port 0) (end_rest 0 slot e.done.flag e.done.t.meaning.operation e.mid new e.posts)
-    ∙ (ap (λ (d : Device). d.port 0) e.done.effect ∙ changed_same old.port 0 p))
-    (kept_other (is_queued e.done.t.meaning.operation) (old.port 0).ci slot k ne) (changed_other (old.port 0).taken slot None k ne)
+one_elsewhere : (port slot : ℕ) (old new : Device) → DoesOne (SendsEnd slot) port slot old new → (k : ℕ) → k ≢ slot → weight new port k ≡ weight old port k
+one_elsewhere port slot old new (inl f) k ne =
+    let p : PortState = with_fetch (old.port port) slot f.meaning f.places in
+    weight_with old new port p k (ap (λ (d : Device). d.port port) f.effect ∙ changed_same old.port port p)
+    (cleared_other (is_queued f.meaning.operation) (old.port port).ci slot k ne) (changed_other (old.port port).taken slot _ k ne)
+one_elsewhere port slot old new (inr (inl m)) k ne =
+    let p : PortState = with_move (old.port port) slot m.t m.bytes in
+    weight_with old new port p k (ap (λ (d : Device). d.port port) m.effect ∙ changed_same old.port port p) refl (changed_other (old.port port).taken slot _ k ne)
+one_elsewhere port slot old new (inr (inr (inr (most, c)))) k ne =
+    let p : PortState = with_clear (old.port port) slot c.t c.first c.count in
+    weight_with old new port p k (ap (λ (d : Device). d.port port) c.effect ∙ changed_same old.port port p) refl (changed_other (old.port port).taken slot _ k ne)
+one_elsewhere port slot old new (inr (inr (inl e))) k ne =
+    let p : PortState = with_done (old.port port) slot e.done.flag e.done.t.meaning.operation in
+    weight_with old new port p k
+    (ap (λ (d : Device). d.port port) (end_rest port slot e.done.flag e.done.t.meaning.operation e.mid new e.posts)
+    ∙ (ap (λ (d : Device). d.port port) e.done.effect ∙ changed_same old.port port p))
+    (kept_other (is_queued e.done.t.meaning.operation) (old.port port).ci slot k ne) (changed_other (old.port port).taken slot None k ne)
 
-some_elsewhere : (n slot : ℕ) (old new : Device) → DoesSome (SendsEnd slot) n 0 slot old new → (k : ℕ) → k ≢ slot → weight new k ≡ weight old k
-some_elsewhere zero slot old new e k ne = ap (λ (d : Device). weight d k) e
-some_elsewhere (suc n) slot old new s k ne = one_elsewhere slot s.0 new s.2 k ne ∙ some_elsewhere n slot old s.0 s.1 k ne
+some_elsewhere : (n port slot : ℕ) (old new : Device) → DoesSome (SendsEnd slot) n port slot old new → (k : ℕ) → k ≢ slot → weight new port k ≡ weight old port k
+some_elsewhere zero port slot old new e k ne = ap (λ (d : Device). weight d port k) e
+some_elsewhere (suc n) port slot old new s k ne = one_elsewhere port slot s.0 new s.2 k ne ∙ some_elsewhere n port slot old s.0 s.1 k ne
 
 -- one that was done is neither issued nor taken
-pub fewer_left : (slot : ℕ) (old new : Device) → slot < 32 → HasPage old slot → GoesOn (SendsEnd slot) 0 slot old new → IsFreeSlot (new.port 0) slot →
-    total (weight new) 32 < total (weight old) 32
-fewer_left slot old new small has went free =
-    total_less (weight new) (weight old) slot 32 small (some_elsewhere (suc went.0) slot old new went.1) (less has.ready.begins)
+pub fewer_left : (port slot : ℕ) (old new : Device) → slot < 32 → HasPage old port slot → GoesOn (SendsEnd slot) port slot old new → IsFreeSlot (new.port port) slot →
+    total (weight new port) 32 < total (weight old port) 32
+fewer_left port slot old new small has went free =
+    total_less (weight new port) (weight old port) slot 32 small (some_elsewhere (suc went.0) port slot old new went.1) (less has.ready.begins)
   where
-    none : weight new slot ≡ 0
+    none : weight new port slot ≡ 0
     none = λ i. (if free.ci i then 1 else 0) + (if is_some (free.taken i) then 1 else 0)
 
-    less : WorksOn (old.port 0) slot has.ready.t has.ready.t.meaning.operation
-        ⊎ (Can (Fetch 0 slot has.ready.t.meaning has.ready.t.places) old × (has.ready.t ≡ begun has.ready.t.meaning has.ready.t.places)) →
-        weight new slot < weight old slot
+    less : WorksOn (old.port port) slot has.ready.t has.ready.t.meaning.operation
+        ⊎ (Can (Fetch port slot has.ready.t.meaning has.ready.t.places) old × (has.ready.t ≡ begun has.ready.t.meaning has.ready.t.places)) →
+        weight new port slot < weight old port slot
     less (inl works) =
-        let one : weight old slot ≡ (if (old.port 0).ci slot then 1 else 0) + 1 =
-        ap (λ (x : Option Taken). (if (old.port 0).ci slot then 1 else 0) + (if is_some x then 1 else 0)) works.taken in
+        let one : weight old port slot ≡ (if (old.port port).ci slot then 1 else 0) + 1 =
+        ap (λ (x : Option Taken). (if (old.port port).ci slot then 1 else 0) + (if is_some x then 1 else 0)) works.taken in
         omega (arith, none, one)
     less (inr may) =
-        let one : weight old slot ≡ 1 + (if is_some ((old.port 0).taken slot) then 1 else 0) =
-        ap (λ (b : Bool). (if b then 1 else 0) + (if is_some ((old.port 0).taken slot) then 1 else 0)) may.0.fetchable.issued in
+        let one : weight old port slot ≡ 1 + (if is_some ((old.port port).taken slot) then 1 else 0) =
+        ap (λ (b : Bool). (if b then 1 else 0) + (if is_some ((old.port port).taken slot) then 1 else 0)) may.0.fetchable.issued in
         omega (arith, none, one)
+
+-- ---- a command of one port leaves the others
+
+one_apart : (port slot : ℕ) (old new : Device) → DoesOne (SendsEnd slot) port slot old new → (new.size ≡ old.size) × ((q : ℕ) → q ≢ port → new.port q ≡ old.port q)
+one_apart port slot old new (inl f) = (
+  ap (λ (d : Device). d.size) f.effect,
+  λ q ne. ap (λ (d : Device). d.port q) f.effect ∙ changed_other old.port port (with_fetch (old.port port) slot f.meaning f.places) q ne,
+)
+one_apart port slot old new (inr (inl m)) = (
+  ap (λ (d : Device). d.size) m.effect,
+  λ q ne. ap (λ (d : Device). d.port q) m.effect ∙ changed_other old.port port (with_move (old.port port) slot m.t m.bytes) q ne,
+)
+one_apart port slot old new (inr (inr (inr (most, c)))) = (
+  ap (λ (d : Device). d.size) c.effect,
+  λ q ne. ap (λ (d : Device). d.port q) c.effect ∙ changed_other old.port port (with_clear (old.port port) slot c.t c.first c.count) q ne,
+)
+one_apart port slot old new (inr (inr (inl e))) =
+    let rest = end_rest port slot e.done.flag e.done.t.meaning.operation e.mid new e.posts in (
+      ap (λ (d : Device). d.size) rest ∙ ap (λ (d : Device). d.size) e.done.effect,
+      λ q ne.
+          ap (λ (d : Device). d.port q) rest
+          ∙ (ap (λ (d : Device). d.port q) e.done.effect
+          ∙ changed_other old.port port (with_done (old.port port) slot e.done.flag e.done.t.meaning.operation) q ne),
+    )
+
+some_apart : (n port slot : ℕ) (old new : Device) → DoesSome (SendsEnd slot) n port slot old new → (new.size ≡ old.size) × ((q : ℕ) → q ≢ port → new.port q ≡ old.port q)
+some_apart zero port slot old new e = (ap (λ (d : Device). d.size) e, λ q ne. ap (λ (d : Device). d.port q) e)
+some_apart (suc n) port slot old new s =
+    let first = some_apart n port slot old s.0 s.1 in
+    let last = one_apart port slot s.0 new s.2 in
+    (last.0 ∙ first.0, λ q ne. last.1 q ne ∙ first.1 q ne)
+
+pub gone_apart : (port slot : ℕ) (old new : Device) → GoesOn (SendsEnd slot) port slot old new → (new.size ≡ old.size) × ((q : ℕ) → q ≢ port → new.port q ≡ old.port q)
+gone_apart port slot old new went = some_apart (suc went.0) port slot old new went.1
+
+pub fetched_apart : (port slot : ℕ) (did : Bool) (old new : Device) → (did ≡ true → DoesFetch port slot old new) → (did ≡ false → new ≡ old) →
+    (new.size ≡ old.size) × ((q : ℕ) → q ≢ port → new.port q ≡ old.port q)
+fetched_apart port slot true old new went same = one_apart port slot old new (inl (went refl))
+fetched_apart port slot false old new went same = (ap (λ (d : Device). d.size) (same refl), λ q ne. ap (λ (d : Device). d.port q) (same refl))
+
+-- so what such a port has taken, and can be done to its end, still can be, and could before
+pub page_stays : (old new : Device) (port k : ℕ) → new.port port ≡ old.port port → new.size ≡ old.size → IsBusy old port → (has : HasPage old port k) →
+    (now : HasPage new port k) × (now.left ≡ has.left)
+page_stays old new port k same size busy has = by has.ready.begins
+  where
+    t : Taken
+    t = has.ready.t
+
+    by : WorksOn (old.port port) k t t.meaning.operation ⊎ (Can (Fetch port k t.meaning t.places) old × (t ≡ begun t.meaning t.places)) →
+        (now : HasPage new port k) × (now.left ≡ has.left)
+    by (inr may) = absurd (busy_bars old port k busy (record { meaning = t.meaning; places = t.places; sends = has.sends; can = may.0 }))
+    by (inl works) =
+        let P : PortState → Type 0 = λ p. WorksOn p k t t.meaning.operation in
+        let Q : ℕ → Type 0 = λ n. IsCovered t n has.left in (
+          record {
+            left = has.left;
+            ready = record {
+              t = t;
+              covered = subst Q (sym size) has.ready.covered;
+              clearing = page_clears t.meaning.operation new.memory t has.sends;
+              begins = inl (subst P (sym same) works);
+            };
+            sends = has.sends;
+            low = has.low;
+          },
+          refl,
+        )
+
+pub busy_stays : (old new : Device) (port : ℕ) → new.port port ≡ old.port port → IsBusy old port → IsBusy new port
+busy_stays old new port same busy = (busy.0, busy.1, ap (λ (p : PortState). p.taken busy.0) same ∙ busy.2)
 
 -- ---- a reading leaves none where none was left
 
@@ -405,8 +481,8 @@ working_noted p n operation w = record { running = w.running; present = w.presen
 works_noted : (p : PortState) (n : Notes) (slot : ℕ) (t : Taken) (operation : Operation) → WorksOn (record p { notes = n }) slot t operation → WorksOn p slot t operation
 works_noted p n slot t operation w = record { taken = w.taken; working = working_noted p n operation w.working }
 
-has_noted : (d : Device) (f : ℕ → PortState) (n : Notes) (slot : ℕ) → f 0 ≡ record (d.port 0) { notes = n } → HasPage (record d { port = f }) slot → HasPage d slot
-has_noted d f n slot is has = record {
+has_noted : (d : Device) (f : ℕ → PortState) (n : Notes) (port slot : ℕ) → f port ≡ record (d.port port) { notes = n } → HasPage (record d { port = f }) port slot → HasPage d port slot
+has_noted d f n port slot is has = record {
   left = has.left;
   ready = record {
     t = has.ready.t;
@@ -421,24 +497,24 @@ has_noted d f n slot is has = record {
     t : Taken
     t = has.ready.t
 
-    by : WorksOn (f 0) slot t t.meaning.operation ⊎ (Can (Fetch 0 slot t.meaning t.places) (record d { port = f }) × (t ≡ begun t.meaning t.places)) →
-        WorksOn (d.port 0) slot t t.meaning.operation ⊎ (Can (Fetch 0 slot t.meaning t.places) d × (t ≡ begun t.meaning t.places))
-    by (inl works) = inl (works_noted (d.port 0) n slot t t.meaning.operation (subst (λ (p : PortState). WorksOn p slot t t.meaning.operation) is works))
+    by : WorksOn (f port) slot t t.meaning.operation ⊎ (Can (Fetch port slot t.meaning t.places) (record d { port = f }) × (t ≡ begun t.meaning t.places)) →
+        WorksOn (d.port port) slot t t.meaning.operation ⊎ (Can (Fetch port slot t.meaning t.places) d × (t ≡ begun t.meaning t.places))
+    by (inl works) = inl (works_noted (d.port port) n slot t t.meaning.operation (subst (λ (p : PortState). WorksOn p slot t t.meaning.operation) is works))
     by (inr may) =
         let fetchable = subst (λ (p : PortState). IsFetchable p slot) is may.0.fetchable in
         let working = subst (λ (p : PortState). IsWorking p t.meaning.operation) is may.0.working in
         inr (
           record {
             fetchable = record { st = fetchable.st; issued = fetchable.issued; free = fetchable.free };
-            working = working_noted (d.port 0) n t.meaning.operation working;
+            working = working_noted (d.port port) n t.meaning.operation working;
             alone = subst (λ (p : PortState). IsAlone p t.meaning.operation) is may.0.alone;
             says = subst (λ (p : PortState). Says d.memory p.bases.clb slot t.meaning t.places) is may.0.says;
           },
           may.1,
         )
 
-may_noted : (d : Device) (f : ℕ → PortState) (n : Notes) (slot : ℕ) → f 0 ≡ record (d.port 0) { notes = n } → MayPage (record d { port = f }) slot → MayPage d slot
-may_noted d f n slot is may =
+may_noted : (d : Device) (f : ℕ → PortState) (n : Notes) (port slot : ℕ) → f port ≡ record (d.port port) { notes = n } → MayPage (record d { port = f }) port slot → MayPage d port slot
+may_noted d f n port slot is may =
     let fetchable = subst (λ (p : PortState). IsFetchable p slot) is may.can.fetchable in
     let working = subst (λ (p : PortState). IsWorking p may.meaning.operation) is may.can.working in
     record {
@@ -447,44 +523,44 @@ may_noted d f n slot is may =
       sends = may.sends;
       can = record {
         fetchable = record { st = fetchable.st; issued = fetchable.issued; free = fetchable.free };
-        working = working_noted (d.port 0) n may.meaning.operation working;
+        working = working_noted (d.port port) n may.meaning.operation working;
         alone = subst (λ (p : PortState). IsAlone p may.meaning.operation) is may.can.alone;
         says = subst (λ (p : PortState). Says d.memory p.bases.clb slot may.meaning may.places) is may.can.says;
       };
     }
 
-pub noted_may : (r : Reg) (v : ℕ) (d : Device) (slot : ℕ) → MayPage (noted r v d) slot → MayPage d slot
-noted_may (Px q r) v d slot may =
+pub noted_may : (r : Reg) (v : ℕ) (d : Device) (port slot : ℕ) → MayPage (noted r v d) port slot → MayPage d port slot
+noted_may (Px q r) v d port slot may =
     let p : PortState = record (d.port q.0) { notes = note r v (d.port q.0) } in
-    elim (eqb_tells 0 q.0) [
+    elim (eqb_tells port q.0) [
       | inl here ↦
-          let same : 0 ≡ q.0 = here.1 in
-          may_noted d (changed d.port q.0 p) (note r v (d.port q.0)) slot
+          let same : port ≡ q.0 = here.1 in
+          may_noted d (changed d.port q.0 p) (note r v (d.port q.0)) port slot
           (ap (λ k. changed d.port q.0 p k) same ∙ (changed_same d.port q.0 p ∙ ap (λ k. record (d.port k) { notes = note r v (d.port q.0) }) (sym same))) may
-      | inr there ↦ may_noted d (changed d.port q.0 p) (d.port 0).notes slot (changed_other d.port q.0 p 0 there.1) may
+      | inr there ↦ may_noted d (changed d.port q.0 p) (d.port port).notes port slot (changed_other d.port q.0 p port there.1) may
     ]
-noted_may Cap v d slot may = may
-noted_may Ghc v d slot may = may
-noted_may Is v d slot may = may
-noted_may Pi v d slot may = may
-noted_may Vs v d slot may = may
-noted_may Cap2 v d slot may = may
-noted_may Bohc v d slot may = may
+noted_may Cap v d port slot may = may
+noted_may Ghc v d port slot may = may
+noted_may Is v d port slot may = may
+noted_may Pi v d port slot may = may
+noted_may Vs v d port slot may = may
+noted_may Cap2 v d port slot may = may
+noted_may Bohc v d port slot may = may
 
-pub noted_page : (r : Reg) (v : ℕ) (d : Device) (slot : ℕ) → HasPage (noted r v d) slot → HasPage d slot
-noted_page (Px q r) v d slot has =
+pub noted_page : (r : Reg) (v : ℕ) (d : Device) (port slot : ℕ) → HasPage (noted r v d) port slot → HasPage d port slot
+noted_page (Px q r) v d port slot has =
     let p : PortState = record (d.port q.0) { notes = note r v (d.port q.0) } in
-    elim (eqb_tells 0 q.0) [
+    elim (eqb_tells port q.0) [
       | inl here ↦
-          let same : 0 ≡ q.0 = here.1 in
-          has_noted d (changed d.port q.0 p) (note r v (d.port q.0)) slot
+          let same : port ≡ q.0 = here.1 in
+          has_noted d (changed d.port q.0 p) (note r v (d.port q.0)) port slot
           (ap (λ k. changed d.port q.0 p k) same ∙ (changed_same d.port q.0 p ∙ ap (λ k. record (d.port k) { notes = note r v (d.port q.0) }) (sym same))) has
-      | inr there ↦ has_noted d (changed d.port q.0 p) (d.port 0).notes slot (changed_other d.port q.0 p 0 there.1) has
+      | inr there ↦ has_noted d (changed d.port q.0 p) (d.port port).notes port slot (changed_other d.port q.0 p port there.1) has
     ]
-noted_page Cap v d slot has = has
-noted_page Ghc v d slot has = has
-noted_page Is v d slot has = has
-noted_page Pi v d slot has = has
-noted_page Vs v d slot has = has
-noted_page Cap2 v d slot has = has
-noted_page Bohc v d slot has = has
+noted_page Cap v d port slot has = has
+noted_page Ghc v d port slot has = has
+noted_page Is v d port slot has = has
+noted_page Pi v d port slot has = has
+noted_page Vs v d port slot has = has
+noted_page Cap2 v d port slot has = has
+noted_page Bohc v d port slot has = has

@@ -9,7 +9,7 @@ use Rattle.adapter.specs.Steps.{MayLinkUp, with_link, with_port, recorded}
 use Rattle.adapter.specs.Access.{note, noted}
 use Rattle.adapter.specs.Rules.{MayRead, MayWrite}
 use Rattle.adapter.specs.declared.tape.Entry.{Entry}
-use Rattle.adapter.proofs.Changed.{fun_ext, changed_same, changed_other, changed_each}
+use Rattle.device_model.proofs.Places.{fun_ext, changed_same, changed_other, changed_each}
 use Rattle.hba_regs.specs.declared.reg.Reg.{Reg}
 use Rattle.hba_regs.specs.declared.reg.Reg.TheVariants.{Cap, Ghc, Is, Pi, Vs, Cap2, Bohc, Px}
 use Rattle.device_model.specs.Fetched.{bytes_of}

@@ -14,7 +14,7 @@ use Rattle.sector_store.specs.declared.store.Failures.{Failures}
 use Rattle.device_model.specs.Does.{ClearsFewer, Did, StepFails, FailsToClear, FailsToMove}
 use Rattle.device_model.specs.Modelled.{device_at}
 use Rattle.device_model.specs.Sent.{IsSent, Sends, SendsAfter, SendsEnd, is_received}
-use Rattle.device_model.specs.declared.model.Description.{Description}
+use Rattle.device_model.specs.declared.bay.Description.{Description}
 use Rattle.device_model.specs.declared.model.Model.{Model}
 
 pub received_there : (p : PortState) (size : ℕ) → p.fre ≡ true → p.bases.fb + 256 ≤ size → is_received p size ≡ true
@@ -109,11 +109,11 @@ done_may (asked.Unplug p) old new did = did
 done_may (asked.Plug p number) old new did = did
 
 -- a fault in the place of a step, or on its way, is one of the device's own
-moving_fails : (port slot : ℕ) (was now : Option Failures) (says later : Description) (old new : Device) (f : FailsToMove port slot was now says later old new) →
+moving_fails : (port slot : ℕ) (was now : Option Failures) (says later : Option Description) (old new : Device) (f : FailsToMove port slot was now says later old new) →
     DoesFault port slot f.error old new
 moving_fails port slot was now says later old new f = record { t = f.t; can = f.can; effect = f.effect }
 
-clearing_fails : (port slot : ℕ) (was now : Option Failures) (says later : Description) (old new : Device) (f : FailsToClear port slot was now says later old new) →
+clearing_fails : (port slot : ℕ) (was now : Option Failures) (says later : Option Description) (old new : Device) (f : FailsToClear port slot was now says later old new) →
     DoesFault port slot f.error old new
 clearing_fails port slot was now says later old new f = record { t = f.t; can = f.can; effect = f.effect }
 
@@ -123,7 +123,7 @@ fails_after_may port slot error Part More more old mid new (inl same) fault = re
 fails_after_may port slot error Part More more old mid new (inr some) fault =
     record { mid = mid; before = inr (more old mid some); error = error; fault = fault }
 
-fails_may : (s : DeviceStep) (was now : Option Failures) (says later : Description) (old new : Device) → StepFails s was now says later old new → Asked s old new
+fails_may : (s : DeviceStep) (was now : Option Failures) (says later : Option Description) (old new : Device) → StepFails s was now says later old new → Asked s old new
 fails_may (asked.Fetch p s) was now says later old new f = inr (record { queued = false; can = f.can; effect = f.effect })
 fails_may (asked.Move p s) was now says later old new f = inr (f.error, moving_fails p.0 s.0 was now says later old new f)
 fails_may (asked.Clear p s most) was now says later old new (mid, before, f) =
@@ -150,5 +150,5 @@ pub did_may : {S : Type 0} (size : S → ℕ) (told : S → Option (ℕ → List
 did_may size told failures s old new did =
     elim did.came [
       | inl whole ↦ inl (done_may s _ _ whole.asked)
-      | inr failed ↦ fails_may s (failures old.disk) (failures new.disk) old.says new.says _ _ failed
+      | inr failed ↦ fails_may s _ _ _ _ _ _ failed
     ]

@@ -214,9 +214,9 @@ module _ (h : Hardware) (p port slot : ℕ) (r : TakenCommand) (e : p ≡ port) 
 
 -- ---- commands that send a page
 
-module _ (h : Hardware) (slot size : ℕ) (sized : size ≡ vec_len h.memory) where
-  abbrev port0 : PortModel
-  port0 = slice_index_or h.ports 0 blank
+module _ (h : Hardware) (port slot size : ℕ) (sized : size ≡ vec_len h.memory) where
+  abbrev here : PortModel
+  here = slice_index_or h.ports port blank
 
   memory_size : size ≡ length h.memory.items
   memory_size = let ok = h.memory.ok.0 in omega (arith, sized, ok)
@@ -236,107 +236,107 @@ module _ (h : Hardware) (slot size : ℕ) (sized : size ≡ vec_len h.memory) wh
   Ends r = (left : ℕ) × IsCovered (taken_of r) size left × AreInside (2 ^ 32) (pieces r.prds)
 
   -- one that may be taken
-  pub page_said : (r : TakenCommand) → IsNew r → Says (bytes_of h.memory.items) port0.addresses.clb slot (taken_of r).meaning (taken_of r).places →
-      sends_page (operation_of r.transfer) ≡ true → HasUntaken port0 slot → IsBeside port0 r → Ends r → (o : Outside) → HasPage (device_of h o) slot
+  pub page_said : (r : TakenCommand) → IsNew r → Says (bytes_of h.memory.items) here.addresses.clb slot (taken_of r).meaning (taken_of r).places →
+      sends_page (operation_of r.transfer) ≡ true → HasUntaken here slot → IsBeside here r → Ends r → (o : Outside) → HasPage (device_of h o) port slot
   page_said r new says kind may beside ends o =
-      let m = may (o.media 0) (operation_of r.transfer) beside.0 in
+      let m = may (o.media port) (operation_of r.transfer) beside.0 in
       record {
         left = ends.0;
         ready = record {
           t = taken_of r;
           covered = covers r ends.0 ends.1;
           clearing = clears r kind;
-          begins = inr (record { fetchable = m.0; working = m.1; alone = beside.1 (o.media 0); says = says }, new_begun r new);
+          begins = inr (record { fetchable = m.0; working = m.1; alone = beside.1 (o.media port); says = says }, new_begun r new);
         };
         sends = kind;
         low = ends.2;
       }
 
   -- no other one may be
-  pub page_unsaid : ((m : Meaning) (places : List ℕ) → sends_page m.operation ≡ true → Says (bytes_of h.memory.items) port0.addresses.clb slot m places → ⊥) →
-      HasUntaken port0 slot → (o : Outside) → HasPage (device_of h o) slot → ⊥
+  pub page_unsaid : ((m : Meaning) (places : List ℕ) → sends_page m.operation ≡ true → Says (bytes_of h.memory.items) here.addresses.clb slot m places → ⊥) →
+      HasUntaken here slot → (o : Outside) → HasPage (device_of h o) port slot → ⊥
   page_unsaid none may o has =
-      none has.ready.t.meaning has.ready.t.places has.sends (ready_said h o 0 0 slot has.left 0 refl has.ready may)
+      none has.ready.t.meaning has.ready.t.places has.sends (ready_said h o port port slot has.left 0 refl has.ready may)
 
   -- and where one may be taken, it is the one that is ready
-  pub page_endless : (r : TakenCommand) → IsNew r → Says (bytes_of h.memory.items) port0.addresses.clb slot (taken_of r).meaning (taken_of r).places →
-      HasUntaken port0 slot → ((left : ℕ) → IsCovered (taken_of r) size left → AreInside (2 ^ 32) (pieces r.prds) → ⊥) → (o : Outside) →
-      HasPage (device_of h o) slot → ⊥
+  pub page_endless : (r : TakenCommand) → IsNew r → Says (bytes_of h.memory.items) here.addresses.clb slot (taken_of r).meaning (taken_of r).places →
+      HasUntaken here slot → ((left : ℕ) → IsCovered (taken_of r) size left → AreInside (2 ^ 32) (pieces r.prds) → ⊥) → (o : Outside) →
+      HasPage (device_of h o) port slot → ⊥
   page_endless r new says may never o has =
-      let same = ready_is_one h 0 0 slot r refl may new says o has.left 0 has.ready in
-      never has.left (covers_back r has.left (ready_is_said h 0 0 slot r refl may new says o has.left 0 has.ready).0)
+      let same = ready_is_one h port port slot r refl may new says o has.left 0 has.ready in
+      never has.left (covers_back r has.left (ready_is_said h port port slot r refl may new says o has.left 0 has.ready).0)
       (subst (λ (t : Taken). AreInside (2 ^ 32) t.places) same has.low)
 
   -- one that is taken
-  pub page_held : (r : TakenCommand) → HoldsAt port0 slot r → sends_page (operation_of r.transfer) ≡ true → Ends r → (o : Outside) → HasPage (device_of h o) slot
+  pub page_held : (r : TakenCommand) → HoldsAt here slot r → sends_page (operation_of r.transfer) ≡ true → Ends r → (o : Outside) → HasPage (device_of h o) port slot
   page_held r held kind ends o = record {
     left = ends.0;
     ready = record {
       t = taken_of r;
       covered = covers r ends.0 ends.1;
       clearing = clears r kind;
-      begins = inl (held.works (o.media 0));
+      begins = inl (held.works (o.media port));
     };
     sends = kind;
     low = ends.2;
   }
 
-  pub page_unheld : ((r : TakenCommand) → HoldsAt port0 slot r → sends_page (operation_of r.transfer) ≡ true → Ends r → ⊥) → MayTakeNone port0 slot → (o : Outside) →
-      HasPage (device_of h o) slot → ⊥
+  pub page_unheld : ((r : TakenCommand) → HoldsAt here slot r → sends_page (operation_of r.transfer) ≡ true → Ends r → ⊥) → MayTakeNone here slot → (o : Outside) →
+      HasPage (device_of h o) port slot → ⊥
   page_unheld none never o has =
-      let w = ready_held h o 0 0 slot has.left 0 refl has.ready never in
+      let w = ready_held h o port port slot has.left 0 refl has.ready never in
       none w.0 w.1 (sym (ap (λ (t : Taken). sends_page t.meaning.operation) w.2) ∙ has.sends)
-      (has.left, covers_back w.0 has.left (rest_back h 0 0 slot w.0 refl has.left 0 o has.ready w.2).0, subst (λ (t : Taken). AreInside (2 ^ 32) t.places) w.2 has.low)
+      (has.left, covers_back w.0 has.left (rest_back h port port slot w.0 refl has.left 0 o has.ready w.2).0, subst (λ (t : Taken). AreInside (2 ^ 32) t.places) w.2 has.low)
 
 -- what a look at a slot finds, by whether it can be done to its end
-pub finds : (d : Device) (slot : ℕ) (ends : Bool) → (ends ≡ true → HasPage d slot) → (ends ≡ false → MayPage d slot × (HasPage d slot → ⊥)) →
-    FindsPage d slot (Some ends)
-finds d slot true has may = has refl
-finds d slot false has may = may refl
+pub finds : (d : Device) (port slot : ℕ) (ends : Bool) → (ends ≡ true → HasPage d port slot) → (ends ≡ false → MayPage d port slot × (HasPage d port slot → ⊥)) →
+    FindsPage d port slot (Some ends)
+finds d port slot true has may = has refl
+finds d port slot false has may = may refl
 
-module _ (h : Hardware) (slot : ℕ) where
+module _ (h : Hardware) (port slot : ℕ) where
   abbrev first : PortModel
-  first = slice_index_or h.ports 0 blank
+  first = slice_index_or h.ports port blank
 
   -- one that its slot's bytes say may be taken
   pub may_page : (r : TakenCommand) → Says (bytes_of h.memory.items) first.addresses.clb slot (taken_of r).meaning (taken_of r).places →
-      sends_page (operation_of r.transfer) ≡ true → HasUntaken first slot → IsBeside first r → (o : Outside) → MayPage (device_of h o) slot
+      sends_page (operation_of r.transfer) ≡ true → HasUntaken first slot → IsBeside first r → (o : Outside) → MayPage (device_of h o) port slot
   may_page r says kind may beside o =
-      let m = may (o.media 0) (operation_of r.transfer) beside.0 in
+      let m = may (o.media port) (operation_of r.transfer) beside.0 in
       record {
         meaning = (taken_of r).meaning;
         places = (taken_of r).places;
         sends = kind;
-        can = record { fetchable = m.0; working = m.1; alone = beside.1 (o.media 0); says = says };
+        can = record { fetchable = m.0; working = m.1; alone = beside.1 (o.media port); says = says };
       }
 
   -- and so may one that can be done to its end, where one may be
-  pub ready_may : HasUntaken first slot → (o : Outside) → HasPage (device_of h o) slot → MayPage (device_of h o) slot
+  pub ready_may : HasUntaken first slot → (o : Outside) → HasPage (device_of h o) port slot → MayPage (device_of h o) port slot
   ready_may may o has = record {
     meaning = has.ready.t.meaning;
     places = has.ready.t.places;
     sends = has.sends;
-    can = (ready_fetch h o 0 0 slot has.left 0 refl has.ready may).0;
+    can = (ready_fetch h o port port slot has.left 0 refl has.ready may).0;
   }
 
   -- none may be beside others that are taken
   pub page_crowded : (r : TakenCommand) → Says (bytes_of h.memory.items) first.addresses.clb slot (taken_of r).meaning (taken_of r).places →
       ((m : Media) → admits (halt_of first.halting) (operation_of r.transfer) ≡ true → IsAlone (port_of first m) (operation_of r.transfer) → ⊥) → (o : Outside) →
-      MayPage (device_of h o) slot → ⊥
+      MayPage (device_of h o) port slot → ⊥
   page_crowded r says crowded o may =
       let memory = bytes_of h.memory.items in
-      let there = fetch_says h o 0 0 slot may.meaning may.places refl may.can in
+      let there = fetch_says h o port port slot may.meaning may.places refl may.can in
       let meaning = says_meaning memory first.addresses.clb slot may.meaning (taken_of r).meaning may.places (taken_of r).places there says in
       let same : may.meaning.operation ≡ operation_of r.transfer = ap (λ (x : Meaning). x.operation) meaning in
-      crowded (o.media 0) (subst (λ (x : Operation). admits (halt_of first.halting) x ≡ true) same may.can.working.admitted)
-      (subst (λ (x : Operation). IsAlone (port_of first (o.media 0)) x) same may.can.alone)
+      crowded (o.media port) (subst (λ (x : Operation). admits (halt_of first.halting) x ≡ true) same may.can.working.admitted)
+      (subst (λ (x : Operation). IsAlone (port_of first (o.media port)) x) same may.can.alone)
 
   -- none is said
   pub page_unmeant : ((m : Meaning) (places : List ℕ) → sends_page m.operation ≡ true → Says (bytes_of h.memory.items) first.addresses.clb slot m places → ⊥) →
-      (o : Outside) → MayPage (device_of h o) slot → ⊥
-  page_unmeant none o may = none may.meaning may.places may.sends (fetch_says h o 0 0 slot may.meaning may.places refl may.can)
+      (o : Outside) → MayPage (device_of h o) port slot → ⊥
+  page_unmeant none o may = none may.meaning may.places may.sends (fetch_says h o port port slot may.meaning may.places refl may.can)
 
   -- none may be taken
-  pub page_barred : MayTakeNone first slot → (o : Outside) → MayPage (device_of h o) slot → ⊥
+  pub page_barred : MayTakeNone first slot → (o : Outside) → MayPage (device_of h o) port slot → ⊥
   page_barred never o may =
-      never (o.media 0) may.meaning.operation (fetch_takes h o 0 0 slot may.meaning may.places refl may.can)
+      never (o.media port) may.meaning.operation (fetch_takes h o port port slot may.meaning may.places refl may.can)

@@ -8,7 +8,7 @@ use Rattle.adapter.specs.Steps.Step.{Fetch}
 use Rattle.adapter.specs.Says.{Says}
 use Rattle.adapter.specs.declared.command.Operation.{Operation}
 use Rattle.device_model.proofs.Absurd.{some_one}
-use Rattle.adapter.proofs.Changed.{changed_same, changed_other, changed_each}
+use Rattle.device_model.proofs.Places.{changed_same, changed_other, changed_each}
 use Rattle.adapter.proofs.SaysLemmas.{says_meaning}
 use Rattle.device_model.specs.Sent.{SendsEnd}
 use Rattle.device_model.proofs.Finishing.{done_port}

@@ -6,7 +6,7 @@ use Rattle.std.proofs.lemmas.List.{get_or_default}
 use Rattle.adapter.specs.Device.{Taken}
 use Rattle.adapter.specs.Memory.{changed}
 use Rattle.adapter.specs.Steps.{begun}
-use Rattle.adapter.proofs.Changed.{fun_ext, changed_same, changed_other}
+use Rattle.device_model.proofs.Places.{fun_ext, changed_same, changed_other}
 use Rattle.device_model.specs.Block.{brought}
 use Rattle.device_model.specs.Fetched.{IsNew}
 use Rattle.device_model.specs.View.{held_in, slots_of, taken_of, blank}
@@ -49,7 +49,7 @@ filled_changed taken slot new =
     ])
 
 -- none is, where it isn't said that one is
-pub none_filled : (o : Option TakenCommand) → is_some o ≡ false → o ≡ None
+pub none_filled : {X : Type 0} (o : Option X) → is_some o ≡ false → o ≡ None
 none_filled None e = refl
 none_filled (Some r) e = absurd (cc e)
 

@@ -70,22 +70,26 @@ pub fetch_says : (h : Hardware) (o : Outside) (p port slot : ℕ) (m : Meaning) 
 fetch_says h o p port slot m places e may = rw e may.says
 
 -- the disk is taken out
-pub unplugged : (h : Hardware) (o : Outside) (new : PortModel) (tape : Vec Entry) → 0 < length h.ports →
-    port_of new (o.media 0) ≡ record (port_of (slice_index_or h.ports 0 blank) (o.media 0)) { ssts_det = 0; present = false; fresh = false; serr_n = true } →
-    tape.items ≡ h.tape.items ++ entry.Unplug (record { 0 = 0 }) ∷ [] →
-    device_of (record h { ports = slice_set h.ports 0 new; tape = tape }) o ≡ after (Unplug 0) (device_of h o)
-unplugged h o new tape some is more = set_port_recorded h o 0 new _ tape (entry.Unplug (record { 0 = 0 })) some is more
+pub unplugged : (h : Hardware) (o : Outside) (p port : ℕ) (new : PortModel) (tape : Vec Entry) → p ≡ port → p < length h.ports →
+    port_of new (o.media p) ≡ record (port_of (slice_index_or h.ports p blank) (o.media p)) { ssts_det = 0; present = false; fresh = false; serr_n = true } →
+    tape.items ≡ h.tape.items ++ entry.Unplug (record { 0 = port }) ∷ [] →
+    device_of (record h { ports = slice_set h.ports p new; tape = tape }) o ≡ after (Unplug port) (device_of h o)
+unplugged h o p port new tape e small is more =
+    let P : ℕ → Type 0 = λ q. device_of (record h { ports = slice_set h.ports p new; tape = tape }) o ≡ after (Unplug q) (device_of h o) in
+    subst P e (set_port_recorded h o p new _ tape (entry.Unplug (record { 0 = p })) small is (rw (← e) at more))
 
 -- a disk is put in
-pub plugged_in : (h : Hardware) (o : Outside) (new : PortModel) (tape : Vec Entry) (disk : Disk) (number : ℕ) → disk.name ≡ number → 0 < length h.ports →
-    ((m : Media) → port_of new m ≡ record (port_of (slice_index_or h.ports 0 blank) m) { ssts_det = 3; present = true; fresh = false; serr_n = true; serr_x = true }) →
-    tape.items ≡ h.tape.items ++ entry.Plug (record { 0 = 0 }) number ∷ [] →
-    device_of (record h { ports = slice_set h.ports 0 new; tape = tape }) (outside_plugged o disk) ≡ after (Plug 0 disk) (device_of h o)
-plugged_in h o new tape disk number name some is more =
-    let media : Media = record { disk = disk; plugged = (o.media 0).plugged ++ disk ∷ [] } in
-    let named : entry.Plug (record { 0 = 0 }) number ≡ entry.Plug (record { 0 = 0 }) disk.name = ap (entry.Plug (record { 0 = 0 })) (sym name) in
-    set_port_plugged h o 0 new media _ tape (entry.Plug (record { 0 = 0 }) disk.name) some (is media)
-    (more ∙ ap (λ (e : Entry). h.tape.items ++ e ∷ []) named)
+pub plugged_in : (h : Hardware) (o : Outside) (p port : ℕ) (new : PortModel) (tape : Vec Entry) (disk : Disk) (number : ℕ) → disk.name ≡ number → p ≡ port → p < length h.ports →
+    ((m : Media) → port_of new m ≡ record (port_of (slice_index_or h.ports p blank) m) { ssts_det = 3; present = true; fresh = false; serr_n = true; serr_x = true }) →
+    tape.items ≡ h.tape.items ++ entry.Plug (record { 0 = port }) number ∷ [] →
+    device_of (record h { ports = slice_set h.ports p new; tape = tape }) (outside_plugged o port disk) ≡ after (Plug port disk) (device_of h o)
+plugged_in h o p port new tape disk number name e some is more =
+    let media : Media = record { disk = disk; plugged = (o.media p).plugged ++ disk ∷ [] } in
+    let named : entry.Plug (record { 0 = p }) number ≡ entry.Plug (record { 0 = p }) disk.name = ap (entry.Plug (record { 0 = p })) (sym name) in
+    let P : ℕ → Type 0 = λ q. device_of (record h { ports = slice_set h.ports p new; tape = tape }) (outside_plugged o q disk) ≡ after (Plug q disk) (device_of h o) in
+    subst P e
+    (set_port_plugged h o p new media _ tape (entry.Plug (record { 0 = p }) disk.name) some (is media)
+    (rw (← e) at more ∙ ap (λ (x : Entry). h.tape.items ++ x ∷ []) named))
 
 is_cause : (k : Transfer) → (cause_of k ≡ 0) ⊎ (cause_of k ≡ 1) ⊎ (cause_of k ≡ 3)
 is_cause transfer.Identify = inr (inl refl)

@@ -1,21 +1,22 @@
 -- What a tape gains tells of the disk as before.
-use Rattle.std.proofs.Common.{ℕ, zero, suc, ◌≡◌, [], ◌∷◌, ◌++◌, List, All, refl, sym, ◌∙◌, ap, subst, arith, append-nil, append_assoc}
+use Rattle.std.proofs.Common.{ℕ, zero, suc, ◌≡◌, [], ◌∷◌, ◌++◌, List, Some, All, refl, sym, ◌∙◌, ap, subst, arith, append-nil, append_assoc}
 use Rattle.std.proofs.lemmas.List.Elements.{All-append, All-nil}
+use Rattle.std.specs.Prelude.{option_map}
 use Rattle.adapter.specs.Access.{noted, written}
 use Rattle.adapter.specs.Asked.{Ends}
 use Rattle.adapter.specs.Device.{Device}
 use Rattle.adapter.specs.Steps.{done_entry}
-use Rattle.adapter.specs.declared.command.Operation.TheVariants.{Identify, ReadLog}
-use Rattle.adapter.specs.declared.command.Operation.{Operation}
 use Rattle.adapter.specs.declared.tape.Entry.{Entry}
 use Rattle.adapter.specs.declared.tape.Entry.TheVariants as entry
 use Rattle.adapter.specs.declared.tape.Move.{Move}
 use Rattle.hba_regs.specs.declared.reg.Reg.{Reg}
 use Rattle.hba_regs.specs.declared.reg.Reg.TheVariants.{Cap, Ghc, Is, Pi, Vs, Cap2, Bohc, Px}
-use Rattle.device_model.specs.Paged.{AreItsPages, BringsIts, GainsPages, IsItsLog, IsItsPage}
+use Rattle.device_model.specs.Disks.{bay_of, identity, identity_of, says_of}
+use Rattle.device_model.specs.Paged.{BringsOf, GainsPages, IsItsLog, IsItsPage}
 use Rattle.device_model.specs.Sent.{SendsEnd}
 use Rattle.device_model.specs.View.{operation_of}
 use Rattle.device_model.specs.Whole.{Outside, device_of}
+use Rattle.device_model.specs.declared.bay.Bay.{Bay}
 use Rattle.device_model.specs.declared.model.Model.{Model}
 use Rattle.device_model.specs.declared.port.Transfer.{Transfer}
 use Rattle.device_model.proofs.Posting.{end_rest}
@@ -48,47 +49,51 @@ all_one P x here zero d small = here
 all_one P x here (suc k) d small = absurd (omega (arith, small))
 
 module _ {S : Type 0} (size : S → ℕ) where
+  -- an entry is no page, or one of the disk that was in
+  abbrev pub Tells : Model S → Entry → Type 0
+  Tells old e = (m : Move) → e ≡ entry.Move m → BringsOf (identity_of size old m.port.0) (says_of old m.port.0) m
+
   pub gains_none : (old new : Model S) → new.hardware.tape.items ≡ old.hardware.tape.items → GainsPages size old new
   gains_none old new same = record {
     gained = [];
     tape = same ∙ sym (append-nil old.hardware.tape.items);
-    pages = All-nil (λ x. (m : Move) → x ≡ entry.Move m → BringsIts old.which (size old.disk) old.says m);
+    pages = All-nil (Tells old);
   }
 
   -- one more entry, which is no page or the disk's
   pub gains_one : (old new : Model S) (e : Entry) → new.hardware.tape.items ≡ old.hardware.tape.items ++ e ∷ [] →
-      ((m : Move) → e ≡ entry.Move m → BringsIts old.which (size old.disk) old.says m) → GainsPages size old new
+      ((m : Move) → e ≡ entry.Move m → BringsOf (identity_of size old m.port.0) (says_of old m.port.0) m) → GainsPages size old new
   gains_one old new e more here = record {
     gained = e ∷ [];
     tape = more;
-    pages = all_one (λ x. (m : Move) → x ≡ entry.Move m → BringsIts old.which (size old.disk) old.says m) e here;
+    pages = all_one (Tells old) e here;
   }
 
-  pub gains_on : (a b c : Model S) → b.says ≡ a.says → b.which ≡ a.which → size b.disk ≡ size a.disk → GainsPages size a b → GainsPages size b c → GainsPages size a c
-  gains_on a b c says which sectors first then =
-      let P : Entry → Type 0 = λ x. (m : Move) → x ≡ entry.Move m → BringsIts a.which (size a.disk) a.says m in
-      record {
-        gained = first.gained ++ then.gained;
-        tape = then.tape ∙ (ap (λ (t : List Entry). t ++ then.gained) first.tape ∙ append_assoc a.hardware.tape.items first.gained then.gained);
-        pages = All-append P first.gained then.gained first.pages
-            (subst (λ x. AreItsPages a.which (size a.disk) x then.gained) says
-            (subst (λ n. AreItsPages a.which n b.says then.gained) sectors (subst (λ w. AreItsPages w (size b.disk) b.says then.gained) which then.pages)));
-      }
+  pub gains_on : (a b c : Model S) → ((q : ℕ) → says_of b q ≡ says_of a q) → ((q : ℕ) → identity_of size b q ≡ identity_of size a q) → GainsPages size a b →
+      GainsPages size b c → GainsPages size a c
+  gains_on a b c says disks first then = record {
+    gained = first.gained ++ then.gained;
+    tape = then.tape ∙ (ap (λ (t : List Entry). t ++ then.gained) first.tape ∙ append_assoc a.hardware.tape.items first.gained then.gained);
+    pages = All-append (Tells a) first.gained then.gained first.pages
+        (λ k d small m e.
+        subst (λ x. BringsOf x (says_of a m.port.0) m) (disks m.port.0)
+        (subst (λ x. BringsOf (identity_of size b m.port.0) x m) (says m.port.0) (then.pages k d small m e)));
+  }
 
-  -- a move was noted
-  pub gains_moved : (old new : Model S) (k : Transfer) (m : Move) →
+  -- a move was noted, of a port that has these disks
+  pub gains_moved : (old new : Model S) (bay : Bay S) (k : Transfer) (m : Move) → bay_of old m.port.0 ≡ Some bay →
       new.hardware.tape.items ≡ old.hardware.tape.items ++ entry.Move m ∷ [] → m.operation ≡ operation_of k →
-      (k ≡ transfer.Identify → IsItsPage old.which (size old.disk) old.says m.bytes.value) → (k ≡ transfer.ReadLog → IsItsLog old.says m.bytes.value) →
+      (k ≡ transfer.Identify → IsItsPage (identity size bay.disk) bay.says m.bytes.value) → (k ≡ transfer.ReadLog → IsItsLog bay.says m.bytes.value) →
       GainsPages size old new
-  gains_moved old new k m more named page log =
+  gains_moved old new bay k m was more named page log =
       gains_one old new (entry.Move m) more
       (λ x e.
       let same : m ≡ x = cc in
-      let its = λ (operation : Operation) (is : x.operation ≡ operation). sym named ∙ (ap (λ (y : Move). y.operation) same ∙ is) in
-      record {
-        identity = λ is. subst (λ (y : Move). IsItsPage old.which (size old.disk) old.says y.bytes.value) same (page (is_identify k (its Identify is)));
-        log = λ is. subst (λ (y : Move). IsItsLog old.says y.bytes.value) same (log (is_log k (its ReadLog is)));
-      })
+      let its : BringsOf (Some (identity size bay.disk)) (Some bay.says) m =
+      record { identity = λ is. page (is_identify k (sym named ∙ is)); log = λ is. log (is_log k (sym named ∙ is)) } in
+      let here : BringsOf (identity_of size old m.port.0) (says_of old m.port.0) m =
+      subst (λ b. BringsOf (option_map (λ (y : Bay S). identity size y.disk) b) (option_map (λ (y : Bay S). y.says) b) m) (sym was) its in
+      subst (λ (y : Move). BringsOf (identity_of size old y.port.0) (says_of old y.port.0) y) same here)
 
   -- a command ended
   pub gains_done : (o : Outside) (port slot : ℕ) (old new : Model S) → Ends (SendsEnd slot) port slot (device_of old.hardware o) (device_of new.hardware o) →

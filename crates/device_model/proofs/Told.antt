@@ -1,8 +1,9 @@
 -- Steps of the hardware, as a model answers them.
 use Rattle.std.proofs.Common.{ℕ, Bool, true, false, ◌≡◌, ◌<◌, ◌∙◌, List, [], ◌∷◌, ◌++◌, Option, Some, refl, sym, ap, subst, inl, inr}
 use Rattle.std.specs.Global.{Vec}
-use Rattle.adapter.specs.Asked.{DoesFatal, DoesFault, DoesFetch, DoesUnplug, DoneOf, Ends, fatal_bit}
-use Rattle.adapter.specs.Commands.{Meaning}
+use Rattle.std.specs.Prelude.{if◌then◌else◌, option_map}
+use Rattle.adapter.specs.Asked.{DoesFatal, DoesFault, DoesFetch, DoneOf, Ends, fatal_bit}
+use Rattle.adapter.specs.Commands.{Meaning, is_queued}
 use Rattle.adapter.specs.Device.{Device, Taken}
 use Rattle.adapter.specs.Steps.{Can, after, fault_entry}
 use Rattle.adapter.specs.Steps.Step.{Fetch, FetchFault, Done, Fault, Fatal, Unplug}
@@ -15,16 +16,21 @@ use Rattle.adapter.specs.declared.tape.Move.{Move}
 use Rattle.ata_types.specs.declared.Port.{Port}
 use Rattle.ata_types.specs.declared.Slot.{Slot}
 use Rattle.sector_store.specs.declared.store.Failures.{Failures}
-use Rattle.device_model.specs.Does.{AnswersStep, EndsIt, IsLeftOut, MayBeFetched, StepKeeps, LacksMemory, Possible, says_after, says_failed, which_after}
+use Rattle.device_model.specs.Disks.{SaysOnly, bay_of, disk_in, says_of, which_of}
+use Rattle.device_model.specs.Does.{AnswersStep, EndsIt, IsLeftOut, MayBeFetched, StepKeeps, LacksMemory, Possible, asked_port, says_after, says_failed, which_after}
 use Rattle.device_model.specs.Finishing.{HasRoom, IsPassed}
 use Rattle.device_model.specs.Held.{held_after}
 use Rattle.device_model.specs.Modelled.{device_at, outside_at}
 use Rattle.device_model.specs.Sent.{Sends, SendsEnd}
 use Rattle.device_model.specs.Whole.{Outside, device_of}
 use Rattle.device_model.specs.declared.hardware.Hardware.{Hardware}
-use Rattle.device_model.specs.declared.model.Description.{Description}
+use Rattle.device_model.specs.declared.bay.Bay.{Bay}
+use Rattle.device_model.specs.declared.bay.Description.{Description}
+use Rattle.device_model.specs.declared.disks.ModelDisk.{ModelDisk}
 use Rattle.device_model.specs.declared.model.Model.{Model}
 use Rattle.device_model.proofs.Telling.{gains_none, gains_one, gains_done}
+use Rattle.device_model.proofs.TwoDisks.{saying_here, saying_keeps, saying_others, saying_outside, saying_same}
+use Rattle.device_model.specs.Paged.{naming}
 
 module _ {S : Type 0} (size : S → ℕ) (told : S → Option (ℕ → List ℕ)) (failures : S → Option Failures) (m : Model S) (h : Hardware) where
   abbrev new : Model S
@@ -34,17 +40,18 @@ module _ {S : Type 0} (size : S → ℕ) (told : S → Option (ℕ → List ℕ)
   behind = outside_at size told m
 
   pub on_hardware : StepKeeps size m new
-  on_hardware = record { sectors = λ _. refl; out = λ _ _. refl; queue = refl; accesses = refl }
+  on_hardware = record { identities = λ _ _. refl; out = λ _ _ _. refl; queue = refl; accesses = refl }
 
   -- a step that notes one entry wasn't done
   passed_left : (s : DeviceStep) (possible : Type 0) → (Possible s (device_at size told m) → possible) → (possible → Possible s (device_at size told m)) →
-      ((HasRoom m.hardware 1 → ⊥) → LacksMemory s (device_at size told m) m.hardware m.plugged) → device_of h behind ≡ device_of m.hardware behind →
+      ((HasRoom m.hardware 1 → ⊥) → LacksMemory s (device_at size told m) m.hardware (bay_of m (asked_port s))) → device_of h behind ≡ device_of m.hardware behind →
       IsPassed m.hardware h possible → IsLeftOut size told failures s m new
   passed_left s possible forth back lacks same (inl never) = record {
     device = same;
     held = refl;
     says = refl;
     which = refl;
+    others = λ _ _. refl;
     disks = λ _. refl;
     why = λ _ may. absurd (never.0 (forth may));
     keeps = on_hardware;
@@ -56,6 +63,7 @@ module _ {S : Type 0} (size : S → ℕ) (told : S → Option (ℕ → List ℕ)
     held = refl;
     says = refl;
     which = refl;
+    others = λ _ _. refl;
     disks = λ _. refl;
     why = λ _ may. (lacks missed.1, missed.2);
     keeps = on_hardware;
@@ -72,6 +80,7 @@ module _ {S : Type 0} (size : S → ℕ) (told : S → Option (ℕ → List ℕ)
     held = refl;
     says = refl;
     which = refl;
+    others = λ _ _. refl;
     disks = λ _. refl;
     why = λ _ may. absurd (none may.2);
     keeps = on_hardware;
@@ -87,6 +96,7 @@ module _ {S : Type 0} (size : S → ℕ) (told : S → Option (ℕ → List ℕ)
     held = refl;
     says = refl;
     which = refl;
+    others = λ _ _. refl;
     disks = λ _. refl;
     why = λ _ _. ((missed.0, missed.1), missed.2);
     keeps = on_hardware;
@@ -100,9 +110,10 @@ module _ {S : Type 0} (size : S → ℕ) (told : S → Option (ℕ → List ℕ)
   fetch_answers p s port slot f tape starved = (
     (port, slot, inl (f.meaning, f.places, f.can)),
     record {
-      came = inl (record { asked = f; fine = λ _. refl; says = refl; ends = λ _. tt });
+      came = inl (record { asked = f; fine = λ _ _. refl; says = refl; ends = λ _. tt });
       held = refl;
       which = refl;
+      others = λ _ _. refl;
       pages = gains_none size m new (ap (λ (v : Vec Entry). v.items) tape);
       disks = λ _ _. refl;
       keeps = on_hardware;
@@ -123,6 +134,7 @@ module _ {S : Type 0} (size : S → ℕ) (told : S → Option (ℕ → List ℕ)
           came = inr (record { can = d.0; effect = d.1; stores = refl; log = refl });
           held = refl;
           which = refl;
+          others = λ _ _. refl;
           pages = gains_one size m new (fault_entry p.0 s.0 4 0) (ap (λ (x : Device). x.tape) d.1) (λ x e. absurd (cc e));
           disks = λ _ _. refl;
           keeps = on_hardware;
@@ -140,9 +152,10 @@ module _ {S : Type 0} (size : S → ℕ) (told : S → Option (ℕ → List ℕ)
       let d = done refl in (
         (port, slot, d.done.flag, d.done.t, d.done.can),
         record {
-          came = inl (record { asked = d; fine = λ _. refl; says = refl; ends = λ _. tt });
+          came = inl (record { asked = d; fine = λ _ _. refl; says = refl; ends = λ _. tt });
           held = refl;
           which = refl;
+          others = λ _ _. refl;
           pages = gains_done size behind p.0 s.0 m new d;
           disks = λ _ _. refl;
           keeps = on_hardware;
@@ -154,26 +167,54 @@ module _ {S : Type 0} (size : S → ℕ) (told : S → Option (ℕ → List ℕ)
       (λ may. (port, slot, may.0, may.1, may.2)) (λ none. none) (same refl) (passed refl)
 
   -- a command that is taken fails: in the model the log names it, if it is queued
-  pub fail_answers : (p : Port) (s : Slot) (error : ℕ) (says : Description) → p.0 < 4 → s.0 < 32 →
-      (f : DoesFault p.0 s.0 error (device_of m.hardware behind) (device_of h behind)) →
-      says ≡ says_failed (Some f.t) s.0 error m.says → h.starved ≡ m.hardware.starved → AnswersStep size told failures (asked.Fault p s error) true m (record new { says = says })
-  fail_answers p s error says port slot f is starved = (
-    (port, slot, f.t, f.can),
-    record {
-      came = inl (record {
-        asked = f;
-        fine = λ _. refl;
-        says = is ∙ ap (λ (t : Option Taken). says_failed t s.0 error m.says) (sym f.can.taken);
-        ends = λ _. tt;
-      });
-      held = refl;
-      which = refl;
-      pages = gains_one size m (record new { says = says }) (fault_entry p.0 s.0 error 0) (ap (λ (x : Device). x.tape) f.effect) (λ x e. absurd (cc e));
-      disks = λ _ _. refl;
-      keeps = record { sectors = λ _. refl; out = λ _ _. refl; queue = refl; accesses = refl };
-      starved = starved;
-    },
-  )
+  module _ (p : Port) (s : Slot) (error : ℕ) (port : p.0 < 4) (slot : s.0 < 32) (f : DoesFault p.0 s.0 error (device_of m.hardware behind) (device_of h behind))
+      (starved : h.starved ≡ m.hardware.starved) where
+    pub plain_fails : is_queued f.t.meaning.operation ≡ false → AnswersStep size told failures (asked.Fault p s error) true m new
+    plain_fails plain = (
+      (port, slot, f.t, f.can),
+      record {
+        came = inl (record {
+          asked = f;
+          fine = λ _ _. refl;
+          says = ap (λ (b : Bool). if b then option_map (naming (record { tag = s.0; error = error })) (says_of m p.0) else says_of m p.0) (sym plain)
+              ∙ ap (λ (t : Option Taken). says_failed t s.0 error (says_of m p.0)) (sym f.can.taken);
+          ends = λ _. tt;
+        });
+        held = refl;
+        which = refl;
+        others = λ _ _. refl;
+        pages = gains_one size m new (fault_entry p.0 s.0 error 0) (ap (λ (x : Device). x.tape) f.effect) (λ x e. absurd (cc e));
+        disks = λ _ _. refl;
+        keeps = on_hardware;
+        starved = starved;
+      },
+    )
+
+    pub queued_fails : (bays : Vec (Option (Bay S))) → SaysOnly (naming (record { tag = s.0; error = error })) p.0 m.bays.items bays.items →
+        is_queued f.t.meaning.operation ≡ true → AnswersStep size told failures (asked.Fault p s error) true m (record new { bays = bays })
+    queued_fails bays only queued =
+        let name : Description → Description = naming (record { tag = s.0; error = error }) in
+        let last : Model S = record new { bays = bays } in
+        let P : Outside → Type 0 = λ o. DoesFault p.0 s.0 error (device_of m.hardware behind) (device_of h o) in (
+          (port, slot, f.t, f.can),
+          record {
+            came = inl (record {
+              asked = subst P (sym (saying_outside name m last p.0 only size told)) f;
+              fine = λ q w. saying_same name m last p.0 only (λ x. option_map (λ (y : ModelDisk S). failures y.store) (option_map (λ (y : Bay S). disk_in y w) x)) (λ b. refl) q;
+              says = saying_here name m last p.0 only
+                  ∙ (ap (λ (b : Bool). if b then option_map name (says_of m p.0) else says_of m p.0) (sym queued)
+                  ∙ ap (λ (t : Option Taken). says_failed t s.0 error (says_of m p.0)) (sym f.can.taken));
+              ends = λ _. tt;
+            });
+            held = refl;
+            which = saying_same name m last p.0 only (option_map (λ (y : Bay S). y.which)) (λ b. refl) p.0;
+            others = saying_others name m last p.0 only;
+            pages = gains_one size m last (fault_entry p.0 s.0 error 0) (ap (λ (x : Device). x.tape) f.effect) (λ x e. absurd (cc e));
+            disks = λ _ w. saying_same name m last p.0 only (option_map (λ (y : Bay S). disk_in y w)) (λ b. refl) p.0;
+            keeps = saying_keeps name m last p.0 only size refl refl;
+            starved = starved;
+          },
+        )
 
   -- none did
   pub fail_left : (p : Port) (s : Slot) (error : ℕ) → p.0 < 4 → s.0 < 32 → device_of h behind ≡ device_of m.hardware behind →
@@ -185,8 +226,8 @@ module _ {S : Type 0} (size : S → ℕ) (told : S → Option (ℕ → List ℕ)
   -- a step that notes one entry, which is no move, and changes nothing of the model but the device, was done, or wasn't
   noted_answers : (s : DeviceStep) (did : Bool) (possible : Type 0) (note : Entry) → ((x : Move) → note ≡ entry.Move x → ⊥) →
       (Possible s (device_at size told m) → possible) → (possible → Possible s (device_at size told m)) →
-      ((HasRoom m.hardware 1 → ⊥) → LacksMemory s (device_at size told m) m.hardware m.plugged) → m.says ≡ says_after s (device_at size told m) m.says →
-      m.held ≡ held_after s m.held → m.which ≡ which_after s m.which → EndsIt s (device_of m.hardware behind) (device_of h behind) →
+      ((HasRoom m.hardware 1 → ⊥) → LacksMemory s (device_at size told m) m.hardware (bay_of m (asked_port s))) → says_of m (asked_port s) ≡ says_after s (device_at size told m) (says_of m (asked_port s)) →
+      m.held ≡ held_after s m.held → which_of m (asked_port s) ≡ which_after s (which_of m (asked_port s)) → EndsIt s (device_of m.hardware behind) (device_of h behind) →
       (did ≡ true → possible × DoneOf (Sends s) s (device_of m.hardware behind) (device_of h behind) × (h.tape.items ≡ m.hardware.tape.items ++ note ∷ [])) →
       (did ≡ false → device_of h behind ≡ device_of m.hardware behind) → (did ≡ false → IsPassed m.hardware h possible) →
       (did ≡ true → h.starved ≡ m.hardware.starved) → AnswersStep size told failures s did m new
@@ -194,9 +235,10 @@ module _ {S : Type 0} (size : S → ℕ) (told : S → Option (ℕ → List ℕ)
       let d = done refl in (
         back d.0,
         record {
-          came = inl (record { asked = d.1; fine = λ _. refl; says = says; ends = λ _. ends });
+          came = inl (record { asked = d.1; fine = λ _ _. refl; says = says; ends = λ _. ends });
           held = held;
           which = which;
+          others = λ _ _. refl;
           pages = gains_one size m new note d.2 (λ x e. absurd (no_move x e));
           disks = λ _ _. refl;
           keeps = on_hardware;
@@ -215,12 +257,42 @@ module _ {S : Type 0} (size : S → ℕ) (told : S → Option (ℕ → List ℕ)
       (λ may. may.1) (λ may. (port, may)) (λ none. none) refl refl refl tt
       (λ e. let d = done e in (d.can, d, ap (λ (x : Device). x.tape) d.effect)) same passed starved
 
-  pub unplug_answers : (p : Port) (did : Bool) → p.0 ≡ 0 →
-      (did ≡ true → Can (Unplug 0) (device_of m.hardware behind) × (device_of h behind ≡ after (Unplug 0) (device_of m.hardware behind))) →
-      (did ≡ false → device_of h behind ≡ device_of m.hardware behind) → (did ≡ false → IsPassed m.hardware h (Can (Unplug 0) (device_of m.hardware behind))) →
+  pub unplug_answers : (p : Port) (did : Bool) → p.0 < 4 →
+      (did ≡ true → Can (Unplug p.0) (device_of m.hardware behind) × (device_of h behind ≡ after (Unplug p.0) (device_of m.hardware behind))) →
+      (did ≡ false → device_of h behind ≡ device_of m.hardware behind) → (did ≡ false → IsPassed m.hardware h (Can (Unplug p.0) (device_of m.hardware behind))) →
       (did ≡ true → h.starved ≡ m.hardware.starved) → AnswersStep size told failures (asked.Unplug p) did m new
-  unplug_answers p did zero done same passed starved =
-      let P : ℕ → Type 0 = λ q. DoesUnplug q (device_of m.hardware behind) (device_of h behind) in
-      noted_answers (asked.Unplug p) did (Can (Unplug 0) (device_of m.hardware behind)) (entry.Unplug (record { 0 = 0 })) (λ x e. absurd (cc e))
-      (λ may. may.1) (λ may. (zero, may)) (λ none. none) refl refl refl tt
-      (λ e. let d = done e in (d.0, subst P (sym zero) (record { can = d.0; effect = d.1 }), ap (λ (x : Device). x.tape) d.1)) same passed starved
+  unplug_answers p did port done same passed starved =
+      noted_answers (asked.Unplug p) did (Can (Unplug p.0) (device_of m.hardware behind)) (entry.Unplug p) (λ x e. absurd (cc e))
+      (λ may. may.1) (λ may. (port, may)) (λ none. none) refl refl refl tt
+      (λ e. let d = done e in (d.0, record { can = d.0; effect = d.1 }, ap (λ (x : Device). x.tape) d.1)) same passed starved
+
+-- ---- what the disks of a port say is another
+
+module _ {S : Type 0} (size : S → ℕ) (told : S → Option (ℕ → List ℕ)) (failures : S → Option Failures) (m : Model S) (s : DeviceStep) (name : Description → Description)
+    (bays : Vec (Option (Bay S))) (only : SaysOnly name (asked_port s) m.bays.items bays.items) where
+  abbrev lied : Model S
+  lied = record m { bays = bays }
+
+  -- a step that asks for nothing else is done
+  pub lie_answers : Possible s (device_at size told m) → ((old new : Device) → new ≡ old → DoneOf (Sends s) s old new) → ((old new : Device) → EndsIt s old new) →
+      option_map name (says_of m (asked_port s)) ≡ says_after s (device_at size told m) (says_of m (asked_port s)) → m.held ≡ held_after s m.held →
+      which_of m (asked_port s) ≡ which_after s (which_of m (asked_port s)) → AnswersStep size told failures s true m lied
+  lie_answers may done ends says held which =
+      let port : ℕ = asked_port s in (
+        may,
+        record {
+          came = inl (record {
+            asked = done _ _ (ap (λ (o : Outside). device_of m.hardware o) (saying_outside name m lied port only size told));
+            fine = λ q w. saying_same name m lied port only (λ x. option_map (λ (y : ModelDisk S). failures y.store) (option_map (λ (y : Bay S). disk_in y w) x)) (λ b. refl) q;
+            says = saying_here name m lied port only ∙ says;
+            ends = λ _. ends _ _;
+          });
+          held = held;
+          which = saying_same name m lied port only (option_map (λ (y : Bay S). y.which)) (λ b. refl) port ∙ which;
+          others = saying_others name m lied port only;
+          pages = gains_none size m lied refl;
+          disks = λ _ w. saying_same name m lied port only (option_map (λ (y : Bay S). disk_in y w)) (λ b. refl) port;
+          keeps = saying_keeps name m lied port only size refl refl;
+          starved = refl;
+        },
+      )

@@ -1,6 +1,12 @@
--- The two disks of port 0, of which one is in it at a time, and how they stand (this project's own).
-use Rattle.std.specs.Prelude.{ℕ, Bool, true, false, List, [], ◌∷◌, Option, if◌then◌else◌}
+-- The disks of a model: two for each port that has some, of which one is in at a time, and how they stand (this project's own).
+use Rattle.std.specs.Prelude.{ℕ, ◌≡◌, Bool, true, false, List, [], ◌∷◌, Option, None, Some, codes, if◌then◌else◌, option_map, slice_index_or, slice_set}
 use Rattle.adapter.specs.Device.{Disk}
+use Rattle.sector_store.specs.declared.store.Failures.{Failures}
+use Rattle.device_model.specs.declared.bay.Bay.{Bay}
+use Rattle.device_model.specs.declared.bay.Description.{Description}
+use Rattle.device_model.specs.declared.disks.Disks.{Disks}
+use Rattle.device_model.specs.declared.disks.ModelDisk.{ModelDisk}
+use Rattle.device_model.specs.declared.disks.PortDisks.{PortDisks}
 use Rattle.device_model.specs.declared.disks.Which.{Which}
 use Rattle.device_model.specs.declared.disks.Which.TheVariants.{Disk0, Disk1}
 use Rattle.device_model.specs.declared.model.Model.{Model}
@@ -8,11 +14,6 @@ use Rattle.device_model.specs.declared.model.Model.{Model}
 abbrev pub disk_number : Which → ℕ
 disk_number Disk0 = 0
 disk_number Disk1 = 1
-
--- "IMAGEDISK" and "BLANKDISK", in ASCII
-abbrev pub disk_serial : Which → List ℕ
-disk_serial Disk0 = 73 ∷ 77 ∷ 65 ∷ 71 ∷ 69 ∷ 68 ∷ 73 ∷ 83 ∷ 75 ∷ []
-disk_serial Disk1 = 66 ∷ 76 ∷ 65 ∷ 78 ∷ 75 ∷ 68 ∷ 73 ∷ 83 ∷ 75 ∷ []
 
 abbrev pub is_same : Which → Which → Bool
 is_same Disk0 Disk0 = true
@@ -23,6 +24,69 @@ is_same _ _ = false
 abbrev pub disk_over : Which → ℕ → Option (ℕ → List ℕ) → Disk
 disk_over which size told = record { name = disk_number which; size = size; sectors = told }
 
--- The store of a disk. The model has that of the disk that is in port 0, or was last, and that of the other one.
-abbrev pub store_of : {S : Type 0} → Model S → Which → S
-store_of m which = if is_same which m.which then m.disk else m.other
+-- ---- those that are given
+
+-- the disks that are given for a port
+abbrev pub given_for : {S : Type 0} → Disks S → ℕ → Option (PortDisks S)
+given_for d port = slice_index_or (d.port0 ∷ d.port1 ∷ d.port2 ∷ d.port3 ∷ []) port None
+
+-- port 0 alone has disks: this one is in at first, and this one can be put in for it
+abbrev pub port_0_alone : {S : Type 0} → (image blank : S) → Disks S
+port_0_alone image blank =
+    record {
+      port0 = Some (record {
+        first = record { serial = codes "IMAGEDISK           "; store = image };
+        spare = record { serial = codes "BLANKDISK           "; store = blank };
+      });
+      port1 = None;
+      port2 = None;
+      port3 = None;
+    }
+
+-- ---- those of a port
+
+-- A port has the disk that is in, or was last, and the other one.
+abbrev pub disk_in : {S : Type 0} → Bay S → Which → ModelDisk S
+disk_in b which = if is_same which b.which then b.disk else b.other
+
+-- what is fixed of a disk: its serial number, and how many sectors it has
+pub record Identity : Type 0 where
+  pub serial : List ℕ
+  pub size : ℕ
+
+abbrev pub identity : {S : Type 0} → (S → ℕ) → ModelDisk S → Identity
+identity size disk = record { serial = disk.serial; size = size disk.store }
+
+-- ---- those of a model, port by port; `None` stands for a port that has no disks, ever
+
+abbrev pub bay_of : {S : Type 0} → Model S → ℕ → Option (Bay S)
+bay_of m port = slice_index_or m.bays.items port None
+
+-- which of its disks is in, or was last
+abbrev pub which_of : {S : Type 0} → Model S → ℕ → Option Which
+which_of {S} m port = option_map (λ (b : Bay S). b.which) (bay_of m port)
+
+-- what both say of themselves
+abbrev pub says_of : {S : Type 0} → Model S → ℕ → Option Description
+says_of {S} m port = option_map (λ (b : Bay S). b.says) (bay_of m port)
+
+-- the one or the other of them
+abbrev pub disk_of : {S : Type 0} → Model S → ℕ → Which → Option (ModelDisk S)
+disk_of {S} m port which = option_map (λ (b : Bay S). disk_in b which) (bay_of m port)
+
+-- what is fixed of the disk that is in, or was last
+abbrev pub identity_of : {S : Type 0} → (S → ℕ) → Model S → ℕ → Option Identity
+identity_of {S} size m port = option_map (λ (b : Bay S). identity size b.disk) (bay_of m port)
+
+-- what the store of that disk tells of calls that failed
+abbrev pub failing : {S : Type 0} → (S → Option Failures) → Option (Bay S) → Option Failures
+failing failures None = None
+failing failures (Some b) = failures b.disk.store
+
+abbrev pub failures_of : {S : Type 0} → (S → Option Failures) → Model S → ℕ → Option Failures
+failures_of failures m port = failing failures (bay_of m port)
+
+-- what the disks of this port say is another, if it has some, and nothing else
+abbrev pub SaysOnly : {S : Type 0} → (Description → Description) → ℕ → (old new : List (Option (Bay S))) → Type 0
+SaysOnly {S} says port old new =
+    new ≡ slice_set old port (option_map (λ (b : Bay S). record b { says = says b.says }) (slice_index_or old port None))

@@ -1,7 +1,6 @@
 -- What a model makes of a step that it is told: when the step is possible, what it changes where it is done, and what stays where it is left
 -- (this project's own).
-use Rattle.std.specs.Prelude.{ℕ, Bool, true, false, ◌≡◌, ◌≢◌, ◌+◌, ◌^◌, ◌<◌, ◌≤◌, ◌⊎◌, List, [], ◌∷◌, ◌++◌, Option, None, Some, if◌then◌else◌, nat_eq}
-use Rattle.std.specs.Global.{Vec}
+use Rattle.std.specs.Prelude.{ℕ, Bool, true, false, ◌≡◌, ◌≢◌, ◌+◌, ◌^◌, ◌<◌, ◌≤◌, ◌⊎◌, List, [], ◌∷◌, ◌++◌, Option, None, Some, if◌then◌else◌, nat_eq, option_map}
 use Rattle.std.specs.Vec.{vec_len, vec_capacity}
 use Rattle.adapter.specs.Asked.{DoesClear, DoneOf, GoesOn, fatal_bit}
 use Rattle.adapter.specs.Commands.{Meaning, is_queued, is_ranged, reads_memory}
@@ -14,18 +13,19 @@ use Rattle.adapter.specs.declared.command.Operation.{Operation}
 use Rattle.adapter.specs.declared.tape.Entry.{Entry}
 use Rattle.sector_store.specs.Stores.{FailsOn}
 use Rattle.sector_store.specs.declared.store.Failures.{Failures}
-use Rattle.device_model.specs.Disks.{disk_number, store_of}
+use Rattle.device_model.specs.Disks.{bay_of, disk_number, disk_of, failures_of, identity, says_of, which_of}
 use Rattle.device_model.specs.Finishing.{HasMove, HasRoom, MayFinish}
 use Rattle.device_model.specs.Held.{held_after}
 use Rattle.device_model.specs.Modelled.{device_at}
-use Rattle.device_model.specs.Paged.{GainsPages, lying, no_lies}
+use Rattle.device_model.specs.Paged.{GainsPages, lying, naming, truthful}
 use Rattle.device_model.specs.Sent.{Sends, SendsEnd}
 use Rattle.device_model.specs.Trims.{HasClear, next_uncleared, span}
-use Rattle.device_model.specs.declared.disks.Inserted.{Inserted}
 use Rattle.device_model.specs.declared.disks.Which.{Which}
 use Rattle.device_model.specs.declared.disks.Which.TheVariants.{Disk0, Disk1}
 use Rattle.device_model.specs.declared.hardware.Hardware.{Hardware}
-use Rattle.device_model.specs.declared.model.Description.{Description}
+use Rattle.device_model.specs.Whole.{HasDisks}
+use Rattle.device_model.specs.declared.bay.Bay.{Bay}
+use Rattle.device_model.specs.declared.bay.Description.{Description}
 use Rattle.device_model.specs.declared.model.Model.{Model}
 use Rattle.device_model.specs.declared.model.Outcome.{Outcome}
 use Rattle.device_model.specs.declared.model.Outcome.TheVariants.{Left}
@@ -37,38 +37,38 @@ abbrev pub MayBeFetched : Device → (port slot : ℕ) → Type 0
 MayBeFetched d port slot =
     ((meaning : Meaning) × (places : List ℕ) × Can (Fetch port slot meaning places) d) ⊎ Can (FetchFault port slot false 0) d
 
--- The step may be done now, memory to note it aside. There are ports 0 to 3 with slots 0 to 31, of which port 0 alone has disks; what is said of a
--- page of any other port says nothing, and is done; a page has 512 bytes; and disks 0 and 1 can be put in, where no disk is. A Finish is possible
--- where each of its moves and clears is. A sector may be past the disk: its command fails then.
+-- The step may be done now, memory to note it aside. There are ports 0 to 3 with slots 0 to 31; what is said of a page of a port without disks says nothing, and is done; a page has
+-- 512 bytes; and disks 0 and 1 can be put into a port that has disks, where none is in. A Finish is possible where each of its moves and clears is. A sector may be past the disk: its
+-- command fails then.
 abbrev pub Possible : DeviceStep → Device → Type 0
 Possible (asked.Fetch p s) d = (p.0 < 4) × (s.0 < 32) × MayBeFetched d p.0 s.0
 Possible (asked.Move p s) d = (s.0 < 32) × (t : Taken) × HasMove d p.0 s.0 t
 Possible (asked.Clear p s most) d = (s.0 < 32) × (t : Taken) × HasClear d p.0 s.0 most t
 Possible (asked.Done p s) d = (p.0 < 4) × (s.0 < 32) × (flag : ℕ) × (t : Taken) × Can (Done p.0 s.0 flag t) d
-Possible (asked.Finish p s) d = (p.0 ≡ 0) × (s.0 < 32) × (left clears : ℕ) × MayFinish d p.0 s.0 left clears
+Possible (asked.Finish p s) d = HasDisks d p.0 × (s.0 < 32) × (left clears : ℕ) × MayFinish d p.0 s.0 left clears
 Possible (asked.Fault p s error) d = (p.0 < 4) × (s.0 < 32) × (t : Taken) × Can (Fault p.0 s.0 error 0 t) d
 Possible (asked.Fatal p error) d = (p.0 < 4) × Can (Fatal p.0 (fatal_bit error)) d
 Possible (asked.Lie p page offset bits) d = offset < 512
 Possible (asked.Truth p) d = Unit {0}
 Possible (asked.Hold p) d = p.0 < 4
 Possible (asked.Release p) d = p.0 < 4
-Possible (asked.Unplug p) d = (p.0 ≡ 0) × Can (Unplug 0) d
-Possible (asked.Plug p number) d = (p.0 ≡ 0) × (number.0 < 2) × ((d.port 0).present ≡ false)
+Possible (asked.Unplug p) d = (p.0 < 4) × Can (Unplug p.0) d
+Possible (asked.Plug p number) d = (p.0 < 4) × HasDisks d p.0 × (number.0 < 2) × ((d.port p.0).present ≡ false)
 
--- Without growing, the tape has no room for what the step notes there, or, for a Plug, the list of the disks that were put in has none. A Finish notes
+-- Without growing, the tape has no room for what the step notes there, or, for a Plug, the list of the disks that were put into the port has none. A Finish notes
 -- each of its moves and clears, and the end; a Clear what it clears, and a fault; and a Fetch a fault alone. The other steps note nothing.
-abbrev pub LacksMemory : {S : Type 0} → DeviceStep → Device → Hardware → Vec (Inserted S) → Type 0
-LacksMemory (asked.Fetch p s) d h plugged = Can (FetchFault p.0 s.0 false 0) d × (HasRoom h 1 → ⊥)
-LacksMemory (asked.Move p s) d h plugged = HasRoom h 1 → ⊥
-LacksMemory (asked.Clear p s most) d h plugged = HasRoom h 2 → ⊥
-LacksMemory (asked.Done p s) d h plugged = HasRoom h 1 → ⊥
-LacksMemory (asked.Finish p s) d h plugged =
+abbrev pub LacksMemory : {S : Type 0} → DeviceStep → Device → Hardware → Option (Bay S) → Type 0
+LacksMemory (asked.Fetch p s) d h bay = Can (FetchFault p.0 s.0 false 0) d × (HasRoom h 1 → ⊥)
+LacksMemory (asked.Move p s) d h bay = HasRoom h 1 → ⊥
+LacksMemory (asked.Clear p s most) d h bay = HasRoom h 2 → ⊥
+LacksMemory (asked.Done p s) d h bay = HasRoom h 1 → ⊥
+LacksMemory (asked.Finish p s) d h bay =
     (left clears : ℕ) × MayFinish d p.0 s.0 left clears × (HasRoom h (left + clears + 1) → ⊥)
-LacksMemory (asked.Fault p s error) d h plugged = HasRoom h 1 → ⊥
-LacksMemory (asked.Fatal p error) d h plugged = HasRoom h 1 → ⊥
-LacksMemory (asked.Unplug p) d h plugged = HasRoom h 1 → ⊥
-LacksMemory (asked.Plug p number) d h plugged = HasRoom h 1 → vec_len plugged < vec_capacity plugged → ⊥
-LacksMemory step d h plugged = ⊥
+LacksMemory (asked.Fault p s error) d h bay = HasRoom h 1 → ⊥
+LacksMemory (asked.Fatal p error) d h bay = HasRoom h 1 → ⊥
+LacksMemory (asked.Unplug p) d h bay = HasRoom h 1 → ⊥
+LacksMemory (asked.Plug p number) d h (Some b) = HasRoom h 1 → vec_len b.later < vec_capacity b.later → ⊥
+LacksMemory step d h bay = ⊥
 
 -- so many moves of sectors, or clears, are left of an operation
 abbrev pub AsksFor : Operation → (left clears : ℕ) → Type 0
@@ -80,7 +80,7 @@ abbrev pub AsksStore : DeviceStep → Device → Type 0
 AsksStore (asked.Move p s) d = (s.0 < 32) × (t : Taken) × HasMove d p.0 s.0 t × (is_ranged t.meaning.operation ≡ true)
 AsksStore (asked.Clear p s most) d = (s.0 < 32) × (t : Taken) × HasClear d p.0 s.0 most t
 AsksStore (asked.Finish p s) d =
-    (p.0 ≡ 0) × (s.0 < 32) × (left clears : ℕ) × (may : MayFinish d p.0 s.0 left clears)
+    HasDisks d p.0 × (s.0 < 32) × (left clears : ℕ) × (may : MayFinish d p.0 s.0 left clears)
     × AsksFor may.t.meaning.operation left clears
 AsksStore step d = ⊥
 
@@ -92,33 +92,49 @@ NeedsAddresses step d = Unit {0}
 
 -- ---- what a step makes of a model
 
--- what the disks of port 0 say of themselves once a command that is taken in a slot has failed with an error: the log names it, if it is queued
-abbrev pub says_failed : Option Taken → (slot error : ℕ) → Description → Description
+-- the port that a step names
+abbrev pub asked_port : DeviceStep → ℕ
+asked_port (asked.Fetch p s) = p.0
+asked_port (asked.Move p s) = p.0
+asked_port (asked.Clear p s most) = p.0
+asked_port (asked.Done p s) = p.0
+asked_port (asked.Finish p s) = p.0
+asked_port (asked.Fault p s error) = p.0
+asked_port (asked.Fatal p error) = p.0
+asked_port (asked.Lie p page offset bits) = p.0
+asked_port (asked.Truth p) = p.0
+asked_port (asked.Hold p) = p.0
+asked_port (asked.Release p) = p.0
+asked_port (asked.Unplug p) = p.0
+asked_port (asked.Plug p number) = p.0
+
+-- what the disks of a port say of themselves once a command that is taken in a slot has failed with an error: the log names it, if it is queued
+abbrev pub says_failed : Option Taken → (slot error : ℕ) → Option Description → Option Description
 says_failed None slot error says = says
 says_failed (Some t) slot error says =
-    if is_queued t.meaning.operation then record says { log = Some (record { tag = slot; error = error }) } else says
+    if is_queued t.meaning.operation then option_map (naming (record { tag = slot; error = error })) says else says
 
--- and after a step on this device: they lie once more, or not any more, or a command failed
-abbrev pub says_after : DeviceStep → Device → Description → Description
-says_after (asked.Lie p page offset bits) d says = if nat_eq p.0 0 then lying page offset bits says else says
-says_after (asked.Truth p) d says = if nat_eq p.0 0 then record says { lies = no_lies; log_lies = no_lies } else says
+-- and those of a step's port after the step, on this device: they lie once more, or not any more, or a command failed
+abbrev pub says_after : DeviceStep → Device → Option Description → Option Description
+says_after (asked.Lie p page offset bits) d says = option_map (lying page offset bits) says
+says_after (asked.Truth p) d says = option_map truthful says
 says_after (asked.Fault p s error) d says = says_failed ((d.port p.0).taken s.0) s.0 error says
 says_after step d says = says
 
--- the disk that is in after a step, or was last: a disk that is put in
-abbrev pub which_after : DeviceStep → Which → Which
-which_after (asked.Plug p number) which = if nat_eq number.0 0 then Disk0 else Disk1
+-- the disk that is in the step's port after it, or was last: a disk that is put in
+abbrev pub which_after : DeviceStep → Option Which → Option Which
+which_after (asked.Plug p number) which = option_map (λ (_ : Which). if nat_eq number.0 0 then Disk0 else Disk1) which
 which_after step which = which
 
--- the step puts this disk in
-abbrev pub PutsIn : Which → DeviceStep → Type 0
-PutsIn which (asked.Plug p number) = number.0 ≡ disk_number which
-PutsIn which step = ⊥
+-- the step puts this disk into this port
+abbrev pub PutsIn : (port : ℕ) → Which → DeviceStep → Type 0
+PutsIn port which (asked.Plug p number) = (p.0 ≡ port) × (number.0 ≡ disk_number which)
+PutsIn port which step = ⊥
 
--- What no step changes: the disk that isn't in, or wasn't last; of each disk how many sectors it has; the queue; and the count of the accesses.
+-- What no step changes: the disk of a port that isn't in, or wasn't last; of each disk its serial number and how many sectors it has; the queue; and the count of the accesses.
 pub record StepKeeps {S : Type 0} (size : S → ℕ) (old new : Model S) : Type 0 where
-  pub out : (which : Which) → which ≢ old.which → store_of new which ≡ store_of old which
-  pub sectors : (which : Which) → size (store_of new which) ≡ size (store_of old which)
+  pub out : (port : ℕ) (which : Which) → which_of old port ≢ Some which → disk_of new port which ≡ disk_of old port which
+  pub identities : (port : ℕ) (which : Which) → option_map (identity size) (disk_of new port which) ≡ option_map (identity size) (disk_of old port which)
   pub queue : new.queue ≡ old.queue
   pub accesses : new.accesses ≡ old.accesses
 
@@ -131,14 +147,14 @@ IsCause writes sector size error was now =
     ((size ≤ sector) × (error ≡ 0x10) × (now ≡ was)) ⊎ ((sector < size) × (error ≡ 0x40) × FailsOn writes sector was now)
 
 -- What is issued in the slot fails as it is to be taken, since its bytes mean no command: with 04h, aborted. It is told as a plain one.
-pub record FailsToFetch (port slot : ℕ) (was now : Option Failures) (says after_it : Description) (old new : Device) : Type 0 where
+pub record FailsToFetch (port slot : ℕ) (was now : Option Failures) (says after_it : Option Description) (old new : Device) : Type 0 where
   pub can : Can (FetchFault port slot false 0) old
   pub effect : new ≡ after (FetchFault port slot false 0) old
   pub stores : now ≡ was
   pub log : after_it ≡ says
 
 -- the slot's command fails on the sector that it moves next;
-pub record FailsToMove (port slot : ℕ) (was now : Option Failures) (says after_it : Description) (old new : Device) : Type 0 where
+pub record FailsToMove (port slot : ℕ) (was now : Option Failures) (says after_it : Option Description) (old new : Device) : Type 0 where
   pub t : Taken
   pub move : HasMove old port slot t
   pub ranged : is_ranged t.meaning.operation ≡ true
@@ -149,7 +165,7 @@ pub record FailsToMove (port slot : ℕ) (was now : Option Failures) (says after
   pub log : after_it ≡ says_failed (Some t) slot error says
 
 -- or on the one that it clears next
-pub record FailsToClear (port slot : ℕ) (was now : Option Failures) (says after_it : Description) (old new : Device) : Type 0 where
+pub record FailsToClear (port slot : ℕ) (was now : Option Failures) (says after_it : Option Description) (old new : Device) : Type 0 where
   pub t : Taken
   pub clear : HasClear old port slot 1 t
   pub error : ℕ
@@ -168,7 +184,7 @@ ClearsFewer port slot most old new = (did : DoesClear port slot most old new) ×
 
 -- The command of a step fails in its place, or on the way: a Fetch since it means none; and a Move, a Clear and a Finish as they come to a sector of those that they ask for on which it
 -- fails, a Move as it begins, and the others once they have done what comes before it. What the disks say after it tells of a queued one.
-abbrev pub StepFails : DeviceStep → (was now : Option Failures) → (says after_it : Description) → Device → Device → Type 0
+abbrev pub StepFails : DeviceStep → (was now : Option Failures) → (says after_it : Option Description) → Device → Device → Type 0
 StepFails (asked.Fetch p s) was now says after_it old new = FailsToFetch p.0 s.0 was now says after_it old new
 StepFails (asked.Move p s) was now says after_it old new = FailsToMove p.0 s.0 was now says after_it old new
 StepFails (asked.Clear p s most) was now says after_it old new =
@@ -177,9 +193,10 @@ StepFails (asked.Finish p s) was now says after_it old new =
     After (GoesOn (SendsEnd s.0) p.0 s.0) (λ mid last. FailsToMove p.0 s.0 was now says after_it mid last ⊎ FailsToClear p.0 s.0 was now says after_it mid last) old new
 StepFails step was now says after_it old new = ⊥
 
--- no call has failed, on either store
+-- no call has failed, on any store
 abbrev pub NoneFails : {S : Type 0} → (S → Option Failures) → Model S → Model S → Type 0
-NoneFails failures old new = (which : Which) → failures (store_of new which) ≡ failures (store_of old which)
+NoneFails {S} failures old new =
+    (port : ℕ) (which : Which) → option_map (λ x. failures x.store) (disk_of new port which) ≡ option_map (λ x. failures x.store) (disk_of old port which)
 
 -- The slot's command has ended since this state, just now, as the tape tells last: it is taken no more, and its bit is clear, of PxSACT if it was
 -- queued, and else of PxCI. A queued one has its bit of PxCI clear, too, if it was taken since then, or had it clear then: to set it again for a command
@@ -214,52 +231,55 @@ EndsIt step old new = Unit {0}
 pub record Completes {S : Type 0} (size : S → ℕ) (told : S → Option (ℕ → List ℕ)) (failures : S → Option Failures) (s : DeviceStep) (old new : Model S) : Type 0 where
   pub asked : DoneOf (Sends s) s (device_at size told old) (device_at size told new)
   pub fine : NoneFails failures old new
-  pub says : new.says ≡ says_after s (device_at size told old) old.says
+  pub says : says_of new (asked_port s) ≡ says_after s (device_at size told old) (says_of old (asked_port s))
   pub ends : (device_at size told old).size ≤ 2 ^ 32 → EndsIt s (device_at size told old) (device_at size told new)
 
 -- its command fails
 abbrev pub HasFailed : {S : Type 0} → (S → ℕ) → (S → Option (ℕ → List ℕ)) → (S → Option Failures) → DeviceStep → Model S → Model S → Type 0
 HasFailed size told failures s old new =
-    StepFails s (failures old.disk) (failures new.disk) old.says new.says (device_at size told old) (device_at size told new)
+    StepFails s (failures_of failures old (asked_port s)) (failures_of failures new (asked_port s)) (says_of old (asked_port s)) (says_of new (asked_port s))
+    (device_at size told old) (device_at size told new)
 
--- A step that is done: whole, or as far as its command has come that fails. The ports are held that are held after it; the disk is in, or was last, that is
--- after it, and each disk has the sectors that it had, but where a sector is moved or cleared; each page that the tape has gained is as the disk that was in
--- said before, and the log; and that nothing was left out for want of memory is told as it was.
+-- A step that is done: whole, or as far as its command has come that fails. The ports are held that are held after it; the disk is in its port, or was last, that is
+-- after it, and each disk has the sectors that it had, but where a sector is moved or cleared; the disks of all other ports are as they were; each page that the tape has gained is as the
+-- disk that was in said before, and the log; and that nothing was left out for want of memory is told as it was.
 pub record Did {S : Type 0} (size : S → ℕ) (told : S → Option (ℕ → List ℕ)) (failures : S → Option Failures) (s : DeviceStep) (old new : Model S) : Type 0 where
   pub came : Completes size told failures s old new ⊎ HasFailed size told failures s old new
   pub held : new.held ≡ held_after s old.held
-  pub which : new.which ≡ which_after s old.which
+  pub which : which_of new (asked_port s) ≡ which_after s (which_of old (asked_port s))
+  pub others : (port : ℕ) → port ≢ asked_port s → bay_of new port ≡ bay_of old port
   pub pages : GainsPages size old new
-  pub disks : (AsksStore s (device_at size told old) → ⊥) → (which : Which) → store_of new which ≡ store_of old which
+  pub disks : (AsksStore s (device_at size told old) → ⊥) → (which : Which) → disk_of new (asked_port s) which ≡ disk_of old (asked_port s) which
   pub keeps : StepKeeps size old new
   pub starved : new.hardware.starved ≡ old.hardware.starved
 
--- A step that is left: the device is as it was, each store, and what the model says. A step that is possible is left only where there was no room to note
+-- A step that is left: the device is as it was, each disk, and what the disks say. A step that is possible is left only where there was no room to note
 -- it without growing, and that is told as want of memory. That is told where it was, and else only where the step was possible and there was no such room.
 pub record IsLeftOut {S : Type 0} (size : S → ℕ) (told : S → Option (ℕ → List ℕ)) (failures : S → Option Failures) (s : DeviceStep) (old new : Model S) : Type 0 where
   pub device : device_at size told new ≡ device_at size told old
   pub held : new.held ≡ old.held
-  pub says : new.says ≡ old.says
-  pub which : new.which ≡ old.which
-  pub disks : (which : Which) → store_of new which ≡ store_of old which
+  pub says : says_of new (asked_port s) ≡ says_of old (asked_port s)
+  pub which : which_of new (asked_port s) ≡ which_of old (asked_port s)
+  pub others : (port : ℕ) → port ≢ asked_port s → bay_of new port ≡ bay_of old port
+  pub disks : (which : Which) → disk_of new (asked_port s) which ≡ disk_of old (asked_port s) which
   pub why : NeedsAddresses s (device_at size told old) → Possible s (device_at size told old) →
-      LacksMemory s (device_at size told old) old.hardware old.plugged × (new.hardware.starved ≡ true)
+      LacksMemory s (device_at size told old) old.hardware (bay_of old (asked_port s)) × (new.hardware.starved ≡ true)
   pub keeps : StepKeeps size old new
   pub starved_on : old.hardware.starved ≡ true → new.hardware.starved ≡ true
   pub starved_since : new.hardware.starved ≡ true → (old.hardware.starved ≡ true)
-      ⊎ (Possible s (device_at size told old) × LacksMemory s (device_at size told old) old.hardware old.plugged)
+      ⊎ (Possible s (device_at size told old) × LacksMemory s (device_at size told old) old.hardware (bay_of old (asked_port s)))
 
 -- what a model makes of a step that it is told: it answers `true` where it was possible and is done, and `false` where it is left
 abbrev pub AnswersStep : {S : Type 0} → (S → ℕ) → (S → Option (ℕ → List ℕ)) → (S → Option Failures) → DeviceStep → Bool → Model S → Model S → Type 0
 AnswersStep size told failures s true old new = Possible s (device_at size told old) × Did size told failures s old new
 AnswersStep size told failures s false old new = IsLeftOut size told failures s old new
 
--- What the model does by itself leaves: which ports are held, which disk is in, what the disks say of themselves, as each page tells that the tape
+-- What the model does by itself leaves: which ports are held, which disk is in each port, what the disks say of themselves, as each page tells that the tape
 -- has gained, and what no step changes. What was told of want of memory stays told.
 pub record GoesOnSo {S : Type 0} (size : S → ℕ) (old new : Model S) : Type 0 where
   pub held : new.held ≡ old.held
-  pub says : new.says ≡ old.says
-  pub which : new.which ≡ old.which
+  pub says : (port : ℕ) → says_of new port ≡ says_of old port
+  pub which : (port : ℕ) → which_of new port ≡ which_of old port
   pub pages : GainsPages size old new
   pub keeps : StepKeeps size old new
   pub starved_on : old.hardware.starved ≡ true → new.hardware.starved ≡ true

@@ -12,7 +12,7 @@ use Rattle.adapter.specs.declared.command.Prd.{Prd}
 use Rattle.device_model.specs.Trims.{WillClear}
 use Rattle.device_model.specs.Fetched.{bytes_of}
 use Rattle.device_model.specs.View.{operation_of, taken_of}
-use Rattle.device_model.specs.Whole.{Outside, device_of}
+use Rattle.device_model.specs.Whole.{HasDisks, Outside, device_of}
 use Rattle.device_model.specs.declared.hardware.Hardware.{Hardware}
 use Rattle.device_model.specs.declared.port.TakenCommand.{TakenCommand}
 
@@ -37,16 +37,16 @@ pub record IsCovered (t : Taken) (size left : ℕ) : Type 0 where
   pub left_is : t.moved + left ≡ length t.places
   pub inside : AreInside size t.places
 
--- the port is port 0, which has a disk, or the command names sectors, of which no other port has any
-abbrev pub HasDisk : ℕ → Operation → Type 0
-HasDisk port operation = (port ≡ 0) ⊎ (is_ranged operation ≡ true)
+-- the port has disks, or the command names sectors, of which a port without disks has none
+abbrev pub HasDisk : Device → ℕ → Operation → Type 0
+HasDisk d port operation = HasDisks d port ⊎ (is_ranged operation ≡ true)
 
--- port 0, which has a disk, works on this command, and its next piece has a place in the memory
+-- the port, which has disks, works on this command, and its next piece has a place in the memory
 pub record HasMove (d : Device) (port slot : ℕ) (t : Taken) : Type 0 where
   pub works : WorksOn (d.port port) slot t t.meaning.operation
   pub left : t.moved < length t.places
   pub inside : next_place t + 512 ≤ d.size
-  pub has_disk : port ≡ 0
+  pub has_disks : HasDisks d port
 
 -- the port works on a command of which so many moves, and then so many clears, are left, all of them possible
 pub record IsGoing (d : Device) (port slot left clears : ℕ) : Type 0 where
@@ -68,26 +68,30 @@ sends_page Identify = true
 sends_page ReadLog = true
 sends_page _ = false
 
--- port 0 has such a command in this slot, taken or not, which can be done to its end; its pieces have addresses of 32 bits
-pub record HasPage (d : Device) (slot : ℕ) : Type 0 where
+-- the port has such a command in this slot, taken or not, which can be done to its end; its pieces have addresses of 32 bits
+pub record HasPage (d : Device) (port slot : ℕ) : Type 0 where
   pub left : ℕ
-  pub ready : MayFinish d 0 slot left 0
+  pub ready : MayFinish d port slot left 0
   pub sends : sends_page ready.t.meaning.operation ≡ true
   pub low : AreInside (2 ^ 32) ready.t.places
 
--- one that is issued in this slot of port 0 may be taken, wherever its page is to go
-pub record MayPage (d : Device) (slot : ℕ) : Type 0 where
+-- one that is issued in this slot may be taken, wherever its page is to go
+pub record MayPage (d : Device) (port slot : ℕ) : Type 0 where
   pub meaning : Meaning
   pub places : List ℕ
   pub sends : sends_page meaning.operation ≡ true
-  pub can : Can (Fetch 0 slot meaning places) d
+  pub can : Can (Fetch port slot meaning places) d
 
--- What a look at a slot of port 0 finds: a command that sends a page and can be done to its end; or one that may be taken, but can't be done to its end;
+-- What a look at a slot of a port finds: a command that sends a page and can be done to its end; or one that may be taken, but can't be done to its end;
 -- or neither.
-abbrev pub FindsPage : Device → ℕ → Option Bool → Type 0
-FindsPage d slot (Some true) = HasPage d slot
-FindsPage d slot (Some false) = MayPage d slot × (HasPage d slot → ⊥)
-FindsPage d slot None = (MayPage d slot → ⊥) × (HasPage d slot → ⊥)
+abbrev pub FindsPage : Device → (port slot : ℕ) → Option Bool → Type 0
+FindsPage d port slot (Some true) = HasPage d port slot
+FindsPage d port slot (Some false) = MayPage d port slot × (HasPage d port slot → ⊥)
+FindsPage d port slot None = (MayPage d port slot → ⊥) × (HasPage d port slot → ⊥)
+
+-- some command is taken on the port: so none that sends a page may be, which is alone
+abbrev pub IsBusy : Device → ℕ → Type 0
+IsBusy d port = (slot : ℕ) × (t : Taken) × ((d.port port).taken slot ≡ Some t)
 
 -- ---- a command that is to be done to its end
 

@@ -1,22 +1,49 @@
 -- What a model with its disks stands for.
-use Rattle.std.specs.Prelude.{ℕ, Bool, true, false, ◌≡◌, ◌≢◌, ◌+◌, ◌-◌, ◌*◌, ◌^◌, ◌<◌, ◌&&◌, List, [], ◌∷◌, Option, None, if◌then◌else◌, count_ones, is_some, map}
+use Rattle.std.specs.Prelude.{ℕ, Bool, true, false, ◌≡◌, ◌+◌, ◌-◌, ◌*◌, ◌^◌, ◌<◌, ◌&&◌, List, [], ◌∷◌, Option, None, Some, if◌then◌else◌, count_ones, is_some, map, slice_index_or}
 use Rattle.ata_types.specs.declared.memory.TheConstants.{FRAME_BYTES}
 use Rattle.adapter.specs.Device.{PortState, Device}
 use Rattle.adapter.specs.Device.Halt.{NotHalted}
 use Rattle.adapter.specs.FirstRead.{no_notes}
 use Rattle.adapter.specs.Idle.{IsIdle, IsSane}
-use Rattle.device_model.specs.Disks.{disk_over, store_of}
+use Rattle.device_model.specs.Disks.{bay_of, disk_over, given_for}
 use Rattle.device_model.specs.Held.{none_held}
 use Rattle.device_model.specs.Paged.{no_lies}
-use Rattle.device_model.specs.Whole.{Outside, device_of, outside_of}
+use Rattle.device_model.specs.View.{Media}
+use Rattle.device_model.specs.Whole.{Outside, device_of, no_media}
+use Rattle.device_model.specs.declared.bay.Bay.{Bay}
+use Rattle.device_model.specs.declared.bay.Description.{Description}
 use Rattle.device_model.specs.declared.config.ModelConfig.{ModelConfig}
-use Rattle.device_model.specs.declared.disks.Which.TheVariants.{Disk0, Disk1}
+use Rattle.device_model.specs.declared.disks.Disks.{Disks}
+use Rattle.device_model.specs.declared.disks.PortDisks.{PortDisks}
+use Rattle.device_model.specs.declared.disks.Which.TheVariants.{Disk0}
 use Rattle.device_model.specs.declared.model.Model.{Model}
 
--- the disk that is in port 0, or was last, as it is; and those that were put in, each as it was then
+-- What is behind a port: the disk that is in, or was last, as it is; and those that were put in, each as it was then, of which the first was in at
+-- first.
+abbrev pub media_of : {S : Type 0} → (S → ℕ) → (S → Option (ℕ → List ℕ)) → Option (Bay S) → Media
+media_of size told None = no_media
+media_of size told (Some b) =
+    record {
+      disk = disk_over b.which (size b.disk.store) (told b.disk.store);
+      plugged = disk_over Disk0 (size b.first.value) (told b.first.value)
+          ∷ map (λ s. disk_over s.which (size s.store.value) (told s.store.value)) b.later.items;
+    }
+
+-- the stores of both disks of a port tell their sectors, if it has disks; and so do those of all ports
+abbrev pub tells : {S : Type 0} → (S → Option (ℕ → List ℕ)) → Option (Bay S) → Bool
+tells told None = true
+tells told (Some b) = is_some (told b.disk.store) && is_some (told b.other.store)
+
+abbrev pub all_tell : {S : Type 0} → (S → Option (ℕ → List ℕ)) → List (Option (Bay S)) → Bool
+all_tell told [] = true
+all_tell {S} told (bay ∷ bays) = tells told bay && all_tell told bays
+
+-- what is behind the ports, which have these disks
+abbrev pub outside_of : {S : Type 0} → (S → ℕ) → (S → Option (ℕ → List ℕ)) → List (Option (Bay S)) → Outside
+outside_of size told bays = record { telling = all_tell told bays; media = λ port. media_of size told (slice_index_or bays port None) }
+
 abbrev pub outside_at : {S : Type 0} → (S → ℕ) → (S → Option (ℕ → List ℕ)) → Model S → Outside
-outside_at size told m =
-    outside_of (disk_over m.which (size m.disk) (told m.disk)) (told m.other) (map (λ s. disk_over s.which (size s.store.value) (told s.store.value)) m.plugged.items)
+outside_at size told m = outside_of size told m.bays.items
 
 abbrev pub device_at : {S : Type 0} → (S → ℕ) → (S → Option (ℕ → List ℕ)) → Model S → Device
 device_at size told m = device_of m.hardware (outside_at size told m)
@@ -43,16 +70,27 @@ pub record IsReset (p : PortState) : Type 0 where
   pub whole : p.broken ≡ false
   pub notes : p.notes ≡ no_notes
 
--- A new adapter has what its configuration says, its ports too, and a disk in port 0 alone, disk 0, which was never out. It is switched off, its
--- memory is zero, its ports are as after a reset, and nothing runs.
-pub record IsNewAdapter (config : ModelConfig) (size : ℕ) (told : Option (ℕ → List ℕ)) (d : Device) : Type 0 where
+-- what is behind a new port: the first one of the disks that are given for it, which was never out; without any there is no disk
+abbrev pub IsNewMedia : {S : Type 0} → (S → ℕ) → (S → Option (ℕ → List ℕ)) → Option (PortDisks S) → Media → Type 0
+IsNewMedia size told None m = m ≡ no_media
+IsNewMedia size told (Some disks) m =
+    (m.disk ≡ disk_over Disk0 (size disks.first.store) (told disks.first.store))
+    × (m.plugged ≡ disk_over Disk0 (size disks.first.store) (told disks.first.store) ∷ [])
+
+-- A new port has the first one of the disks that are given for it, which was never out; without any it has no disk.
+abbrev pub IsNewPort : {S : Type 0} → (S → ℕ) → (S → Option (ℕ → List ℕ)) → Option (PortDisks S) → PortState → Type 0
+IsNewPort size told None p = (p.present ≡ false) × (p.plugged ≡ [])
+IsNewPort size told (Some disks) p =
+    (p.present ≡ true) × (p.disk ≡ disk_over Disk0 (size disks.first.store) (told disks.first.store))
+    × (p.plugged ≡ disk_over Disk0 (size disks.first.store) (told disks.first.store) ∷ [])
+
+-- A new adapter has what its configuration says, its ports too, and in each port the disk that is given for it. It is switched off, its memory is zero, its ports are as after a reset,
+-- and nothing runs.
+pub record IsNewAdapter {S : Type 0} (config : ModelConfig) (size : S → ℕ) (told : S → Option (ℕ → List ℕ)) (disks : Disks S) (d : Device) : Type 0 where
   pub memory : d.size ≡ FRAME_BYTES * config.frames
   pub cap : d.cap ≡ cap_of config.pi config.slots config.ncq
   pub pi : d.pi ≡ config.pi
-  pub disk : (d.port 0).disk ≡ disk_over Disk0 size told
-  pub plugged : (d.port 0).plugged ≡ disk_over Disk0 size told ∷ []
-  pub present : (d.port 0).present ≡ true
-  pub others : (port : ℕ) → port ≢ 0 → (d.port port).present ≡ false
+  pub given : (port : ℕ) → IsNewPort size told (given_for disks port) (d.port port)
   pub unused : d.tape ≡ []
   pub off : d.ae ≡ false
   pub silent : d.ie ≡ false
@@ -60,24 +98,37 @@ pub record IsNewAdapter (config : ModelConfig) (size : ℕ) (told : Option (ℕ 
   pub ports : (port : ℕ) → port < 4 → IsReset (d.port port)
   pub idle : IsIdle d
 
--- A new model. Its adapter is new, with these two disks for port 0: disk 0, which is in, and disk 1. Both have the abilities of the configuration,
--- and tell no lies; the log names no command. It tells its disks' sectors where both stores do. No port is held, no step queued, no access made, and nothing left out for want
+-- what disks say of themselves at first: they have the abilities of the configuration, and tell no lies, and the log names no command
+abbrev pub new_says : ModelConfig → Description
+new_says config =
+    record { abilities = record { ncq = config.ncq; depth = config.depth; trim = config.trim }; log = None; lies = no_lies; log_lies = no_lies }
+
+-- The disks of a port are new: disk 0 is in, and the other one is disk 1. A port for which none are given has none.
+abbrev pub IsNewBay : {S : Type 0} → ModelConfig → Option (PortDisks S) → Option (Bay S) → Type 0
+IsNewBay config None bay = bay ≡ None
+IsNewBay config (Some disks) None = ⊥
+IsNewBay config (Some disks) (Some b) = (b.which ≡ Disk0) × (b.disk ≡ disks.first) × (b.other ≡ disks.spare) × (b.says ≡ new_says config)
+
+-- whether the stores of the disks that are given for a port tell their sectors
+abbrev pub given_tell : {S : Type 0} → (S → Option (ℕ → List ℕ)) → Option (PortDisks S) → Bool
+given_tell told None = true
+given_tell told (Some disks) = is_some (told disks.first.store) && is_some (told disks.spare.store)
+
+abbrev pub all_given_tell : {S : Type 0} → (S → Option (ℕ → List ℕ)) → Disks S → Bool
+all_given_tell told d = given_tell told d.port0 && (given_tell told d.port1 && (given_tell told d.port2 && given_tell told d.port3))
+
+-- A new model. Its adapter is new, with these disks. It tells its disks' sectors where all of their stores do. No port is held, no step queued, no access made, and nothing left out for want
 -- of memory.
-pub record IsNewModel {S : Type 0} (size : S → ℕ) (told : S → Option (ℕ → List ℕ)) (config : ModelConfig) (disk0 disk1 : S) (m : Model S) : Type 0 where
-  pub adapter : IsNewAdapter config (size disk0) (told disk0) (device_at size told m)
+pub record IsNewModel {S : Type 0} (size : S → ℕ) (told : S → Option (ℕ → List ℕ)) (config : ModelConfig) (disks : Disks S) (m : Model S) : Type 0 where
+  pub adapter : IsNewAdapter config size told disks (device_at size told m)
   pub sane : IsSane (device_at size told m)
-  pub telling : (device_at size told m).telling ≡ (is_some (told disk0) && is_some (told disk1))
-  pub disk0_in : m.which ≡ Disk0
-  pub disk0_is : store_of m Disk0 ≡ disk0
-  pub disk1_is : store_of m Disk1 ≡ disk1
-  pub says : m.says
-      ≡ record {
-        abilities = record { ncq = config.ncq; depth = config.depth; trim = config.trim };
-        log = None;
-        lies = no_lies;
-        log_lies = no_lies;
-      }
+  pub telling : (device_at size told m).telling ≡ all_given_tell told disks
+  pub bays : (port : ℕ) → IsNewBay config (given_for disks port) (bay_of m port)
   pub held : m.held ≡ none_held
   pub queue : m.queue.items ≡ []
   pub accesses : m.accesses ≡ 0
   pub sated : m.hardware.starved ≡ false
+
+-- a step of the device was left out, since there was no memory to note it
+abbrev pub is_starved : {S : Type 0} → Model S → Bool
+is_starved m = m.hardware.starved

@@ -1,5 +1,5 @@
 -- What the modelled disks say of themselves.
-use Rattle.std.specs.Prelude.{ℕ, ◌≡◌, ◌<◌, ◌++◌, List, All, length, bit_xor, replicate, slice_index, slice_set}
+use Rattle.std.specs.Prelude.{ℕ, ◌≡◌, ◌<◌, ◌++◌, List, Option, Some, All, length, bit_xor, replicate, slice_index, slice_set}
 use Rattle.adapter.specs.declared.access.DiskPage.{DiskPage}
 use Rattle.adapter.specs.declared.access.DiskPage.TheVariants as disk_page
 use Rattle.adapter.specs.declared.command.Operation.TheVariants.{Identify, ReadLog}
@@ -7,9 +7,9 @@ use Rattle.adapter.specs.declared.tape.Entry.{Entry}
 use Rattle.adapter.specs.declared.tape.Entry.TheVariants as entry
 use Rattle.adapter.specs.declared.tape.Move.{Move}
 use Rattle.sector_store.specs.Pages.{IsLogPage, IsPage}
-use Rattle.device_model.specs.Disks.{disk_serial}
-use Rattle.device_model.specs.declared.disks.Which.{Which}
-use Rattle.device_model.specs.declared.model.Description.{Description}
+use Rattle.sector_store.specs.declared.pages.FailedCommand.{FailedCommand}
+use Rattle.device_model.specs.Disks.{Identity, identity_of, says_of}
+use Rattle.device_model.specs.declared.bay.Description.{Description}
 use Rattle.device_model.specs.declared.model.Model.{Model}
 
 -- a disk that tells no lies
@@ -21,10 +21,10 @@ pub record IsTurned (page bits bytes : List ℕ) : Type 0 where
   pub long : length bytes ≡ 512
   pub each : (offset : ℕ) → offset < 512 → slice_index bytes offset ≡ bit_xor (slice_index page offset) (slice_index bits offset)
 
--- the page of IDENTIFY DEVICE of one of the disks, with so many sectors and these abilities, with the bits turned on which it lies
-pub record IsItsPage (which : Which) (size : ℕ) (says : Description) (bytes : List ℕ) : Type 0 where
+-- the page of IDENTIFY DEVICE of a disk with this serial number and so many sectors, and these abilities, with the bits turned on which it lies
+pub record IsItsPage (disk : Identity) (says : Description) (bytes : List ℕ) : Type 0 where
   pub page : List ℕ
-  pub true_page : IsPage (disk_serial which) size says.abilities page
+  pub true_page : IsPage disk.serial disk.size says.abilities page
   pub turned : IsTurned page says.lies bytes
 
 -- the page of log 10h, which names the queued command that failed last, or none, with the bits turned on which the disks lie
@@ -34,19 +34,20 @@ pub record IsItsLog (says : Description) (bytes : List ℕ) : Type 0 where
   pub turned : IsTurned page says.log_lies bytes
 
 -- the move is of no page, or brings the page of the disk, or of the log
-pub record BringsIts (which : Which) (size : ℕ) (says : Description) (m : Move) : Type 0 where
-  pub identity : m.operation ≡ Identify → IsItsPage which size says m.bytes.value
+pub record BringsIts (disk : Identity) (says : Description) (m : Move) : Type 0 where
+  pub identity : m.operation ≡ Identify → IsItsPage disk says m.bytes.value
   pub log : m.operation ≡ ReadLog → IsItsLog says m.bytes.value
 
--- each page among these entries is such a one
-abbrev pub AreItsPages : Which → ℕ → Description → List Entry → Type 0
-AreItsPages which size says entries = All (λ e. (m : Move) → e ≡ entry.Move m → BringsIts which size says m) entries
+-- the same of what is in a port; where there are no disks, nothing is moved
+abbrev pub BringsOf : Option Identity → Option Description → Move → Type 0
+BringsOf (Some disk) (Some says) m = BringsIts disk says m
+BringsOf _ _ m = ⊥
 
--- The tape has gained entries, of which each page is that of the disk that was in, as it says of itself, or of the log.
+-- The tape has gained entries, of which each page is that of the disk that was in its port, as it says of itself, or of its log.
 pub record GainsPages {S : Type 0} (size : S → ℕ) (old new : Model S) : Type 0 where
   pub gained : List Entry
   pub tape : new.hardware.tape.items ≡ old.hardware.tape.items ++ gained
-  pub pages : AreItsPages old.which (size old.disk) old.says gained
+  pub pages : All (λ e. (m : Move) → e ≡ entry.Move m → BringsOf (identity_of size old m.port.0) (says_of old m.port.0) m) gained
 
 -- one more bit of a byte is turned, or one fewer
 abbrev pub turned : List ℕ → ℕ → ℕ → List ℕ
@@ -56,3 +57,11 @@ turned lies offset bits = slice_set lies offset (bit_xor (slice_index lies offse
 abbrev pub lying : DiskPage → (offset bits : ℕ) → Description → Description
 lying disk_page.Identity offset bits says = record says { lies = turned says.lies offset bits }
 lying disk_page.Log offset bits says = record says { log_lies = turned says.log_lies offset bits }
+
+-- no lies any more
+abbrev pub truthful : Description → Description
+truthful says = record says { lies = no_lies; log_lies = no_lies }
+
+-- the log names this command
+abbrev pub naming : FailedCommand → Description → Description
+naming failed says = record says { log = Some failed }

@@ -6,7 +6,7 @@ use Rattle.adapter.specs.declared.access.DeviceStep.{DeviceStep}
 use Rattle.adapter.specs.Access.{Shows, noted}
 use Rattle.hba_regs.specs.declared.reg.Reg.{Reg}
 use Rattle.sector_store.specs.declared.store.Failures.{Failures}
-use Rattle.device_model.specs.Disks.{store_of}
+use Rattle.device_model.specs.Disks.{disk_of, says_of, which_of}
 use Rattle.device_model.specs.Does.{AnswersStep, StepKeeps}
 use Rattle.device_model.specs.Paged.{GainsPages}
 use Rattle.device_model.specs.Settled.{DoesOwn, EndsReset, LeavesOne}
@@ -46,7 +46,7 @@ pub record DoesThen {S : Type 0} (size : S → ℕ) (told : S → Option (ℕ �
   pub starved : new.hardware.starved ≡ mid.hardware.starved
 
 -- A reading begins so, too. Then a pending reset may end, and the model's own steps are done; and the value is what the register shows then. Of the rest
--- of the model nothing is another, but which ports are held where a reset ended. Each page that the tape has gained is as the disk that is in says of
+-- of the model nothing is another, but which ports are held where a reset ended. Each page that the tape has gained is as the disk that is in its port says of
 -- itself. Want of memory is told on where it was, and else only where an IDENTIFY DEVICE or a READ LOG EXT is left for it.
 pub record DoesRead {S : Type 0} (size : S → ℕ) (told : S → Option (ℕ → List ℕ)) (failures : S → Option Failures) (r : Reg) (value : ℕ) (old new : Model S) : Type 0 where
   pub mid : Model S
@@ -57,10 +57,10 @@ pub record DoesRead {S : Type 0} (size : S → ℕ) (told : S → Option (ℕ �
   pub own : DoesOwn new.held reset last
   pub shows : Shows r value last
   pub effect : device_at size told new ≡ noted r value last
-  pub says : new.says ≡ mid.says
+  pub says : (port : ℕ) → says_of new port ≡ says_of mid port
   pub pages : GainsPages size mid new
-  pub which : new.which ≡ mid.which
-  pub disks : (which : Which) → store_of new which ≡ store_of mid which
+  pub which : (port : ℕ) → which_of new port ≡ which_of mid port
+  pub disks : (port : ℕ) (which : Which) → disk_of new port which ≡ disk_of mid port which
   pub keeps : StepKeeps size mid new
   pub starved_on : mid.hardware.starved ≡ true → new.hardware.starved ≡ true
   pub starved_since : new.hardware.starved ≡ true → (mid.hardware.starved ≡ true) ⊎ LeavesOne new.hardware last

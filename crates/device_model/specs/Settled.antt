@@ -6,6 +6,7 @@ use Rattle.adapter.specs.Steps.Step.{Fetch, Move, Done, Fall, FrFall, LinkUp, Re
 use Rattle.device_model.specs.Finishing.{HasPage, HasRoom, MayPage, sends_page}
 use Rattle.device_model.specs.Held.{IsPortHeld, IsPortLoose, all_held, none_held}
 use Rattle.device_model.specs.Sent.{SendsAfter}
+use Rattle.device_model.specs.Whole.{HasDisks}
 use Rattle.device_model.specs.declared.hardware.Hardware.{Hardware}
 
 -- A step that the model does by itself, while these ports are held. On the others CR and FR fall, the link comes up with the signature of an ATA disk,
@@ -81,12 +82,12 @@ pub record IsSettled (held : List Bool) (d : Device) : Type 0 where
   pub areas : (port : ℕ) → Can (FrFall port) d → IsPortHeld held port
   pub links : (port sig : ℕ) (n : Bool) → Can (LinkUp port sig n) d → IsPortHeld held port
 
--- In none of the slots 0 to 31 of port 0 an IDENTIFY DEVICE or a READ LOG EXT is left that may be taken, unless the port is held; nor one that can be done to its end,
+-- In none of the slots 0 to 31 of a port with disks an IDENTIFY DEVICE or a READ LOG EXT is left that may be taken, unless the port is held; nor one that can be done to its end,
 -- unless the port is held, or it is told that something was left out for want of memory. To take one needs no memory.
 pub record NoneIsLeft (held : List Bool) (starved : Bool) (d : Device) : Type 0 where
-  pub taken : (slot : ℕ) → slot < 32 → MayPage d slot → IsPortHeld held 0
-  pub done : (slot : ℕ) → slot < 32 → HasPage d slot → IsPortHeld held 0 ⊎ (starved ≡ true)
+  pub taken : (port slot : ℕ) → port < 4 → slot < 32 → HasDisks d port → MayPage d port slot → IsPortHeld held port
+  pub done : (port slot : ℕ) → port < 4 → slot < 32 → HasDisks d port → HasPage d port slot → IsPortHeld held port ⊎ (starved ≡ true)
 
 -- one is left, for which the tape has no memory: each of its moves, and its end, would be noted there
 abbrev pub LeavesOne : Hardware → Device → Type 0
-LeavesOne h d = (slot : ℕ) × (slot < 32) × (has : HasPage d slot) × (HasRoom h (has.left + 1) → ⊥)
+LeavesOne h d = (port slot : ℕ) × (port < 4) × (slot < 32) × HasDisks d port × (has : HasPage d port slot) × (HasRoom h (has.left + 1) → ⊥)

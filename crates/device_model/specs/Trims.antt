@@ -6,6 +6,7 @@ use Rattle.adapter.specs.Steps.{WorksOn}
 use Rattle.adapter.specs.Trim.{trim_sectors}
 use Rattle.adapter.specs.declared.command.Operation.{Operation}
 use Rattle.adapter.specs.declared.command.Operation.TheVariants.{Trim}
+use Rattle.device_model.specs.Whole.{HasDisks}
 
 -- ---- runs of sectors that follow one another
 
@@ -42,9 +43,9 @@ next_uncleared t = slice_index (uncleared t) 0
 abbrev pub span : ℕ → Taken → ℕ
 span most t = run_of (take most (uncleared t))
 
--- Port 0, which has a disk, works on this trim, whose block was moved, and so many sectors are left to clear, one at least.
+-- The port, which has disks, works on this trim, whose block was moved, and so many sectors are left to clear, one at least.
 pub record HasClear (d : Device) (port slot most : ℕ) (t : Taken) : Type 0 where
-  pub has_disk : port ≡ 0
+  pub has_disks : HasDisks d port
   pub works : WorksOn (d.port port) slot t Trim
   pub trim : t.meaning.operation ≡ Trim
   pub moved : t.moved ≡ length t.places

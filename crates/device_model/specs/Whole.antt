@@ -1,5 +1,5 @@
 -- The state of the whole adapter that a model stands for.
-use Rattle.std.specs.Prelude.{ℕ, Bool, ◌<◌, ◌&&◌, ◌++◌, ◌∷◌, List, [], length, Option, Some, is_some, if◌then◌else◌, nat_eq, slice_index, slice_index_or}
+use Rattle.std.specs.Prelude.{ℕ, Bool, ◌<◌, ◌≢◌, ◌++◌, ◌∷◌, List, [], length, Some, slice_index, slice_index_or}
 use Rattle.adapter.specs.Device.{Disk, Taken, Device}
 use Rattle.adapter.specs.Memory.{changed}
 use Rattle.hba_regs.specs.declared.reg.Reg.{Reg}
@@ -44,15 +44,10 @@ HasRegister _ = Unit {0}
 abbrev pub no_media : Media
 no_media = record { disk = record { name = 0; size = 0; sectors = Some (λ k. []) }; plugged = [] }
 
--- the same after this disk was put into port 0
-abbrev pub outside_plugged : Outside → Disk → Outside
-outside_plugged o disk = record o { media = changed o.media 0 (record { disk = disk; plugged = (o.media 0).plugged ++ disk ∷ [] }) }
+-- the same after this disk was put into a port
+abbrev pub outside_plugged : Outside → ℕ → Disk → Outside
+outside_plugged o port disk = record o { media = changed o.media port (record { disk = disk; plugged = (o.media port).plugged ++ disk ∷ [] }) }
 
--- Port 0 has this disk, which is in or was last, and those that were put in, the first of them first. No other port has a disk. The adapter tells
--- where this disk and the other one of port 0 do.
-abbrev pub outside_of : (disk : Disk) (other : Option (ℕ → List ℕ)) (plugged : List Disk) → Outside
-outside_of disk other plugged =
-    record {
-      telling = is_some disk.sectors && is_some other;
-      media = λ port. if nat_eq port 0 then record { disk = disk; plugged = plugged } else no_media;
-    }
+-- The port is one that has disks: one was put in, or was in at first.
+abbrev pub HasDisks : Device → ℕ → Type 0
+HasDisks d port = (d.port port).plugged ≢ []

@@ -1,14 +1,43 @@
-// The two disks of port 0.
-ghost use Rattle.std.specs.Prelude.{◌≡◌, ◌≤◌, IfSome, None};
+// The disks of a port.
+ghost use Rattle.std.specs.Prelude.{◌≡◌, ◌≤◌, ◌∷◌, [], IfSome, Some, None};
 ghost use Rattle.sector_store.specs.Pages.{IsPage};
 ghost use Rattle.sector_store.specs.Stores.{IsSector};
-ghost use Rattle.device_model.specs.Disks.{disk_number, disk_serial};
+ghost use Rattle.device_model.specs.Disks.{disk_number, port_0_alone};
 
 use adapter::DiskNumber;
+use sector_store::SectorStore;
 use sector_store::pages::{Abilities, identify_page};
 use std::snapshot::Snapshot;
 
-/// One of the two disks of port 0.
+/// A serial number: 20 characters in ASCII, of which the last are spaces where it has fewer (ACS-3, 7.12.7).
+pub type Serial = [u8; 20];
+
+/// A disk as it is given to a model: its serial number, and the store of its sectors.
+#[derive(Drop)]
+pub struct ModelDisk<S> {
+    pub serial: Serial,
+    pub store: S,
+}
+
+/// The two disks of a port, of which one is in it at a time.
+#[derive(Drop)]
+pub struct PortDisks<S> {
+    /// Disk 0, which is in at first.
+    pub first: ModelDisk<S>,
+    /// Disk 1, which can be put in, in its place.
+    pub spare: ModelDisk<S>,
+}
+
+/// The disks of ports 0 to 3. A port for which none are given has no disk, ever.
+#[derive(Drop)]
+pub struct Disks<S> {
+    pub port0: Option<PortDisks<S>>,
+    pub port1: Option<PortDisks<S>>,
+    pub port2: Option<PortDisks<S>>,
+    pub port3: Option<PortDisks<S>>,
+}
+
+/// One of the two disks of a port.
 #[derive(Clone, Copy, Debug, PartialEq, Eq)]
 pub enum Which {
     /// The one that is in at first.
@@ -38,15 +67,37 @@ impl Which {
             Which::Disk1 => 1,
         }
     }
+}
 
-    /// Its page of IDENTIFY DEVICE, with its serial number, so many sectors and these abilities.
-    pub fn page(self, sectors: u64, abilities: Abilities) -> [u8; 512]
-        ensures page { IsPage (disk_serial self) sectors abilities result }
+impl<S: SectorStore> ModelDisk<S> {
+    /// Its page of IDENTIFY DEVICE, with these abilities.
+    pub fn page(&self, abilities: Abilities) -> [u8; 512]
+        ensures page { IsPage self.now.serial (S.size self.now.store) abilities result }
         ensures bytes { IsSector result }
     {
-        match self {
-            Which::Disk0 => identify_page(b"IMAGEDISK", sectors, abilities),
-            Which::Disk1 => identify_page(b"BLANKDISK", sectors, abilities),
+        identify_page(&self.serial, self.store.sectors(), abilities)
+    }
+}
+
+impl<S> Disks<S> {
+    /// Disks for port 0 alone: `IMAGEDISK` over the first store, which is in at first, and `BLANKDISK` over the second one.
+    pub fn of_port_0(image: S, blank: S) -> Disks<S>
+        ensures { result ≡ port_0_alone image blank }
+    {
+        Disks {
+            port0: Some(PortDisks {
+                first: ModelDisk {
+                    serial: *b"IMAGEDISK           ",
+                    store: image,
+                },
+                spare: ModelDisk {
+                    serial: *b"BLANKDISK           ",
+                    store: blank,
+                },
+            }),
+            port1: None,
+            port2: None,
+            port3: None,
         }
     }
 }

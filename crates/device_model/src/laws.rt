@@ -1,5 +1,5 @@
 // Laws of the definitions, for callers: the clause is the theorem. These functions do nothing.
-ghost use Rattle.std.specs.Prelude.{◌≡◌, ◌≢◌, ◌<◌, ◌≤◌, true, false, is_some, ℕ, Bool, List, All};
+ghost use Rattle.std.specs.Prelude.{◌≡◌, ◌≢◌, ◌<◌, ◌≤◌, true, false, is_some, ℕ, Bool, List, Some, All};
 ghost use Rattle.ata_types.specs.declared.Port.{Port};
 ghost use Rattle.ata_types.specs.declared.Slot.{Slot};
 ghost use Rattle.adapter.specs.Commands.{Meaning, is_queued};
@@ -9,7 +9,7 @@ ghost use Rattle.adapter.specs.Steps.{Can, IsFinished, WorksOn};
 ghost use Rattle.adapter.specs.Steps.Step.{Clear, Fetch, Move};
 ghost use Rattle.adapter.specs.declared.access.DeviceStep.{DeviceStep};
 ghost use Rattle.adapter.specs.declared.access.DeviceStep.TheVariants as asked;
-ghost use Rattle.device_model.specs.Disks.{store_of};
+ghost use Rattle.device_model.specs.Disks.{disk_of, which_of};
 ghost use Rattle.device_model.specs.Does.{Did, Possible, PutsIn};
 ghost use Rattle.device_model.specs.Finishing.{HasDisk};
 ghost use Rattle.device_model.specs.Held.{IsPortHeld};
@@ -30,7 +30,7 @@ pub fn disks_are_told<S: SectorStore>()
 
 /// A move that the device may make, on a port that has a disk, is possible for a model.
 pub fn moves_are_possible<S: SectorStore>()
-    ensures { (m : Model S) (p : Port) (slot : Slot) (t : Taken) (bytes : List ℕ) → slot.0 < 32 → HasDisk p.0 t.meaning.operation →
+    ensures { (m : Model S) (p : Port) (slot : Slot) (t : Taken) (bytes : List ℕ) → slot.0 < 32 → HasDisk (device_at S.size S.told m) p.0 t.meaning.operation →
         Can (Move p.0 slot.0 t bytes) (device_at S.size S.told m) → Possible (asked.Move p slot) (device_at S.size S.told m) }
 {}
 
@@ -43,11 +43,11 @@ pub fn clears_are_possible<S: SectorStore>()
 /// Whatever steps are done or left, one after another, that don't put a disk in which isn't in: it stays out, with the sectors that it had. So it has
 /// these where it is put in. That holds of the disk that wasn't in last, and of the one that was, where none is in.
 pub fn disks_that_are_out_stay<S: SectorStore>()
-    ensures other { (steps : List DeviceStep) (old new : Model S) (which : Which) → which ≢ old.which → All (λ s. PutsIn which s → ⊥) steps →
-        DoesEach S.size S.told S.failures steps old new → (which ≢ new.which) × (store_of new which ≡ store_of old which) }
-    ensures last_in { (steps : List DeviceStep) (old new : Model S) (which : Which) → which ≡ old.which →
-        ((device_at S.size S.told old).port 0).present ≡ false → All (λ s. PutsIn which s → ⊥) steps → DoesEach S.size S.told S.failures steps old new →
-        (which ≡ new.which → ((device_at S.size S.told new).port 0).present ≡ false) × (store_of new which ≡ store_of old which) }
+    ensures other { (steps : List DeviceStep) (old new : Model S) (port : ℕ) (which : Which) → which_of old port ≢ Some which → All (λ s. PutsIn port which s → ⊥) steps →
+        DoesEach S.size S.told S.failures steps old new → (which_of new port ≢ Some which) × (disk_of new port which ≡ disk_of old port which) }
+    ensures last_in { (steps : List DeviceStep) (old new : Model S) (port : ℕ) (which : Which) → which_of old port ≡ Some which →
+        ((device_at S.size S.told old).port port).present ≡ false → All (λ s. PutsIn port which s → ⊥) steps → DoesEach S.size S.told S.failures steps old new →
+        (which_of new port ≡ Some which → ((device_at S.size S.told new).port port).present ≡ false) × (disk_of new port which ≡ disk_of old port which) }
 {}
 
 /// What a model does by itself leaves a held port as it is.

@@ -1,9 +1,9 @@
 // The model as an adapter.
-ghost use Rattle.std.specs.Prelude.{◌≡◌, ◌↔◌, ◌<◌, ◌≤◌, ◌+◌, ◌-◌, ◌*◌, ◌^◌, ◌⊎◌, ◌++◌, ◌∷◌, [], ℕ, Bool, List, true, false, is_some, Some, ◌&&◌, min, max, map, length, slice_index, slice_set, IsTrue, IfSome, IfOk, OnOk, OnErr};
+ghost use Rattle.std.specs.Prelude.{◌≡◌, ◌≢◌, ◌↔◌, ◌<◌, ◌≤◌, ◌+◌, ◌-◌, ◌*◌, ◌^◌, ◌⊎◌, ◌++◌, ◌∷◌, [], ℕ, Bool, List, true, false, is_some, None, Some, ◌&&◌, min, max, map, length, slice_index, slice_index_or, slice_set, IsTrue, IfSome, IfOk, OnOk, OnErr};
 ghost use Rattle.std.specs.Vec.{vec_len, vec_capacity};
 ghost use Rattle.adapter.specs.Commands.{is_ranged, reads_memory};
 ghost use Rattle.adapter.specs.Device.{Disk, IsSector, Taken};
-ghost use Rattle.adapter.specs.Access.{Reads, Writes, Loads, Stores, written};
+ghost use Rattle.adapter.specs.Access.{Reads, Writes, Loads, Stores, Shows, written};
 ghost use Rattle.adapter.specs.Memory.{bytes_at, patched};
 ghost use Rattle.adapter.specs.Rules.{MayRead, MayWrite, IsFree, Stays};
 ghost use Rattle.adapter.specs.Steps.{Steps, disk_after, disk_cleared, next_place};
@@ -11,36 +11,30 @@ ghost use Rattle.adapter.specs.Asked.{Asked};
 ghost use Rattle.sector_store.specs.Stores.{FailsOn};
 ghost use Rattle.device_model.specs.Fetched.{bytes_of};
 ghost use Rattle.adapter.specs.OneCommand.{IsFreeSlot};
-ghost use Rattle.device_model.specs.Disks.{disk_over, store_of};
-ghost use Rattle.device_model.specs.Finishing.{HasPage, HasMove, HasRoom, MayPage, sends_page};
+ghost use Rattle.device_model.specs.Disks.{SaysOnly, disk_of, given_for, port_0_alone};
+ghost use Rattle.device_model.specs.Finishing.{FindsPage, HasPage, HasMove, HasRoom, IsBusy, MayPage, sends_page};
 ghost use Rattle.device_model.specs.Held.{IsPortLoose};
-ghost use Rattle.device_model.specs.Paged.{IsItsLog, IsItsPage, IsTurned};
+ghost use Rattle.device_model.specs.Paged.{lying, naming, truthful};
 ghost use Rattle.device_model.specs.Does.{AnswersStep, Completes, GoesOnSo, HasCleared, HasFailed, answer_of};
 ghost use Rattle.device_model.specs.Tells.{disks_told};
 ghost use Rattle.device_model.specs.Queue.{BeginsAccess, DoesRead, DoesThen};
-ghost use Rattle.device_model.specs.Modelled.{device_at, cap_of, IsNewModel};
+ghost use Rattle.device_model.specs.Modelled.{IsNewBay, IsNewMedia, IsNewModel, all_given_tell, all_tell, cap_of, device_at, given_tell, media_of, tells};
 ghost use Rattle.device_model.specs.Settled.{SendsPages, IsSettled, LeadsOwn, LeavesOne, NoneIsLeft};
-ghost use Rattle.device_model.specs.View.{operation_of};
+ghost use Rattle.device_model.specs.Whole.{HasDisks, HasRegister};
 
+use crate::bay::{Bay, PAGE_BYTES};
 use crate::clearing::Run;
 use crate::config::{ModelConfig, NoMemory};
-use crate::disks::{Inserted, Which};
+use crate::disks::{Disks, PortDisks, Which};
 use crate::hardware::{Hardware, PORTS};
-use crate::port::{PortModel, Transfer};
-use crate::steps::{Begun, NextMove};
+use crate::port::PortModel;
+use crate::steps::{Begun, FoundPage};
 use adapter::{Adapter, DeviceStep, DiskNumber, DiskPage, Entry, FatalError, Stepped};
 use ata_types::{FEWEST_FRAMES, FRAME_BYTES, MOST_FRAMES, Port, Slot};
 use hba_regs::Reg;
 use sector_store::SectorStore;
-use sector_store::pages::{Abilities, FailedCommand, log_page};
+use sector_store::pages::{Abilities, FailedCommand};
 use std::alloc::Global;
-use std::mem;
-use std::snapshot::Snapshot;
-
-const PAGE_BYTES: usize = 512;
-
-/// A sector that was cleared.
-const ZEROS: [u8; 512] = [0; 512];
 
 /// What came of a move or a clear that was to be done.
 #[derive(Clone, Copy, Debug)]
@@ -78,34 +72,14 @@ struct Queued {
     step: DeviceStep,
 }
 
-/// What the disks of port 0 say of themselves by their pages of IDENTIFY DEVICE, beside their sizes and serial numbers, and by the page of log 10h.
-#[derive(Clone, Copy, Debug)]
-pub struct Description {
-    pub abilities: Abilities,
-    /// The queued command that failed last.
-    pub log: Option<FailedCommand>,
-    /// The bits of a page of IDENTIFY DEVICE that are turned.
-    pub lies: [u8; PAGE_BYTES],
-    /// The bits of the log's page that are turned.
-    pub log_lies: [u8; PAGE_BYTES],
-}
-
-/// A modelled adapter. Port 0 has disk 0 at first, over the first store; it can be taken out, and put in again, or disk 1 in its place, over the
-/// second one. The others of ports 0 to 3 that there are have no device. It takes READ DMA EXT, WRITE DMA EXT, READ FPDMA
+/// A modelled adapter. Each of ports 0 to 3 for which disks are given has disk 0 of them at first, over its store; it can be taken out, and put in again, or disk 1 in its place, over the
+/// other store. The other ports have no device. It takes READ DMA EXT, WRITE DMA EXT, READ FPDMA
 /// QUEUED, WRITE FPDMA QUEUED, FLUSH CACHE EXT, DATA SET MANAGEMENT with TRIM, IDENTIFY DEVICE and READ LOG EXT.
 #[derive(Drop)]
 pub struct Model<S> {
     hardware: Hardware,
-    /// Which disk is in port 0, or was last.
-    which: Which,
-    /// The sectors of that disk.
-    disk: S,
-    /// The sectors of the other one.
-    other: S,
-    /// What the pages of both say of them.
-    says: Description,
-    /// The disks that were put in, the first of them first, for proofs alone.
-    plugged: Vec<Inserted<S>>,
+    /// The disks of each port, those of port 0 first; `None` for a port that has none, ever.
+    bays: Vec<Option<Bay<S>>>,
     /// On which of ports 0 to 3 it does nothing by itself.
     held: [bool; PORTS],
     /// In the order in which they were queued.
@@ -114,20 +88,94 @@ pub struct Model<S> {
     accesses: u64,
 }
 
+/// Whether a port has disks.
+fn has_disks<S>(bays: &[Option<Bay<S>>], port: usize) -> bool
+    ensures disks { result ≡ is_some (slice_index_or bays.now port None) }
+    ensures there { result ≡ true → port < length bays.now }
+{
+    match bays.get(port) {
+        Some(bay) => bay.is_some(),
+        None => false,
+    }
+}
+
+/// The bay for these disks, if some are given.
+fn bay_for<S: SectorStore>(
+    alloc: Global,
+    disks: Option<PortDisks<S>>,
+    config: ModelConfig,
+) -> Option<Bay<S>>
+    ensures bay { IsNewBay config disks result }
+    ensures media { IsNewMedia S.size S.told disks (media_of S.size S.told result) }
+    ensures tells { tells S.told result ≡ given_tell S.told disks }
+{
+    let abilities = Abilities {
+        ncq: config.ncq,
+        depth: config.depth,
+        trim: config.trim,
+    };
+    match disks {
+        Some(disks) => Some(Bay::new(alloc, disks, abilities)),
+        None => None,
+    }
+}
+
+/// Adds the bay of the next port, for which there is memory.
+fn seat<S: SectorStore>(bays: &mut Vec<Option<Bay<S>>>, bay: Option<Bay<S>>)
+    requires { vec_len bays.old < vec_capacity bays.old }
+    ensures items { bays.new.items ≡ bays.old.items ++ bay ∷ [] }
+    ensures left { (n : ℕ) → vec_len bays.old + (n + 1) ≤ vec_capacity bays.old → vec_len bays.new + n ≤ vec_capacity bays.new }
+{
+    let _pushed = bays.push(bay).is_ok();
+}
+
+/// The bays of all ports, for which these disks are given.
+fn bays_for<S: SectorStore>(
+    alloc: Global,
+    disks: Disks<S>,
+    config: ModelConfig,
+) -> Result<Vec<Option<Bay<S>>>, NoMemory>
+    ensures bays { IfOk result (λ bays. (port : ℕ) → IsNewBay config (given_for disks port) (slice_index_or bays.items port None)) }
+    ensures media { IfOk result (λ bays. (port : ℕ) → IsNewMedia S.size S.told (given_for disks port) (media_of S.size S.told (slice_index_or bays.items port None))) }
+    ensures tells { IfOk result (λ bays. all_tell S.told bays.items ≡ all_given_tell S.told disks) }
+{
+    let mut bays = Vec::with_capacity(alloc, PORTS)?;
+    seat(&mut bays, bay_for(alloc, disks.port0, config));
+    seat(&mut bays, bay_for(alloc, disks.port1, config));
+    seat(&mut bays, bay_for(alloc, disks.port2, config));
+    seat(&mut bays, bay_for(alloc, disks.port3, config));
+    Ok(bays)
+}
+
 impl<S: SectorStore> Model<S> {
-    /// An adapter as after its reset, with the ports that are asked for, memory of zeros, and disks 0 and 1 for port 0, of which disk 0 is in. It
-    /// tells its disks' sectors where both stores do.
-    pub fn new(alloc: Global, config: ModelConfig, disk0: S, disk1: S) -> Result<Model<S>, NoMemory>
+    /// An adapter as after its reset, with the ports that are asked for, memory of zeros, and two disks for port 0 alone: `IMAGEDISK` over the first store, which is in, and
+    /// `BLANKDISK` over the second one.
+    pub fn new(alloc: Global, config: ModelConfig, image: S, blank: S) -> Result<Model<S>, NoMemory>
         requires frames { (FEWEST_FRAMES ≤ config.frames) × (config.frames ≤ MOST_FRAMES) }
         requires ports { (1 ≤ config.pi) × (config.pi ≤ 15) }
         requires slots { (1 ≤ config.slots) × (config.slots ≤ 32) }
         requires depth { (1 ≤ config.depth) × (config.depth ≤ 32) }
-        ensures { IfOk result (IsNewModel S.size S.told config disk0 disk1) }
+        ensures { IfOk result (IsNewModel S.size S.told config (port_0_alone image blank)) }
     {
-        let port0 = PortModel::new(alloc, true)?;
-        let port1 = PortModel::new(alloc, false)?;
-        let port2 = PortModel::new(alloc, false)?;
-        let port3 = PortModel::new(alloc, false)?;
+        Model::with_disks(alloc, config, Disks::of_port_0(image, blank))
+    }
+
+    /// The same with these disks, of which those are in that are first in their ports. It tells its disks' sectors where all of their stores do.
+    pub fn with_disks(
+        alloc: Global,
+        config: ModelConfig,
+        disks: Disks<S>,
+    ) -> Result<Model<S>, NoMemory>
+        requires frames { (FEWEST_FRAMES ≤ config.frames) × (config.frames ≤ MOST_FRAMES) }
+        requires ports { (1 ≤ config.pi) × (config.pi ≤ 15) }
+        requires slots { (1 ≤ config.slots) × (config.slots ≤ 32) }
+        requires depth { (1 ≤ config.depth) × (config.depth ≤ 32) }
+        ensures { IfOk result (IsNewModel S.size S.told config disks) }
+    {
+        let port0 = PortModel::new(alloc, disks.port0.is_some())?;
+        let port1 = PortModel::new(alloc, disks.port1.is_some())?;
+        let port2 = PortModel::new(alloc, disks.port2.is_some())?;
+        let port3 = PortModel::new(alloc, disks.port3.is_some())?;
         let hardware = Hardware {
             memory: vec![in alloc; 0u8; FRAME_BYTES as usize * usize::from(config.frames)]?,
             ports: [port0, port1, port2, port3],
@@ -139,24 +187,9 @@ impl<S: SectorStore> Model<S> {
             tape: Vec::new(alloc),
             starved: false,
         };
-        let mut plugged = Vec::with_capacity(alloc, 1)?;
-        remember(&mut plugged, Which::Disk0, &disk0);
         Ok(Model {
             hardware,
-            says: Description {
-                abilities: Abilities {
-                    ncq: config.ncq,
-                    depth: config.depth,
-                    trim: config.trim,
-                },
-                log: None,
-                lies: [0; PAGE_BYTES],
-                log_lies: [0; PAGE_BYTES],
-            },
-            plugged,
-            which: Which::Disk0,
-            disk: disk0,
-            other: disk1,
+            bays: bays_for(alloc, disks, config)?,
             held: [false; PORTS],
             queue: Vec::new(alloc),
             accesses: 0,
@@ -176,6 +209,14 @@ impl<S: SectorStore> Model<S> {
         ensures whole { length result.now ≡ (device_at S.size S.told self.now).size }
     {
         self.hardware.memory.as_slice()
+    }
+
+    /// What a register shows now, of the adapter or of one of its four ports. It is no access: the device does nothing first, and nothing is noted.
+    pub fn shown(&self, r: Reg) -> u32
+        requires { HasRegister r }
+        ensures { Shows r result (device_at S.size S.told self.now) }
+    {
+        self.hardware.shown(r)
     }
 
     /// Whether a step of the device, one that was asked for, that was queued or that the model does by itself, was left out since memory to note
@@ -232,7 +273,11 @@ impl<S: SectorStore> Model<S> {
         };
         if queued {
             let tag = slot.0;
-            self.says.log = Some(FailedCommand { tag, error });
+            log_failed(
+                &mut self.bays,
+                usize::from(port.0),
+                FailedCommand { tag, error },
+            );
         }
         true
     }
@@ -244,44 +289,38 @@ impl<S: SectorStore> Model<S> {
         port.0 < 4 && self.hardware.meet(port.0, error)
     }
 
-    /// Takes the disk out of port 0, which alone has one.
+    /// Takes the disk out of a port.
     fn unplug(&mut self, port: Port) -> bool
         ensures { AnswersStep S.size S.told S.failures (DeviceStep.Unplug port) result self.old self.new }
     {
-        port.0 == 0 && self.hardware.unplug()
+        port.0 < 4 && self.hardware.unplug(port.0)
     }
 
-    /// Has a disk stand as that of port 0. It has the sectors that it had.
-    fn turn_to(&mut self, which: Which)
-        ensures which { self.new.which ≡ which }
-        ensures disks { (w : Which) → store_of self.new w ≡ store_of self.old w }
-        ensures rest { self.new ≡ record self.old { which = self.new.which; disk = self.new.disk; other = self.new.other } }
-    {
-        if self.which != which {
-            mem::swap(&mut self.disk, &mut self.other);
-            self.which = which;
-        }
-    }
-
-    /// Puts a disk into port 0, as it was when it was taken out.
+    /// Puts one of a port's disks into it, as it was when it was taken out.
     fn plug(&mut self, port: Port, disk: DiskNumber) -> bool
         ensures { AnswersStep S.size S.told S.failures (DeviceStep.Plug port disk) result self.old self.new }
     {
+        let place = usize::from(port.0);
         let Some(which) = Which::of(disk) else {
             return false;
         };
-        if port.0 != 0 || self.hardware.ports[0].present {
+        if place >= PORTS || !has_disks(self.bays.as_slice(), place) {
             return false;
         }
-        if self.plugged.reserve(1).is_err() {
+        if self.hardware.ports[place].present {
+            return false;
+        }
+        let Some(bay) = &mut self.bays[place] else {
+            return false;
+        };
+        if !bay.make_room() {
             self.hardware.starved = true;
             return false;
         }
-        if !self.hardware.plug(which.number()) {
+        if !self.hardware.plug(port.0, which.number()) {
             return false;
         }
-        self.turn_to(which);
-        remember(&mut self.plugged, which, &self.disk);
+        bay.put_in(which);
         true
     }
 
@@ -296,8 +335,8 @@ impl<S: SectorStore> Model<S> {
         ensures page { (t : Taken) → ((device_at S.size S.told self.old).port port.0).taken slot.0 ≡ Some t → sends_page t.meaning.operation ≡ true →
             result ≡ Outcome.Left → HasMove (device_at S.size S.told self.old) port.0 slot.0 t → next_place t < 2 ^ 32 → HasRoom self.old.hardware 1 → ⊥ }
     {
-        // No other port has a disk.
-        if port.0 != 0 {
+        let place = usize::from(port.0);
+        if place >= PORTS || !has_disks(self.bays.as_slice(), place) {
             return Outcome::Left;
         }
         // A sector that was written can't be taken back, so the memory of its entry is found first.
@@ -309,19 +348,15 @@ impl<S: SectorStore> Model<S> {
             self.hardware.starved = true;
             return Outcome::Left;
         }
-        if !next.is_on(self.disk.sectors()) {
+        let Some(bay) = &mut self.bays[place] else {
+            return Outcome::Left;
+        };
+        if !next.is_on(bay.sectors()) {
             let _failed = self.fail(port, slot, PAST_THE_DISK);
             return Outcome::Failed;
         }
         let mut bytes = [0; 512];
-        if !exchange(
-            &mut self.disk,
-            self.which,
-            &self.hardware,
-            &self.says,
-            next,
-            &mut bytes,
-        ) {
+        if !bay.exchange(&self.hardware, next, &mut bytes) {
             let _failed = self.fail(port, slot, STORE_FAILED);
             return Outcome::Failed;
         }
@@ -339,8 +374,8 @@ impl<S: SectorStore> Model<S> {
         ensures failed { result ≡ Outcome.Failed → HasFailed S.size S.told S.failures (DeviceStep.Clear port slot most) self.old self.new }
         ensures left { result ≡ Outcome.Done → (n : ℕ) → HasRoom self.old.hardware (n + 1) → HasRoom self.new.hardware n }
     {
-        // No other port has a disk.
-        if port.0 != 0 {
+        let place = usize::from(port.0);
+        if place >= PORTS || !has_disks(self.bays.as_slice(), place) {
             return Outcome::Left;
         }
         // A sector that was cleared can't be taken back, so the memory of the entries is found first.
@@ -352,8 +387,11 @@ impl<S: SectorStore> Model<S> {
             self.hardware.starved = true;
             return Outcome::Left;
         }
-        let on_disk = run.cut(self.disk.sectors());
-        let count = clear_sectors(&mut self.disk, self.which, on_disk);
+        let Some(bay) = &mut self.bays[place] else {
+            return Outcome::Left;
+        };
+        let on_disk = run.cut(bay.sectors());
+        let count = bay.clear(on_disk);
         let first = run.first;
         self.hardware.clear(port.0, slot.0, Run { first, count });
         if count == run.count {
@@ -373,11 +411,11 @@ impl<S: SectorStore> Model<S> {
     fn finish(&mut self, port: Port, slot: Slot) -> bool
         requires { slot.0 < 32 }
         ensures answers { AnswersStep S.size S.told S.failures (DeviceStep.Finish port slot) result self.old self.new }
-        ensures sends { port.0 ≡ 0 → (has : HasPage (device_at S.size S.told self.old) slot.0) →
-            (result ≡ true → IsFreeSlot ((device_at S.size S.told self.new).port 0) slot.0)
+        ensures sends { HasDisks (device_at S.size S.told self.old) port.0 → (has : HasPage (device_at S.size S.told self.old) port.0 slot.0) →
+            (result ≡ true → IsFreeSlot ((device_at S.size S.told self.new).port port.0) slot.0)
             × (result ≡ false → (self.new.hardware.starved ≡ true) × (HasRoom self.new.hardware (has.left + 1) → ⊥)) }
     {
-        if port.0 != 0 {
+        if port.0 >= 4 || !has_disks(self.bays.as_slice(), usize::from(port.0)) {
             return false;
         }
         let Some(Begun { rest, was_taken }) = self.hardware.begin(port.0, slot.0) else {
@@ -402,52 +440,73 @@ impl<S: SectorStore> Model<S> {
         self.hardware.done(port.0, slot.0) || did
     }
 
-    /// Takes the IDENTIFY DEVICE or READ LOG EXT of a slot of port 0, unless it is taken. No other one may be taken then.
-    fn take_page(&mut self, slot: u8)
+    /// Takes the IDENTIFY DEVICE or READ LOG EXT of a slot, unless it is taken. No other one of its port may be taken then.
+    fn take_page(&mut self, port: u8, slot: u8)
+        requires port { port < 4 }
         requires small { slot < 32 }
-        requires there { MayPage (device_at S.size S.told self.old) slot ⊎ HasPage (device_at S.size S.told self.old) slot }
-        ensures own { (held : List Bool) → IsPortLoose held 0 → LeadsOwn (SendsPages held) (device_at S.size S.told self.old) (device_at S.size S.told self.new) }
+        requires there { MayPage (device_at S.size S.told self.old) port slot ⊎ HasPage (device_at S.size S.told self.old) port slot }
+        ensures own { (held : List Bool) → IsPortLoose held port → LeadsOwn (SendsPages held) (device_at S.size S.told self.old) (device_at S.size S.told self.new) }
         ensures settled { (held : List Bool) → IsSettled held (device_at S.size S.told self.old) → IsSettled held (device_at S.size S.told self.new) }
-        ensures none { (other : ℕ) → MayPage (device_at S.size S.told self.new) other → ⊥ }
-        ensures stuck { MayPage (device_at S.size S.told self.old) slot → (other : ℕ) → HasPage (device_at S.size S.told self.new) other →
-            HasPage (device_at S.size S.told self.old) slot }
-        ensures left { (has : HasPage (device_at S.size S.told self.old) slot) →
-            (now : HasPage (device_at S.size S.told self.new) slot) × (now.left ≡ has.left) }
+        ensures taken { IsBusy (device_at S.size S.told self.new) port }
+        ensures stuck { MayPage (device_at S.size S.told self.old) port slot → (other : ℕ) → HasPage (device_at S.size S.told self.new) port other →
+            HasPage (device_at S.size S.told self.old) port slot }
+        ensures left { (has : HasPage (device_at S.size S.told self.old) port slot) →
+            (now : HasPage (device_at S.size S.told self.new) port slot) × (now.left ≡ has.left) }
+        ensures others { (q : ℕ) → q ≢ port → (device_at S.size S.told self.new).port q ≡ (device_at S.size S.told self.old).port q }
+        ensures size { (device_at S.size S.told self.new).size ≡ (device_at S.size S.told self.old).size }
         ensures rest { GoesOnSo S.size self.old self.new }
         ensures room { (n : ℕ) → HasRoom self.new.hardware n → HasRoom self.old.hardware n }
         ensures starved { self.new.hardware.starved ≡ self.old.hardware.starved }
-        ensures disk { self.new.disk ≡ self.old.disk }
+        ensures bays { self.new.bays ≡ self.old.bays }
     {
-        let _taken = self.hardware.fetch(0, slot);
+        let _taken = self.hardware.fetch(port, slot);
     }
 
-    /// Does each IDENTIFY DEVICE and READ LOG EXT of port 0 that can be done to its end, the lowest slot's first, unless the port is held. The page that one sends may
-    /// stand where another's bytes are, so they are looked for anew after each. One that may be taken, and can't be done to its end, or for which the tape
-    /// has no memory, is taken, and no more; the others wait for it. Beside another command none is taken.
+    /// The first slot with an IDENTIFY DEVICE or READ LOG EXT that may be taken, or can be done to its end, of a port that has disks and isn't left out.
+    fn next_page(&self, left_out: &[bool; PORTS]) -> Option<FoundPage>
+        ensures port { IfSome result (λ found. (found.port < 4) × IsPortLoose left_out.now found.port × HasDisks (device_at S.size S.told self.now) found.port) }
+        ensures small { IfSome result (λ found. found.slot < 32) }
+        ensures found { IfSome result (λ found. FindsPage (device_at S.size S.told self.now) found.port found.slot (Some found.ends)) }
+        ensures none { result ≡ None → (port slot : ℕ) → port < 4 → IsPortLoose left_out.now port → HasDisks (device_at S.size S.told self.now) port → slot < 32 →
+            FindsPage (device_at S.size S.told self.now) port slot None }
+    {
+        for port in 0..4u8 {
+            if !left_out[usize::from(port)] && has_disks(self.bays.as_slice(), usize::from(port)) {
+                let found = self.hardware.next_page(port);
+                if found.is_some() {
+                    return found;
+                }
+            }
+        }
+        None
+    }
+
+    /// Does each IDENTIFY DEVICE and READ LOG EXT that can be done to its end, of each port that isn't held: the lowest port's first, and of these the lowest slot's. The page that one sends
+    /// may stand where another's bytes are, also another port's, so they are looked for anew after each. One that may be taken, and can't be done to its end, or for which the tape has no
+    /// memory, is taken, and no more; the others of its port wait for it. Once the tape had no memory, none is done to its end. Beside another command none is taken.
     fn send_pages(&mut self)
         ensures own { LeadsOwn (SendsPages self.old.held) (device_at S.size S.told self.old) (device_at S.size S.told self.new) }
         ensures settled { (held : List Bool) → IsSettled held (device_at S.size S.told self.old) → IsSettled held (device_at S.size S.told self.new) }
         ensures left { NoneIsLeft self.new.held self.new.hardware.starved (device_at S.size S.told self.new) }
         ensures rest { GoesOnSo S.size self.old self.new }
         ensures told { self.new.hardware.starved ≡ true → (self.old.hardware.starved ≡ true) ⊎ LeavesOne self.new.hardware (device_at S.size S.told self.new) }
-        ensures disk { self.new.disk ≡ self.old.disk }
+        ensures disks { (port : ℕ) (which : Which) → disk_of self.new port which ≡ disk_of self.old port which }
     {
-        if self.held[0] {
-            return;
-        }
-        while let Some(found) = self.hardware.next_page() {
-            if !found.ends {
-                self.take_page(found.slot);
-                return;
-            }
-            if !self.finish(Port(0), Slot(found.slot)) {
-                self.take_page(found.slot);
-                return;
+        let mut left_out = self.held;
+        let mut lacks = false;
+        while let Some(found) = self.next_page(&left_out) {
+            if !found.ends || lacks {
+                self.take_page(found.port, found.slot);
+                left_out[usize::from(found.port)] = true;
+            } else if !self.finish(Port(found.port), Slot(found.slot)) {
+                self.take_page(found.port, found.slot);
+                left_out[usize::from(found.port)] = true;
+                lacks = true;
             }
         }
     }
 
-    /// Has the port's disks lie of a byte of their pages, if a page has such a byte. No port but port 0 has disks.
+    /// Has the port's disks lie of a byte of their pages, if a page has such a byte. A port without disks says nothing.
     fn lie(&mut self, port: Port, page: DiskPage, offset: u16, bits: u8) -> bool
         ensures { AnswersStep S.size S.told S.failures (DeviceStep.Lie port page offset bits) result self.old self.new }
     {
@@ -455,12 +514,7 @@ impl<S: SectorStore> Model<S> {
         if offset >= PAGE_BYTES {
             return false;
         }
-        if port.0 == 0 {
-            match page {
-                DiskPage::Identity => self.says.lies[offset] ^= bits,
-                DiskPage::Log => self.says.log_lies[offset] ^= bits,
-            }
-        }
+        lie_of(&mut self.bays, usize::from(port.0), page, offset, bits);
         true
     }
 
@@ -468,10 +522,7 @@ impl<S: SectorStore> Model<S> {
     fn tell_truth(&mut self, port: Port) -> bool
         ensures { AnswersStep S.size S.told S.failures (DeviceStep.Truth port) result self.old self.new }
     {
-        if port.0 == 0 {
-            self.says.lies = [0; PAGE_BYTES];
-            self.says.log_lies = [0; PAGE_BYTES];
-        }
+        end_lies(&mut self.bays, usize::from(port.0));
         true
     }
 
@@ -530,94 +581,44 @@ impl<S: SectorStore> Model<S> {
     }
 }
 
-/// Adds a disk, as it is, to those that were plugged in.
-fn remember<S>(plugged: &mut Vec<Inserted<S>>, which: Which, disk: &S)
-    requires { vec_len plugged.old < vec_capacity plugged.old }
-    ensures { (f : Which → S → Disk) → map (λ s. f s.which s.store.value) plugged.new.items ≡ map (λ s. f s.which s.store.value) plugged.old.items ++ f which disk.now ∷ [] }
+/// Has the log of a port's disks name this command, if it has disks.
+fn log_failed<S: SectorStore>(bays: &mut Vec<Option<Bay<S>>>, port: usize, failed: FailedCommand)
+    ensures { SaysOnly (naming failed) port bays.old.items bays.new.items }
 {
-    let store = Snapshot::of(disk);
-    let _pushed = plugged.push(Inserted { which, store }).is_ok();
-}
-
-/// Turns these bits of a page.
-fn turn(page: &mut [u8; PAGE_BYTES], bits: &[u8; PAGE_BYTES])
-    ensures turned { IsTurned page.old bits.now page.new }
-    ensures bytes { IsSector page.old → IsSector page.new }
-{
-    for offset in 0..PAGE_BYTES {
-        page[offset] ^= bits[offset];
+    if port < bays.len() {
+        if let Some(bay) = &mut bays[port] {
+            bay.log_failed(failed);
+        }
     }
 }
 
-/// Has a disk give the sector of a read or its page, or take a write's sector from memory, or a trim's block; `false` says that the store
-/// failed, and that it tells what it told.
-fn exchange<S: SectorStore>(
-    disk: &mut S,
-    which: Which,
-    hardware: &Hardware,
-    says: &Description,
-    next: NextMove,
-    bytes: &mut [u8; 512],
-) -> bool
-    requires { next.address + 512 ≤ length hardware.now.memory.items }
-    ensures inside { result ≡ true → is_ranged (operation_of next.transfer) ≡ true → next.sector < S.size disk.old }
-    ensures sector { result ≡ true → IsSector bytes.new }
-    ensures gives { result ≡ true → is_ranged (operation_of next.transfer) ≡ true → reads_memory (operation_of next.transfer) ≡ false → IfSome (S.told disk.old) (λ told. bytes.new ≡ told next.sector) }
-    ensures takes { result ≡ true → reads_memory (operation_of next.transfer) ≡ true → bytes.new ≡ bytes_at (bytes_of hardware.now.memory.items) next.address 512 }
-    ensures same { is_ranged (operation_of next.transfer) ≡ false → disk.new ≡ disk.old }
-    ensures page { result ≡ true → next.transfer ≡ Transfer.Identify → IsItsPage which (S.size disk.old) says.now bytes.new }
-    ensures log { result ≡ true → next.transfer ≡ Transfer.ReadLog → IsItsLog says.now bytes.new }
-    ensures disk { result ≡ true → disk_over which (S.size disk.new) (S.told disk.new)
-        ≡ disk_after (operation_of next.transfer) (disk_over which (S.size disk.old) (S.told disk.old)) next.sector bytes.new }
-    ensures kept { result ≡ false → S.told disk.new ≡ S.told disk.old }
-    ensures size { S.size disk.new ≡ S.size disk.old }
-    ensures fine { result ≡ true → S.failures disk.new ≡ S.failures disk.old }
-    ensures ranged { result ≡ false → is_ranged (operation_of next.transfer) ≡ true }
-    ensures fails { result ≡ false → next.sector < S.size disk.old → FailsOn (reads_memory (operation_of next.transfer)) next.sector (S.failures disk.old) (S.failures disk.new) }
+/// Has them lie of a byte of a page once more.
+fn lie_of<S: SectorStore>(
+    bays: &mut Vec<Option<Bay<S>>>,
+    port: usize,
+    page: DiskPage,
+    offset: usize,
+    bits: u8,
+)
+    requires { offset < 512 }
+    ensures { SaysOnly (lying page offset bits) port bays.old.items bays.new.items }
 {
-    match next.transfer {
-        Transfer::Read | Transfer::ReadQueued => disk.read(next.sector, bytes),
-        Transfer::Write | Transfer::WriteQueued => {
-            hardware.load(next.address as usize, bytes);
-            disk.write(next.sector, bytes)
+    if port < bays.len() {
+        if let Some(bay) = &mut bays[port] {
+            bay.lie(page, offset, bits);
         }
-        Transfer::Trim => {
-            hardware.load(next.address as usize, bytes);
-            true
-        }
-        Transfer::Identify => {
-            *bytes = which.page(disk.sectors(), says.abilities);
-            turn(bytes, &says.lies);
-            true
-        }
-        Transfer::ReadLog => {
-            *bytes = log_page(says.log);
-            turn(bytes, &says.log_lies);
-            true
-        }
-        // A flush has no piece that could bring anything.
-        Transfer::Flush => true,
     }
 }
 
-/// Makes these sectors of a disk zero, the first of them first, and tells how many: all of them, or those before the one at which the store failed. It is
-/// entered for clears alone, since its frame may have room for a sector.
-#[inline(never)]
-fn clear_sectors<S: SectorStore>(disk: &mut S, which: Which, run: Run) -> u32
-    requires { run.first + run.count ≤ S.size disk.old }
-    ensures few { result ≤ run.count }
-    ensures disk { disk_over which (S.size disk.new) (S.told disk.new) ≡ disk_cleared (disk_over which (S.size disk.old) (S.told disk.old)) run.first result }
-    ensures size { S.size disk.new ≡ S.size disk.old }
-    ensures none { result ≡ 0 → S.told disk.new ≡ S.told disk.old }
-    ensures fine { result ≡ run.count → S.failures disk.new ≡ S.failures disk.old }
-    ensures fails { result < run.count → FailsOn true (run.first + result) (S.failures disk.old) (S.failures disk.new) }
+/// Has them tell no lies any more.
+fn end_lies<S: SectorStore>(bays: &mut Vec<Option<Bay<S>>>, port: usize)
+    ensures { SaysOnly truthful port bays.old.items bays.new.items }
 {
-    for place in 0..run.count {
-        if !disk.write(run.first + u64::from(place), &ZEROS) {
-            return place;
+    if port < bays.len() {
+        if let Some(bay) = &mut bays[port] {
+            bay.tell_truth();
         }
     }
-    run.count
 }
 
 /// CAP: how many ports there are, so many slots, and whether there are queued commands.
@@ -633,8 +634,8 @@ impl<S: SectorStore> Adapter for Model<S> {
     ghost device = { λ m. device_at S.size S.told m };
 
     /// Before the value is read, a pending reset ends unless all four ports are held, and ends all holds; and on each port that isn't
-    /// held, CR and FR fall if they may, and the link comes up if it may. Then each IDENTIFY DEVICE and READ LOG EXT of port 0 is done that can be done to
-    /// its end, and one that can't, but may be taken, is taken, unless that port is held. A held port does nothing by itself until a reset
+    /// held, CR and FR fall if they may, and the link comes up if it may. Then each IDENTIFY DEVICE and READ LOG EXT of such a port is done that can be done to
+    /// its end, and one that can't, but may be taken, is taken. A held port does nothing by itself until a reset
     /// ends.
     fn read(&mut self, r: Reg) -> u32
         requires { MayRead r (device_at S.size S.told self.old) }
@@ -678,12 +679,12 @@ impl<S: SectorStore> Adapter for Model<S> {
         self.hardware.store(addr as usize, bytes);
     }
 
-    ghost tells = { λ m. disks_told _ (S.told m.other) _ };
+    ghost tells = { λ m. disks_told S.size S.told m.bays.items };
 }
 
 impl<S: SectorStore> Stepped for Model<S> {
     /// Beside what every such adapter says: it is done if it is possible, no call on a store fails, and there is memory to note it; and
-    /// nothing but what it asks is another. Port 0 alone has disks, and disks 0 and 1 alone are put in.
+    /// nothing but what it asks is another. Disks 0 and 1 alone are put in, and only into a port that has disks.
     fn step(&mut self, s: &DeviceStep) -> bool
         ensures steps { Steps (device_at S.size S.told self.old) (device_at S.size S.told self.new) }
         ensures refused { result ≡ false → device_at S.size S.told self.new ≡ device_at S.size S.told self.old }

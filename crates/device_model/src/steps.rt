@@ -52,9 +52,10 @@ pub struct Begun {
     pub was_taken: bool,
 }
 
-/// An IDENTIFY DEVICE or READ LOG EXT of port 0 that the model goes on with by itself.
+/// An IDENTIFY DEVICE or READ LOG EXT that the model goes on with by itself.
 #[derive(Clone, Copy, Debug)]
 pub struct FoundPage {
+    pub port: u8,
     pub slot: u8,
     /// Whether it can be done to its end. Else it may be taken, and no more.
     pub ends: bool,
@@ -213,33 +214,35 @@ impl Hardware {
         true
     }
 
-    /// Whether the IDENTIFY DEVICE or READ LOG EXT that the bytes of a slot of port 0 say, which may be taken, can be done to its end; `None` where they say
+    /// Whether the IDENTIFY DEVICE or READ LOG EXT that the bytes of a slot say, which may be taken, can be done to its end; `None` where they say
     /// none, or a fault or another command keeps it waiting.
     #[inline(never)]
-    fn says_page(&self, slot: u8) -> Option<bool>
+    fn says_page(&self, port: usize, slot: u8) -> Option<bool>
+        requires port { port < 4 }
         requires slot { slot < 32 }
-        requires may { HasUntaken (slice_index_or self.now.ports 0 blank) slot }
-        ensures { (o : Outside) → FindsPage (device_of self.now o) slot result }
+        requires may { HasUntaken (slice_index_or self.now.ports port blank) slot }
+        ensures { (o : Outside) → FindsPage (device_of self.now o) port slot result }
     {
-        let list = self.ports[0].addresses.clb;
+        let list = self.ports[port].addresses.clb;
         let command = read_page(&self.memory, list, slot)?;
-        if self.ports[0].is_open_to(command.transfer) {
+        if self.ports[port].is_open_to(command.transfer) {
             Some(can_end(&command, self.memory.len()))
         } else {
             None
         }
     }
 
-    /// Whether the IDENTIFY DEVICE or READ LOG EXT of a slot of port 0 can be done to its end; `None` where the slot has none that may be taken, and none that is taken
+    /// Whether the IDENTIFY DEVICE or READ LOG EXT of a slot can be done to its end; `None` where the slot has none that may be taken, and none that is taken
     /// and worked on and can be done to its end.
-    fn has_page(&self, slot: u8) -> Option<bool>
-        requires { slot < 32 }
-        ensures { (o : Outside) → FindsPage (device_of self.now o) slot result }
+    fn has_page(&self, port: usize, slot: u8) -> Option<bool>
+        requires port { port < 4 }
+        requires slot { slot < 32 }
+        ensures { (o : Outside) → FindsPage (device_of self.now o) port slot result }
     {
-        if has_untaken(&self.ports, 0, slot) {
-            return self.says_page(slot);
+        if has_untaken(&self.ports, port, slot) {
+            return self.says_page(port, slot);
         }
-        let command = working_on(&self.ports, 0, slot)?;
+        let command = working_on(&self.ports, port, slot)?;
         if !command.transfer.sends_page() {
             return None;
         }
@@ -250,18 +253,21 @@ impl Hardware {
         }
     }
 
-    /// The first slot of port 0 with an IDENTIFY DEVICE or READ LOG EXT that may be taken, or can be done to its end. There is none where no command is issued or taken.
-    pub fn next_page(&self) -> Option<FoundPage>
+    /// The first slot of a port with an IDENTIFY DEVICE or READ LOG EXT that may be taken, or can be done to its end. There is none where no command is issued or taken.
+    pub fn next_page(&self, port: u8) -> Option<FoundPage>
+        requires { port < 4 }
+        ensures port { IfSome result (λ found. found.port ≡ port) }
         ensures small { IfSome result (λ found. found.slot < 32) }
-        ensures found { IfSome result (λ found. (o : Outside) → FindsPage (device_of self.now o) found.slot (Some found.ends)) }
-        ensures none { result ≡ None → (o : Outside) (slot : ℕ) → slot < 32 → FindsPage (device_of self.now o) slot None }
+        ensures found { IfSome result (λ found. (o : Outside) → FindsPage (device_of self.now o) port found.slot (Some found.ends)) }
+        ensures none { result ≡ None → (o : Outside) (slot : ℕ) → slot < 32 → FindsPage (device_of self.now o) port slot None }
     {
-        if self.ports[0].ci == 0 && self.ports[0].taken.is_empty() {
+        let place = usize::from(port);
+        if self.ports[place].ci == 0 && self.ports[place].taken.is_empty() {
             return None;
         }
         for slot in 0..32 {
-            if let Some(ends) = self.has_page(slot) {
-                return Some(FoundPage { slot, ends });
+            if let Some(ends) = self.has_page(place, slot) {
+                return Some(FoundPage { port, slot, ends });
             }
         }
         None
@@ -521,42 +527,44 @@ impl Hardware {
         true
     }
 
-    /// The disk is taken out of port 0; `false` says that there was none, or that the tape found no memory.
-    pub fn unplug(&mut self) -> bool
-        ensures did { result ≡ true → (o : Outside) → Can (UnplugStep 0) (device_of self.old o) × (device_of self.new o ≡ after (UnplugStep 0) (device_of self.old o)) }
+    /// The disk is taken out of a port; `false` says that there was none, or that the tape found no memory.
+    pub fn unplug(&mut self, port: u8) -> bool
+        requires { port < 4 }
+        ensures did { result ≡ true → (o : Outside) → Can (UnplugStep port) (device_of self.old o) × (device_of self.new o ≡ after (UnplugStep port) (device_of self.old o)) }
         ensures refused { result ≡ false → (o : Outside) → device_of self.new o ≡ device_of self.old o }
-        ensures left { result ≡ false → (o : Outside) → IsPassed self.old self.new (Can (UnplugStep 0) (device_of self.old o)) }
+        ensures left { result ≡ false → (o : Outside) → IsPassed self.old self.new (Can (UnplugStep port) (device_of self.old o)) }
         ensures fed { result ≡ true → self.new.starved ≡ self.old.starved }
     {
-        if !self.ports[0].present {
+        let place = usize::from(port);
+        if !self.ports[place].present {
             return false;
         }
-        if !record(&mut self.tape, &mut self.starved, Entry::Unplug(Port(0))) {
+        if !record(&mut self.tape, &mut self.starved, Entry::Unplug(Port(port))) {
             return false;
         }
-        self.ports[0].unplug();
+        self.ports[place].unplug();
         true
     }
 
-    /// A disk is put into port 0; `false` says that there was a disk, or that the tape found no memory.
-    pub fn plug(&mut self, number: u32) -> bool
-        ensures free { result ≡ true → (o : Outside) → ((device_of self.old o).port 0).present ≡ false }
-        ensures did { result ≡ true → (o : Outside) (disk : Disk) → disk.name ≡ number → device_of self.new (outside_plugged o disk) ≡ after (PlugStep 0 disk) (device_of self.old o) }
+    /// A disk is put into a port; `false` says that there was a disk, or that the tape found no memory.
+    pub fn plug(&mut self, port: u8, number: u32) -> bool
+        requires { port < 4 }
+        ensures free { result ≡ true → (o : Outside) → ((device_of self.old o).port port).present ≡ false }
+        ensures did { result ≡ true → (o : Outside) (disk : Disk) → disk.name ≡ number →
+            device_of self.new (outside_plugged o port disk) ≡ after (PlugStep port disk) (device_of self.old o) }
         ensures refused { result ≡ false → (o : Outside) → device_of self.new o ≡ device_of self.old o }
-        ensures left { result ≡ false → (o : Outside) → IsPassed self.old self.new (((device_of self.old o).port 0).present ≡ false) }
+        ensures left { result ≡ false → (o : Outside) → IsPassed self.old self.new (((device_of self.old o).port port).present ≡ false) }
         ensures fed { result ≡ true → self.new.starved ≡ self.old.starved }
     {
-        if self.ports[0].present {
+        let place = usize::from(port);
+        if self.ports[place].present {
             return false;
         }
-        if !record(
-            &mut self.tape,
-            &mut self.starved,
-            Entry::Plug(Port(0), number),
-        ) {
+        let entry = Entry::Plug(Port(port), number);
+        if !record(&mut self.tape, &mut self.starved, entry) {
             return false;
         }
-        self.ports[0].plug();
+        self.ports[place].plug();
         true
     }
 

@@ -12,17 +12,17 @@ says_page-requires-clause-may c = c.has_untaken.ensures.may c.if-has_untaken.tru
 
 pub returns-then-can_end : goal.returns-then-can_end
 returns-then-can_end c =
-    page_held c.args.self.now c.args.slot c.len.result c.len.ensures c.in_ok-command.command.now c.in_ok-command.ensures.found (sym c.sends_page.ensures ∙ c.if-not-sends_page.false)
+    page_held c.args.self.now c.args.port c.args.slot c.len.result c.len.ensures c.in_ok-command.command.now c.in_ok-command.ensures.found (sym c.sends_page.ensures ∙ c.if-not-sends_page.false)
     (c.can_end.ensures.ends c.if-can_end.true)
 
 pub returns-else-can_end : goal.returns-else-can_end
 returns-else-can_end c = λ o.
     let never = c.has_untaken.ensures.only c.if-has_untaken.false in (
-      page_barred c.args.self.now c.args.slot never o,
-      page_unheld c.args.self.now c.args.slot c.len.result c.len.ensures
+      page_barred c.args.self.now c.args.port c.args.slot never o,
+      page_unheld c.args.self.now c.args.port c.args.slot c.len.result c.len.ensures
           (λ r held kind ends.
           let same : r ≡ c.in_ok-command.command.now = some_one (sym held.held ∙ c.in_ok-command.ensures.found.held) in
-          let here = subst (λ (x : TakenCommand). Ends c.args.self.now c.args.slot c.len.result c.len.ensures x) same ends in
+          let here = subst (λ (x : TakenCommand). Ends c.args.self.now c.args.port c.args.slot c.len.result c.len.ensures x) same ends in
           c.can_end.ensures.only c.if-can_end.false here.0 here.1 here.2)
           never o,
     )
@@ -30,17 +30,17 @@ returns-else-can_end c = λ o.
 pub returns-in_err-command : goal.returns-in_err-command
 returns-in_err-command c = λ o.
     let never = c.has_untaken.ensures.only c.if-has_untaken.false in
-    let P : Option Bool → Type 0 = λ r. FindsPage (device_of c.args.self.now o) c.args.slot r in
+    let P : Option Bool → Type 0 = λ r. FindsPage (device_of c.args.self.now o) c.args.port c.args.slot r in
     subst P (sym c.from_residual.ensures) (
-      page_barred c.args.self.now c.args.slot never o,
-      page_unheld c.args.self.now c.args.slot _ refl (λ r held kind ends. c.working_on.ensures.none c.in_err-command.was r held) never o,
+      page_barred c.args.self.now c.args.port c.args.slot never o,
+      page_unheld c.args.self.now c.args.port c.args.slot _ refl (λ r held kind ends. c.working_on.ensures.none c.in_err-command.was r held) never o,
     )
 
 pub returns-then-not-sends_page : goal.returns-then-not-sends_page
 returns-then-not-sends_page c = λ o.
     let never = c.has_untaken.ensures.only c.if-has_untaken.false in (
-      page_barred c.args.self.now c.args.slot never o,
-      page_unheld c.args.self.now c.args.slot _ refl
+      page_barred c.args.self.now c.args.port c.args.slot never o,
+      page_unheld c.args.self.now c.args.port c.args.slot _ refl
           (λ r held kind ends.
           let same : r ≡ c.in_ok-command.command.now = some_one (sym held.held ∙ c.in_ok-command.ensures.found.held) in
           true-false (ap (λ (x : TakenCommand). sends_page (operation_of x.transfer)) (sym same) ∙ kind) (sym c.sends_page.ensures ∙ c.if-not-sends_page.true))

@@ -1,7 +1,7 @@
-use Rattle.std.proofs.Common.{ℕ, true, ◌≡◌, ◌<◌, ◌≤◌, ◌+◌, ◌∙◌, refl, sym, subst, arith, inl, inr}
+use Rattle.std.proofs.Common.{ℕ, true, ◌≡◌, ◌<◌, ◌≤◌, ◌+◌, ◌∙◌, Some, length, refl, sym, ap, subst, arith, inl, inr}
 use Rattle.adapter.specs.declared.access.DeviceStep.TheVariants as asked
 use Rattle.sector_store.specs.Stores.{FailsOn}
-use Rattle.device_model.specs.Disks.{is_same}
+use Rattle.device_model.specs.Disks.{bay_of, failing}
 use Rattle.device_model.specs.Does.{Completes, HasCleared, HasFailed, IsCause}
 use Rattle.device_model.specs.Finishing.{HasRoom}
 use Rattle.device_model.specs.Modelled.{device_at, outside_at}
@@ -10,19 +10,17 @@ use Rattle.device_model.specs.View.{taken_of}
 use Rattle.device_model.specs.Whole.{Outside}
 use Rattle.device_model.proofs.Absurd.{true-false}
 use Rattle.device_model.proofs.Clears.{IsPart, cut_part, found_clear, part_fails}
-use Rattle.device_model.proofs.Doing.{IsFailed, is_failed, left_same}
+use Rattle.device_model.proofs.Doing.{IsFailed, is_failed}
 use Rattle.device_model.proofs.Faults.{did_fail, fine_on}
 use Rattle.device_model.proofs.Finishing.{clear_fits}
 use Rattle.device_model.proofs.Trimming.{span_some}
-use Rattle.device_model.proofs.TwoDisks.{keeps_with, kept_in}
+use Rattle.std.specs.Vec.{with_item}
+use Rattle.std.specs.Prelude.{slice_set}
+use Rattle.device_model.specs.declared.model.Model.{Model}
+use Rattle.device_model.proofs.TwoDisks.{found_bay, has_disks, seat_is, seated_here, seated_others, store_fine, store_keeps, store_says, store_whichs}
 use Rattle.device_model.proofs.model.Model.clear_run.Given.{Over}
 use Rattle.device_model.proofs.model.Model.clear_run.Goals as goal
 use Rattle.device_model.proofs.model.Model.clear_run.Goals.{then-count-on_disk, else-count-on_disk}
-
--- no other port has a disk
-pub returns-then-port-ne0-clause-answers : goal.returns-then-port-ne0-clause-answers
-returns-then-port-ne0-clause-answers g c =
-    left_same g.S.SectorStore.size g.S.SectorStore.told g.S.SectorStore.failures _ c.args.self.now (λ may. c.if-port-ne0.true may.2.has_disk)
 
 -- there is none that is possible
 pub returns-in_default-clause-answers : goal.returns-in_default-clause-answers
@@ -35,7 +33,8 @@ returns-in_default-clause-answers g c =
       held = refl;
       says = refl;
       which = refl;
-      keeps = record { sectors = λ _. refl; out = λ _ _. refl; queue = refl; accesses = refl };
+      others = λ _ _. refl;
+      keeps = record { identities = λ _ _. refl; out = λ _ _ _. refl; queue = refl; accesses = refl };
       disks = λ _. refl;
       why = λ served may.
           absurd (
@@ -51,15 +50,17 @@ returns-then-not-room-clause-answers g c =
     let m = c.args.self.now in
     let o : Outside = outside_at g.S.SectorStore.size g.S.SectorStore.told m in
     let found = c.in-Some.ensures.found in
-    let has = found_clear c.reserve-room.new.self o _ c.args.port.0 c.args.slot.0 c.args.most c.in-Some.run' found.0 c.if-port-ne0.false
-    (c.reserve-room.ensures.same o) found.1 in
+    let bay = found_bay m c.from-place.result c.args.port.0 _ c.from-place.ensures c.as_slice.ensures.value (sym c.has_disks.ensures.disks ∙ c.if-not-has_disks.false) in
+    let has = found_clear c.reserve-room.new.self o _ c.args.port.0 c.args.slot.0 c.args.most c.in-Some.run' found.0
+    (has_disks g.S.SectorStore.size g.S.SectorStore.told m c.args.port.0 bay.0 bay.1) (c.reserve-room.ensures.same o) found.1 in
     let lacks : HasRoom m.hardware 2 → ⊥ = λ room. true-false (c.reserve-room.ensures.enough room) c.if-not-room.true in
     record {
       device = c.reserve-room.ensures.same o;
       held = refl;
       says = refl;
       which = refl;
-      keeps = record { sectors = λ _. refl; out = λ _ _. refl; queue = refl; accesses = refl };
+      others = λ _ _. refl;
+      keeps = record { identities = λ _ _. refl; out = λ _ _ _. refl; queue = refl; accesses = refl };
       disks = λ _. refl;
       why = λ _ _. (lacks, refl);
       starved_on = λ _. refl;
@@ -70,7 +71,7 @@ pub clear-requires-clause-held : goal.clear-requires-clause-held
 clear-requires-clause-held g c =
     let found = c.in-Some.ensures.found in
     let fits = found.1.fits in
-    let few = c.clear_sectors-count.ensures.few in
+    let few = c.clear-count.ensures.few in
     let cut = c.cut-on_disk.ensures.count in
     (found.0, found.1.holds, omega (arith, fits, few, cut))
 
@@ -79,51 +80,65 @@ clear-requires-clause-room g c = let room = c.reserve-room.ensures.room c.if-not
 
 -- ---- some of the run is cleared, all of it, or none
 
-can : (g : Over) (c : goal.Then-count-run g) →
+whole_was : (g : Over) (c : goal.Then-count-run g) → bay_of c.args.self.now c.args.port.0 ≡ Some c.in-Some-index_mut.bay
+whole_was g c =
+    seat_is c.args.self.now c.from-place.result c.args.port.0 c.index_mut.result.now c.in-Some-index_mut.bay c.from-place.ensures
+    (let there = c.has_disks.ensures.there c.if-not-has_disks.false in let long = ap length c.as_slice.ensures.value in omega (arith, there, long))
+    c.index_mut.ensures.value c.in-Some-index_mut.is
+
+abbrev whole_mid : (g : Over) (c : goal.Then-count-run g) → Model g.row.S.Denot
+whole_mid g c = record c.args.self.now { hardware = c.clear.new.self; bays = with_item c.args.self.now.bays c.from-place.result (Some c.clear-count.new.self) }
+
+whole_items : (g : Over) (c : goal.Then-count-run g) → (whole_mid g c).bays.items ≡ slice_set c.args.self.now.bays.items c.args.port.0 (Some c.clear-count.new.self)
+whole_items g c = ap (λ k. slice_set c.args.self.now.bays.items k (Some c.clear-count.new.self)) c.from-place.ensures
+
+whole_can : (g : Over) (c : goal.Then-count-run g) →
     HasClear (device_at g.S.SectorStore.size g.S.SectorStore.told c.args.self.now) c.args.port.0 c.args.slot.0 c.args.most (taken_of c.in-Some.ensures.found.0)
-can g c =
-    let o : Outside = outside_at g.S.SectorStore.size g.S.SectorStore.told c.args.self.now in
+whole_can g c =
+    let m = c.args.self.now in
+    let o : Outside = outside_at g.S.SectorStore.size g.S.SectorStore.told m in
     let found = c.in-Some.ensures.found in
-    found_clear c.reserve-room.new.self o _ c.args.port.0 c.args.slot.0 c.args.most c.in-Some.run' found.0 c.if-port-ne0.false (c.reserve-room.ensures.same o) found.1
+    found_clear c.reserve-room.new.self o _ c.args.port.0 c.args.slot.0 c.args.most c.in-Some.run' found.0
+    (has_disks g.S.SectorStore.size g.S.SectorStore.told m c.args.port.0 c.in-Some-index_mut.bay (whole_was g c)) (c.reserve-room.ensures.same o) found.1
 
 whole_part : (g : Over) (c : goal.Then-count-run g) →
-    IsPart g.S.SectorStore.size g.S.SectorStore.told c.args.port c.args.slot c.args.most c.in-Some.run'.first c.clear_sectors-count.result
-    (taken_of c.in-Some.ensures.found.0) c.args.self.now (record c.args.self.now { hardware = c.clear.new.self; disk = c.clear_sectors-count.new.disk })
+    IsPart g.S.SectorStore.size g.S.SectorStore.told c.args.port c.args.slot c.args.most c.in-Some.run'.first c.clear-count.result
+    (taken_of c.in-Some.ensures.found.0) c.args.self.now (whole_mid g c)
 whole_part g c =
     let found = c.in-Some.ensures.found in
     let cut = c.cut-on_disk.ensures in
-    let zeros = c.clear_sectors-count.ensures in
-    cut_part g.S.SectorStore.size g.S.SectorStore.told g.S.SectorStore.failures c.args.port c.args.slot c.args.most c.args.self.now c.reserve-room.new.self
-    c.clear.new.self c.clear_sectors-count.new.disk c.in-Some.run'.first c.clear_sectors-count.result found.0 c.if-port-ne0.false c.reserve-room.ensures.same
+    let zeros = c.clear-count.ensures in
+    cut_part g.S.SectorStore.size g.S.SectorStore.told g.S.SectorStore.failures c.args.port c.args.slot c.args.most c.args.self.now (whole_mid g c)
+    c.in-Some-index_mut.bay c.clear-count.new.self (whole_was g c) (whole_items g c) c.clear-count.ensures.rest c.reserve-room.new.self
+    c.in-Some.run'.first c.clear-count.result found.0 c.reserve-room.ensures.same
     c.in-Some.run' c.cut-on_disk.result c.sectors.result refl found.1 c.sectors.ensures cut.inside cut.count cut.first zeros.few zeros.disk zeros.none zeros.size
     c.clear.ensures.none (λ some o. c.clear.ensures.cleared some o found.0 found.1.holds)
 
 -- all of it is
 all : (g : Over) (c : goal.Then-count-run g) →
-    HasCleared (device_at g.S.SectorStore.size g.S.SectorStore.told c.args.self.now)
-    (device_at g.S.SectorStore.size g.S.SectorStore.told (record c.args.self.now { hardware = c.clear.new.self; disk = c.clear_sectors-count.new.disk }))
+    HasCleared (device_at g.S.SectorStore.size g.S.SectorStore.told c.args.self.now) (device_at g.S.SectorStore.size g.S.SectorStore.told (whole_mid g c))
     c.args.port.0 c.args.slot.0 c.args.most
-    × Completes g.S.SectorStore.size g.S.SectorStore.told g.S.SectorStore.failures (asked.Clear c.args.port c.args.slot c.args.most) c.args.self.now
-    (record c.args.self.now { hardware = c.clear.new.self; disk = c.clear_sectors-count.new.disk })
+    × Completes g.S.SectorStore.size g.S.SectorStore.told g.S.SectorStore.failures (asked.Clear c.args.port c.args.slot c.args.most) c.args.self.now (whole_mid g c)
 all g c =
     let m = c.args.self.now in
+    let a = c.in-Some-index_mut.bay in
+    let b = c.clear-count.new.self in
     let found = c.in-Some.ensures.found in
     let p = whole_part g c in
-    let able = can g c in
+    let able = whole_can g c in
     let one = span_some c.args.most (taken_of found.0) able.some able.enough in
     let whole : c.in-Some.run'.count ≡ span c.args.most (taken_of found.0) = found.1.count_is in
     let same = c.if-count-run.true in
-    let some : 1 ≤ c.clear_sectors-count.result = omega (arith, one, whole, same) in
-    let few = c.clear_sectors-count.ensures.few in
+    let some : 1 ≤ c.clear-count.result = omega (arith, one, whole, same) in
+    let few = c.clear-count.ensures.few in
     let cut = c.cut-on_disk.ensures.count in
     let cleared = p.all some (omega (arith, whole, same)) in (
       cleared,
       record {
         asked = p.whole some;
-        fine = λ which.
-            kept_in g.S.SectorStore.failures (is_same which m.which) c.clear_sectors-count.new.disk m.disk m.other
-            (c.clear_sectors-count.ensures.fine (omega (arith, few, cut, same)));
-        says = refl;
+        fine = store_fine m (whole_mid g c) c.args.port.0 a b (whole_was g c) (whole_items g c) c.clear-count.ensures.rest g.S.SectorStore.failures
+            (c.clear-count.ensures.fine (omega (arith, few, cut, same)));
+        says = store_says m (whole_mid g c) c.args.port.0 a b (whole_was g c) (whole_items g c) c.clear-count.ensures.rest c.args.port.0;
         ends = λ _. cleared;
       },
     )
@@ -134,15 +149,18 @@ returns-then-count-run-clause-whole g c = λ _. all g c
 pub returns-then-count-run-clause-answers : goal.returns-then-count-run-clause-answers
 returns-then-count-run-clause-answers g c =
     let m = c.args.self.now in
+    let a = c.in-Some-index_mut.bay in
+    let b = c.clear-count.new.self in
     let found = c.in-Some.ensures.found in (
-      (c.requires, taken_of found.0, can g c),
+      (c.requires, taken_of found.0, whole_can g c),
       record {
         came = inl (all g c).1;
         held = refl;
-        which = refl;
+        which = store_whichs m (whole_mid g c) c.args.port.0 a b (whole_was g c) (whole_items g c) c.clear-count.ensures.rest c.args.port.0;
+        others = seated_others m (whole_mid g c) c.args.port.0 a b (whole_was g c) (whole_items g c);
         pages = (whole_part g c).pages;
-        disks = λ none. absurd (none (c.requires, taken_of found.0, can g c));
-        keeps = keeps_with g.S.SectorStore.size m c.clear.new.self c.clear_sectors-count.new.disk c.clear_sectors-count.ensures.size;
+        disks = λ none. absurd (none (c.requires, taken_of found.0, whole_can g c));
+        keeps = store_keeps m (whole_mid g c) c.args.port.0 a b (whole_was g c) (whole_items g c) c.clear-count.ensures.rest g.S.SectorStore.size c.clear-count.ensures.size refl refl;
         starved = c.clear.ensures.starved ∙ c.reserve-room.ensures.starved;
       },
     )
@@ -152,43 +170,58 @@ returns-then-count-run-clause-left g c = λ _ n room. c.clear.ensures.left n (c.
 
 -- ---- the command fails on the next one
 
-has : (g : Over) (c : goal.After-fail-failed g) →
+was : (g : Over) (c : goal.After-fail-failed g) → bay_of c.args.self.now c.args.port.0 ≡ Some c.in-Some-index_mut.bay
+was g c =
+    seat_is c.args.self.now c.from-place.result c.args.port.0 c.index_mut.result.now c.in-Some-index_mut.bay c.from-place.ensures
+    (let there = c.has_disks.ensures.there c.if-not-has_disks.false in let long = ap length c.as_slice.ensures.value in omega (arith, there, long))
+    c.index_mut.ensures.value c.in-Some-index_mut.is
+
+abbrev mid : (g : Over) (c : goal.After-fail-failed g) → Model g.row.S.Denot
+mid g c = record c.args.self.now { hardware = c.clear.new.self; bays = with_item c.args.self.now.bays c.from-place.result (Some c.clear-count.new.self) }
+
+items : (g : Over) (c : goal.After-fail-failed g) → (mid g c).bays.items ≡ slice_set c.args.self.now.bays.items c.args.port.0 (Some c.clear-count.new.self)
+items g c = ap (λ k. slice_set c.args.self.now.bays.items k (Some c.clear-count.new.self)) c.from-place.ensures
+
+can : (g : Over) (c : goal.After-fail-failed g) →
     HasClear (device_at g.S.SectorStore.size g.S.SectorStore.told c.args.self.now) c.args.port.0 c.args.slot.0 c.args.most (taken_of c.in-Some.ensures.found.0)
-has g c =
-    let o : Outside = outside_at g.S.SectorStore.size g.S.SectorStore.told c.args.self.now in
+can g c =
+    let m = c.args.self.now in
+    let o : Outside = outside_at g.S.SectorStore.size g.S.SectorStore.told m in
     let found = c.in-Some.ensures.found in
-    found_clear c.reserve-room.new.self o _ c.args.port.0 c.args.slot.0 c.args.most c.in-Some.run' found.0 c.if-port-ne0.false (c.reserve-room.ensures.same o) found.1
+    found_clear c.reserve-room.new.self o _ c.args.port.0 c.args.slot.0 c.args.most c.in-Some.run' found.0
+    (has_disks g.S.SectorStore.size g.S.SectorStore.told m c.args.port.0 c.in-Some-index_mut.bay (was g c)) (c.reserve-room.ensures.same o) found.1
 
 part : (g : Over) (c : goal.After-fail-failed g) →
-    IsPart g.S.SectorStore.size g.S.SectorStore.told c.args.port c.args.slot c.args.most c.in-Some.run'.first c.clear_sectors-count.result
-    (taken_of c.in-Some.ensures.found.0) c.args.self.now (record c.args.self.now { hardware = c.clear.new.self; disk = c.clear_sectors-count.new.disk })
+    IsPart g.S.SectorStore.size g.S.SectorStore.told c.args.port c.args.slot c.args.most c.in-Some.run'.first c.clear-count.result
+    (taken_of c.in-Some.ensures.found.0) c.args.self.now (mid g c)
 part g c =
     let found = c.in-Some.ensures.found in
     let cut = c.cut-on_disk.ensures in
-    let zeros = c.clear_sectors-count.ensures in
-    cut_part g.S.SectorStore.size g.S.SectorStore.told g.S.SectorStore.failures c.args.port c.args.slot c.args.most c.args.self.now c.reserve-room.new.self
-    c.clear.new.self c.clear_sectors-count.new.disk c.in-Some.run'.first c.clear_sectors-count.result found.0 c.if-port-ne0.false c.reserve-room.ensures.same
+    let zeros = c.clear-count.ensures in
+    cut_part g.S.SectorStore.size g.S.SectorStore.told g.S.SectorStore.failures c.args.port c.args.slot c.args.most c.args.self.now (mid g c)
+    c.in-Some-index_mut.bay c.clear-count.new.self (was g c) (items g c) c.clear-count.ensures.rest c.reserve-room.new.self
+    c.in-Some.run'.first c.clear-count.result found.0 c.reserve-room.ensures.same
     c.in-Some.run' c.cut-on_disk.result c.sectors.result refl found.1 c.sectors.ensures cut.inside cut.count cut.first zeros.few zeros.disk zeros.none zeros.size
     c.clear.ensures.none (λ some o. c.clear.ensures.cleared some o found.0 found.1.holds)
 
-fewer : (g : Over) (c : goal.After-fail-failed g) → c.clear_sectors-count.result < span c.args.most (taken_of c.in-Some.ensures.found.0)
+fewer : (g : Over) (c : goal.After-fail-failed g) → c.clear-count.result < span c.args.most (taken_of c.in-Some.ensures.found.0)
 fewer g c =
     let whole : c.in-Some.run'.count ≡ span c.args.most (taken_of c.in-Some.ensures.found.0) = c.in-Some.ensures.found.1.count_is in
-    let few = c.clear_sectors-count.ensures.few in
+    let few = c.clear-count.ensures.few in
     let cut = c.cut-on_disk.ensures.count in
     let other = c.if-count-run.false in
     omega (arith, whole, few, cut, other)
 
 -- with this error
 cause : (g : Over) (c : goal.After-fail-failed g) →
-    IsCause true (c.in-Some.run'.first + c.clear_sectors-count.result) (g.S.SectorStore.size c.args.self.now.disk) c.if-count-on_disk.error
-    (g.S.SectorStore.failures c.args.self.now.disk) (g.S.SectorStore.failures c.clear_sectors-count.new.disk) × (c.if-count-on_disk.error < 256)
+    IsCause true (c.in-Some.run'.first + c.clear-count.result) (g.S.SectorStore.size c.in-Some-index_mut.bay.disk.store) c.if-count-on_disk.error
+    (g.S.SectorStore.failures c.in-Some-index_mut.bay.disk.store) (g.S.SectorStore.failures c.clear-count.new.self.disk.store) × (c.if-count-on_disk.error < 256)
 cause g c =
-    let m = c.args.self.now in
+    let a = c.in-Some-index_mut.bay in
     let run = c.in-Some.run' in
     let on = c.cut-on_disk.result in
-    let count = c.clear_sectors-count.result in
-    let few = c.clear_sectors-count.ensures.few in
+    let count = c.clear-count.result in
+    let few = c.clear-count.ensures.few in
     let cut = c.cut-on_disk.ensures.count in
     let inside = c.cut-on_disk.ensures.inside in
     let size = c.sectors.ensures in
@@ -198,39 +231,40 @@ cause g c =
           let less = w.if-count-on_disk.true in
           let first : on.first ≡ run.first = c.cut-on_disk.ensures.first (omega (arith, less)) in
           let error = w.error-is in
-          let Q : ℕ → Type 0 = λ k. FailsOn true k (g.S.SectorStore.failures m.disk) (g.S.SectorStore.failures c.clear_sectors-count.new.disk) in
+          let Q : ℕ → Type 0 = λ k. FailsOn true k (g.S.SectorStore.failures a.disk.store) (g.S.SectorStore.failures c.clear-count.new.self.disk.store) in
           let sector : on.first + count ≡ run.first + count = omega (arith, first) in
-          (inr (omega (arith, less, first, inside, size), error, subst Q sector (c.clear_sectors-count.ensures.fails less)), omega (arith, error))
+          (inr (omega (arith, less, first, inside, size), error, subst Q sector (c.clear-count.ensures.fails less)), omega (arith, error))
       | else-count-on_disk w ↦
           let most = w.if-count-on_disk.false in
           let error = w.error-is in
-          (inl (omega (arith, few, cut, most, other, size), error, c.clear_sectors-count.ensures.fine (omega (arith, few, most))), omega (arith, error))
+          (inl (omega (arith, few, cut, most, other, size), error, c.clear-count.ensures.fine (omega (arith, few, most))), omega (arith, error))
     ]
 
 failed : (g : Over) (c : goal.After-fail-failed g) →
     IsFailed g.S.SectorStore.size g.S.SectorStore.told g.S.SectorStore.failures c.args.port c.args.slot c.if-count-on_disk.error
-    (record (taken_of c.in-Some.ensures.found.0) { cleared = c.in-Some.ensures.found.0.cleared + c.clear_sectors-count.result })
-    (record c.args.self.now { hardware = c.clear.new.self; disk = c.clear_sectors-count.new.disk }) c.fail-failed.new.self
+    (record (taken_of c.in-Some.ensures.found.0) { cleared = c.in-Some.ensures.found.0.cleared + c.clear-count.result })
+    (mid g c) c.fail-failed.new.self
 failed g c =
-    let m = c.args.self.now in
     let more = (part g c).more (fewer g c) in
-    let zero = c.if-port-ne0.false in
+    let small = c.if-place-ge-PORTS.false in
+    let at = c.from-place.ensures in
     is_failed g.S.SectorStore.size g.S.SectorStore.told g.S.SectorStore.failures c.args.port c.args.slot c.if-count-on_disk.error
-    (record (taken_of c.in-Some.ensures.found.0) { cleared = c.in-Some.ensures.found.0.cleared + c.clear_sectors-count.result }) c.fail-failed.result
-    (record m { hardware = c.clear.new.self; disk = c.clear_sectors-count.new.disk }) c.fail-failed.new.self c.fail-failed.ensures (omega (arith, zero)) c.requires
+    (record (taken_of c.in-Some.ensures.found.0) { cleared = c.in-Some.ensures.found.0.cleared + c.clear-count.result }) c.fail-failed.result
+    (mid g c) c.fail-failed.new.self c.fail-failed.ensures (omega (arith, small, at)) c.requires
     (record { taken = more.works.taken; running = more.works.working.running; is_byte = (cause g c).1; kept = refl })
     (c.clear.ensures.left 1 (c.reserve-room.ensures.room c.if-not-room.false))
 
 has_failed : (g : Over) (c : goal.After-fail-failed g) →
     HasFailed g.S.SectorStore.size g.S.SectorStore.told g.S.SectorStore.failures (asked.Clear c.args.port c.args.slot c.args.most) c.args.self.now c.fail-failed.new.self
 has_failed g c =
-    let m = c.args.self.now in
     let found = c.in-Some.ensures.found in
     let f = failed g c in
-    part_fails g.S.SectorStore.size g.S.SectorStore.told g.S.SectorStore.failures c.args.port c.args.slot c.args.most m c.reserve-room.new.self c.clear.new.self
-    c.clear_sectors-count.new.disk c.in-Some.run'.first c.clear_sectors-count.result found.0 c.if-port-ne0.false c.reserve-room.ensures.same c.requires (has g c) (part g c)
-    (fewer g c) c.if-count-on_disk.error c.fail-failed.new.self f.which
-    (fine_on g.S.SectorStore.size g.S.SectorStore.told g.S.SectorStore.failures g.S.SectorStore.failures c.args.port c.args.slot c.if-count-on_disk.error _ _ _ f)
+    part_fails g.S.SectorStore.size g.S.SectorStore.told g.S.SectorStore.failures c.args.port c.args.slot c.args.most c.args.self.now (mid g c)
+    c.in-Some-index_mut.bay c.clear-count.new.self (was g c) (items g c) c.clear-count.ensures.rest c.reserve-room.new.self
+    c.in-Some.run'.first c.clear-count.result found.0 c.reserve-room.ensures.same c.requires (can g c) (part g c)
+    (fewer g c) c.if-count-on_disk.error c.fail-failed.new.self
+    (fine_on g.S.SectorStore.size g.S.SectorStore.told g.S.SectorStore.failures c.args.port c.args.slot c.if-count-on_disk.error _ _ _ f
+    ∙ ap (failing g.S.SectorStore.failures) (seated_here c.args.self.now (mid g c) c.args.port.0 c.in-Some-index_mut.bay c.clear-count.new.self (was g c) (items g c)))
     (cause g c).0 found.1.first_is f
 
 pub returns-clause-failed : goal.returns-clause-failed
@@ -239,11 +273,16 @@ returns-clause-failed g c = λ _. has_failed g c
 pub returns-clause-answers : goal.returns-clause-answers
 returns-clause-answers g c =
     let m = c.args.self.now in
+    let a = c.in-Some-index_mut.bay in
+    let b = c.clear-count.new.self in
     let found = c.in-Some.ensures.found in (
-      (c.requires, taken_of found.0, has g c),
+      (c.requires, taken_of found.0, can g c),
       did_fail g.S.SectorStore.size g.S.SectorStore.told g.S.SectorStore.failures c.args.port c.args.slot c.if-count-on_disk.error _ m
-          (record m { hardware = c.clear.new.self; disk = c.clear_sectors-count.new.disk }) c.fail-failed.new.self (failed g c)
-          (asked.Clear c.args.port c.args.slot c.args.most) (has_failed g c) refl refl refl refl refl (part g c).pages
-          (keeps_with g.S.SectorStore.size m c.clear.new.self c.clear_sectors-count.new.disk c.clear_sectors-count.ensures.size)
-          (c.clear.ensures.starved ∙ c.reserve-room.ensures.starved) (c.requires, taken_of found.0, has g c),
+          (mid g c) c.fail-failed.new.self (failed g c)
+          (asked.Clear c.args.port c.args.slot c.args.most) refl (has_failed g c) refl refl refl
+          (store_says m (mid g c) c.args.port.0 a b (was g c) (items g c) c.clear-count.ensures.rest c.args.port.0)
+          (store_whichs m (mid g c) c.args.port.0 a b (was g c) (items g c) c.clear-count.ensures.rest c.args.port.0)
+          (seated_others m (mid g c) c.args.port.0 a b (was g c) (items g c)) (part g c).pages
+          (store_keeps m (mid g c) c.args.port.0 a b (was g c) (items g c) c.clear-count.ensures.rest g.S.SectorStore.size c.clear-count.ensures.size refl refl)
+          (c.clear.ensures.starved ∙ c.reserve-room.ensures.starved) (c.requires, taken_of found.0, can g c),
     )

@@ -1,7 +1,7 @@
 use Rattle.std.proofs.Common.{◌≡◌, ◌+◌, ◌-◌, true, false}
 use Rattle.adapter.specs.Asked.{GoesOn}
 use Rattle.adapter.specs.declared.access.DeviceStep.TheVariants as asked
-use Rattle.device_model.specs.Disks.{store_of}
+use Rattle.device_model.specs.Disks.{disk_of}
 use Rattle.device_model.specs.Does.{AsksStore, NoneFails}
 use Rattle.device_model.specs.Finishing.{HasRoom, IsGoing}
 use Rattle.device_model.specs.Modelled.{device_at}
@@ -20,10 +20,10 @@ invariant-loop-piece g l = record {
   room : HasRoom l.self.hardware (l.rest.left - l._piece + l.rest.clears + 1);
   going : IsGoing (device_at g.S.SectorStore.size g.S.SectorStore.told l.self) l.port.0 l.slot.0 (l.rest.left - l._piece) l.rest.clears;
   disks : (AsksStore (asked.Finish l.port l.slot) (device_at g.S.SectorStore.size g.S.SectorStore.told l.fn.self) → ⊥) → (which : Which) →
-      store_of l.self which ≡ store_of l.fn.self which;
-  untouched : l.did ≡ false → (which : Which) → store_of l.self which ≡ store_of l.fn.self which;
+      disk_of l.self l.port.0 which ≡ disk_of l.fn.self l.port.0 which;
+  untouched : l.did ≡ false → (which : Which) → disk_of l.self l.port.0 which ≡ disk_of l.fn.self l.port.0 which;
   fine : NoneFails g.S.SectorStore.failures l.fn.self l.self;
-  meanwhile : Meanwhile g.S.SectorStore.size l.fn.self l.self;
+  meanwhile : Meanwhile g.S.SectorStore.size l.port.0 l.fn.self l.self;
 }
 
 abbrev pub invariant-loop-run : goal.invariant-loop-run
@@ -35,8 +35,8 @@ invariant-loop-run g l = record {
   room : HasRoom l.self.hardware (l._run-end - l._run + 1);
   going : IsGoing (device_at g.S.SectorStore.size g.S.SectorStore.told l.self) l.port.0 l.slot.0 0 (l._run-end - l._run);
   disks : (AsksStore (asked.Finish l.port l.slot) (device_at g.S.SectorStore.size g.S.SectorStore.told l.fn.self) → ⊥) → (which : Which) →
-      store_of l.self which ≡ store_of l.fn.self which;
-  untouched : l.did ≡ false → (which : Which) → store_of l.self which ≡ store_of l.fn.self which;
+      disk_of l.self l.port.0 which ≡ disk_of l.fn.self l.port.0 which;
+  untouched : l.did ≡ false → (which : Which) → disk_of l.self l.port.0 which ≡ disk_of l.fn.self l.port.0 which;
   fine : NoneFails g.S.SectorStore.failures l.fn.self l.self;
-  meanwhile : Meanwhile g.S.SectorStore.size l.fn.self l.self;
+  meanwhile : Meanwhile g.S.SectorStore.size l.port.0 l.fn.self l.self;
 }

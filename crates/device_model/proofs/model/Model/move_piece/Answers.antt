@@ -1,39 +1,38 @@
 use Rattle.std.proofs.lemmas.Bool.{cases_lt}
-use Rattle.std.specs.Prelude.{map}
-use Rattle.std.proofs.Common.{Bool, refl, ◌++◌, ℕ, true, false, ◌≡◌, ◌<◌, ◌≤◌, ◌∙◌, ◌+◌, ◌^◌, ◌∷◌, [], List, length, sym, ap, subst, arith, inl, inr}
+use Rattle.std.specs.Prelude.{IfSome, option_map, slice_set}
+use Rattle.std.specs.Vec.{with_item}
+use Rattle.std.proofs.Common.{Bool, Some, Option, refl, ◌++◌, ℕ, true, false, ◌≡◌, ◌<◌, ◌≤◌, ◌∙◌, ◌+◌, ◌^◌, ◌∷◌, [], length, sym, ap, subst, arith, inl, inr}
 use Rattle.device_model.proofs.Absurd.{some_one, true-false}
 use Rattle.adapter.specs.Asked.{DoesMove}
 use Rattle.adapter.specs.Commands.{is_ranged, reads_memory}
-use Rattle.adapter.specs.Device.{Device, Disk}
+use Rattle.adapter.specs.Device.{Device}
 use Rattle.adapter.specs.Steps.{next_place, next_sector, Can, after, move_of}
 use Rattle.adapter.specs.Steps.Step.{Move}
 use Rattle.adapter.specs.declared.tape.Entry.{Entry}
 use Rattle.adapter.specs.declared.tape.Entry.TheVariants as entry
 use Rattle.sector_store.specs.Stores.{FailsOn}
+use Rattle.sector_store.specs.declared.store.Failures.{Failures}
 use Rattle.adapter.specs.declared.access.DeviceStep.TheVariants as asked
-use Rattle.device_model.specs.Does.{Completes, HasFailed, NoneFails}
-use Rattle.device_model.specs.Finishing.{HasRoom}
-use Rattle.device_model.specs.Modelled.{device_at, outside_at}
+use Rattle.device_model.specs.Disks.{bay_of, disk_in, failing, failures_of}
+use Rattle.device_model.specs.Does.{Completes, HasFailed}
+use Rattle.device_model.specs.Finishing.{HasMove, HasRoom}
+use Rattle.device_model.specs.Modelled.{device_at, media_of, outside_at}
 use Rattle.device_model.specs.Slots.{IsNext}
-use Rattle.device_model.specs.View.{operation_of, taken_of}
+use Rattle.device_model.specs.View.{Media, operation_of, taken_of}
 use Rattle.device_model.specs.declared.port.Transfer.{Transfer}
-use Rattle.device_model.specs.Disks.{disk_over, is_same}
-use Rattle.device_model.specs.Whole.{Outside, device_of, outside_of, outside_after}
+use Rattle.device_model.specs.Whole.{Outside, device_of, outside_after}
+use Rattle.device_model.specs.declared.bay.Bay.{Bay}
+use Rattle.device_model.specs.declared.model.Model.{Model}
 use Rattle.device_model.specs.declared.port.TakenCommand.{TakenCommand}
-use Rattle.device_model.proofs.TwoDisks.{both_kept, keeps_with, kept_in}
-use Rattle.device_model.proofs.Doing.{IsFailed, is_failed, left_same}
+use Rattle.device_model.proofs.TwoDisks.{found_bay, has_disks, outside_kept, outside_moved, seat_is, seated_here, seated_others, seated_same, store_fine, store_keeps, store_says, store_whichs}
+use Rattle.device_model.proofs.Doing.{IsFailed, is_failed}
 use Rattle.device_model.proofs.Faults.{did_fail, fails_to_move}
-use Rattle.device_model.proofs.Finishing.{move_fits, next_has_move, outside_moved}
+use Rattle.device_model.proofs.Finishing.{move_fits, next_has_move}
 use Rattle.device_model.proofs.Paging.{next_unranged}
 use Rattle.device_model.proofs.Stepping.{may_move}
 use Rattle.device_model.proofs.Telling.{gains_moved, gains_none}
 use Rattle.device_model.proofs.model.Model.move_piece.Given.{Over}
 use Rattle.device_model.proofs.model.Model.move_piece.Goals as goal
-
--- no other port has a disk
-pub returns-then-port-ne0-clause-answers : goal.returns-then-port-ne0-clause-answers
-returns-then-port-ne0-clause-answers g c =
-    left_same g.S.SectorStore.size g.S.SectorStore.told g.S.SectorStore.failures _ c.args.self.now (λ may. c.if-port-ne0.true may.2.has_disk)
 
 -- there is no move that is possible
 pub returns-in_default-clause-answers : goal.returns-in_default-clause-answers
@@ -46,7 +45,8 @@ returns-in_default-clause-answers g c =
       held = refl;
       says = refl;
       which = refl;
-      keeps = record { sectors = λ _. refl; out = λ _ _. refl; queue = refl; accesses = refl };
+      others = λ _ _. refl;
+      keeps = record { identities = λ _ _. refl; out = λ _ _ _. refl; queue = refl; accesses = refl };
       disks = λ _. refl;
       why = λ served may.
           absurd (
@@ -63,65 +63,90 @@ pub returns-then-not-room-clause-answers : goal.returns-then-not-room-clause-ans
 returns-then-not-room-clause-answers g c =
     let m = c.args.self.now in
     let o : Outside = outside_at g.S.SectorStore.size g.S.SectorStore.told m in
-    let fits = next_has_move c.reserve-room.new.self o _ c.args.port.0 c.args.slot.0 c.in-Some.next c.in-Some.ensures.found.0 c.if-port-ne0.false
-    (c.reserve-room.ensures.same o) c.in-Some.ensures.found.1 in
+    let bay = found_bay m c.from-place.result c.args.port.0 _ c.from-place.ensures c.as_slice.ensures.value (sym c.has_disks.ensures.disks ∙ c.if-not-has_disks.false) in
+    let fits = next_has_move c.reserve-room.new.self o _ c.args.port.0 c.args.slot.0 c.in-Some.next c.in-Some.ensures.found.0
+    (has_disks g.S.SectorStore.size g.S.SectorStore.told m c.args.port.0 bay.0 bay.1) (c.reserve-room.ensures.same o) c.in-Some.ensures.found.1 in
     let lacks : HasRoom m.hardware 1 → ⊥ = λ room. true-false (c.reserve-room.ensures.enough room) c.if-not-room.true in
     record {
       device = c.reserve-room.ensures.same o;
       held = refl;
       says = refl;
       which = refl;
-      keeps = record { sectors = λ _. refl; out = λ _ _. refl; queue = refl; accesses = refl };
+      others = λ _ _. refl;
+      keeps = record { identities = λ _ _. refl; out = λ _ _ _. refl; queue = refl; accesses = refl };
       disks = λ _. refl;
       why = λ _ _. (lacks, refl);
       starved_on = λ _. refl;
       starved_since = λ _. inr ((c.requires, taken_of c.in-Some.ensures.found.0, fits), lacks);
     }
 
+-- ---- the bay of the port, as the piece is moved
+
+was : (g : Over) (c : goal.After-move_bytes g) → bay_of c.args.self.now c.args.port.0 ≡ Some c.in-Some-index_mut.bay
+was g c =
+    seat_is c.args.self.now c.from-place.result c.args.port.0 c.index_mut.result.now c.in-Some-index_mut.bay c.from-place.ensures
+    (let there = c.has_disks.ensures.there c.if-not-has_disks.false in let long = ap length c.as_slice.ensures.value in omega (arith, there, long))
+    c.index_mut.ensures.value c.in-Some-index_mut.is
+
+-- the model afterwards
+abbrev moved_model : (g : Over) (c : goal.After-move_bytes g) → Model g.row.S.Denot
+moved_model g c = record c.args.self.now { hardware = c.move_bytes.new.self; bays = with_item c.args.self.now.bays c.from-place.result (Some c.exchange.new.self) }
+
+items : (g : Over) (c : goal.After-move_bytes g) → (moved_model g c).bays.items ≡ slice_set c.args.self.now.bays.items c.args.port.0 (Some c.exchange.new.self)
+items g c = ap (λ k. slice_set c.args.self.now.bays.items k (Some c.exchange.new.self)) c.from-place.ensures
+
+fits : (g : Over) (c : goal.After-move_bytes g) →
+    HasMove (device_at g.S.SectorStore.size g.S.SectorStore.told c.args.self.now) c.args.port.0 c.args.slot.0 (taken_of c.in-Some.ensures.found.0)
+fits g c =
+    let m = c.args.self.now in
+    let o : Outside = outside_at g.S.SectorStore.size g.S.SectorStore.told m in
+    next_has_move c.reserve-room.new.self o _ c.args.port.0 c.args.slot.0 c.in-Some.next c.in-Some.ensures.found.0
+    (has_disks g.S.SectorStore.size g.S.SectorStore.told m c.args.port.0 c.in-Some-index_mut.bay (was g c)) (c.reserve-room.ensures.same o) c.in-Some.ensures.found.1
+
 moved : (g : Over) (c : goal.After-move_bytes g) →
     DoesMove c.args.port.0 c.args.slot.0 (device_at g.S.SectorStore.size g.S.SectorStore.told c.args.self.now)
-    (device_at g.S.SectorStore.size g.S.SectorStore.told (record c.args.self.now { hardware = c.move_bytes.new.self; disk = c.exchange.new.disk }))
+    (device_at g.S.SectorStore.size g.S.SectorStore.told (moved_model g c))
 moved g c =
     let m = c.args.self.now in
+    let a = c.in-Some-index_mut.bay in
     let o : Outside = outside_at g.S.SectorStore.size g.S.SectorStore.told m in
     let h = c.reserve-room.new.self in
     let bytes = c.exchange.new.bytes in
     let did = c.if-not-exchange.false in
-    let zero : c.args.port.0 ≡ 0 = c.if-port-ne0.false in
     let moved = c.move_bytes.ensures.moved o in
     let r : TakenCommand = moved.0 in
     let is : IsNext h c.args.port.0 c.args.slot.0 c.in-Some.next r = moved.1 in
-    let disk : Disk = disk_over m.which (g.S.SectorStore.size m.disk) (g.S.SectorStore.told m.disk) in
-    let new : Disk = disk_over m.which (g.S.SectorStore.size c.exchange.new.disk) (g.S.SectorStore.told c.exchange.new.disk) in
-    let was : List Disk = map (λ s. disk_over s.which (g.S.SectorStore.size s.store.value) (g.S.SectorStore.told s.store.value)) m.plugged.items in
-    let behind : outside_of new (g.S.SectorStore.told m.other) was ≡ outside_after o c.args.port.0 (taken_of r) bytes =
-    outside_moved disk new (g.S.SectorStore.told m.other) was c.in-Some.next r bytes is.transfer_is is.sector_is (c.exchange.ensures.disk did)
-    ∙ ap (λ q. outside_after o q (taken_of r) bytes) (sym zero) in
-    let P : ℕ → Type 0 = λ q. IsNext h q c.args.slot.0 c.in-Some.next r in
-    let Q : ℕ → Type 0 = λ q. Can (Move q c.args.slot.0 (taken_of r) bytes) (device_of h o) in
+    let here : Media = media_of g.S.SectorStore.size g.S.SectorStore.told (Some a) in
+    let at : here ≡ o.media c.args.port.0 = sym (ap (media_of g.S.SectorStore.size g.S.SectorStore.told) (was g c)) in
+    let behind : outside_at g.S.SectorStore.size g.S.SectorStore.told (moved_model g c) ≡ outside_after o c.args.port.0 (taken_of r) bytes =
+    outside_moved m (moved_model g c) c.args.port.0 a c.exchange.new.self (was g c) (items g c) c.exchange.ensures.rest g.S.SectorStore.size g.S.SectorStore.told
+    c.in-Some.next r bytes is.transfer_is is.sector_is (c.exchange.ensures.disk did) in
     let R : Device → Type 0 = λ d. Can (Move c.args.port.0 c.args.slot.0 (taken_of r) bytes) d in
     record {
       t = taken_of r;
       bytes = bytes;
       can = subst R (c.reserve-room.ensures.same o)
-          (subst Q (sym zero)
-          (may_move h o 0 c.args.slot.0 c.in-Some.next r bytes (subst P zero is) (c.exchange.ensures.sector did) (c.exchange.ensures.inside did)
-          (c.exchange.ensures.gives did) (c.exchange.ensures.takes did)));
+          (may_move h o c.args.port.0 c.args.slot.0 c.in-Some.next r bytes is (c.exchange.ensures.sector did)
+          (subst (λ (x : Media). is_ranged (operation_of c.in-Some.next.transfer) ≡ true → c.in-Some.next.sector < x.disk.size) at (c.exchange.ensures.inside did))
+          (subst (λ (x : Media). is_ranged (operation_of c.in-Some.next.transfer) ≡ true → reads_memory (operation_of c.in-Some.next.transfer) ≡ false →
+          IfSome x.disk.sectors (λ f. bytes ≡ f c.in-Some.next.sector)) at (c.exchange.ensures.gives did))
+          (c.exchange.ensures.takes did));
       effect = ap (λ (x : Outside). device_of c.move_bytes.new.self x) behind
           ∙ (moved.2 ∙ ap (λ (d : Device). after (Move c.args.port.0 c.args.slot.0 (taken_of r) bytes) d) (c.reserve-room.ensures.same o));
     }
 
--- no call has failed
-both_fine : (g : Over) (c : goal.After-move_bytes g) →
-    NoneFails g.S.SectorStore.failures c.args.self.now (record c.args.self.now { hardware = c.move_bytes.new.self; disk = c.exchange.new.disk })
-both_fine g c = λ which.
-    let m = c.args.self.now in
-    kept_in g.S.SectorStore.failures (is_same which m.which) c.exchange.new.disk m.disk m.other (c.exchange.ensures.fine c.if-not-exchange.false)
-
 whole : (g : Over) (c : goal.After-move_bytes g) →
-    Completes g.S.SectorStore.size g.S.SectorStore.told g.S.SectorStore.failures (asked.Move c.args.port c.args.slot) c.args.self.now
-    (record c.args.self.now { hardware = c.move_bytes.new.self; disk = c.exchange.new.disk })
-whole g c = record { asked = moved g c; fine = both_fine g c; says = refl; ends = λ _. tt }
+    Completes g.S.SectorStore.size g.S.SectorStore.told g.S.SectorStore.failures (asked.Move c.args.port c.args.slot) c.args.self.now (moved_model g c)
+whole g c =
+    let m = c.args.self.now in
+    let a = c.in-Some-index_mut.bay in
+    record {
+      asked = moved g c;
+      fine = store_fine m (moved_model g c) c.args.port.0 a c.exchange.new.self (was g c) (items g c) c.exchange.ensures.rest g.S.SectorStore.failures
+          (c.exchange.ensures.fine c.if-not-exchange.false);
+      says = store_says m (moved_model g c) c.args.port.0 a c.exchange.new.self (was g c) (items g c) c.exchange.ensures.rest c.args.port.0;
+      ends = λ _. tt;
+    }
 
 pub returns-clause-whole : goal.returns-clause-whole
 returns-clause-whole g c = λ _. whole g c
@@ -129,49 +154,81 @@ returns-clause-whole g c = λ _. whole g c
 pub returns-clause-answers : goal.returns-clause-answers
 returns-clause-answers g c =
     let m = c.args.self.now in
+    let a = c.in-Some-index_mut.bay in
+    let b = c.exchange.new.self in
     let o : Outside = outside_at g.S.SectorStore.size g.S.SectorStore.told m in
     let noted = c.move_bytes.ensures.moved o in
     let entry : Entry = entry.Move (move_of c.args.port.0 c.args.slot.0 (taken_of noted.0) c.exchange.new.bytes) in
-    let keeps = keeps_with g.S.SectorStore.size m c.move_bytes.new.self _ c.exchange.ensures.size in
-    let fits = next_has_move c.reserve-room.new.self o _ c.args.port.0 c.args.slot.0 c.in-Some.next c.in-Some.ensures.found.0 c.if-port-ne0.false
-    (c.reserve-room.ensures.same o) c.in-Some.ensures.found.1 in (
-      (c.requires, taken_of c.in-Some.ensures.found.0, fits),
+    let disks = has_disks g.S.SectorStore.size g.S.SectorStore.told m c.args.port.0 a (was g c) in (
+      (c.requires, taken_of c.in-Some.ensures.found.0, fits g c),
       record {
         came = inl (whole g c);
         held = refl;
-        which = refl;
-        pages = gains_moved g.S.SectorStore.size m _ noted.0.transfer (move_of c.args.port.0 c.args.slot.0 (taken_of noted.0) c.exchange.new.bytes)
+        which = store_whichs m (moved_model g c) c.args.port.0 a b (was g c) (items g c) c.exchange.ensures.rest c.args.port.0;
+        others = seated_others m (moved_model g c) c.args.port.0 a b (was g c) (items g c);
+        pages = gains_moved g.S.SectorStore.size m _ a noted.0.transfer (move_of c.args.port.0 c.args.slot.0 (taken_of noted.0) c.exchange.new.bytes) (was g c)
             (ap (λ (d : Device). d.tape) noted.2 ∙ ap (λ (d : Device). d.tape ++ entry ∷ []) (c.reserve-room.ensures.same o)) refl
             (λ identify. c.exchange.ensures.page c.if-not-exchange.false (noted.1.transfer_is ∙ identify))
             (λ log. c.exchange.ensures.log c.if-not-exchange.false (noted.1.transfer_is ∙ log));
-        disks = λ none.
-            both_kept m (record m { hardware = c.move_bytes.new.self; disk = c.exchange.new.disk }) refl
+        disks = λ none w.
+            seated_same m (moved_model g c) c.args.port.0 a b (was g c) (items g c) (option_map (λ (x : Bay g.row.S.Denot). disk_in x w))
+            (ap (λ (x : Bay g.row.S.Denot). Some (disk_in x w))
             (c.exchange.ensures.same
-            (next_unranged c.reserve-room.new.self o _ c.args.port c.args.slot c.in-Some.next c.in-Some.ensures.found.0 c.if-port-ne0.false c.requires
-            (c.reserve-room.ensures.same o) c.in-Some.ensures.found.1 none)) keeps.out;
-        keeps = keeps;
+            (next_unranged c.reserve-room.new.self o _ c.args.port c.args.slot c.in-Some.next c.in-Some.ensures.found.0 disks c.requires
+            (c.reserve-room.ensures.same o) c.in-Some.ensures.found.1 none))) c.args.port.0;
+        keeps = store_keeps m (moved_model g c) c.args.port.0 a b (was g c) (items g c) c.exchange.ensures.rest g.S.SectorStore.size c.exchange.ensures.size refl refl;
         starved = c.move_bytes.ensures.starved ∙ c.reserve-room.ensures.starved;
       },
     )
 
 -- ---- the sector is past the disk
 
+was_past : (g : Over) (c : goal.After-fail-failed g) → bay_of c.args.self.now c.args.port.0 ≡ Some c.in-Some-index_mut.bay
+was_past g c =
+    seat_is c.args.self.now c.from-place.result c.args.port.0 c.index_mut.result.now c.in-Some-index_mut.bay c.from-place.ensures
+    (let there = c.has_disks.ensures.there c.if-not-has_disks.false in let long = ap length c.as_slice.ensures.value in omega (arith, there, long))
+    c.index_mut.ensures.value c.in-Some-index_mut.is
+
+-- the bay is as it was
+abbrev past_model : (g : Over) (c : goal.After-fail-failed g) → Model g.row.S.Denot
+past_model g c = record c.args.self.now { hardware = c.reserve-room.new.self; bays = with_item c.args.self.now.bays c.from-place.result (Some c.in-Some-index_mut.bay) }
+
+past_items : (g : Over) (c : goal.After-fail-failed g) → (past_model g c).bays.items ≡ slice_set c.args.self.now.bays.items c.args.port.0 (Some c.in-Some-index_mut.bay)
+past_items g c = ap (λ k. slice_set c.args.self.now.bays.items k (Some c.in-Some-index_mut.bay)) c.from-place.ensures
+
+past_same : (g : Over) (c : goal.After-fail-failed g) →
+    device_at g.S.SectorStore.size g.S.SectorStore.told (past_model g c) ≡ device_at g.S.SectorStore.size g.S.SectorStore.told c.args.self.now
+past_same g c =
+    let m = c.args.self.now in
+    let a = c.in-Some-index_mut.bay in
+    ap (λ (x : Outside). device_of c.reserve-room.new.self x)
+    (outside_kept m (past_model g c) c.args.port.0 a a (was_past g c) (past_items g c) refl g.S.SectorStore.size g.S.SectorStore.told refl refl)
+    ∙ c.reserve-room.ensures.same (outside_at g.S.SectorStore.size g.S.SectorStore.told m)
+
+past_fits : (g : Over) (c : goal.After-fail-failed g) →
+    HasMove (device_at g.S.SectorStore.size g.S.SectorStore.told c.args.self.now) c.args.port.0 c.args.slot.0 (taken_of c.in-Some.ensures.found.0)
+past_fits g c =
+    let m = c.args.self.now in
+    next_has_move c.reserve-room.new.self (outside_at g.S.SectorStore.size g.S.SectorStore.told m) _ c.args.port.0 c.args.slot.0 c.in-Some.next c.in-Some.ensures.found.0
+    (has_disks g.S.SectorStore.size g.S.SectorStore.told m c.args.port.0 c.in-Some-index_mut.bay (was_past g c))
+    (c.reserve-room.ensures.same (outside_at g.S.SectorStore.size g.S.SectorStore.told m)) c.in-Some.ensures.found.1
+
 past : (g : Over) (c : goal.After-fail-failed g) →
     IsFailed g.S.SectorStore.size g.S.SectorStore.told g.S.SectorStore.failures c.args.port c.args.slot 0x10 (taken_of c.in-Some.ensures.found.0)
-    (record c.args.self.now { hardware = c.reserve-room.new.self }) c.fail-failed.new.self
+    (past_model g c) c.fail-failed.new.self
 past g c =
-    let m = c.args.self.now in
-    let o : Outside = outside_at g.S.SectorStore.size g.S.SectorStore.told m in
+    let o : Outside = outside_at g.S.SectorStore.size g.S.SectorStore.told (past_model g c) in
     let found = c.in-Some.ensures.found in
     let works = found.1.holds.works (o.media c.args.port.0) in
-    let zero = c.if-port-ne0.false in
+    let small = c.if-place-ge-PORTS.false in
+    let at = c.from-place.ensures in
     is_failed g.S.SectorStore.size g.S.SectorStore.told g.S.SectorStore.failures c.args.port c.args.slot 0x10 (taken_of found.0) c.fail-failed.result
-    (record m { hardware = c.reserve-room.new.self }) c.fail-failed.new.self c.fail-failed.ensures (omega (arith, zero)) c.requires
+    (past_model g c) c.fail-failed.new.self c.fail-failed.ensures (omega (arith, small, at)) c.requires
     (record { taken = works.taken; running = works.working.running; is_byte = omega arith; kept = refl }) (c.reserve-room.ensures.room c.if-not-room.false)
 
 -- it names one
 past_ranged : (g : Over) (c : goal.After-fail-failed g) → (next_sector (taken_of c.in-Some.ensures.found.0) ≡ c.in-Some.next.sector)
-    × (is_ranged (operation_of c.in-Some.ensures.found.0.transfer) ≡ true) × (g.S.SectorStore.size c.args.self.now.disk ≤ c.in-Some.next.sector)
+    × (is_ranged (operation_of c.in-Some.ensures.found.0.transfer) ≡ true) × (g.S.SectorStore.size c.in-Some-index_mut.bay.disk.store ≤ c.in-Some.next.sector)
 past_ranged g c = by (is_ranged (operation_of c.in-Some.next.transfer)) refl
   where
     found : (t : TakenCommand) × IsNext c.reserve-room.new.self c.args.port.0 c.args.slot.0 c.in-Some.next t
@@ -181,7 +238,7 @@ past_ranged g c = by (is_ranged (operation_of c.in-Some.next.transfer)) refl
     never on = true-false (c.is_on.ensures.1 on) c.if-not-is_on.true
 
     by : (b : Bool) → is_ranged (operation_of c.in-Some.next.transfer) ≡ b → (next_sector (taken_of found.0) ≡ c.in-Some.next.sector)
-        × (is_ranged (operation_of found.0.transfer) ≡ true) × (g.S.SectorStore.size c.args.self.now.disk ≤ c.in-Some.next.sector)
+        × (is_ranged (operation_of found.0.transfer) ≡ true) × (g.S.SectorStore.size c.in-Some-index_mut.bay.disk.store ≤ c.in-Some.next.sector)
     by true e = (
       sym found.1.sector_is,
       ap (λ (k : Transfer). is_ranged (operation_of k)) (sym found.1.transfer_is) ∙ e,
@@ -196,17 +253,19 @@ past_failed : (g : Over) (c : goal.After-fail-failed g) →
     HasFailed g.S.SectorStore.size g.S.SectorStore.told g.S.SectorStore.failures (asked.Move c.args.port c.args.slot) c.args.self.now c.fail-failed.new.self
 past_failed g c =
     let m = c.args.self.now in
-    let o : Outside = outside_at g.S.SectorStore.size g.S.SectorStore.told m in
+    let a = c.in-Some-index_mut.bay in
     let found = c.in-Some.ensures.found in
     let is = past_ranged g c in
-    let size : ((device_at g.S.SectorStore.size g.S.SectorStore.told m).port c.args.port.0).disk.size ≡ g.S.SectorStore.size m.disk =
-    ap (λ (q : ℕ). ((device_at g.S.SectorStore.size g.S.SectorStore.told m).port q).disk.size) c.if-port-ne0.false in
+    let size : ((device_at g.S.SectorStore.size g.S.SectorStore.told m).port c.args.port.0).disk.size ≡ g.S.SectorStore.size a.disk.store =
+    ap (λ x. (media_of g.S.SectorStore.size g.S.SectorStore.told x).disk.size) (was_past g c) in
     let sector = is.0 in
     let below = is.2 in
+    let calls : failures_of g.S.SectorStore.failures (past_model g c) c.args.port.0 ≡ failures_of g.S.SectorStore.failures m c.args.port.0 =
+    seated_same m (past_model g c) c.args.port.0 a a (was_past g c) (past_items g c) (failing g.S.SectorStore.failures) refl c.args.port.0 in
     fails_to_move g.S.SectorStore.size g.S.SectorStore.told g.S.SectorStore.failures c.args.port c.args.slot 0x10 (taken_of found.0) m
-    (record m { hardware = c.reserve-room.new.self }) c.fail-failed.new.self (past g c) (c.reserve-room.ensures.same o) refl
-    (next_has_move c.reserve-room.new.self o _ c.args.port.0 c.args.slot.0 c.in-Some.next found.0 c.if-port-ne0.false (c.reserve-room.ensures.same o) found.1) is.1
-    (inl (omega (arith, size, sector, below), refl, refl))
+    (past_model g c) c.fail-failed.new.self (past g c) (past_same g c)
+    (store_says m (past_model g c) c.args.port.0 a a (was_past g c) (past_items g c) refl c.args.port.0) (past_fits g c) is.1
+    (inl (omega (arith, size, sector, below), refl, calls))
 
 pub returns-then-not-is_on-clause-failed : goal.returns-then-not-is_on-clause-failed
 returns-then-not-is_on-clause-failed g c = λ _. past_failed g c
@@ -214,68 +273,95 @@ returns-then-not-is_on-clause-failed g c = λ _. past_failed g c
 pub returns-then-not-is_on-clause-answers : goal.returns-then-not-is_on-clause-answers
 returns-then-not-is_on-clause-answers g c =
     let m = c.args.self.now in
-    let o : Outside = outside_at g.S.SectorStore.size g.S.SectorStore.told m in
-    let found = c.in-Some.ensures.found in
-    let fits = next_has_move c.reserve-room.new.self o _ c.args.port.0 c.args.slot.0 c.in-Some.next found.0 c.if-port-ne0.false (c.reserve-room.ensures.same o) found.1 in (
-      (c.requires, taken_of found.0, fits),
+    let a = c.in-Some-index_mut.bay in
+    let found = c.in-Some.ensures.found in (
+      (c.requires, taken_of found.0, past_fits g c),
       did_fail g.S.SectorStore.size g.S.SectorStore.told g.S.SectorStore.failures c.args.port c.args.slot 0x10 (taken_of found.0) m
-          (record m { hardware = c.reserve-room.new.self }) c.fail-failed.new.self (past g c) (asked.Move c.args.port c.args.slot) (past_failed g c) refl refl refl refl refl
-          (gains_none g.S.SectorStore.size m _ (ap (λ (d : Device). d.tape) (c.reserve-room.ensures.same o)))
-          (record { sectors = λ _. refl; out = λ _ _. refl; queue = refl; accesses = refl }) c.reserve-room.ensures.starved
-          (c.requires, taken_of found.0, fits, (past_ranged g c).1),
+          (past_model g c) c.fail-failed.new.self (past g c) (asked.Move c.args.port c.args.slot) refl (past_failed g c) refl refl refl
+          (store_says m (past_model g c) c.args.port.0 a a (was_past g c) (past_items g c) refl c.args.port.0)
+          (store_whichs m (past_model g c) c.args.port.0 a a (was_past g c) (past_items g c) refl c.args.port.0)
+          (seated_others m (past_model g c) c.args.port.0 a a (was_past g c) (past_items g c))
+          (gains_none g.S.SectorStore.size m _ (ap (λ (d : Device). d.tape) (past_same g c)))
+          (store_keeps m (past_model g c) c.args.port.0 a a (was_past g c) (past_items g c) refl g.S.SectorStore.size refl refl refl) c.reserve-room.ensures.starved
+          (c.requires, taken_of found.0, past_fits g c, (past_ranged g c).1),
     )
 
 -- ---- the store failed
 
+was_store : (g : Over) (c : goal.After-fail-failed-then-not-exchange g) → bay_of c.args.self.now c.args.port.0 ≡ Some c.in-Some-index_mut.bay
+was_store g c =
+    seat_is c.args.self.now c.from-place.result c.args.port.0 c.index_mut.result.now c.in-Some-index_mut.bay c.from-place.ensures
+    (let there = c.has_disks.ensures.there c.if-not-has_disks.false in let long = ap length c.as_slice.ensures.value in omega (arith, there, long))
+    c.index_mut.ensures.value c.in-Some-index_mut.is
+
+abbrev store_model : (g : Over) (c : goal.After-fail-failed-then-not-exchange g) → Model g.row.S.Denot
+store_model g c = record c.args.self.now { hardware = c.reserve-room.new.self; bays = with_item c.args.self.now.bays c.from-place.result (Some c.exchange.new.self) }
+
+store_items : (g : Over) (c : goal.After-fail-failed-then-not-exchange g) →
+    (store_model g c).bays.items ≡ slice_set c.args.self.now.bays.items c.args.port.0 (Some c.exchange.new.self)
+store_items g c = ap (λ k. slice_set c.args.self.now.bays.items k (Some c.exchange.new.self)) c.from-place.ensures
+
+store_fits : (g : Over) (c : goal.After-fail-failed-then-not-exchange g) →
+    HasMove (device_at g.S.SectorStore.size g.S.SectorStore.told c.args.self.now) c.args.port.0 c.args.slot.0 (taken_of c.in-Some.ensures.found.0)
+store_fits g c =
+    let m = c.args.self.now in
+    next_has_move c.reserve-room.new.self (outside_at g.S.SectorStore.size g.S.SectorStore.told m) _ c.args.port.0 c.args.slot.0 c.in-Some.next c.in-Some.ensures.found.0
+    (has_disks g.S.SectorStore.size g.S.SectorStore.told m c.args.port.0 c.in-Some-index_mut.bay (was_store g c))
+    (c.reserve-room.ensures.same (outside_at g.S.SectorStore.size g.S.SectorStore.told m)) c.in-Some.ensures.found.1
+
 store : (g : Over) (c : goal.After-fail-failed-then-not-exchange g) →
     IsFailed g.S.SectorStore.size g.S.SectorStore.told g.S.SectorStore.failures c.args.port c.args.slot 0x40 (taken_of c.in-Some.ensures.found.0)
-    (record c.args.self.now { hardware = c.reserve-room.new.self; disk = c.exchange.new.disk }) c.fail-failed-then-not-exchange.new.self
+    (store_model g c) c.fail-failed-then-not-exchange.new.self
 store g c =
-    let m = c.args.self.now in
-    let mid = record m { hardware = c.reserve-room.new.self; disk = c.exchange.new.disk } in
+    let mid = store_model g c in
     let o : Outside = outside_at g.S.SectorStore.size g.S.SectorStore.told mid in
     let found = c.in-Some.ensures.found in
     let works = found.1.holds.works (o.media c.args.port.0) in
-    let zero = c.if-port-ne0.false in
+    let small = c.if-place-ge-PORTS.false in
+    let at = c.from-place.ensures in
     is_failed g.S.SectorStore.size g.S.SectorStore.told g.S.SectorStore.failures c.args.port c.args.slot 0x40 (taken_of found.0) c.fail-failed-then-not-exchange.result
-    mid c.fail-failed-then-not-exchange.new.self c.fail-failed-then-not-exchange.ensures (omega (arith, zero)) c.requires
+    mid c.fail-failed-then-not-exchange.new.self c.fail-failed-then-not-exchange.ensures (omega (arith, small, at)) c.requires
     (record { taken = works.taken; running = works.working.running; is_byte = omega arith; kept = refl }) (c.reserve-room.ensures.room c.if-not-room.false)
 
 -- it is as it was, but for the store
 store_same : (g : Over) (c : goal.After-fail-failed-then-not-exchange g) →
-    device_at g.S.SectorStore.size g.S.SectorStore.told (record c.args.self.now { hardware = c.reserve-room.new.self; disk = c.exchange.new.disk })
-    ≡ device_at g.S.SectorStore.size g.S.SectorStore.told c.args.self.now
+    device_at g.S.SectorStore.size g.S.SectorStore.told (store_model g c) ≡ device_at g.S.SectorStore.size g.S.SectorStore.told c.args.self.now
 store_same g c =
     let m = c.args.self.now in
-    let o : Outside = outside_at g.S.SectorStore.size g.S.SectorStore.told m in
-    let was : List Disk = map (λ s. disk_over s.which (g.S.SectorStore.size s.store.value) (g.S.SectorStore.told s.store.value)) m.plugged.items in
-    let kept = c.exchange.ensures.kept c.if-not-exchange.true in
-    (λ i. device_of c.reserve-room.new.self (outside_of (disk_over m.which (c.exchange.ensures.size i) (kept i)) (g.S.SectorStore.told m.other) was))
-    ∙ c.reserve-room.ensures.same o
+    ap (λ (x : Outside). device_of c.reserve-room.new.self x)
+    (outside_kept m (store_model g c) c.args.port.0 c.in-Some-index_mut.bay c.exchange.new.self (was_store g c) (store_items g c) c.exchange.ensures.rest
+    g.S.SectorStore.size g.S.SectorStore.told c.exchange.ensures.size (c.exchange.ensures.kept c.if-not-exchange.true))
+    ∙ c.reserve-room.ensures.same (outside_at g.S.SectorStore.size g.S.SectorStore.told m)
 
 store_failed : (g : Over) (c : goal.After-fail-failed-then-not-exchange g) →
     HasFailed g.S.SectorStore.size g.S.SectorStore.told g.S.SectorStore.failures (asked.Move c.args.port c.args.slot) c.args.self.now c.fail-failed-then-not-exchange.new.self
 store_failed g c =
     let m = c.args.self.now in
-    let o : Outside = outside_at g.S.SectorStore.size g.S.SectorStore.told m in
+    let a = c.in-Some-index_mut.bay in
+    let b = c.exchange.new.self in
     let next = c.in-Some.ensures.found in
     let ranged = c.exchange.ensures.ranged c.if-not-exchange.true in
     let here = c.is_on.ensures.0 c.if-not-is_on.false ranged in
     let listed = c.sectors.ensures in
     let failed = c.exchange.ensures.fails c.if-not-exchange.true (omega (arith, here, listed)) in
-    let Q : Bool → ℕ → Type 0 = λ is_write sector. FailsOn is_write sector (g.S.SectorStore.failures m.disk) (g.S.SectorStore.failures c.exchange.new.disk) in
+    let Q : Bool → ℕ → Type 0 = λ is_write sector. FailsOn is_write sector (g.S.SectorStore.failures a.disk.store) (g.S.SectorStore.failures b.disk.store) in
     let writes = ap (λ (k : Transfer). reads_memory (operation_of k)) next.1.transfer_is in
-    let size : ((device_at g.S.SectorStore.size g.S.SectorStore.told m).port c.args.port.0).disk.size ≡ g.S.SectorStore.size m.disk =
-    ap (λ (q : ℕ). ((device_at g.S.SectorStore.size g.S.SectorStore.told m).port q).disk.size) c.if-port-ne0.false in
+    let size : ((device_at g.S.SectorStore.size g.S.SectorStore.told m).port c.args.port.0).disk.size ≡ g.S.SectorStore.size a.disk.store =
+    ap (λ x. (media_of g.S.SectorStore.size g.S.SectorStore.told x).disk.size) (was_store g c) in
     let sector : c.in-Some.next.sector ≡ next_sector (taken_of next.0) = next.1.sector_is in
+    let before : failures_of g.S.SectorStore.failures m c.args.port.0 ≡ g.S.SectorStore.failures a.disk.store = ap (failing g.S.SectorStore.failures) (was_store g c) in
+    let now : failures_of g.S.SectorStore.failures (store_model g c) c.args.port.0 ≡ g.S.SectorStore.failures b.disk.store =
+    ap (failing g.S.SectorStore.failures) (seated_here m (store_model g c) c.args.port.0 a b (was_store g c) (store_items g c)) in
+    let R : Option Failures → Option Failures → Type 0 = λ x y. FailsOn (reads_memory (operation_of next.0.transfer)) (next_sector (taken_of next.0)) x y in
+    let called = subst (λ w. Q w (next_sector (taken_of next.0))) writes (subst (Q (reads_memory (operation_of c.in-Some.next.transfer))) next.1.sector_is failed) in
     fails_to_move g.S.SectorStore.size g.S.SectorStore.told g.S.SectorStore.failures c.args.port c.args.slot 0x40 (taken_of next.0) m
-    (record m { hardware = c.reserve-room.new.self; disk = c.exchange.new.disk }) c.fail-failed-then-not-exchange.new.self (store g c) (store_same g c) refl
-    (next_has_move c.reserve-room.new.self o _ c.args.port.0 c.args.slot.0 c.in-Some.next next.0 c.if-port-ne0.false (c.reserve-room.ensures.same o) next.1)
+    (store_model g c) c.fail-failed-then-not-exchange.new.self (store g c) (store_same g c)
+    (store_says m (store_model g c) c.args.port.0 a b (was_store g c) (store_items g c) c.exchange.ensures.rest c.args.port.0) (store_fits g c)
     (ap (λ (k : Transfer). is_ranged (operation_of k)) (sym next.1.transfer_is) ∙ ranged)
     (inr (
       omega (arith, here, listed, size, sector),
       refl,
-      subst (λ b. Q b (next_sector (taken_of next.0))) writes (subst (Q (reads_memory (operation_of c.in-Some.next.transfer))) next.1.sector_is failed),
+      subst (R (failures_of g.S.SectorStore.failures m c.args.port.0)) (sym now) (subst (λ x. R x (g.S.SectorStore.failures b.disk.store)) (sym before) called),
     ))
 
 pub returns-then-not-exchange-clause-failed : goal.returns-then-not-exchange-clause-failed
@@ -284,15 +370,19 @@ returns-then-not-exchange-clause-failed g c = λ _. store_failed g c
 pub returns-then-not-exchange-clause-answers : goal.returns-then-not-exchange-clause-answers
 returns-then-not-exchange-clause-answers g c =
     let m = c.args.self.now in
-    let o : Outside = outside_at g.S.SectorStore.size g.S.SectorStore.told m in
+    let a = c.in-Some-index_mut.bay in
+    let b = c.exchange.new.self in
     let next = c.in-Some.ensures.found in
-    let fits = next_has_move c.reserve-room.new.self o _ c.args.port.0 c.args.slot.0 c.in-Some.next next.0 c.if-port-ne0.false (c.reserve-room.ensures.same o) next.1 in
     let ranged = ap (λ (k : Transfer). is_ranged (operation_of k)) (sym next.1.transfer_is) ∙ c.exchange.ensures.ranged c.if-not-exchange.true in (
-      (c.requires, taken_of next.0, fits),
+      (c.requires, taken_of next.0, store_fits g c),
       did_fail g.S.SectorStore.size g.S.SectorStore.told g.S.SectorStore.failures c.args.port c.args.slot 0x40 (taken_of next.0) m
-          (record m { hardware = c.reserve-room.new.self; disk = c.exchange.new.disk }) c.fail-failed-then-not-exchange.new.self (store g c) (asked.Move c.args.port c.args.slot)
-          (store_failed g c) refl refl refl refl refl (gains_none g.S.SectorStore.size m _ (ap (λ (d : Device). d.tape) (store_same g c)))
-          (keeps_with g.S.SectorStore.size m _ _ c.exchange.ensures.size) c.reserve-room.ensures.starved (c.requires, taken_of next.0, fits, ranged),
+          (store_model g c) c.fail-failed-then-not-exchange.new.self (store g c) (asked.Move c.args.port c.args.slot) refl (store_failed g c) refl refl refl
+          (store_says m (store_model g c) c.args.port.0 a b (was_store g c) (store_items g c) c.exchange.ensures.rest c.args.port.0)
+          (store_whichs m (store_model g c) c.args.port.0 a b (was_store g c) (store_items g c) c.exchange.ensures.rest c.args.port.0)
+          (seated_others m (store_model g c) c.args.port.0 a b (was_store g c) (store_items g c))
+          (gains_none g.S.SectorStore.size m _ (ap (λ (d : Device). d.tape) (store_same g c)))
+          (store_keeps m (store_model g c) c.args.port.0 a b (was_store g c) (store_items g c) c.exchange.ensures.rest g.S.SectorStore.size c.exchange.ensures.size refl refl)
+          c.reserve-room.ensures.starved (c.requires, taken_of next.0, store_fits g c, ranged),
     )
 
 -- ---- memory that is left
@@ -302,9 +392,6 @@ returns-clause-left g c = λ _ n room. c.move_bytes.ensures.left n (c.reserve-ro
 
 -- ---- a page, for which no store is asked
 
-pub returns-then-port-ne0-clause-page : goal.returns-then-port-ne0-clause-page
-returns-then-port-ne0-clause-page g c = λ t taken sends _ move _ _. c.if-port-ne0.true move.has_disk
-
 pub returns-in_default-clause-page : goal.returns-in_default-clause-page
 returns-in_default-clause-page g c = λ t taken sends _ move low _.
     let m = c.args.self.now in
@@ -313,6 +400,3 @@ returns-in_default-clause-page g c = λ t taken sends _ move low _.
     let one : t ≡ taken_of found.r = some_one (sym move.works.taken ∙ (ap (λ (d : Device). (d.port c.args.port.0).taken c.args.slot.0) (sym (c.reserve-room.ensures.same o)) ∙ (found.holds.works (o.media c.args.port.0)).taken)) in
     let place : next_place t ≡ next_place (taken_of found.r) = ap next_place one in
     c.next_move.ensures.none c.in_default.is found.r found.holds found.left (omega (arith, place, low)) found.inside
-
-pub returns-then-not-room-clause-page : goal.returns-then-not-room-clause-page
-returns-then-not-room-clause-page g c = λ t taken sends _ _ _ room. true-false (c.reserve-room.ensures.enough room) c.if-not-room.true

@@ -1,133 +1,82 @@
-use Rattle.std.proofs.Common.{rules, ◌<◌, length, ℕ, ◌≡◌, ◌&&◌, [], ◌∷◌, ◌++◌, List, ◌∙◌, ap, arith, refl, sym, subst, inl, inr}
-use Rattle.std.specs.Prelude.{is_some, map}
-use Rattle.adapter.specs.Asked.{DoesPlug}
-use Rattle.adapter.specs.Device.{Device, Disk}
-use Rattle.adapter.specs.declared.access.DeviceStep.TheVariants as asked
-use Rattle.adapter.specs.declared.tape.Entry.TheVariants as entry
-use Rattle.device_model.specs.Disks.{disk_over, disk_number}
-use Rattle.device_model.specs.Does.{Did}
-use Rattle.device_model.specs.Modelled.{device_at, outside_at}
-use Rattle.device_model.specs.Tells.{disks_told}
-use Rattle.device_model.specs.Whole.{Outside, device_of, outside_of}
-use Rattle.device_model.specs.declared.disks.Inserted.{Inserted}
-use Rattle.device_model.specs.declared.model.Model.{Model}
-use Rattle.device_model.proofs.TwoDisks.{both_turned, in_kept, number_small, of_number, one_number}
-use Rattle.device_model.proofs.Finishing.{outside_put}
-use Rattle.device_model.proofs.NewModel.{disks_are}
+use Rattle.std.proofs.Common.{rules, ℕ, Some, ◌<◌, ◌∙◌, length, refl, sym, ap, inl, inr, arith, ◌++◌, ◌∷◌, []}
+use Rattle.std.specs.Prelude.{map, slice_set}
+use Rattle.adapter.specs.Device.{Device}
+use Rattle.device_model.specs.Disks.{disk_in}
+use Rattle.device_model.specs.Modelled.{outside_at}
+use Rattle.device_model.specs.Whole.{Outside}
+use Rattle.device_model.specs.declared.bay.Bay.{Bay}
+use Rattle.device_model.proofs.Plugging.{did_plug, plug_left}
 use Rattle.device_model.proofs.SlotLemmas.{at_port}
-use Rattle.device_model.proofs.Telling.{gains_one}
-use Rattle.device_model.proofs.model.Model.plug.Given.{Over}
+use Rattle.device_model.proofs.TwoDisks.{has_disks, number_small, seat_is}
 use Rattle.device_model.proofs.model.Model.plug.Goals as goal
+
+-- the list of disks had no memory for it
+pub returns-then-not-make_room : goal.returns-then-not-make_room
+returns-then-not-make_room g c =
+    let m = c.args.self.now in
+    let a = c.in-Some-index_mut.bay in
+    let b = c.make_room.new.self in
+    let p : ℕ = c.from-place.result in
+    let long : p < length m.hardware.ports = search rules in
+    let here = rw (at_port m.hardware.ports p c.index-self-place.result long) at c.if-self-place.false in
+    let free = rw c.from-place.ensures at here in
+    let small = c.if-place-ge-PORTS.false in
+    let at = c.from-place.ensures in
+    let few = number_small c.in-Some.which in
+    let was = seat_is m c.from-place.result c.args.port.0 c.index_mut.result.now a c.from-place.ensures
+    (let there = c.has_disks.ensures.there c.if-not-has_disks.false in let size = ap length c.as_slice.ensures.value in omega (arith, there, size))
+    c.index_mut.ensures.value c.in-Some-index_mut.is in
+    plug_left g.S.SectorStore.size g.S.SectorStore.told g.S.SectorStore.failures m _ c.args.port c.args.disk refl refl refl a b was
+    (ap (λ k. slice_set m.bays.items k (Some b)) c.from-place.ensures) c.make_room.ensures.items c.make_room.ensures.rest (λ _. refl)
+    (omega (arith, small, at), has_disks g.S.SectorStore.size g.S.SectorStore.told m c.args.port.0 a was, omega (arith, few, c.in-Some.ensures.found), free)
+    (λ _ room. c.make_room.ensures.lacks c.if-not-make_room.true room) refl
 
 -- the tape had no memory for it
 pub returns-then-not-plug : goal.returns-then-not-plug
 returns-then-not-plug g c =
     let m = c.args.self.now in
     let o : Outside = outside_at g.S.SectorStore.size g.S.SectorStore.told m in
-    let disk : Disk = disk_over m.which (g.S.SectorStore.size m.disk) (g.S.SectorStore.told m.disk) in
-    let same = c.plug.ensures.refused c.if-not-plug.true o in
-    let some : 0 < length c.args.self.now.hardware.ports = search rules in
-    let free = rw (at_port c.args.self.now.hardware.ports 0 c.index-self-0.result some) at c.if-self-offset0.false in
-    let small = number_small c.in-Some.which in
+    let a = c.in-Some-index_mut.bay in
+    let b = c.make_room.new.self in
+    let p : ℕ = c.from-place.result in
+    let long : p < length m.hardware.ports = search rules in
+    let here = rw (at_port m.hardware.ports p c.index-self-place.result long) at c.if-self-place.false in
+    let free = rw c.from-place.ensures at here in
+    let small = c.if-place-ge-PORTS.false in
+    let at = c.from-place.ensures in
+    let few = number_small c.in-Some.which in
+    let was = seat_is m c.from-place.result c.args.port.0 c.index_mut.result.now a c.from-place.ensures
+    (let there = c.has_disks.ensures.there c.if-not-has_disks.false in let size = ap length c.as_slice.ensures.value in omega (arith, there, size))
+    c.index_mut.ensures.value c.in-Some-index_mut.is in
     elim (c.plug.ensures.left c.if-not-plug.true o) [
       | inl never ↦ absurd (never.0 free)
-      | inr missed ↦ record {
-        device = ap
-            (λ l. device_of c.plug.new.self
-            (outside_of disk (g.S.SectorStore.told m.other) (map (λ s. disk_over s.which (g.S.SectorStore.size s.store.value) (g.S.SectorStore.told s.store.value)) l)))
-            c.reserve.ensures.items
-            ∙ same;
-        held = refl;
-        says = refl;
-        which = refl;
-        keeps = record { out = λ _ _. refl; sectors = λ _. refl; queue = refl; accesses = refl };
-        disks = λ _. refl;
-        why = λ _ _. (λ room _. missed.1 room, missed.2);
-        starved_on = λ _. missed.2;
-        starved_since = λ _. inr ((c.if-port-ne0.false, omega (arith, small, c.in-Some.ensures.found), free), λ room _. missed.1 room);
-      }
+      | inr missed ↦
+          plug_left g.S.SectorStore.size g.S.SectorStore.told g.S.SectorStore.failures m _ c.args.port c.args.disk refl refl refl a b was
+          (ap (λ k. slice_set m.bays.items k (Some b)) c.from-place.ensures) c.make_room.ensures.items c.make_room.ensures.rest (c.plug.ensures.refused c.if-not-plug.true)
+          (omega (arith, small, at), has_disks g.S.SectorStore.size g.S.SectorStore.told m c.args.port.0 a was, omega (arith, few, c.in-Some.ensures.found), free)
+          (λ room _. missed.1 room) missed.2
     ]
-
--- the model afterwards
-abbrev after : (g : Over) (c : goal.After-remember g) → Model g.row.S.Denot
-after g c =
-    record c.args.self.now {
-      hardware = c.plug.new.self;
-      which = c.turn_to.new.self.which;
-      disk = c.turn_to.new.self.disk;
-      other = c.turn_to.new.self.other;
-      plugged = c.remember.new.plugged;
-    }
-
-does : (g : Over) (c : goal.After-remember g) → DoesPlug 0 c.args.disk.0 (device_at g.S.SectorStore.size g.S.SectorStore.told c.args.self.now)
-    (device_at g.S.SectorStore.size g.S.SectorStore.told (after g c))
-does g c =
-    let m = c.args.self.now in
-    let t = c.turn_to.new.self in
-    let each = c.turn_to.ensures.disks in
-    let o : Outside = outside_at g.S.SectorStore.size g.S.SectorStore.told m in
-    let last : Disk = disk_over m.which (g.S.SectorStore.size m.disk) (g.S.SectorStore.told m.disk) in
-    let disk : Disk = disk_over t.which (g.S.SectorStore.size t.disk) (g.S.SectorStore.told t.disk) in
-    let disk_as : Inserted g.row.S.Denot → Disk = λ s. disk_over s.which (g.S.SectorStore.size s.store.value) (g.S.SectorStore.told s.store.value) in
-    let was : List Disk = map disk_as m.plugged.items in
-    let is : List Disk = map disk_as c.remember.new.plugged.items in
-    let kept : map disk_as t.plugged.items ≡ was =
-    ap (λ (x : Model g.row.S.Denot). map disk_as x.plugged.items) c.turn_to.ensures.rest ∙ ap (map disk_as) c.reserve.ensures.items in
-    let named : disk_over c.in-Some.which (g.S.SectorStore.size t.disk) (g.S.SectorStore.told t.disk) ≡ disk =
-    ap (λ w. disk_over w (g.S.SectorStore.size t.disk) (g.S.SectorStore.told t.disk)) (sym c.turn_to.ensures.which) in
-    let more : is ≡ was ++ disk ∷ [] =
-    c.remember.ensures (λ w x. disk_over w (g.S.SectorStore.size x) (g.S.SectorStore.told x))
-    ∙ (ap (λ (l : List Disk). l ++ disk_over c.in-Some.which (g.S.SectorStore.size t.disk) (g.S.SectorStore.told t.disk) ∷ []) kept ∙ ap (λ (d : Disk). was ++ d ∷ []) named) in
-    let tells : is_some (g.S.SectorStore.told t.disk) && is_some (g.S.SectorStore.told t.other) ≡ (is_some (g.S.SectorStore.told m.disk) && is_some (g.S.SectorStore.told m.other)) =
-    both_turned (λ s. is_some (g.S.SectorStore.told s)) m t each in
-    let number : disk_number t.which ≡ disk_number c.in-Some.which = ap disk_number c.turn_to.ensures.which in
-    let yes = c.if-not-plug.false in
-    record {
-      disk = disk;
-      name = number ∙ c.in-Some.ensures.found;
-      can = (
-        c.plug.ensures.free yes o,
-        disks_are disk (g.S.SectorStore.told t.other) was (g.met.S.SectorStore.tells_sectors t.disk) 0,
-        λ telling. disks_told disk (g.S.SectorStore.told t.other) was (tells ∙ telling) 0,
-        λ same. in_kept g.S.SectorStore.size m t (one_number t.which m.which same) (λ w. ap g.S.SectorStore.size (each w)),
-      );
-      effect = ap (λ (l : List Disk). device_of c.plug.new.self (outside_of disk (g.S.SectorStore.told t.other) l)) more
-          ∙ (ap (λ (x : Outside). device_of c.plug.new.self x) (outside_put disk last (g.S.SectorStore.told t.other) (g.S.SectorStore.told m.other) was tells)
-          ∙ c.plug.ensures.did yes o disk (number ∙ sym c.number.ensures));
-    }
 
 pub returns : goal.returns
 returns g c =
     let m = c.args.self.now in
-    let t = c.turn_to.new.self in
-    let each = c.turn_to.ensures.disks in
-    let o : Outside = outside_at g.S.SectorStore.size g.S.SectorStore.told m in
-    let plug = asked.Plug c.args.port c.args.disk in
-    let P : ℕ → Type 0 = λ p. DoesPlug p c.args.disk.0 (device_at g.S.SectorStore.size g.S.SectorStore.told m) (device_at g.S.SectorStore.size g.S.SectorStore.told (after g c)) in
-    let Q : Model g.row.S.Denot → Type 0 = λ x. Did g.S.SectorStore.size g.S.SectorStore.told g.S.SectorStore.failures plug m (record x { plugged = c.remember.new.plugged }) in
-    let small = number_small c.in-Some.which in
-    let some : 0 < length c.args.self.now.hardware.ports = search rules in
-    let free = rw (at_port c.args.self.now.hardware.ports 0 c.index-self-0.result some) at c.if-self-offset0.false in
-    let put = c.plug.ensures.did c.if-not-plug.false o (disk_over t.which (g.S.SectorStore.size t.disk) (g.S.SectorStore.told t.disk)) (ap disk_number c.turn_to.ensures.which ∙ sym c.number.ensures) in (
-      (c.if-port-ne0.false, omega (arith, small, c.in-Some.ensures.found), free),
-      subst Q (sym c.turn_to.ensures.rest)
-          (record {
-            came = inl (record {
-              asked = subst P (sym c.if-port-ne0.false) (does g c);
-              fine = λ w. ap g.S.SectorStore.failures (each w);
-              says = refl;
-              ends = λ _. tt;
-            });
-            held = refl;
-            which = c.turn_to.ensures.which ∙ of_number c.in-Some.which c.args.disk.0 c.in-Some.ensures.found;
-            pages = gains_one g.S.SectorStore.size m _ (entry.Plug (record { 0 = 0 }) (disk_number t.which)) (ap (λ (d : Device). d.tape) put) (λ x e. absurd (cc e));
-            disks = λ _. each;
-            keeps = record {
-              out = λ w _. each w;
-              sectors = λ w. ap g.S.SectorStore.size (each w);
-              queue = refl;
-              accesses = refl;
-            };
-            starved = c.plug.ensures.fed c.if-not-plug.false;
-          }),
-    )
+    let a = c.in-Some-index_mut.bay in
+    let b = c.put_in.new.self in
+    let p : ℕ = c.from-place.result in
+    let small = c.if-place-ge-PORTS.false in
+    let at = c.from-place.ensures in
+    let was = seat_is m c.from-place.result c.args.port.0 c.index_mut.result.now a c.from-place.ensures
+    (let there = c.has_disks.ensures.there c.if-not-has_disks.false in let size = ap length c.as_slice.ensures.value in omega (arith, there, size))
+    c.index_mut.ensures.value c.in-Some-index_mut.is in
+    let room = c.make_room.ensures.rest in
+    let put = c.put_in.ensures.rest in
+    let yes = c.if-not-plug.false in
+    did_plug g.S.SectorStore.size g.S.SectorStore.told g.S.SectorStore.failures m _ c.args.port c.args.disk refl refl refl a b was
+    (ap (λ k. slice_set m.bays.items k (Some b)) c.from-place.ensures) c.in-Some.which c.in-Some.ensures.found c.put_in.ensures.which
+    (λ w. c.put_in.ensures.disks w ∙ ap (λ (x : Bay g.row.S.Denot). disk_in x w) room)
+    (λ f. c.put_in.ensures.later f ∙ ap (λ l. map (λ s. f s.which s.store.value) l ++ f c.in-Some.which b.disk.store ∷ []) c.make_room.ensures.items)
+    (ap (λ (x : Bay g.row.S.Denot). x.says) put ∙ ap (λ (x : Bay g.row.S.Denot). x.says) room)
+    (ap (λ (x : Bay g.row.S.Denot). x.first) put ∙ ap (λ (x : Bay g.row.S.Denot). x.first) room)
+    (omega (arith, small, at))
+    (λ d is. ap (λ (x : Device). (x.port c.args.port.0).present) is ∙ c.plug.ensures.free yes (outside_at g.S.SectorStore.size g.S.SectorStore.told m))
+    g.met.S.SectorStore.tells_sectors (λ o disk name. c.plug.ensures.did yes o disk (name ∙ (sym c.in-Some.ensures.found ∙ sym c.number.ensures))) (c.plug.ensures.fed yes)

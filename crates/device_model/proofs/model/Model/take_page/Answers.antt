@@ -13,7 +13,7 @@ use Rattle.device_model.specs.Whole.{device_of}
 use Rattle.device_model.specs.declared.hardware.Hardware.{Hardware}
 use Rattle.device_model.specs.Sent.{SendsEnd}
 use Rattle.device_model.proofs.GoingOn.{gone_settled}
-use Rattle.device_model.proofs.Paging.{BringsPage, fetched_bars, fetched_has, fetched_left, found_only}
+use Rattle.device_model.proofs.Paging.{BringsPage, fetched_apart, fetched_busy, fetched_has, fetched_left, found_only}
 use Rattle.device_model.proofs.Own.{own_gone}
 use Rattle.device_model.proofs.Telling.{gains_none}
 use Rattle.device_model.proofs.model.Model.take_page.Goals as goal
@@ -23,32 +23,36 @@ returns g c =
     let was = c.args.self.now in
     let is = record was { hardware = c.fetch-taken.new.self } in
     let o = outside_at g.S.SectorStore.size g.S.SectorStore.told was in
+    let port : ℕ = c.args.port in
     let slot : ℕ = c.args.slot in
     let old : Device = device_at g.S.SectorStore.size g.S.SectorStore.told was in
     let new : Device = device_at g.S.SectorStore.size g.S.SectorStore.told is in
     let did = c.fetch-taken.result in
-    let fetched : did ≡ true → DoesFetch 0 slot old new = λ (e : did ≡ true). c.fetch-taken.ensures.did e o in
+    let fetched : did ≡ true → DoesFetch port slot old new = λ (e : did ≡ true). c.fetch-taken.ensures.did e o in
     let same : did ≡ false → new ≡ old = λ (e : did ≡ false). ap (λ (h : Hardware). device_of h o) (c.fetch-taken.ensures.refused e) in
-    let never : did ≡ false → (m : Meaning) (places : List ℕ) → Can (Fetch 0 slot m places) old → ⊥ =
+    let never : did ≡ false → (m : Meaning) (places : List ℕ) → Can (Fetch port slot m places) old → ⊥ =
     λ (e : did ≡ false). c.fetch-taken.ensures.only e o in
-    let went : did ≡ true → GoesOn (SendsEnd slot) 0 slot old new = λ (e : did ≡ true). goes_one (SendsEnd slot) 0 slot old new (inl (fetched e)) in
+    let went : did ≡ true → GoesOn (SendsEnd slot) port slot old new = λ (e : did ≡ true). goes_one (SendsEnd slot) port slot old new (inl (fetched e)) in
+    let apart = fetched_apart port slot did old new fetched same in
     record {
-      own = λ held loose. (own_gone BringsPage (λ o places is. is) held 0 slot loose did old new went same (found_only old slot c.requires.there)).0;
-      settled = gone_settled 0 slot did old new went same;
-      none = λ k. fetched_bars slot k did old new fetched never same c.requires.there;
-      stuck = λ may k has. fetched_has slot k did old new fetched never may has;
-      left = λ has. fetched_left slot did old new has fetched same never;
+      own = λ held loose. (own_gone BringsPage (λ o places is. is) held port slot loose did old new went same (found_only old port slot c.requires.there)).0;
+      settled = gone_settled port slot did old new went same;
+      taken = fetched_busy port slot did old new fetched never same c.requires.there;
+      stuck = λ may k has. fetched_has port slot k did old new fetched never may has;
+      left = λ has. fetched_left port slot did old new has fetched same never;
+      others = apart.1;
+      size = apart.0;
       rest = record {
         held = refl;
-        says = refl;
-        which = refl;
+        says = λ _. refl;
+        which = λ _. refl;
         pages = gains_none g.S.SectorStore.size was is (ap (λ (v : Vec Entry). v.items) c.fetch-taken.ensures.tape);
-        keeps = record { out = λ _ _. refl; sectors = λ _. refl; queue = refl; accesses = refl };
+        keeps = record { out = λ _ _ _. refl; identities = λ _ _. refl; queue = refl; accesses = refl };
         starved_on = λ yes. c.fetch-taken.ensures.starved ∙ yes;
       };
       room = λ n room.
           let R : Vec Entry → Type 0 = λ tape. vec_len tape + n ≤ vec_capacity tape in
           subst R c.fetch-taken.ensures.tape room;
       starved = c.fetch-taken.ensures.starved;
-      disk = refl;
+      bays = refl;
     }

@@ -1,17 +1,13 @@
-use Rattle.std.proofs.Common.{rules, refl, inl}
-use Rattle.device_model.proofs.Telling.{gains_none}
+use Rattle.std.proofs.Common.{ℕ, refl, subst}
+use Rattle.adapter.specs.declared.access.DeviceStep.TheVariants as asked
+use Rattle.device_model.specs.Disks.{SaysOnly}
+use Rattle.device_model.specs.Paged.{truthful}
+use Rattle.device_model.proofs.Told.{lie_answers}
 use Rattle.device_model.proofs.model.Model.tell_truth.Goals as goal
 
-pub returns-then-port-eq0 : goal.returns-then-port-eq0
-returns-then-port-eq0 g c = (
-  tt,
-  record {
-    came = inl (record { asked = refl; fine = λ _. refl; says = search rules; ends = λ _. tt });
-    held = refl;
-    which = refl;
-    pages = gains_none g.S.SectorStore.size _ _ refl;
-    disks = λ _ _. refl;
-    keeps = record { out = λ _ _. refl; sectors = λ _. refl; queue = refl; accesses = refl };
-    starved = refl;
-  },
-)
+pub returns : goal.returns
+returns g c =
+    let m = c.args.self.now in
+    let Q : ℕ → Type 0 = λ q. SaysOnly truthful q m.bays.items c.end_lies.new.bays.items in
+    lie_answers g.S.SectorStore.size g.S.SectorStore.told g.S.SectorStore.failures m (asked.Truth c.args.port) truthful c.end_lies.new.bays
+    (subst Q c.from.ensures c.end_lies.ensures) tt (λ old new same. same) (λ old new. tt) refl refl refl

@@ -1,5 +1,5 @@
 use Rattle.adapter.proofs.Runs.{Steps-trans}
-use Rattle.std.proofs.Common.{Bool, true, ◌≡◌, ◌≤◌, ◌+◌, ◌⊎◌, List, subst, sym, refl, ap, ◌∙◌, inl, inr}
+use Rattle.std.proofs.Common.{ℕ, Bool, true, ◌≡◌, ◌≤◌, ◌+◌, ◌⊎◌, List, subst, sym, refl, ap, ◌∙◌, inl, inr}
 use Rattle.std.specs.Global.{Vec}
 use Rattle.std.specs.Vec.{vec_len, vec_capacity}
 use Rattle.adapter.specs.Device.{Device}
@@ -8,8 +8,8 @@ use Rattle.device_model.specs.Finishing.{HasPage, MayPage}
 use Rattle.device_model.specs.Held.{IsPortHeld}
 use Rattle.device_model.specs.Settled.{DoesOwn, EndsReset, IsSettled}
 use Rattle.device_model.specs.Modelled.{device_at, outside_at}
-use Rattle.device_model.specs.Whole.{Outside, device_of}
-use Rattle.device_model.proofs.TwoDisks.{both_kept, in_kept}
+use Rattle.device_model.specs.Whole.{HasDisks, Outside, device_of}
+use Rattle.device_model.proofs.TwoDisks.{disks_kept, identity_kept}
 use Rattle.device_model.proofs.Paging.{noted_page, noted_may}
 use Rattle.device_model.proofs.Own.{own_steps, reset_steps}
 use Rattle.device_model.proofs.Ports.{has_port_read, noted_settled}
@@ -49,17 +49,21 @@ returns-clause-settled g c =
 pub returns-clause-left : goal.returns-clause-left
 returns-clause-left g c =
     let last : Outside = outside_at g.S.SectorStore.size g.S.SectorStore.told c.send_pages.new.self in
-    let Q : Bool → Type 0 = λ starved. IsPortHeld c.send_pages.new.self.held 0 ⊎ (starved ≡ true) in
+    let Q : ℕ → Bool → Type 0 = λ port starved. IsPortHeld c.send_pages.new.self.held port ⊎ (starved ≡ true) in
+    let sent : Device = device_of c.send_pages.new.self.hardware last in
+    let had : (port : ℕ) → HasDisks (device_of c.note.new.self last) port → HasDisks sent port =
+    λ (port : ℕ) (has : HasDisks (device_of c.note.new.self last) port).
+    disks_kept g.S.SectorStore.size g.S.SectorStore.told (record c.send_pages.new.self { hardware = c.note.new.self }) c.send_pages.new.self port refl has in
     record {
-      taken = λ slot small may.
-          let P : Device → Type 0 = λ d. MayPage d slot in
-          c.send_pages.ensures.left.taken slot small
-          (noted_may c.args.r c.shown-value.result (device_of c.send_pages.new.self.hardware last) slot (subst P (c.note.ensures.notes last) may));
-      done = λ slot small has.
-          let P : Device → Type 0 = λ d. HasPage d slot in
-          subst Q (sym c.note.ensures.starved)
-          (c.send_pages.ensures.left.done slot small
-          (noted_page c.args.r c.shown-value.result (device_of c.send_pages.new.self.hardware last) slot (subst P (c.note.ensures.notes last) has)));
+      taken = λ port slot small low disks may.
+          let P : Device → Type 0 = λ d. MayPage d port slot in
+          c.send_pages.ensures.left.taken port slot small low (had port disks)
+          (noted_may c.args.r c.shown-value.result sent port slot (subst P (c.note.ensures.notes last) may));
+      done = λ port slot small low disks has.
+          let P : Device → Type 0 = λ d. HasPage d port slot in
+          subst (Q port) (sym c.note.ensures.starved)
+          (c.send_pages.ensures.left.done port slot small low (had port disks)
+          (noted_page c.args.r c.shown-value.result sent port slot (subst P (c.note.ensures.notes last) has)));
     }
 
 pub returns-clause-alone : goal.returns-clause-alone
@@ -83,15 +87,16 @@ returns-clause-alone g c =
       effect = c.note.ensures.notes last;
       says = own.says;
       which = own.which;
-      pages = gains_on g.S.SectorStore.size mid after _ refl refl refl
+      pages = gains_on g.S.SectorStore.size mid after _ (λ _. refl) (λ _. refl)
           (gains_none g.S.SectorStore.size mid after (ap (λ (v : Vec Entry). v.items) c.settle.ensures.tape))
-          (gains_on g.S.SectorStore.size after c.send_pages.new.self _ own.says own.which (in_kept g.S.SectorStore.size after c.send_pages.new.self own.which own.keeps.sectors) own.pages
+          (gains_on g.S.SectorStore.size after c.send_pages.new.self _ own.says
+          (λ q. identity_kept g.S.SectorStore.size after c.send_pages.new.self q (own.which q) (own.keeps.identities q)) own.pages
           (gains_none g.S.SectorStore.size c.send_pages.new.self _
           (ap (λ (d : Device). d.tape) (c.note.ensures.notes last) ∙ noted_tape c.args.r c.shown-value.result (device_of c.send_pages.new.self.hardware last))));
-      disks = both_kept after c.send_pages.new.self own.which c.send_pages.ensures.disk own.keeps.out;
+      disks = c.send_pages.ensures.disks;
       keeps = record {
         out = own.keeps.out;
-        sectors = own.keeps.sectors;
+        identities = own.keeps.identities;
         queue = own.keeps.queue;
         accesses = own.keeps.accesses;
       };
@@ -99,8 +104,8 @@ returns-clause-alone g c =
           elim (c.send_pages.ensures.told (sym c.note.ensures.starved ∙ now)) [
             | inl before ↦ inl (sym c.settle.ensures.starved ∙ before)
             | inr one ↦
-                let R : Vec Entry → Type 0 = λ tape. vec_len tape + (one.2.left + 1) ≤ vec_capacity tape in
-                inr (one.0, one.1, one.2, λ room. one.3 (subst R c.note.ensures.tape room))
+                let R : Vec Entry → Type 0 = λ tape. vec_len tape + (one.5.left + 1) ≤ vec_capacity tape in
+                inr (one.0, one.1, one.2, one.3, one.4, one.5, λ room. one.6 (subst R c.note.ensures.tape room))
           ];
-      starved_on = λ yes. c.note.ensures.starved ∙ own.starved_on (c.settle.ensures.starved ∙ yes);
+      starved_on = λ told. c.note.ensures.starved ∙ own.starved_on (c.settle.ensures.starved ∙ told);
     }

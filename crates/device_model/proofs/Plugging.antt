@@ -1,0 +1,127 @@
+-- A disk is put into a port, or isn't.
+use Rattle.std.proofs.Common.{ℕ, Bool, true, false, ◌≡◌, ◌≢◌, ◌<◌, ◌∙◌, ◌++◌, ◌∷◌, [], List, Option, Some, refl, sym, ap, subst, inl, inr, arith}
+use Rattle.std.specs.Prelude.{◌&&◌, if◌then◌else◌, is_some, map, nat_eq, option_map, slice_set}
+use Rattle.adapter.specs.Asked.{DoesPlug}
+use Rattle.adapter.specs.Device.{Device, Disk}
+use Rattle.adapter.specs.Steps.{IsKnownBy, after}
+use Rattle.adapter.specs.Steps.Step.{Plug}
+use Rattle.adapter.specs.declared.access.DeviceStep.TheVariants as asked
+use Rattle.adapter.specs.declared.access.DiskNumber.{DiskNumber}
+use Rattle.adapter.specs.declared.tape.Entry.TheVariants as entry
+use Rattle.ata_types.specs.declared.Port.{Port}
+use Rattle.sector_store.specs.Stores.{AreSectors}
+use Rattle.sector_store.specs.declared.store.Failures.{Failures}
+use Rattle.device_model.specs.Disks.{bay_of, disk_in, disk_number, disk_over, identity}
+use Rattle.device_model.specs.Does.{Did, IsLeftOut, LacksMemory, Possible, StepKeeps}
+use Rattle.device_model.specs.Finishing.{HasRoom}
+use Rattle.device_model.specs.Modelled.{device_at, media_of, outside_at, tells}
+use Rattle.device_model.specs.Tells.{bay_told, each_tells}
+use Rattle.device_model.specs.View.{Media}
+use Rattle.device_model.specs.Whole.{Outside, device_of, outside_plugged}
+use Rattle.device_model.specs.declared.bay.Bay.{Bay}
+use Rattle.device_model.specs.declared.disks.Inserted.{Inserted}
+use Rattle.device_model.specs.declared.disks.ModelDisk.{ModelDisk}
+use Rattle.device_model.specs.declared.disks.Which.{Which}
+use Rattle.device_model.specs.declared.disks.Which.TheVariants.{Disk0, Disk1}
+use Rattle.device_model.specs.declared.hardware.Hardware.{Hardware}
+use Rattle.device_model.specs.declared.model.Model.{Model}
+use Rattle.device_model.proofs.NewModel.{disks_are}
+use Rattle.device_model.proofs.Telling.{gains_none, gains_one}
+use Rattle.device_model.proofs.TwoDisks.{both_turned, has_disks, in_kept, number_small, of_number, one_number, seated_behind, seated_here, seated_keeps, seated_others, seated_outside, seated_same}
+
+module _ {S : Type 0} (size : S → ℕ) (told : S → Option (ℕ → List ℕ)) (failures : S → Option Failures) (m new : Model S) (p : Port) (number : DiskNumber)
+    (held : new.held ≡ m.held) (queue : new.queue ≡ m.queue) (accesses : new.accesses ≡ m.accesses) (a b : Bay S) (was : bay_of m p.0 ≡ Some a)
+    (items : new.bays.items ≡ slice_set m.bays.items p.0 (Some b)) where
+  -- the list of disks has grown, or not, and no disk is put in
+  pub plug_left : (later : b.later.items ≡ a.later.items) → b ≡ record a { later = b.later } → ((o : Outside) → device_of new.hardware o ≡ device_of m.hardware o) →
+      Possible (asked.Plug p number) (device_at size told m) → LacksMemory (asked.Plug p number) (device_at size told m) m.hardware (Some a) →
+      new.hardware.starved ≡ true → IsLeftOut size told failures (asked.Plug p number) m new
+  plug_left later rest same may lacks starved =
+      let kept : (w : Which) → disk_in b w ≡ disk_in a w = λ (w : Which). ap (λ (x : Bay S). disk_in x w) rest in
+      let Lacks : Option (Bay S) → Type 0 = LacksMemory (asked.Plug p number) (device_at size told m) m.hardware in
+      let missed : Lacks (bay_of m p.0) = subst Lacks (sym was) lacks in
+      let put : Inserted S → Disk = λ s. disk_over s.which (size s.store.value) (told s.store.value) in
+      let media : media_of size told (Some b) ≡ media_of size told (Some a) =
+      ap (λ (x : Bay S). media_of size told (Some x)) rest
+      ∙ ap (λ (l : List (Inserted S)). record {
+        disk = disk_over a.which (size a.disk.store) (told a.disk.store);
+        plugged = disk_over Disk0 (size a.first.value) (told a.first.value) ∷ map put l;
+      }) later in
+      record {
+        device = ap (λ (o : Outside). device_of new.hardware o) (seated_behind m new p.0 a b was items size told media (ap (λ (x : Bay S). tells told (Some x)) rest))
+            ∙ same (outside_at size told m);
+        held = held;
+        says = seated_same m new p.0 a b was items (option_map (λ (x : Bay S). x.says)) (ap (λ (x : Bay S). Some x.says) rest) p.0;
+        which = seated_same m new p.0 a b was items (option_map (λ (x : Bay S). x.which)) (ap (λ (x : Bay S). Some x.which) rest) p.0;
+        others = seated_others m new p.0 a b was items;
+        disks = λ w. seated_same m new p.0 a b was items (option_map (λ (x : Bay S). disk_in x w)) (ap Some (kept w)) p.0;
+        why = λ _ _. (missed, starved);
+        keeps = seated_keeps m new p.0 a b was items size (λ w _. kept w) (λ w. ap (identity size) (kept w)) queue accesses;
+        starved_on = λ _. starved;
+        starved_since = λ _. inr (may, missed);
+      }
+
+  -- a disk is put in
+  module _ (which : Which) (found : disk_number which ≡ number.0) (which_is : b.which ≡ which) (kept : (w : Which) → disk_in b w ≡ disk_in a w)
+      (later : (f : Which → S → Disk) → map (λ (s : Inserted S). f s.which s.store.value) b.later.items ≡ map (λ (s : Inserted S). f s.which s.store.value) a.later.items ++ f which b.disk.store ∷ [])
+      (says : b.says ≡ a.says) (first : b.first ≡ a.first) where
+    abbrev put_disk : Disk
+    put_disk = disk_over b.which (size b.disk.store) (told b.disk.store)
+
+    media : media_of size told (Some b) ≡ record { disk = put_disk; plugged = (media_of size told (bay_of m p.0)).plugged ++ put_disk ∷ [] }
+    media =
+        let was_put : List Disk = map (λ (s : Inserted S). disk_over s.which (size s.store.value) (told s.store.value)) a.later.items in
+        let more = later (λ w s. disk_over w (size s) (told s)) ∙ ap (λ (w : Which). was_put ++ disk_over w (size b.disk.store) (told b.disk.store) ∷ []) (sym which_is) in
+        (λ i. record { disk = put_disk; plugged = disk_over Disk0 (size (first i).value) (told (first i).value) ∷ more i })
+        ∙ ap (λ x. record { disk = put_disk; plugged = (media_of size told x).plugged ++ put_disk ∷ [] }) (sym was)
+
+    tells_so : tells told (Some b) ≡ tells told (Some a)
+    tells_so = both_turned (λ (x : ModelDisk S). is_some (told x.store)) a b kept
+
+    pub does_plug : ((d : Device) → d ≡ device_at size told m → ((d.port p.0).present ≡ false)) → ((s : S) → AreSectors (size s) (told s)) →
+        ((o : Outside) (disk : Disk) → disk.name ≡ number.0 → device_of new.hardware (outside_plugged o p.0 disk) ≡ after (Plug p.0 disk) (device_of m.hardware o)) →
+        DoesPlug p.0 number.0 (device_at size told m) (device_at size told new)
+    does_plug free are did =
+        let name : disk_number b.which ≡ number.0 = ap disk_number which_is ∙ found in
+        let o : Outside = outside_at size told m in
+        record {
+          disk = put_disk;
+          name = name;
+          can = (
+            free _ refl,
+            disks_are size told are (Some b),
+            λ telling. bay_told size told (Some b) (tells_so ∙ (ap (tells told) (sym was) ∙ each_tells size told m.bays.items telling p.0)),
+            subst (λ x. IsKnownBy (media_of size told x).disk put_disk) (sym was)
+                (λ same. in_kept (λ (x : ModelDisk S). size x.store) a b (one_number b.which a.which same) (λ w. ap (λ (x : ModelDisk S). size x.store) (kept w))),
+          );
+          effect = ap (λ (x : Outside). device_of new.hardware x) (seated_outside m new p.0 a b was items size told _ tells_so media) ∙ did o put_disk name;
+        }
+
+    pub did_plug : p.0 < 4 → ((d : Device) → d ≡ device_at size told m → ((d.port p.0).present ≡ false)) → ((s : S) → AreSectors (size s) (told s)) →
+        ((o : Outside) (disk : Disk) → disk.name ≡ number.0 → device_of new.hardware (outside_plugged o p.0 disk) ≡ after (Plug p.0 disk) (device_of m.hardware o)) →
+        new.hardware.starved ≡ m.hardware.starved →
+        Possible (asked.Plug p number) (device_at size told m) × Did size told failures (asked.Plug p number) m new
+    did_plug small free are did starved =
+        let few = number_small which in
+        let plug = does_plug free are did in (
+          (small, has_disks size told m p.0 a was, omega (arith, few, found), free _ refl),
+          record {
+            came = inl (record {
+              asked = plug;
+              fine = λ q w. seated_same m new p.0 a b was items (λ x. option_map (λ (y : ModelDisk S). failures y.store) (option_map (λ (y : Bay S). disk_in y w) x))
+                  (ap (λ (y : ModelDisk S). Some (failures y.store)) (kept w)) q;
+              says = seated_same m new p.0 a b was items (option_map (λ (x : Bay S). x.says)) (ap Some says) p.0;
+              ends = λ _. tt;
+            });
+            held = held;
+            which = ap (option_map (λ (x : Bay S). x.which)) (seated_here m new p.0 a b was items)
+                ∙ (ap Some (which_is ∙ of_number which number.0 found)
+                ∙ sym (ap (λ x. option_map (λ (_ : Which). if nat_eq number.0 0 then Disk0 else Disk1) (option_map (λ (y : Bay S). y.which) x)) was));
+            others = seated_others m new p.0 a b was items;
+            pages = gains_one size m new (entry.Plug p (disk_number b.which)) (ap (λ (d : Device). d.tape) (did (outside_at size told m) put_disk (ap disk_number which_is ∙ found)))
+                (λ x e. absurd (cc e));
+            disks = λ _ w. seated_same m new p.0 a b was items (option_map (λ (x : Bay S). disk_in x w)) (ap Some (kept w)) p.0;
+            keeps = seated_keeps m new p.0 a b was items size (λ w _. kept w) (λ w. ap (identity size) (kept w)) queue accesses;
+            starved = starved;
+          },
+        )

@@ -1,0 +1,45 @@
+use Rattle.std.proofs.Common.{◌∷◌, [], slice_index_or, rules, ◌≡◌, ◌∙◌, refl, sym, ap, arith}
+use Rattle.std.specs.Prelude.{is_some}
+use Rattle.device_model.specs.Disks.{given_for}
+use Rattle.device_model.specs.View.{blank}
+use Rattle.device_model.specs.Tells.{disks_told}
+use Rattle.device_model.proofs.NewModel.{IsIdleModel, IsResetModel, blank_idle, ports_are, all_zero, disks_are, new_port, past_given, zeros_small}
+use Rattle.device_model.proofs.model.Model.with_disks.Goals as goal
+
+pub returns : goal.returns
+returns g c =
+    let bays = c.in_ok-bays_for.field-0.items in
+    let is = c.in_ok-bays_for.ensures in
+    record {
+      adapter = record {
+        memory = search rules;
+        cap = search rules;
+        pi = search rules;
+        given = λ port.
+            new_port g.S.SectorStore.size g.S.SectorStore.told (given_for c.args.disks port) (slice_index_or (c.in_ok-port0.port0 ∷ c.in_ok-port1.port1 ∷ c.in_ok-port2.port2 ∷ c.in_ok-port3.port3 ∷ []) port blank) _
+            (ports_are (λ k p. p.present ≡ is_some (given_for c.args.disks k)) c.in_ok-port0.port0 c.in_ok-port1.port1 c.in_ok-port2.port2 c.in_ok-port3.port3 (c.in_ok-port0.ensures.present ∙ c.is_some.ensures)
+            (c.in_ok-port1.ensures.present ∙ c.is_some-2.ensures) (c.in_ok-port2.ensures.present ∙ c.is_some-3.ensures)
+            (c.in_ok-port3.ensures.present ∙ c.is_some-4.ensures) port (λ past. sym (ap is_some (past_given c.args.disks port past)))) (is.media port);
+        unused = search rules;
+        off = refl;
+        silent = refl;
+        zeros = all_zero _ _ (c.in_ok-vec.ensures.items_if_clones_equal (λ y e. e));
+        ports = λ port small.
+            ports_are (λ _. IsResetModel) _ _ _ _ c.in_ok-port0.ensures.reset c.in_ok-port1.ensures.reset c.in_ok-port2.ensures.reset c.in_ok-port3.ensures.reset port (λ past. absurd (omega (arith, past, small))) _;
+        idle = record {
+          no_reset = refl;
+          port = λ port. ports_are (λ _. IsIdleModel) _ _ _ _ c.in_ok-port0.ensures.idle c.in_ok-port1.ensures.idle c.in_ok-port2.ensures.idle c.in_ok-port3.ensures.idle port (λ _. blank_idle) _;
+        };
+      };
+      sane = record {
+        bytes = zeros_small _ _ (c.in_ok-vec.ensures.items_if_clones_equal (λ y e. e));
+        disk = λ port. disks_are g.S.SectorStore.size g.S.SectorStore.told g.met.S.SectorStore.tells_sectors _;
+        told = disks_told g.S.SectorStore.size g.S.SectorStore.told bays;
+      };
+      telling = is.tells;
+      bays = is.bays;
+      held = search rules;
+      queue = search rules;
+      accesses = refl;
+      sated = refl;
+    }

@@ -1,0 +1,245 @@
+// The disks of a port, as a model has them.
+ghost use Rattle.std.specs.Prelude.{◌≡◌, ◌<◌, ◌≤◌, ◌+◌, ◌++◌, ◌∷◌, [], ℕ, true, false, map, length, IfSome};
+ghost use Rattle.std.specs.Vec.{vec_len, vec_capacity};
+ghost use Rattle.adapter.specs.Commands.{is_ranged, reads_memory};
+ghost use Rattle.adapter.specs.Device.{Disk, IsSector};
+ghost use Rattle.adapter.specs.Memory.{bytes_at};
+ghost use Rattle.adapter.specs.Steps.{disk_after, disk_cleared};
+ghost use Rattle.sector_store.specs.Stores.{FailsOn};
+ghost use Rattle.device_model.specs.Disks.{disk_in, disk_over, identity};
+ghost use Rattle.device_model.specs.Fetched.{bytes_of};
+ghost use Rattle.device_model.specs.Paged.{IsItsLog, IsItsPage, IsTurned, lying, naming, no_lies, truthful};
+ghost use Rattle.device_model.specs.View.{operation_of};
+
+use crate::clearing::Run;
+use crate::disks::{Inserted, ModelDisk, PortDisks, Which};
+use crate::hardware::Hardware;
+use crate::port::Transfer;
+use crate::steps::NextMove;
+use adapter::DiskPage;
+use sector_store::SectorStore;
+use sector_store::pages::{Abilities, FailedCommand, log_page};
+use std::alloc::Global;
+use std::mem;
+use std::snapshot::Snapshot;
+
+pub const PAGE_BYTES: usize = 512;
+
+/// A sector that was cleared.
+const ZEROS: [u8; 512] = [0; 512];
+
+/// What the disks of a port say of themselves by their pages of IDENTIFY DEVICE, beside their sizes and serial numbers, and by the page of log 10h.
+#[derive(Clone, Copy, Debug)]
+pub struct Description {
+    pub abilities: Abilities,
+    /// The queued command that failed last.
+    pub log: Option<FailedCommand>,
+    /// The bits of a page of IDENTIFY DEVICE that are turned.
+    pub lies: [u8; PAGE_BYTES],
+    /// The bits of the log's page that are turned.
+    pub log_lies: [u8; PAGE_BYTES],
+}
+
+/// The two disks of a port, of which one is in it at a time.
+#[derive(Drop)]
+pub struct Bay<S> {
+    /// Which disk is in the port, or was last.
+    pub which: Which,
+    /// That disk.
+    pub disk: ModelDisk<S>,
+    /// The other one.
+    pub other: ModelDisk<S>,
+    /// What the pages of both say of them.
+    pub says: Description,
+    /// The disk that was in at first, as it was then, for proofs alone.
+    pub first: Snapshot<S>,
+    /// Those that were put in after it, the first of them first, for proofs alone.
+    pub later: Vec<Inserted<S>>,
+}
+
+/// Turns these bits of a page.
+fn turn(page: &mut [u8; PAGE_BYTES], bits: &[u8; PAGE_BYTES])
+    ensures turned { IsTurned page.old bits.now page.new }
+    ensures bytes { IsSector page.old → IsSector page.new }
+{
+    for offset in 0..PAGE_BYTES {
+        page[offset] ^= bits[offset];
+    }
+}
+
+/// Makes these sectors of a disk zero, the first of them first, and tells how many: all of them, or those before the one at which the store failed. It is
+/// entered for clears alone, since its frame may have room for a sector.
+#[inline(never)]
+fn clear_sectors<S: SectorStore>(disk: &mut S, which: Which, run: Run) -> u32
+    requires { run.first + run.count ≤ S.size disk.old }
+    ensures few { result ≤ run.count }
+    ensures disk { disk_over which (S.size disk.new) (S.told disk.new) ≡ disk_cleared (disk_over which (S.size disk.old) (S.told disk.old)) run.first result }
+    ensures size { S.size disk.new ≡ S.size disk.old }
+    ensures none { result ≡ 0 → S.told disk.new ≡ S.told disk.old }
+    ensures fine { result ≡ run.count → S.failures disk.new ≡ S.failures disk.old }
+    ensures fails { result < run.count → FailsOn true (run.first + result) (S.failures disk.old) (S.failures disk.new) }
+{
+    for place in 0..run.count {
+        if !disk.write(run.first + u64::from(place), &ZEROS) {
+            return place;
+        }
+    }
+    run.count
+}
+
+impl<S: SectorStore> Bay<S> {
+    /// A port with disks, of which the first one is in. They have these abilities, and tell no lies.
+    pub fn new(alloc: Global, disks: PortDisks<S>, abilities: Abilities) -> Bay<S>
+        ensures which { result.which ≡ Which.Disk0 }
+        ensures disk { result.disk ≡ disks.first }
+        ensures other { result.other ≡ disks.spare }
+        ensures says { result.says ≡ record { abilities = abilities; log = None; lies = no_lies; log_lies = no_lies } }
+        ensures first { result.first.value ≡ disks.first.store }
+        ensures later { result.later.items ≡ [] }
+    {
+        let first = Snapshot::of(&disks.first.store);
+        Bay {
+            which: Which::Disk0,
+            disk: disks.first,
+            other: disks.spare,
+            says: Description {
+                abilities,
+                log: None,
+                lies: [0; PAGE_BYTES],
+                log_lies: [0; PAGE_BYTES],
+            },
+            first,
+            later: Vec::new(alloc),
+        }
+    }
+
+    /// Has the disk that is in give the sector of a read or its page, or take a write's sector from memory, or a trim's block; `false` says that the store
+    /// failed, and that it tells what it told.
+    pub fn exchange(&mut self, hardware: &Hardware, next: NextMove, bytes: &mut [u8; 512]) -> bool
+        requires { next.address + 512 ≤ length hardware.now.memory.items }
+        ensures inside { result ≡ true → is_ranged (operation_of next.transfer) ≡ true → next.sector < S.size self.old.disk.store }
+        ensures sector { result ≡ true → IsSector bytes.new }
+        ensures gives { result ≡ true → is_ranged (operation_of next.transfer) ≡ true → reads_memory (operation_of next.transfer) ≡ false →
+            IfSome (S.told self.old.disk.store) (λ told. bytes.new ≡ told next.sector) }
+        ensures takes { result ≡ true → reads_memory (operation_of next.transfer) ≡ true → bytes.new ≡ bytes_at (bytes_of hardware.now.memory.items) next.address 512 }
+        ensures same { is_ranged (operation_of next.transfer) ≡ false → self.new ≡ self.old }
+        ensures page { result ≡ true → next.transfer ≡ Transfer.Identify → IsItsPage (identity S.size self.old.disk) self.old.says bytes.new }
+        ensures log { result ≡ true → next.transfer ≡ Transfer.ReadLog → IsItsLog self.old.says bytes.new }
+        ensures disk { result ≡ true → disk_over self.old.which (S.size self.new.disk.store) (S.told self.new.disk.store)
+            ≡ disk_after (operation_of next.transfer) (disk_over self.old.which (S.size self.old.disk.store) (S.told self.old.disk.store)) next.sector bytes.new }
+        ensures kept { result ≡ false → S.told self.new.disk.store ≡ S.told self.old.disk.store }
+        ensures size { S.size self.new.disk.store ≡ S.size self.old.disk.store }
+        ensures fine { result ≡ true → S.failures self.new.disk.store ≡ S.failures self.old.disk.store }
+        ensures ranged { result ≡ false → is_ranged (operation_of next.transfer) ≡ true }
+        ensures fails { result ≡ false → next.sector < S.size self.old.disk.store →
+            FailsOn (reads_memory (operation_of next.transfer)) next.sector (S.failures self.old.disk.store) (S.failures self.new.disk.store) }
+        ensures rest { self.new ≡ record self.old { disk = record self.old.disk { store = self.new.disk.store } } }
+    {
+        match next.transfer {
+            Transfer::Read | Transfer::ReadQueued => self.disk.store.read(next.sector, bytes),
+            Transfer::Write | Transfer::WriteQueued => {
+                hardware.load(next.address as usize, bytes);
+                self.disk.store.write(next.sector, bytes)
+            }
+            Transfer::Trim => {
+                hardware.load(next.address as usize, bytes);
+                true
+            }
+            Transfer::Identify => {
+                *bytes = self.disk.page(self.says.abilities);
+                turn(bytes, &self.says.lies);
+                true
+            }
+            Transfer::ReadLog => {
+                *bytes = log_page(self.says.log);
+                turn(bytes, &self.says.log_lies);
+                true
+            }
+            // A flush has no piece that could bring anything.
+            Transfer::Flush => true,
+        }
+    }
+
+    /// Makes these sectors of the disk that is in zero, as `clear_sectors` does.
+    pub fn clear(&mut self, run: Run) -> u32
+        requires { run.first + run.count ≤ S.size self.old.disk.store }
+        ensures few { result ≤ run.count }
+        ensures disk { disk_over self.old.which (S.size self.new.disk.store) (S.told self.new.disk.store)
+            ≡ disk_cleared (disk_over self.old.which (S.size self.old.disk.store) (S.told self.old.disk.store)) run.first result }
+        ensures size { S.size self.new.disk.store ≡ S.size self.old.disk.store }
+        ensures none { result ≡ 0 → S.told self.new.disk.store ≡ S.told self.old.disk.store }
+        ensures fine { result ≡ run.count → S.failures self.new.disk.store ≡ S.failures self.old.disk.store }
+        ensures fails { result < run.count → FailsOn true (run.first + result) (S.failures self.old.disk.store) (S.failures self.new.disk.store) }
+        ensures rest { self.new ≡ record self.old { disk = record self.old.disk { store = self.new.disk.store } } }
+    {
+        clear_sectors(&mut self.disk.store, self.which, run)
+    }
+
+    /// How many sectors the disk has that is in.
+    pub fn sectors(&self) -> u64
+        ensures { result ≡ S.size self.now.disk.store }
+    {
+        self.disk.store.sectors()
+    }
+
+    /// Has the log name this command.
+    pub fn log_failed(&mut self, failed: FailedCommand)
+        ensures { self.new ≡ record self.old { says = naming failed self.old.says } }
+    {
+        self.says.log = Some(failed);
+    }
+
+    /// Has the disks lie of a byte of a page once more.
+    pub fn lie(&mut self, page: DiskPage, offset: usize, bits: u8)
+        requires { offset < 512 }
+        ensures { self.new ≡ record self.old { says = lying page offset bits self.old.says } }
+    {
+        match page {
+            DiskPage::Identity => self.says.lies[offset] ^= bits,
+            DiskPage::Log => self.says.log_lies[offset] ^= bits,
+        }
+    }
+
+    /// Has them tell no lies any more.
+    pub fn tell_truth(&mut self)
+        ensures { self.new ≡ record self.old { says = truthful self.old.says } }
+    {
+        self.says.lies = [0; PAGE_BYTES];
+        self.says.log_lies = [0; PAGE_BYTES];
+    }
+
+    /// Has a disk stand as the one that is in. It has the sectors that it had.
+    fn turn_to(&mut self, which: Which)
+        ensures which { self.new.which ≡ which }
+        ensures disks { (w : Which) → disk_in self.new w ≡ disk_in self.old w }
+        ensures rest { self.new ≡ record self.old { which = self.new.which; disk = self.new.disk; other = self.new.other } }
+    {
+        if self.which != which {
+            mem::swap(&mut self.disk, &mut self.other);
+            self.which = which;
+        }
+    }
+
+    /// Finds memory to note one more disk that is put in; `false` says that there was none.
+    pub fn make_room(&mut self) -> bool
+        ensures room { result ≡ true → vec_len self.new.later < vec_capacity self.new.later }
+        ensures lacks { result ≡ false → vec_len self.old.later < vec_capacity self.old.later → ⊥ }
+        ensures items { self.new.later.items ≡ self.old.later.items }
+        ensures rest { self.new ≡ record self.old { later = self.new.later } }
+    {
+        self.later.reserve(1).is_ok()
+    }
+
+    /// Puts a disk in, as it was when it was taken out.
+    pub fn put_in(&mut self, which: Which)
+        requires { vec_len self.old.later < vec_capacity self.old.later }
+        ensures which { self.new.which ≡ which }
+        ensures disks { (w : Which) → disk_in self.new w ≡ disk_in self.old w }
+        ensures later { (f : Which → S → Disk) → map (λ s. f s.which s.store.value) self.new.later.items ≡ map (λ s. f s.which s.store.value) self.old.later.items ++ f which self.new.disk.store ∷ [] }
+        ensures rest { self.new ≡ record self.old { which = self.new.which; disk = self.new.disk; other = self.new.other; later = self.new.later } }
+    {
+        self.turn_to(which);
+        let store = Snapshot::of(&self.disk.store);
+        let _pushed = self.later.push(Inserted { which, store }).is_ok();
+    }
+}
