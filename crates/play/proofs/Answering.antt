@@ -18,7 +18,8 @@ use Rattle.block_server.specs.declared.types.Said.{Said}
 use Rattle.driver_history.specs.Histories.{Begins, Ties}
 use Rattle.server_history.specs.Histories.{Leads}
 use Rattle.play.specs.Events.{events_of}
-use Rattle.play.specs.Played.{Prints, none, call, IsStarted, Played, Ran, is_starved}
+use Rattle.device_model.specs.Modelled.{is_starved}
+use Rattle.play.specs.Played.{Prints, none, call, IsStarted, Played, Ran}
 
 -- one more call goes on with a list
 abbrev pub Extends : {A : Type 0} → (A → Device) → Type 0
@@ -85,7 +86,7 @@ played_of size told config script image blank trace old new values read server l
         run = runs _ begun.0 on.later on.leads.history;
         reads = λ image_tells blank_tells.
             let tells : begun.0.device.telling ≡ true =
-            ap (λ (d : Device). d.telling) begun.1.stands.device_is ∙ started.made.taken.same.telling ∙ started.modelled.made.telling ∙ both_tell _ _ image_tells blank_tells in
+            ap (λ (d : Device). d.telling) begun.1.stands.device_is ∙ started.made.taken.same.telling ∙ started.modelled.made.telling ∙ ap (λ (b : Bool). b && true) (both_tell _ _ image_tells blank_tells) in
             holds _ begun.0 on.later on.leads.history tells;
       };
       left = left;

@@ -15,8 +15,10 @@ use Rattle.configuration.specs.Document.{IsReadFrom, IsToldOf}
 use Rattle.configuration.specs.declared.Config.{Config}
 use Rattle.configuration.specs.declared.ConfigFault.{ConfigFault}
 use Rattle.configuration.specs.declared.ConfigFault.TheVariants as config
-use Rattle.device_model.specs.Modelled.{IsNewModel, device_at}
+use Rattle.device_model.specs.Disks.{port_0_alone}
+use Rattle.device_model.specs.Modelled.{IsNewModel, device_at, is_starved}
 use Rattle.device_model.specs.declared.config.ModelConfig.{ModelConfig}
+use Rattle.device_model.specs.declared.disks.Disks.{Disks}
 use Rattle.device_model.specs.declared.model.Model.{Model}
 use Rattle.script.specs.Script.{IsFirstBad, IsScript}
 use Rattle.script.specs.declared.line.Line.{Line}
@@ -48,15 +50,15 @@ pub record IsSetBy (config : Config) (settings : ModelConfig) : Type 0 where
   pub depth : settings.depth ≡ config.depth
   pub trim : word_of settings.trim ≡ string_bytes config.trim
 
--- The model is new and as the configuration says: the image is disk 0, which is in port 0, and the blank disk is disk 1.
-pub record IsModelOf {S : Type 0} (size : S → ℕ) (told : S → Option (ℕ → List ℕ)) (config : Config) (image blank : S) (m : Model S) : Type 0 where
+-- The model is new and as the configuration says, with these disks.
+pub record IsModelWith {S : Type 0} (size : S → ℕ) (told : S → Option (ℕ → List ℕ)) (config : Config) (disks : Disks S) (m : Model S) : Type 0 where
   pub settings : ModelConfig
   pub set : IsSetBy config settings
-  pub made : IsNewModel size told settings image blank m
+  pub made : IsNewModel size told settings disks m
 
--- a step of the device was left out, since there was no memory to note it
-abbrev pub is_starved : {S : Type 0} → Model S → Bool
-is_starved m = m.hardware.starved
+-- the image is disk 0 of port 0, which is in it, and the blank disk is its disk 1; no other port has disks
+abbrev pub IsModelOf : {S : Type 0} → (S → ℕ) → (S → Option (ℕ → List ℕ)) → Config → (image blank : S) → Model S → Type 0
+IsModelOf size told config image blank m = IsModelWith size told config (port_0_alone image blank) m
 
 -- ---- the calls
 

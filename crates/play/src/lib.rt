@@ -9,5 +9,5 @@ mod session;
 mod setting;
 
 pub use calls::event;
-pub use session::{Ended, Finished, play};
-pub use setting::new_model;
+pub use session::{Ended, Finished, Stop, play, play_over, read};
+pub use setting::{model_with, new_model};

@@ -1,13 +1,15 @@
 // A script, played from its first line to its last.
-ghost use Rattle.std.specs.Prelude.{◌≡◌, ◌≤◌, ◌∷◌, [], false, List, None, IfOk, IfErr, OnOk, length};
+ghost use Rattle.std.specs.Prelude.{◌≡◌, ◌≤◌, ◌∷◌, ◌⊎◌, [], false, List, None, Err, IfOk, IfErr, IfSome, OnOk, length};
+ghost use Rattle.block_server.specs.Made.{IsNew, IsReadyFor};
 ghost use Rattle.block_server.specs.Running.{Answered};
+ghost use Rattle.block_server.specs.View.{ServerView};
 ghost use Rattle.configuration.specs.Document.{IsReadFrom};
 ghost use Rattle.configuration.specs.Rules.{IsSound};
 ghost use Rattle.script.specs.Script.{IsScript};
 ghost use Rattle.script.specs.declared.line.Line.{Line};
-ghost use Rattle.device_model.specs.Modelled.{device_at};
+ghost use Rattle.device_model.specs.Modelled.{device_at, is_starved};
 ghost use Rattle.play.specs.Events.{event_of};
-ghost use Rattle.play.specs.Played.{Ends, IsRefused, IsStarted, IsWhole, IsWhy, PrintsPart, Ran, is_starved};
+ghost use Rattle.play.specs.Played.{Ends, IsRefused, IsStarted, IsWhole, IsWhy, PrintsPart, Ran};
 
 use crate::event;
 use crate::printed::{print_call, write_out};
@@ -17,7 +19,7 @@ use ata_types::Replies;
 use block_server::Server;
 use block_server::laws::runs_are_histories;
 use configuration::{Config, ConfigFault, Kind};
-use device_model::{Model, NoMemory};
+use device_model::{Model, NoMemory, Watched};
 use driver_history::laws::{histories_are_runs, reads_hold};
 use script::{BadLine, Line, check_script, first_line, read_asked};
 use sector_store::SectorStore;
@@ -50,8 +52,10 @@ pub struct Finished<S: SectorStore> {
 
 /// Why a run stops before its script's end.
 #[derive(Clone, Copy, Debug, PartialEq, Eq)]
-enum Stop {
+pub enum Stop {
+    /// Memory was refused, or the adapter can't go on.
     NoMemory,
+    /// The output failed.
     Unwritten,
 }
 
@@ -101,7 +105,7 @@ impl From<BadLine> for Ended {
 }
 
 /// The values of a configuration's text, where the lines of the script are good, too.
-fn read(alloc: Global, config: &[u8], script: &[u8]) -> Result<Config, Ended>
+pub fn read(alloc: Global, config: &[u8], script: &[u8]) -> Result<Config, Ended>
     ensures read { IfOk result (IsReadFrom config.now) }
     ensures good { OnOk result ((lines : List Line) × IsScript script.now lines) }
     ensures refused { IfErr result (IsRefused config.now script.now) }
@@ -157,26 +161,26 @@ fn start<S: SectorStore>(
 
 /// Plays a line: makes its call, and prints of it what the tape gained past so many entries, with a trace, and what it said. Gives how many
 /// entries the tape has then. Where it fails, a beginning of that text is printed, which may be nothing.
-fn play_line<S: SectorStore, W: io::Write>(
-    server: &mut Server<Model<S>>,
+fn play_line<A: Watched, W: io::Write>(
+    server: &mut Server<A>,
     line: Line,
     room: &mut Room,
     trace: bool,
     shown: usize,
     out: &mut W,
 ) -> Result<usize, Stop>
-    requires fed { is_starved server.old.adapter ≡ false }
-    ensures printed { (p : PrintsPart (device_at S.size S.told) is_starved trace shown (event_of line) server.old server.new (W.contents out.old) (W.contents out.new))
-        × OnOk result (length p.text ≤ p.part) × IfErr result (IsWhy (is_starved server.new.adapter) p.part) }
-    ensures fed { OnOk result (is_starved server.new.adapter ≡ false) }
-    ensures shown { IfOk result (λ count. count ≡ length (device_at S.size S.told server.new.adapter).tape) }
+    requires fed { A.ended server.old.adapter ≡ false }
+    ensures printed { (p : PrintsPart A.device A.ended trace shown (event_of line) server.old server.new (W.contents out.old) (W.contents out.new))
+        × OnOk result (length p.text ≤ p.part) × IfErr result (IsWhy (A.ended server.new.adapter) p.part) }
+    ensures fed { OnOk result (A.ended server.new.adapter ≡ false) }
+    ensures shown { IfOk result (λ count. count ≡ length (A.device server.new.adapter).tape) }
 {
     let told = server.answer(&event(line), &mut room.replies);
-    let model = server.adapter();
-    if model.starved() {
+    let adapter = server.adapter();
+    if adapter.has_ended() {
         return Err(Stop::NoMemory);
     }
-    let tape = model.tape();
+    let tape = adapter.tape();
     let Ok(()) = print_call(
         &mut room.text,
         trace,
@@ -197,18 +201,18 @@ fn play_line<S: SectorStore, W: io::Write>(
 /// Asks a server what the lines of a script ask, one after another, and prints of each at once what the tape gained, with a trace, and what it
 /// said. Where memory is refused, to the model too, or the output fails, it stops at that line: no later one is played.
 #[inline(never)]
-fn perform<S: SectorStore, W: io::Write>(
+fn perform<A: Watched, W: io::Write>(
     alloc: Global,
-    server: &mut Server<Model<S>>,
+    server: &mut Server<A>,
     script: &[u8],
     trace: bool,
     out: &mut W,
 ) -> Result<(), Stop>
     requires good { (lines : List Line) × IsScript script.now lines }
-    ensures { (ran : Ran (device_at S.size S.told) is_starved trace script.now server.old server.new (W.contents out.old) (W.contents out.new))
-        × OnOk result (IsWhole ran) × IfErr result (IsWhy (is_starved server.new.adapter) ran.part) }
+    ensures { (ran : Ran A.device A.ended trace script.now server.old server.new (W.contents out.old) (W.contents out.new))
+        × OnOk result (IsWhole ran) × IfErr result (IsWhy (A.ended server.new.adapter) ran.part) }
 {
-    if server.adapter().starved() {
+    if server.adapter().has_ended() {
         return Err(Stop::NoMemory);
     }
     let mut room = Room {
@@ -236,6 +240,37 @@ fn unbegun<S: SectorStore>(ended: Ended) -> Finished<S>
     ensures model { result.model ≡ None }
 {
     Finished { ended, model: None }
+}
+
+/// Plays a script against a new server of this configuration over this adapter, and prints at once what each line answers. The adapter comes back as the last line
+/// that was played left it; or as it was, with nothing printed, where no server could be made of it for want of memory. It doesn't come back where there was no memory to
+/// keep the server in: nothing is printed then either. Where it can't go on, `NoMemory` is told, too.
+pub fn play_over<A: Watched + Drop, W: io::Write>(
+    alloc: Global,
+    config: &Config,
+    script: &[u8],
+    adapter: A,
+    trace: bool,
+    out: &mut W,
+) -> (Result<(), Stop>, Option<A>)
+    requires sound { IsSound config.now }
+    requires good { (lines : List Line) × IsScript script.now lines }
+    requires ready { IsReadyFor config.now (A.device adapter) }
+    ensures left { IfSome result.1 (λ left. ((left ≡ adapter) × (result.0 ≡ Err Stop.NoMemory) × (W.contents out.new ≡ W.contents out.old)) ⊎ ((server last : ServerView A) × IsNew A.device config.now adapter server
+        × (left ≡ last.adapter) × (ran : Ran A.device A.ended trace script.now server last (W.contents out.old) (W.contents out.new))
+        × OnOk result.0 (IsWhole ran) × IfErr result.0 (IsWhy (A.ended last.adapter) ran.part))) }
+    ensures none { result.1 ≡ None → (result.0 ≡ Err Stop.NoMemory) × (W.contents out.new ≡ W.contents out.old) }
+{
+    // The configuration is sound, so memory is all that can be wanting.
+    let server = match Server::new(alloc, config, adapter) {
+        Ok(server) => server,
+        Err((_refused, adapter)) => return (Err(Stop::NoMemory), Some(adapter)),
+    };
+    let Ok(mut server) = on_heap(alloc, server) else {
+        return (Err(Stop::NoMemory), None);
+    };
+    let performed = perform(alloc, &mut server, script, trace, out);
+    (performed, Some(closed(server)))
 }
 
 /// Plays a script against a new server over a modelled adapter, and prints at once what each line answers.

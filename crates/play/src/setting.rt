@@ -3,10 +3,10 @@ ghost use Rattle.std.specs.Prelude.{◌≡◌, IfOk, string_bytes};
 ghost use Rattle.block_server.specs.Made.{IsReadyFor};
 ghost use Rattle.configuration.specs.Rules.{IsSound, IsTrim};
 ghost use Rattle.device_model.specs.Modelled.{device_at};
-ghost use Rattle.play.specs.Played.{IsModelOf, word_of};
+ghost use Rattle.play.specs.Played.{IsModelOf, IsModelWith, word_of};
 
 use configuration::Config;
-use device_model::{Model, ModelConfig, NoMemory, Trim};
+use device_model::{Disks, Model, ModelConfig, NoMemory, Trim};
 use sector_store::SectorStore;
 use std::alloc::Global;
 
@@ -38,6 +38,20 @@ pub fn new_model<S: SectorStore>(
     ensures ready { IfOk result (λ m. IsReadyFor config.now (device_at S.size S.told m)) }
     ensures made { IfOk result (IsModelOf S.size S.told config.now image blank) }
 {
+    model_with(alloc, config, Disks::of_port_0(image, blank))
+}
+
+/// A new modelled adapter as the configuration says, with these disks.
+#[inline(never)]
+pub fn model_with<S: SectorStore>(
+    alloc: Global,
+    config: &Config,
+    disks: Disks<S>,
+) -> Result<Model<S>, NoMemory>
+    requires { IsSound config.now }
+    ensures ready { IfOk result (λ m. IsReadyFor config.now (device_at S.size S.told m)) }
+    ensures made { IfOk result (IsModelWith S.size S.told config.now disks) }
+{
     let settings = ModelConfig {
         frames: config.frames as u16,
         pi: ALL_PORTS,
@@ -46,5 +60,5 @@ pub fn new_model<S: SectorStore>(
         depth: config.depth as u8,
         trim: trim_of(config.trim.as_str()),
     };
-    Model::new(alloc, settings, image, blank)
+    Model::with_disks(alloc, settings, disks)
 }

@@ -1,45 +1,43 @@
 use Rattle.std.proofs.Common.{refl, ap, ◌∙◌, sym, subst, Option, List, ℕ, Err}
 use Rattle.std.proofs.lemmas.Result.{err_from_is_err_and}
 use Rattle.std.specs.Borrow.{Bor}
-use Rattle.device_model.specs.Modelled.{device_at}
-use Rattle.device_model.specs.declared.model.Model.{Model}
 use Rattle.script.specs.Script.{Asks, lines_of, lines_after}
 use Rattle.script.specs.declared.line.Line.{Line}
-use Rattle.play.specs.Played.{IsWhy, is_starved}
+use Rattle.play.specs.Played.{IsWhy}
 use Rattle.play.proofs.Printing.{PlayedSoFar, played_none, played_nothing, played_line, ran_none, ran_part, ran_all, cut_more, left_ask, none_bad, if_error, on_error}
 use Rattle.play.proofs.session.perform.Goals as goal
 
 pub loop-rest-init : goal.loop-rest-init
-loop-rest-init g c = record { fed = ap (λ (m : Model g.row.S.Denot). is_starved m) (sym c.adapter.ensures) ∙ sym c.starved.ensures ∙ c.if-starved.false; played = played_none _ _ _ _ _ _ _ refl }
+loop-rest-init g c = record { fed = ap g.A.Watched.ended (sym c.adapter.ensures) ∙ sym c.has_ended.ensures ∙ c.if-has_ended.false; played = played_none _ _ _ _ _ _ _ refl }
 
-pub returns-then-starved : goal.returns-then-starved
-returns-then-starved g c =
-    let ran = ran_none (device_at g.S.SectorStore.size g.S.SectorStore.told) is_starved c.args.trace c.args.server.now c.args.script.now _ c.requires.good.0 c.requires.good.1 in
+pub returns-then-has_ended : goal.returns-then-has_ended
+returns-then-has_ended g c =
+    let ran = ran_none g.A.Adapter.device g.A.Watched.ended c.args.trace c.args.server.now c.args.script.now _ c.requires.good.0 c.requires.good.1 in
     (ran.0, tt, ran.1)
 
 -- a line that asks nothing
 pub loop-rest-preserved-in-Ok-None : goal.loop-rest-preserved-in-Ok-None
 loop-rest-preserved-in-Ok-None g c =
-    let device = device_at g.S.SectorStore.size g.S.SectorStore.told in
+    let device = g.A.Adapter.device in
     let before = g.W.Write.contents c.args.out.now in
     let here = g.W.Write.contents c.loop-rest.out in
     let all = lines_of c.args.script.now in
-    let so_far = subst (λ (rest : Option (Bor (List ℕ))). PlayedSoFar device is_starved c.args.trace c.args.server.now all c.loop-rest.server c.loop-rest.shown rest before here) c.in-Some.is c.loop-rest.invariant.played in
+    let so_far = subst (λ (rest : Option (Bor (List ℕ))). PlayedSoFar device g.A.Watched.ended c.args.trace c.args.server.now all c.loop-rest.server c.loop-rest.shown rest before here) c.in-Some.is c.loop-rest.invariant.played in
     let asks = subst (λ (asked : Option Line). Asks c.first_line.result.0.now asked) c.in-Ok-None.field-0-is c.in-Ok-None.ensures.ok in
     record {
       fed = c.loop-rest.invariant.fed;
-      played = played_nothing device is_starved c.args.trace c.args.server.now all c.loop-rest.server c.loop-rest.shown c.in-Some.text.now c.first_line.result.0.now c.in-Some.text
+      played = played_nothing device g.A.Watched.ended c.args.trace c.args.server.now all c.loop-rest.server c.loop-rest.shown c.in-Some.text.now c.first_line.result.0.now c.in-Some.text
           c.first_line.result.1 before here so_far c.first_line.ensures.first asks;
     }
 
 -- no line of a script that was looked at is bad
 pub loop-rest-preserved : goal.loop-rest-preserved
 loop-rest-preserved g c =
-    let device = device_at g.S.SectorStore.size g.S.SectorStore.told in
+    let device = g.A.Adapter.device in
     let before = g.W.Write.contents c.args.out.now in
     let here = g.W.Write.contents c.loop-rest.out in
     let all = lines_of c.args.script.now in
-    let so_far = subst (λ (rest : Option (Bor (List ℕ))). PlayedSoFar device is_starved c.args.trace c.args.server.now all c.loop-rest.server c.loop-rest.shown rest before here) c.in-Some.is c.loop-rest.invariant.played in
+    let so_far = subst (λ (rest : Option (Bor (List ℕ))). PlayedSoFar device g.A.Watched.ended c.args.trace c.args.server.now all c.loop-rest.server c.loop-rest.shown rest before here) c.in-Some.is c.loop-rest.invariant.played in
     let cut = cut_more all so_far.texts c.in-Some.text.now c.first_line.result.0.now c.first_line.result.1 so_far.cut c.first_line.ensures.first in
     let from = left_ask all so_far.texts c.first_line.result.0.now (lines_after c.first_line.result.1) c.requires.good.0 cut c.requires.good.1 in
     absurd (none_bad c.first_line.result.0.now (lines_after c.first_line.result.1) from c.in-Err.ensures.bad)
@@ -47,49 +45,49 @@ loop-rest-preserved g c =
 -- the line is the last one that was played
 pub returns-in_err-shown-in-Ok-Some : goal.returns-in_err-shown-in-Ok-Some
 returns-in_err-shown-in-Ok-Some g c =
-    let device = device_at g.S.SectorStore.size g.S.SectorStore.told in
+    let device = g.A.Adapter.device in
     let before = g.W.Write.contents c.args.out.now in
     let here = g.W.Write.contents c.loop-rest.out in
     let after = g.W.Write.contents c.play_line.new.out in
     let all = lines_of c.args.script.now in
-    let so_far = subst (λ (rest : Option (Bor (List ℕ))). PlayedSoFar device is_starved c.args.trace c.args.server.now all c.loop-rest.server c.loop-rest.shown rest before here) c.in-Some.is c.loop-rest.invariant.played in
+    let so_far = subst (λ (rest : Option (Bor (List ℕ))). PlayedSoFar device g.A.Watched.ended c.args.trace c.args.server.now all c.loop-rest.server c.loop-rest.shown rest before here) c.in-Some.is c.loop-rest.invariant.played in
     let cut = cut_more all so_far.texts c.in-Some.text.now c.first_line.result.0.now c.first_line.result.1 so_far.cut c.first_line.ensures.first in
     let from = left_ask all so_far.texts c.first_line.result.0.now (lines_after c.first_line.result.1) c.requires.good.0 cut c.requires.good.1 in
     let asks = subst (λ (asked : Option Line). Asks c.first_line.result.0.now asked) c.in-Ok-Some.field-0-is c.in-Ok-Some.ensures.ok in
     let printed = c.in_err-shown-in-Ok-Some.ensures.printed in
-    let ran = ran_part device is_starved c.args.trace c.args.server.now c.args.script.now c.loop-rest.server c.play_line.new.server c.loop-rest.shown c.first_line.result.0.now
+    let ran = ran_part device g.A.Watched.ended c.args.trace c.args.server.now c.args.script.now c.loop-rest.server c.play_line.new.server c.loop-rest.shown c.first_line.result.0.now
     c.in-Ok-Some.asked c.in-Some.text c.first_line.result.1 before here after so_far c.first_line.ensures.first asks from
     printed.0 c.loop-rest.invariant.fed in
     let told = err_from_is_err_and c.from_residual.result c.from_residual.ensures.1 in (
       ran.0,
       on_error c.from_residual.result _ c.from_residual.ensures.0,
-      if_error c.from_residual.result _ (IsWhy (is_starved c.play_line.new.server.adapter) ran.0.part) (told.1 ∙ ap Err told.2)
-          (subst (λ (part : ℕ). IsWhy (is_starved c.play_line.new.server.adapter) part c.in_err-shown-in-Ok-Some.field-0.0) (sym ran.1) printed.2),
+      if_error c.from_residual.result _ (IsWhy (g.A.Watched.ended c.play_line.new.server.adapter) ran.0.part) (told.1 ∙ ap Err told.2)
+          (subst (λ (part : ℕ). IsWhy (g.A.Watched.ended c.play_line.new.server.adapter) part c.in_err-shown-in-Ok-Some.field-0.0) (sym ran.1) printed.2),
     )
 
 pub returns : goal.returns
 returns g c =
-    let device = device_at g.S.SectorStore.size g.S.SectorStore.told in
+    let device = g.A.Adapter.device in
     let before = g.W.Write.contents c.args.out.now in
     let here = g.W.Write.contents c.loop-rest.out in
     let all = lines_of c.args.script.now in
-    let so_far = subst (λ (rest : Option (Bor (List ℕ))). PlayedSoFar device is_starved c.args.trace c.args.server.now all c.loop-rest.server c.loop-rest.shown rest before here) c.in_default.is c.loop-rest.invariant.played in
-    let whole = ran_all device is_starved c.args.trace c.args.server.now c.args.script.now c.loop-rest.server c.loop-rest.shown before here so_far c.loop-rest.invariant.fed in (whole.0, whole.1, tt)
+    let so_far = subst (λ (rest : Option (Bor (List ℕ))). PlayedSoFar device g.A.Watched.ended c.args.trace c.args.server.now all c.loop-rest.server c.loop-rest.shown rest before here) c.in_default.is c.loop-rest.invariant.played in
+    let whole = ran_all device g.A.Watched.ended c.args.trace c.args.server.now c.args.script.now c.loop-rest.server c.loop-rest.shown before here so_far c.loop-rest.invariant.fed in (whole.0, whole.1, tt)
 
 -- the line was played and printed
 pub loop-rest-preserved-in_ok-shown-in-Ok-Some : goal.loop-rest-preserved-in_ok-shown-in-Ok-Some
 loop-rest-preserved-in_ok-shown-in-Ok-Some g c =
-    let device = device_at g.S.SectorStore.size g.S.SectorStore.told in
+    let device = g.A.Adapter.device in
     let before = g.W.Write.contents c.args.out.now in
     let here = g.W.Write.contents c.loop-rest.out in
     let after = g.W.Write.contents c.play_line.new.out in
     let all = lines_of c.args.script.now in
-    let so_far = subst (λ (rest : Option (Bor (List ℕ))). PlayedSoFar device is_starved c.args.trace c.args.server.now all c.loop-rest.server c.loop-rest.shown rest before here) c.in-Some.is c.loop-rest.invariant.played in
+    let so_far = subst (λ (rest : Option (Bor (List ℕ))). PlayedSoFar device g.A.Watched.ended c.args.trace c.args.server.now all c.loop-rest.server c.loop-rest.shown rest before here) c.in-Some.is c.loop-rest.invariant.played in
     let asks = subst (λ (asked : Option Line). Asks c.first_line.result.0.now asked) c.in-Ok-Some.field-0-is c.in-Ok-Some.ensures.ok in
     let printed = c.in_ok-shown-in-Ok-Some.ensures.printed in
     record {
       fed = c.in_ok-shown-in-Ok-Some.ensures.fed;
-      played = subst (λ (shown : ℕ). PlayedSoFar device is_starved c.args.trace c.args.server.now all c.play_line.new.server shown c.first_line.result.1 before after) (sym c.in_ok-shown-in-Ok-Some.ensures.shown)
-          (played_line device is_starved c.args.trace c.args.server.now all c.loop-rest.server c.play_line.new.server c.loop-rest.shown c.first_line.result.0.now
+      played = subst (λ (shown : ℕ). PlayedSoFar device g.A.Watched.ended c.args.trace c.args.server.now all c.play_line.new.server shown c.first_line.result.1 before after) (sym c.in_ok-shown-in-Ok-Some.ensures.shown)
+          (played_line device g.A.Watched.ended c.args.trace c.args.server.now all c.loop-rest.server c.play_line.new.server c.loop-rest.shown c.first_line.result.0.now
           c.in-Ok-Some.asked c.in-Some.text c.first_line.result.1 before here after so_far c.first_line.ensures.first asks printed.0 printed.1 c.loop-rest.invariant.fed);
     }

@@ -1,7 +1,8 @@
 use Rattle.std.proofs.Common.{ℕ, ◌≡◌, List, Bool, Option, Some, sym, subst}
 use Rattle.block_server.specs.View.{ServerView}
 use Rattle.device_model.specs.declared.model.Model.{Model}
-use Rattle.play.specs.Played.{Played, Ends, IsStarted, IsWhy, ended_by_stop, is_starved}
+use Rattle.device_model.specs.Modelled.{is_starved}
+use Rattle.play.specs.Played.{Played, Ends, IsStarted, IsWhy, ended_by_stop}
 use Rattle.play.specs.declared.session.Ended.{Ended}
 use Rattle.play.specs.declared.session.Stop.{Stop}
 use Rattle.play.specs.declared.session.Stop.TheVariants.{NoMemory, Unwritten}

@@ -1,0 +1,146 @@
+//! `follow CONFIG SCRIPT TO FROM REGISTERS IMAGE..`: a script, played against a block server over an adapter that lines of text reach, and that the model follows.
+//!
+//! TO is the file that takes a line for each access, and FROM the one that gives its answer; REGISTERS is where the adapter's registers begin, and the memory
+//! begins at 0. The disks of the model are the images, one to four, from port 0 on, which hold the same sectors as the adapter's own. What the lines answer is printed. Where the two stray,
+//! the access is told on standard error, and the run ends.
+#![tactic(auto)]
+
+mod fault;
+mod words;
+
+use device_model::{Disks, Model, ModelDisk, PortDisks};
+use fault::{Fault, unless_memory};
+use followed_adapter::{Followed, LinePeer};
+use play::{Stop, model_with, play_over, read};
+use sector_store::{Disk, FileStore, MemStore};
+use std::fs::{self, File, Files, OpenOptions};
+use std::io::{self, BufReader, BufWriter, Write};
+use std::process::ExitCode;
+use std::rt::Env;
+use words::Words;
+
+/// The adapter that is followed, over files.
+type Adapter = Followed<Model<Disk>, LinePeer<BufReader<File>, File>>;
+
+/// The serial number of the disk of port 0; those of ports 1 to 3 have the port's digit behind it.
+const SERIAL: [u8; 20] = *b"IMAGEDISK           ";
+
+/// The disks of a port: the image that is given for it, and one without sectors.
+fn disks_of(
+    rt: &(impl AllocGlobal + Files<File = File>),
+    words: &Words,
+    port: usize,
+) -> Result<Option<PortDisks<Disk>>, Fault> {
+    let Some(path) = words.images.get(port) else {
+        return Ok(None);
+    };
+    let image = FileStore::open(rt, path.as_str()).map_err(|error| unless_memory(
+        &error,
+        Fault::Unread,
+    ))?;
+    let blank = MemStore::new(rt.alloc(), 0)?;
+    let mut serial = SERIAL;
+    if port > 0 {
+        serial[9] = b'0' + (port % 10) as u8;
+    }
+    Ok(Some(PortDisks {
+        first: ModelDisk {
+            serial,
+            store: Disk::File(image),
+        },
+        spare: ModelDisk {
+            serial: *b"BLANKDISK           ",
+            store: Disk::Memory(blank),
+        },
+    }))
+}
+
+/// The disks of the model's ports.
+fn disks(
+    rt: &(impl AllocGlobal + Files<File = File>),
+    words: &Words,
+) -> Result<Disks<Disk>, Fault> {
+    Ok(Disks {
+        port0: disks_of(rt, words, 0)?,
+        port1: disks_of(rt, words, 1)?,
+        port2: disks_of(rt, words, 2)?,
+        port3: disks_of(rt, words, 3)?,
+    })
+}
+
+/// The peer behind the two files. The one that takes lines is opened first.
+fn peer(
+    rt: &(impl AllocGlobal + Files<File = File>),
+    words: &Words,
+) -> Result<LinePeer<BufReader<File>, File>, Fault> {
+    let unopened = |error: io::Error| unless_memory(&error, Fault::Peer);
+    let to = OpenOptions::new()
+        .write(true)
+        .open(rt, words.to.as_str())
+        .map_err(unopened)?;
+    let from = fs::open(rt, words.from.as_str()).map_err(unopened)?;
+    let from = BufReader::new(rt.alloc(), from).map_err(unopened)?;
+    Ok(LinePeer::new(rt.alloc(), from, to, words.registers)?)
+}
+
+/// Tells where the two strayed, or how many accesses were made, and what the run's end was.
+fn told(
+    rt: &impl Eprint,
+    adapter: Option<Adapter>,
+    performed: Result<(), Stop>,
+) -> Result<(), Fault> {
+    let Some(adapter) = adapter else {
+        return Err(Fault::NoMemory);
+    };
+    let counts = adapter.counts();
+    let _told = eprintln!(rt;
+        "follow: {} accesses, {} looks",
+        counts.accesses, counts.looks
+    );
+    if let Some(stray) = adapter.stray() {
+        let _told = eprintln!(rt; "follow: strayed: {stray}");
+        return Err(Fault::Strayed);
+    }
+    match performed {
+        Ok(()) => Ok(()),
+        Err(Stop::NoMemory) => Err(Fault::NoMemory),
+        Err(Stop::Unwritten) => Err(Fault::Unwritten),
+    }
+}
+
+/// Does what the words ask.
+fn run(rt: &(impl Env + AllocGlobal + Files<File = File> + Print + Eprint)) -> Result<(), Fault> {
+    let words = Words::read(rt)?;
+    let unread = |error: io::Error| unless_memory(&error, Fault::Unread);
+    let config = fs::read(rt, words.config.as_str()).map_err(unread)?;
+    let script = fs::read(rt, words.script.as_str()).map_err(unread)?;
+    let values = read(rt.alloc(), config.as_slice(), script.as_slice())?;
+    let Ok(model) = model_with(rt.alloc(), &values, disks(rt, &words)?) else {
+        return Err(Fault::NoMemory);
+    };
+    let followed = Followed::new(model, peer(rt, &words)?);
+    let mut out = BufWriter::new(rt.alloc(), io::writer(rt)).map_err(unread)?;
+    let (performed, adapter) = play_over(
+        rt.alloc(),
+        &values,
+        script.as_slice(),
+        followed,
+        false,
+        &mut out,
+    );
+    let flushed = out.flush();
+    let (_writer, _unwritten) = out.into_parts();
+    told(rt, adapter, performed)?;
+    flushed.map_err(|_error| Fault::Unwritten)
+}
+
+fn main(rt: HostRuntime) -> ExitCode {
+    match run(&rt) {
+        Ok(()) => ExitCode::SUCCESS,
+        Err(fault) => {
+            // Where standard error fails, too, the status says what it can.
+            let _told = eprintln!(rt; "follow: {fault}");
+            ExitCode::from(fault.status())
+        }
+    }
+}

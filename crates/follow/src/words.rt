@@ -1,0 +1,59 @@
+// The words that the program is started with.
+use crate::fault::{Fault, unless_memory};
+use std::alloc::Global;
+use std::env;
+use std::rt::Env;
+
+/// What the program is asked to do.
+#[derive(Debug, Drop)]
+pub struct Words {
+    pub config: String,
+    pub script: String,
+    /// The file that takes a line for each access.
+    pub to: String,
+    /// The file that gives a line for each.
+    pub from: String,
+    /// Where the adapter's registers begin.
+    pub registers: u32,
+    /// The disks of the model, from port 0 on: one to four.
+    pub images: Vec<String>,
+}
+
+/// The most disks that a model has.
+const PORTS: usize = 4;
+
+/// The same words once more.
+fn copied(alloc: Global, words: &[String]) -> Result<Vec<String>, Fault> {
+    let mut copies = Vec::new(alloc);
+    for word in words {
+        let copy = word.clone()?;
+        copies.push(copy).map_err(|_full| Fault::NoMemory)?;
+    }
+    Ok(copies)
+}
+
+impl Words {
+    /// The words of `follow CONFIG SCRIPT TO FROM REGISTERS IMAGE..`. REGISTERS is in hexadecimal digits, and there are one to four images.
+    pub fn read(rt: &(impl Env + AllocGlobal)) -> Result<Words, Fault> {
+        // Words that are no text aren't a command line either.
+        let words = env::args(rt).map_err(|error| unless_memory(&error, Fault::CommandLine))?;
+        let words: Vec<String> = words.collect(rt.alloc())?;
+        let [_, config, script, to, from, registers, images @ ..] = words.as_slice() else {
+            return Err(Fault::CommandLine);
+        };
+        if images.is_empty() || images.len() > PORTS {
+            return Err(Fault::CommandLine);
+        }
+        let Ok(registers) = u32::from_str_radix(registers.as_str(), 16) else {
+            return Err(Fault::CommandLine);
+        };
+        Ok(Words {
+            config: config.clone()?,
+            script: script.clone()?,
+            to: to.clone()?,
+            from: from.clone()?,
+            registers,
+            images: copied(rt.alloc(), images)?,
+        })
+    }
+}

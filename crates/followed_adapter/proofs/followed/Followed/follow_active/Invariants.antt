@@ -1,0 +1,5 @@
+use Rattle.followed_adapter.specs.Following.{GoesOn}
+use Rattle.followed_adapter.proofs.followed.Followed.follow_active.Given as goal
+
+abbrev pub invariant-loop-slot : goal.invariant-loop-slot
+invariant-loop-slot g l = GoesOn (g.A.Adapter.device l.initial.self.model) (g.A.Adapter.device l.self.model)

@@ -1,0 +1,65 @@
+-- Which bits of a register the model and its peer have to show alike (this project's own).
+use Rattle.std.specs.Prelude.{ℕ, ◌≡◌, ◌-◌, ◌^◌, Option, None, Some, bit_and, if◌then◌else◌, nat_eq}
+use Rattle.hba_regs.specs.declared.reg.PortReg.{PortReg}
+use Rattle.hba_regs.specs.declared.reg.PortReg.TheVariants.{Is, Ie, Cmd, Tfd, Sig, Ssts, Sctl, Serr, Sact, Ci}
+use Rattle.hba_regs.specs.declared.reg.Reg.{Reg}
+use Rattle.hba_regs.specs.declared.reg.Reg.TheVariants.{Cap, Ghc, Pi, Vs, Px}
+use Rattle.followed_adapter.specs.declared.differences.Known.{Known}
+use Rattle.followed_adapter.specs.declared.differences.Known.TheVariants.{OtherCapabilities, FurtherPorts, AlwaysAhci, Causes, StatusWithoutFault, FailedSlots, UntakenSlots}
+
+-- the bits of a port's register that `PortShows` of the crate `adapter` names
+abbrev pub named_of_port : PortReg → ℕ
+named_of_port Cmd = 0xc011
+named_of_port Tfd = 0xffff
+named_of_port Ssts = 0xf
+named_of_port Sctl = 0xf
+named_of_port Serr = 0x4010000
+named_of_port Is = 0x7840004b
+named_of_port Ie = 0x7840004b
+named_of_port Sig = 0xffffffff
+named_of_port Ci = 0xffffffff
+named_of_port Sact = 0xffffffff
+named_of_port _ = 0
+
+-- those of any register that `Shows` names
+abbrev pub named_bits : Reg → ℕ
+named_bits Cap = 0xffffffff
+named_bits Pi = 0xffffffff
+named_bits Vs = 0xffffffff
+named_bits Ghc = 0x80000003
+named_bits (Px port r) = named_of_port r
+named_bits _ = 0
+
+-- the bits of a known difference, where these slots of its port are known to differ
+abbrev pub bits_of : Known → ℕ → ℕ
+bits_of OtherCapabilities slots = 0xbfffe0ff
+bits_of FurtherPorts slots = 0xfffffff0
+bits_of AlwaysAhci slots = 0x80000000
+bits_of Causes slots = 0xb
+bits_of StatusWithoutFault slots = if nat_eq slots 0 then 0xff77 else 0
+bits_of FailedSlots slots = slots
+bits_of UntakenSlots slots = slots
+
+-- the known difference that a register may show
+abbrev pub known_of : Reg → Option Known
+known_of Cap = Some OtherCapabilities
+known_of Pi = Some FurtherPorts
+known_of Ghc = Some AlwaysAhci
+known_of (Px port Is) = Some Causes
+known_of (Px port Tfd) = Some StatusWithoutFault
+known_of (Px port Ci) = Some FailedSlots
+known_of (Px port Sact) = Some UntakenSlots
+known_of _ = None
+
+-- these bits of 32 but for those
+abbrev pub without : ℕ → Option Known → ℕ → ℕ
+without bits None slots = bits
+without bits (Some known) slots = bit_and bits (2 ^ 32 - 1 - bits_of known slots)
+
+-- what is compared: the bits that the definitions name, but for the known difference
+abbrev pub compared_bits : Reg → ℕ → ℕ
+compared_bits r slots = without (named_bits r) (known_of r) slots
+
+-- two values of a register agree, where these slots of its port are known to differ
+abbrev pub Agrees : Reg → (slots shown said : ℕ) → Type 0
+Agrees r slots shown said = bit_and shown (compared_bits r slots) ≡ bit_and said (compared_bits r slots)

@@ -1,0 +1,30 @@
+#!/usr/bin/env bash
+# Runs the program `follow` over QEMU's adapter: a script, whose answers are known, and random requests, on disks that don't fail and on disks that do. Where QEMU isn't installed, it is left
+# out, and says so. It takes some ten seconds once the program is built. The last line is 'N passed, M failed'.
+set -euo pipefail
+cd "$(dirname "$0")"
+
+passed=0 failed=0
+if ! command -v qemu-system-x86_64 >/dev/null; then
+    echo "QEMU isn't installed, so that its adapter is left out (on Debian and Ubuntu: the package qemu-system-x86)"
+    echo "0 passed, 0 failed"
+    exit 0
+fi
+
+# Counts a run by its status.
+count() {
+    if "$@"; then passed=$((passed + 1)); else failed=$((failed + 1)); fi
+}
+
+# Plays the script, and compares what is answered.
+plays() {
+    ../make_image.sh "$scratch/disk.img" && ./run.sh qemu.toml first.script "$scratch/disk.img" >"$scratch/output" && diff first.output "$scratch/output"
+}
+
+scratch=$(mktemp -d)
+trap 'rm -rf "$scratch"' EXIT
+count plays
+count ./soak.py --requests 26000
+count ./soak.py --requests 10000 --failures
+echo "$passed passed, $failed failed"
+[[ $failed == 0 ]]
