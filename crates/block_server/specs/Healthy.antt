@@ -59,7 +59,7 @@ DoesItsPart port old h =
 -- In a call after these ones, moves and clears keep to their places; and each port is served well that the call is healthy for. On each port the call does its part,
 -- whether or not it is ready, commands fail, fatal errors come, or its disk is lost; and a service answers each request of a port that is ready when it begins of which
 -- the bits of PxCI and PxSACT were clear then, and heeds the failure that such a port showed then, a fault or a fatal error. (That it heeds the loss of a disk that the
--- port showed then is in its part.)
+-- port showed then is in what a run is: `heeds` of `Happens`, by the evidence that its part names.)
 pub record IsSound (first : Instant Device) (past : List (Happening Device DeviceStep)) (h : Happening Device DeviceStep) : Type 0 where
   pub moves : KeepsMoves first.moment.machine (steps_of (events_of past)) h.event.steps (now first past).device h.device
   pub served : (port : Port) → IsHealthyFor (now first past) h port → IsServedWell port (now first past) h

@@ -29,5 +29,5 @@ mod Aging
 mod Hung
 mod Booting
 mod Resetting
-mod Trying
-mod Tried
+mod Looking
+mod Missing

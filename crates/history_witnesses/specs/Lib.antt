@@ -9,4 +9,4 @@ pub mod Restart
 pub mod Fatal
 pub mod Hung
 pub mod Reset
-pub mod Tried
+pub mod Missing

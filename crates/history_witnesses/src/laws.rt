@@ -7,7 +7,7 @@ ghost use Rattle.history_witnesses.specs.Loss.{LossIsAHistory};
 ghost use Rattle.history_witnesses.specs.Queued.{OrderIsFree};
 ghost use Rattle.history_witnesses.specs.Recovery.{RecoveryTies};
 ghost use Rattle.history_witnesses.specs.Reset.{ResetIsAHistory};
-ghost use Rattle.history_witnesses.specs.Tried.{TriedPortIsAHistory};
+ghost use Rattle.history_witnesses.specs.Missing.{MissingDiskIsAHistory};
 
 /// There is an instant at which a history may begin with ports that are ready.
 pub fn a_ready_port_has_begun()
@@ -56,6 +56,6 @@ pub fn an_ended_reset_is_a_history()
 {}
 
 /// There is a history in which an unfit disk is taken out, and the service that follows makes its port absent: all that is asked of its calls is met.
-pub fn a_tried_port_is_a_history()
-    ensures { TriedPortIsAHistory }
+pub fn a_missing_disk_is_a_history()
+    ensures { MissingDiskIsAHistory }
 {}

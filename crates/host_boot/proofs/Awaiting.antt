@@ -84,7 +84,7 @@ module _ (laws : Laws) (start : Device) where
     pub resetting_ends : n < 64 → bit v 0 ≡ false → Resets start e
     resetting_ends few clear =
         let told = with_reading (λ accesses. AwaitsHr false accesses × (length accesses ≤ 65))
-            (λ early late a is. (asks_shown n v early late a is false clear, asked_few n v early late a is few)) in
+        (λ early late a is. (asks_shown n v early late a is false clear, asked_few n v early late a is few)) in
         record { followed = told.followed; awaited = told.tells.0; often = told.tells.1; idle = laws.reset_idle v d e w.pending call clear; same = same }
 
   -- it was read 64 times

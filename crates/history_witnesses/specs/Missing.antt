@@ -17,8 +17,8 @@ use Rattle.driver_history.specs.Histories.{IsHistory, TiesPort}
 use Rattle.history_witnesses.specs.Allowed.{AreAllowed}
 
 -- A look at an unfit port shows that a disk went (PRCS), and no device; the port is given up: it is stopped already. No device shows, so it isn't booted.
-abbrev pub trying : List Access
-trying =
+abbrev pub looking : List Access
+looking =
     Reading (Px (port_at 0) Is) 0x400000 ∷ Reading (Px (port_at 0) Ssts) 0 ∷ Reading (Px (port_at 0) Cmd) 0x4010
     ∷ Writing (Px (port_at 0) Cmd) 0x4010 ∷ Reading (Px (port_at 0) Cmd) 0x4010 ∷ Writing (Px (port_at 0) Serr) 0xffffffff
     ∷ Reading (Px (port_at 0) Ssts) 0 ∷ []
@@ -29,7 +29,7 @@ passing = Reading (Px (port_at 1) Is) 0 ∷ Reading (Px (port_at 1) Ssts) 3 ∷ 
 
 -- Two ports are unfit, since a reset found no ATA disk on them, and the disk of port 0 is taken out. The service that follows finds that out, and makes the port absent; it leaves the other
 -- as it is. The service's accesses keep to the adapter's rules. Each port's part in both calls is done.
-pub record TriedPortIsAHistory : Type 0 where
+pub record MissingDiskIsAHistory : Type 0 where
   pub first : Instant Device
   pub past : List (Happening Device DeviceStep)
   pub unfit : ((now first past).moment.ports.state (port_at 0) ≡ Unfit 8) × ((now first past).moment.ports.state (port_at 1) ≡ Unfit 8)
@@ -40,9 +40,9 @@ pub record TriedPortIsAHistory : Type 0 where
   pub serves : (service.event.ask ≡ Service) × (service.event.said ≡ Served [])
   pub absent : service.event.ports.state (port_at 0) ≡ Absent
   pub stays : service.event.ports.state (port_at 1) ≡ Unfit 8
-  pub does : DoesAll (trying ++ passing) unplug.device service.device
-  pub allowed : AreAllowed (trying ++ passing) unplug.device service.device does
+  pub does : DoesAll (looking ++ passing) unplug.device service.device
+  pub allowed : AreAllowed (looking ++ passing) unplug.device service.device does
   pub history : IsHistory (Any ∷ Any ∷ []) first (service ∷ unplug ∷ past)
-  pub accesses : history.2.accesses ≡ trying ++ passing
+  pub accesses : history.2.accesses ≡ looking ++ passing
   pub unplug_parts : (port : Port) → TiesPort (now first past) unplug history.0.2.accesses port
   pub service_parts : (port : Port) → TiesPort (now first (unplug ∷ past)) service history.2.accesses port

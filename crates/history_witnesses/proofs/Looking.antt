@@ -1,4 +1,4 @@
--- The disk of an unfit port is taken out, and a service tries the port. This is the way of the device.
+-- The disk of an unfit port is taken out, and a service finds so. This is the way of the device.
 use Rattle.std.proofs.Common.{ℕ, ◌≡◌, ◌++◌, ◌==◌, Bool, true, false, List, [], ◌∷◌, inl, ⊎_elim, refl, sym, ◌∙◌, ap, subst, arith, if◌then◌else◌}
 use Rattle.std.specs.Prelude.{nat_eq}
 use Rattle.std.proofs.lemmas.Bool.{cases_eq, false≢true, ne_eqb, true≢false}
@@ -17,7 +17,7 @@ use Rattle.adapter.specs.declared.tape.Entry.TheVariants as entry
 use Rattle.agreement.specs.Agrees.{port_at}
 use Rattle.history_witnesses.specs.Allowed.{AreAllowed}
 use Rattle.history_witnesses.specs.Scene.{device_with}
-use Rattle.history_witnesses.specs.Tried.{passing, trying}
+use Rattle.history_witnesses.specs.Missing.{passing, looking}
 use Rattle.history_witnesses.proofs.Booting.{rebooted, unfit}
 use Rattle.history_witnesses.proofs.Command.{read_memory}
 use Rattle.history_witnesses.proofs.Devices.{but_first, but_second, no_bit, put_device, reads, writes}
@@ -70,8 +70,8 @@ absent = record cleared { notes = note Ssts 0 cleared }
 abbrev pub passed : PortState
 passed = record (unfit 1) { notes = note Ssts 3 (unfit 1) }
 
-abbrev pub tried : Device
-tried = dev absent passed
+abbrev pub looked_over : Device
+looked_over = dev absent passed
 
 unfoldable pub reads_here : (r : PortReg) (v : ℕ) (p : PortState) → PortShows r v p → Reads (Px (port_at 0) r) v (dev p (unfit 1)) (dev (record p { notes = note r v p }) (unfit 1))
 reads_here r v p shows = reads tape_gone read_memory 0 (p ∷ unfit 1 ∷ []) (record p { notes = note r v p } ∷ unfit 1 ∷ []) (but_first p (record p { notes = note r v p }) (unfit 1 ∷ [])) r v shows refl
@@ -103,7 +103,7 @@ none_shown place = no_bit place ∙ sym (by (nat_eq place 6) (nat_eq place 22))
     by false true = refl
     by false false = refl
 
-unfoldable pub does : DoesAll (trying ++ passing) unplugged tried
+unfoldable pub does : DoesAll (looking ++ passing) unplugged looked_over
 does = (
   unplugged,
   reads_here Is 0x400000 gone (λ place cause. prcs_shown place),
@@ -128,7 +128,7 @@ does = (
               (
                 dev absent (unfit 1),
                 reads_there Is 0 (unfit 1) (λ place cause. none_shown place),
-                (tried, reads_there Ssts 3 (unfit 1) refl, refl),
+                (looked_over, reads_there Ssts 3 (unfit 1) refl, refl),
               ),
             ),
           ),
@@ -148,7 +148,7 @@ may_command = record {
   others = λ place low start receive. refl;
 }
 
-pub allowed : AreAllowed (trying ++ passing) unplugged tried does
+pub allowed : AreAllowed (looking ++ passing) unplugged looked_over does
 unfolding does reads_here writes_here reads_there reads writes
 allowed = (
   (record { ae = refl; no_reset = refl }, (omega arith, refl)),

@@ -32,7 +32,7 @@ use Rattle.driver_history.specs.Histories.{IsUnfitOrForeign, TendsPort, Ties, Ti
 use Rattle.driver_history.specs.Holds.{HoldsOf}
 use Rattle.driver_history.specs.Trace.{LeavesCommand, LeavesEngine, ResetsLink}
 use Rattle.history_witnesses.specs.Scene.{having, showing}
-use Rattle.history_witnesses.specs.Tried.{TriedPortIsAHistory, passing, trying}
+use Rattle.history_witnesses.specs.Missing.{MissingDiskIsAHistory, passing, looking}
 use Rattle.history_witnesses.proofs.Accepting.{first, submit, submit_happens, submit_ties}
 use Rattle.history_witnesses.proofs.Booting.{rebooted, unfit}
 use Rattle.history_witnesses.proofs.Command.{read_memory}
@@ -45,7 +45,7 @@ use Rattle.history_witnesses.proofs.Pages.{plain_disks}
 use Rattle.history_witnesses.proofs.Ready.{agreeing, begins, fit_ready, free_apart, served_of, starts}
 use Rattle.history_witnesses.proofs.Resetting.{answered, fit, not_dead, not_ready, rebooted_at, reset, unfit_ports}
 use Rattle.history_witnesses.proofs.Resetting as resetting
-use Rattle.history_witnesses.proofs.Trying.{absent, allowed, can_go, does, gained, goes, gone, passed, tape_gone, tried, unplugged}
+use Rattle.history_witnesses.proofs.Looking.{absent, allowed, can_go, does, gained, goes, gone, passed, tape_gone, looked_over, unplugged}
 
 -- ---- the calls
 
@@ -74,11 +74,11 @@ evidence = record { faults = []; lost = []; gone = []; failed = []; fatal = []; 
 abbrev service : Happening Device DeviceStep
 service = record {
   event = record { ask = Service; said = Served []; evidence = evidence; steps = []; ports = one_absent };
-  device = tried;
+  device = looked_over;
 }
 
-abbrev tried_at : Instant Device
-tried_at = record { device = tried; moment = record { machine = without; ports = one_absent } }
+abbrev looked_at : Instant Device
+looked_at = record { device = looked_over; moment = record { machine = without; ports = one_absent } }
 
 -- ---- the ports
 
@@ -125,7 +125,7 @@ becomes n = (
     changes zero = inr (inl (named 0))
     changes (suc n) = inl (same_past n)
 
-had_disk : (n : ℕ) → SamePort unfit_ports one_absent (port_at n) ⊎ HadDisk unplugged_at.moment [] tried_at.moment (port_at n)
+had_disk : (n : ℕ) → SamePort unfit_ports one_absent (port_at n) ⊎ HadDisk unplugged_at.moment [] looked_at.moment (port_at n)
 had_disk zero = inr (λ shows. absurd shows)
 had_disk (suc n) = inl (same_past n)
 
@@ -254,7 +254,7 @@ unplug_ties = record {
 
 -- ---- the service
 
-answers : AnswersService unplugged_at.moment evidence [] [] tried_at.moment
+answers : AnswersService unplugged_at.moment evidence [] [] looked_at.moment
 answers = record {
   tells = record { answers = []; same = IsPermutation-refl _; ordered = λ i j d less low. absurd (omega (arith, less, low)); told = refl };
   dead = λ e o here. absurd (nowhere (Answer e o) here);
@@ -278,7 +278,7 @@ service_happens = record {
   heeds = λ port ready. absurd (not_ready port.0 ready);
 }
 
-stops : Stops (port_at 0) (trying ++ passing)
+stops : Stops (port_at 0) (looking ++ passing)
 stops = record {
   before = Reading (Px (port_at 0) Is) 0x400000 ∷ Reading (Px (port_at 0) Ssts) 0 ∷ Reading (Px (port_at 0) Cmd) 0x4010 ∷ [];
   cleared = 0x4010;
@@ -291,10 +291,10 @@ stops = record {
   shown = refl;
 }
 
-of_first : WritesOf (IsOf (port_at 0)) (trying ++ passing)
+of_first : WritesOf (IsOf (port_at 0)) (looking ++ passing)
 of_first = (refl, (refl, tt))
 
-of_served : AreServing (TendsPort unfit_ports) (trying ++ passing)
+of_served : AreServing (TendsPort unfit_ports) (looking ++ passing)
 of_served = (tended 0 refl, (tended 0 refl, (tended 0 refl, ((λ is. cc, tended 0 refl), (tended 0 refl, ((λ is. cc, tended 0 refl), (tended 0 refl, (tended 1 refl, (tended 1 refl, tt)))))))))
   where
     tended : (n : ℕ) → unfit_ports.served (port_at n) ≡ true → TendsPort unfit_ports (port_at n)
@@ -310,7 +310,7 @@ unnamed n = record {
   stuck = nowhere (port_at (suc n));
 }
 
-service_evidenced : (n : ℕ) → IsEvidencedOf Service (Served []) (trying ++ passing) unplugged_at one_absent tried evidence (port_at n)
+service_evidenced : (n : ℕ) → IsEvidencedOf Service (Served []) (looking ++ passing) unplugged_at one_absent looked_over evidence (port_at n)
 service_evidenced zero = record {
   lost = λ h. absurd (nowhere (port_at 0) h);
   gone_all = λ ready loss. absurd (not_ready 0 ready);
@@ -323,14 +323,14 @@ service_evidenced zero = record {
   stopped_only = λ h. inl stops;
   stuck_only = λ h. absurd (nowhere (port_at 0) h);
 }
-service_evidenced (suc n) = unnamed_evidenced Service (Served []) (trying ++ passing) unplugged_at one_absent tried evidence (port_at (suc n)) (unnamed n) (λ ready. absurd (not_ready (suc n) ready))
-    (leaves (IsOf (port_at 0)) (port_at (suc n)) (λ is. apart (ap (λ (p : Port). p.0) is)) (λ is. apart (ap (λ (p : Port). p.0) is)) (trying ++ passing) of_first)
+service_evidenced (suc n) = unnamed_evidenced Service (Served []) (looking ++ passing) unplugged_at one_absent looked_over evidence (port_at (suc n)) (unnamed n) (λ ready. absurd (not_ready (suc n) ready))
+    (leaves (IsOf (port_at 0)) (port_at (suc n)) (λ is. apart (ap (λ (p : Port). p.0) is)) (λ is. apart (ap (λ (p : Port). p.0) is)) (looking ++ passing) of_first)
   where
     apart : suc n ≡ 0 → ⊥
     apart e = omega (arith, e)
 
 -- the first port's disk isn't there; the other's is, and shows no change
-tries : (n : ℕ) → TriesDisk (trying ++ passing) unplugged_at one_absent tried (port_at n)
+tries : (n : ℕ) → TriesDisk (looking ++ passing) unplugged_at one_absent looked_over (port_at n)
 tries zero = record {
   shown = λ is. absurd (let x : Unfit 8 ≡ Absent = is in cc);
   absent = λ is. absurd (let x : Unfit 8 ≡ Absent = is in cc);
@@ -354,7 +354,7 @@ tries (suc (suc n)) = record {
     not_bad (inl is) = let x : Absent ≡ Foreign = is in cc
     not_bad (inr is) = let x : Absent ≡ Unfit is.0 = is.1 in cc
 
-service_part : (n : ℕ) → TiesPort unplugged_at service (trying ++ passing) (port_at n)
+service_part : (n : ℕ) → TiesPort unplugged_at service (looking ++ passing) (port_at n)
 service_part n = record {
   finds = λ ready. absurd (not_ready n ready);
   faults = λ alone. absurd (not_ready n alone.ready);
@@ -370,7 +370,7 @@ service_part n = record {
   well = λ why ready. absurd (not_ready_then n ready);
 }
   where
-    boots : (n : ℕ) → SamePort unfit_ports one_absent (port_at n) ⊎ ((one_absent.state (port_at n) ≡ Dead) ⊎ ((one_absent.state (port_at n) ≡ Absent) ⊎ ResetsLink (port_at n) (trying ++ passing)))
+    boots : (n : ℕ) → SamePort unfit_ports one_absent (port_at n) ⊎ ((one_absent.state (port_at n) ≡ Dead) ⊎ ((one_absent.state (port_at n) ≡ Absent) ⊎ ResetsLink (port_at n) (looking ++ passing)))
     boots zero = inr (inr (inl refl))
     boots (suc n) = inl (same_past n)
 
@@ -378,11 +378,11 @@ service_part n = record {
     quiet_past zero shows = quiet 0 shows
     quiet_past (suc n) shows = quiet (suc n) shows
 
-    changes : (n : ℕ) → ShowsChange (unplugged.port n) ⊎ Gains (IsPlugging n) unplugged tried → IsInterrupted evidence (port_at n) ⊎ ShowsChange (tried.port n)
+    changes : (n : ℕ) → ShowsChange (unplugged.port n) ⊎ Gains (IsPlugging n) unplugged looked_over → IsInterrupted evidence (port_at n) ⊎ ShowsChange (looked_over.port n)
     changes zero why = inl (inl (named 0))
-    changes (suc n) why = absurd (⊎_elim (quiet_past n) (gained_none (IsPlugging (suc n)) unplugged tried [] (sym (append-nil _)) (All-nil (λ e. IsPlugging (suc n) e → ⊥))) why)
+    changes (suc n) why = absurd (⊎_elim (quiet_past n) (gained_none (IsPlugging (suc n)) unplugged looked_over [] (sym (append-nil _)) (All-nil (λ e. IsPlugging (suc n) e → ⊥))) why)
 
-service_backed : IsBacked unplugged tried without []
+service_backed : IsBacked unplugged looked_over without []
 service_backed = record {
   telling = refl;
   gained = [];
@@ -392,7 +392,7 @@ service_backed = record {
   plugged = λ port. ([], plugs port, refl);
 }
   where
-    plugs : (n : ℕ) → (tried.port n).plugged ≡ (unplugged.port n).plugged ++ []
+    plugs : (n : ℕ) → (looked_over.port n).plugged ≡ (unplugged.port n).plugged ++ []
     plugs zero = refl
     plugs (suc zero) = refl
     plugs (suc (suc n)) = refl
@@ -402,7 +402,7 @@ free_then zero k = record { issued = refl; free = refl; unarmed = refl }
 free_then (suc zero) k = record { issued = refl; free = refl; unarmed = refl }
 free_then (suc (suc n)) k = record { issued = refl; free = refl; unarmed = refl }
 
-service_knows : Knows without (at no_slots tried)
+service_knows : Knows without (at no_slots looked_over)
 service_knows = agreeing without no_slots tape_gone read_memory absent passed
     (record { own_first = refl; own_second = refl; disks = (refl, refl); present = present; ids = refl; sizes = refl; bytes = refl })
     free_then free_apart (λ f b from small. past_driver f b from) (λ n e may at_port. ⊎_elim (λ z. absurd (nowhere e z.0)) (λ z. absurd (nowhere e z)) may)
@@ -412,7 +412,7 @@ service_knows = agreeing without no_slots tape_gone read_memory absent passed
     present (suc zero) = refl
     present (suc (suc n)) = cond-false (suc (suc n) == 0) false false (ne_eqb (suc (suc n)) 0 (omega arith))
 
-holds_of : (n : ℕ) → HoldsOf (wanted_of (Any ∷ Any ∷ []) n) no_slots tried_at (port_at n) (one_absent.served (port_at n)) (one_absent.state (port_at n))
+holds_of : (n : ℕ) → HoldsOf (wanted_of (Any ∷ Any ∷ []) n) no_slots looked_at (port_at n) (one_absent.served (port_at n)) (one_absent.state (port_at n))
 holds_of zero = record {
   on = record { ae = refl; no_reset = refl };
   ends = (
@@ -435,12 +435,12 @@ holds_of (suc zero) = record {
   waits = λ e here. absurd (nowhere e here);
   kept = λ e k. absurd (nowhere e k);
 }
-holds_of (suc (suc n)) = unserved_at no_slots tried_at (suc (suc n)) refl refl (record { free = λ slot. refl; unparked = refl }) (λ e here. absurd (nowhere e here)) (λ e kept. absurd (nowhere e kept))
+holds_of (suc (suc n)) = unserved_at no_slots looked_at (suc (suc n)) refl refl (record { free = λ slot. refl; unparked = refl }) (λ e here. absurd (nowhere e here)) (λ e kept. absurd (nowhere e kept))
 
 service_ties : Ties (Any ∷ Any ∷ []) unplugged_at service
 service_ties = record {
-  accesses = trying ++ passing;
-  came = (does, serving (TendsPort unfit_ports) (trying ++ passing) of_served);
+  accesses = looking ++ passing;
+  came = (does, serving (TendsPort unfit_ports) (looking ++ passing) of_served);
   backed = service_backed;
   evidenced = record { faults = λ f here. absurd (nowhere f here); port = λ port. service_evidenced port.0 };
   issues = λ port ready. absurd (not_ready_then port.0 ready);
@@ -458,9 +458,9 @@ service_ties = record {
 
 -- ---- the history
 
-pub tried_port_is_a_history : TriedPortIsAHistory
+pub missing_disk_is_a_history : MissingDiskIsAHistory
 unfolding service_ties unplug_ties
-tried_port_is_a_history = record {
+missing_disk_is_a_history = record {
   first = first;
   past = reset ∷ submit ∷ [];
   unfit = (refl, refl);
