@@ -1,28 +1,32 @@
--- Lists of calls serve ports on which nothing goes wrong.
-use Rattle.std.proofs.Common.{ℕ, true, false, ◌≡◌, ◌≢◌, ◌<◌, ◌∙◌, List, [], ◌∷◌, ◌++◌, arith, drop, get_or, length, refl, sym, ap, subst}
-use Rattle.std.proofs.lemmas.List.{append_assoc, append_cancel_left, append-nil, length-append}
+-- The calls of a list keep their promise.
+use Rattle.std.proofs.Common.{ℕ, Bool, true, false, ◌≡◌, ◌≢◌, ◌<◌, ◌∙◌, List, [], ◌∷◌, ◌++◌, refl, sym, ap, subst}
+use Rattle.std.proofs.lemmas.List.{append_assoc, append_cancel_left, append-nil, map-append, reverse-append}
 use Rattle.std.proofs.lemmas.List.Elements.{All-cons, All-head, All-nil, All-tail}
+use Rattle.std.specs.Prelude.{map, reverse}
 use Rattle.std.specs.List.{All, Contains}
 use Rattle.ata_types.specs.declared.Port.{Port}
 use Rattle.ata_types.specs.declared.PortState.{PortState}
-use Rattle.ata_types.specs.declared.PortState.TheVariants.{Absent, Ready}
+use Rattle.ata_types.specs.declared.PortState.TheVariants.{Absent, Ready, Foreign, Unfit, Dead}
 use Rattle.ata_types.specs.declared.request.Outcome.{Outcome}
 use Rattle.ata_types.specs.declared.request.Outcome.TheVariants.{Ok}
 use Rattle.ata_types.specs.declared.request.RequestId.{RequestId}
 use Rattle.adapter.specs.Device.{Device}
 use Rattle.adapter.specs.Idle.{IsIdle}
+use Rattle.adapter.specs.Rules.{IsOn}
 use Rattle.adapter.specs.declared.access.DeviceStep.{DeviceStep}
 use Rattle.adapter.specs.declared.tape.Entry.{Entry}
+use Rattle.agreement.specs.Acts.{InSlots}
 use Rattle.agreement.specs.Facts.{IsDisturbance, RunsWell, Undisturbed}
 use Rattle.agreement.specs.Slots.{ServesRequest}
-use Rattle.block_machine.specs.Events.{Ask, Service as AskService, Tick, Reset, EveryReadHolds, HeedsAt, IsHung, IsRun, moment_after, steps_of}
+use Rattle.block_machine.specs.Events.{Ask, Said as MachineSaid, Service as AskService, Tick, Reset, EveryReadHolds, HeedsAt, IsHung, IsRun, moment_after, steps_of}
 use Rattle.block_machine.specs.Histories.{Happening, Instant, events_of, now}
 use Rattle.block_machine.specs.Ports.{AreFit, Ports}
 use Rattle.block_machine.specs.State.{Pending}
 use Rattle.block_machine.specs.Steps.{Answer}
-use Rattle.driver_history.specs.Claims.{AnswerRests, GoesWellFor, HeedsFailure, IsHealthyFor}
-use Rattle.driver_history.specs.Evidence.{ShowsFailure, StaysHealthy}
+use Rattle.driver_history.specs.Claims.{AnswerRests, GoesWellFor, IsHealthyFor}
+use Rattle.driver_history.specs.Evidence.{StaysHealthy}
 use Rattle.driver_history.specs.Histories.{IsHistory}
+use Rattle.driver_history.specs.Holds.{HoldsAt, HoldsOf, NoneWaits}
 use Rattle.driver_history.specs.Moves.{KeepsMoves}
 use Rattle.configuration.specs.declared.Config.{Config}
 use Rattle.host_boot.specs.Taken.{found_of, wanted_of, StandsBehind, TakesOver}
@@ -31,16 +35,15 @@ use Rattle.host_boot.specs.declared.Found.TheVariants.{Unserved, Ready as IsFoun
 use Rattle.host_boot.specs.declared.Host.{Host}
 use Rattle.identify.specs.declared.DiskInfo.{DiskInfo}
 use Rattle.identify.specs.declared.wanted.Wanted.{Wanted}
-use Rattle.server_history.specs.Histories.{Leads}
+use Rattle.server_history.specs.Histories.{AddsEvent, Leads}
 use Rattle.server_history.specs.Server.{is_served, ports_of, state_of}
-use Rattle.block_server.specs.Healthy.{EachSince, IsServedWell, IsSound, KeepsPromise, none, one_more}
+use Rattle.block_server.specs.Clients.{AreCalls, EachAfter, HoldsBetween, IsConfinedCall, IsInState, IsSeenAt, ServesClients}
 use Rattle.block_server.specs.Made.{IsNew}
-use Rattle.block_server.specs.Running.{AddEach, Ran}
-use Rattle.block_server.specs.View.{ServerView, server_of}
+use Rattle.block_server.specs.Promise.{DrivesDevice, IsServedWell, Simulates, KeepsPromise, ServesPorts}
+use Rattle.block_server.specs.Running.{ask_of, said_of}
+use Rattle.block_server.specs.View.{ServerView, server_of, visible_of}
 use Rattle.block_server.specs.declared.types.Event.{Event}
-use Rattle.block_server.specs.declared.types.Event.TheVariants as calls
 use Rattle.block_server.specs.declared.types.Said.{Said}
-use Rattle.block_server.proofs.Running.{run_adds}
 
 -- What the laws of histories say, each of every history.
 pub record HistoryLaws : Type 0 where
@@ -49,9 +52,6 @@ pub record HistoryLaws : Type 0 where
       → ServesRequest (now first past).moment.machine (now first past).device.memory ((now first past).device.port port.0) port.0 slot id
       → ((now first past).device.port port.0).ci slot ≡ false → ((now first past).device.port port.0).sact slot ≡ false
       → (done : Pending) × (done.request.id ≡ id) × Contains h.event.steps (Answer done Ok)
-  pub heeded : (wanted : List Wanted) (first : Instant Device) (past : List (Happening Device DeviceStep)) (h : Happening Device DeviceStep) (port : Port)
-      → IsHistory wanted first (h ∷ past) → h.event.ask ≡ AskService → (now first past).moment.ports.state port ≡ Ready
-      → ShowsFailure ((now first past).device.port port.0) → HeedsFailure port (now first past) h
   pub well : (wanted : List Wanted) (first : Instant Device) (past : List (Happening Device DeviceStep)) (h : Happening Device DeviceStep) (port : Port)
       → IsHistory wanted first (h ∷ past) → IsHealthyFor (now first past) h port → GoesWellFor (now first past) h port
   pub rest : (wanted : List Wanted) (first : Instant Device) (past : List (Happening Device DeviceStep)) (h : Happening Device DeviceStep)
@@ -70,23 +70,89 @@ abbrev pub ReadyRunWell : Type 0
 ReadyRunWell = (wanted : List Wanted) (host : Host) (port : ℕ) (info : DiskInfo) (old new : Device) → IsIdle old → TakesOver wanted host old new
     → found_of host.ports port ≡ IsFound info → Undisturbed port old new → RunsWell (new.port port)
 
--- ---- calls since an earlier part
+-- ---- calls after calls
 
-since_before : {Is : List (Happening Device DeviceStep) → Happening Device DeviceStep → Type 0} {earlier : List (Happening Device DeviceStep)}
-    (h : Happening Device DeviceStep) {later : List (Happening Device DeviceStep)} → EachSince Is (h ∷ earlier) later → Is earlier h → EachSince Is earlier later
-since_before h none is = one_more none is
-since_before h (one_more others last) is = one_more (since_before h others is) last
+abbrev Calls : Type 0
+Calls = List (Happening Device DeviceStep)
 
--- a call with calls after it, and calls since that part before it
-since_has : {Is : List (Happening Device DeviceStep) → Happening Device DeviceStep → Type 0} {past later : List (Happening Device DeviceStep)} → EachSince Is past later
-    → (after since : List (Happening Device DeviceStep)) (h : Happening Device DeviceStep) → later ≡ after ++ h ∷ (since ++ past) → Is (since ++ past) h
-since_has {Is} {past} {later} none after since h is =
-    let all = ap length is ∙ length-append after (h ∷ (since ++ past)) in
-    let rest = length-append since past in
-    absurd (omega (arith, all, rest))
-since_has {Is} {past} (one_more {h = last} others here) [] since h is =
-    subst (λ (x : Happening Device DeviceStep). Is (since ++ past) x) (ap (λ (l : List (Happening Device DeviceStep)). get_or l 0 h) is) (subst (λ (l : List (Happening Device DeviceStep)). Is l last) (ap (drop 1) is) here)
-since_has (one_more others here) (x ∷ after) since h is = since_has others after since h (ap (drop 1) is)
+module _ (Is : Calls → Happening Device DeviceStep → Type 0) (past one : Calls) where
+  each_joined : (two : Calls) → EachAfter Is past one → EachAfter Is (one ++ past) two → EachAfter Is past (two ++ one)
+  each_joined [] a b = a
+  each_joined (h ∷ two) a b = (each_joined two a b.0, subst (λ (l : Calls). Is l h) (sym (append_assoc two one past)) b.1)
+
+  each_parted : (two : Calls) → EachAfter Is past (two ++ one) → EachAfter Is past one × EachAfter Is (one ++ past) two
+  each_parted [] a = (a, tt)
+  each_parted (h ∷ two) a =
+      let rest = each_parted two a.0 in
+      (rest.0, (rest.1, subst (λ (l : Calls). Is l h) (append_assoc two one past) a.1))
+
+mapped : {X : Type 0} (f : Happening Device DeviceStep → X) (one two : Calls) (a b : List X) → map f (reverse one) ≡ a → map f (reverse two) ≡ b
+    → map f (reverse (two ++ one)) ≡ a ++ b
+mapped f one two a b p q =
+    ap (map f) (reverse-append two one) ∙ map-append f (reverse one) (reverse two) ∙ ap (λ l. l ++ map f (reverse two)) p ∙ ap (λ l. a ++ l) q
+
+calls_joined : (one two : Calls) (events further : List Event) (said more : List Said) → AreCalls one (map ask_of events) (map said_of said)
+    → AreCalls two (map ask_of further) (map said_of more) → AreCalls (two ++ one) (map ask_of (events ++ further)) (map said_of (said ++ more))
+calls_joined one two events further said more a b = record {
+  asks = mapped (λ h. h.event.ask) one two _ _ a.asks b.asks ∙ sym (map-append ask_of events further);
+  says = mapped (λ h. h.event.said) one two _ _ a.says b.says ∙ sym (map-append said_of said more);
+}
+
+-- the call is no reset, nor a tick that finds a request of the port so old that it is restarted
+abbrev Spares : Instant Device → Port → Calls → Happening Device DeviceStep → Type 0
+Spares first port before h = (h.event.ask ≢ Reset) × (h.event.ask ≡ Tick → IsHung (now first before).moment port → ⊥)
+
+-- ---- between two calls
+
+module _ (wanted : Wanted) (s : InSlots) (i : Instant Device) (port : Port) where
+  in_state : (served : Bool) (state : PortState) → i.moment.ports.state port ≡ state → HoldsOf wanted s i port served state → IsInState wanted i port served state
+  in_state false state e h = sym e ∙ h.absent
+  in_state true Ready e h = (h.info, h.disk, h.shows)
+  in_state true Dead e h = h.why
+  in_state true Absent e h = h.ends
+  in_state true Foreign e h = h.ends
+  in_state true (Unfit cause) e h = h.ends
+
+  none_waits : (served : Bool) (state : PortState) → HoldsOf wanted s i port served state → state ≢ Ready → IsOn i.device → NoneWaits i.moment.machine port
+  none_waits false state h unready on = h.waits
+  none_waits true Ready h unready on = absurd (unready refl)
+  none_waits true Dead h unready on = h.waits on
+  none_waits true Absent h unready on = h.waits
+  none_waits true Foreign h unready on = h.waits
+  none_waits true (Unfit cause) h unready on = h.waits
+
+holds_between : (wanted : List Wanted) (i : Instant Device) → HoldsAt wanted i → HoldsBetween wanted i
+holds_between wanted i (s, h) = record {
+  served = h.served;
+  state = λ port low. in_state (wanted_of wanted port.0) s i port (i.moment.ports.served port) (i.moment.ports.state port) refl (h.port port low);
+  waits = λ port low. none_waits (wanted_of wanted port.0) s i port (i.moment.ports.served port) (i.moment.ports.state port) (h.port port low);
+  memory = h.knows.agrees.memory;
+  disk = h.knows.agrees.disk;
+  sectors = h.knows.agrees.sectors;
+}
+
+holds_now : (wanted : List Wanted) (first : Instant Device) (past : Calls) → IsHistory wanted first past → HoldsAt wanted (now first past)
+holds_now wanted first [] history = history.1.0
+holds_now wanted first (h ∷ past) history = history.2.holds
+
+-- the tape after calls is the tape before with more
+grows : (wanted : List Wanted) (first : Instant Device) (past added : Calls) → EachAfter (IsConfinedCall wanted first) past added
+    → (gained : List Entry) × ((now first (added ++ past)).device.tape ≡ (now first past).device.tape ++ gained)
+grows wanted first past [] each = ([], sym (append-nil (now first past).device.tape))
+grows wanted first past (h ∷ added) each =
+    let before = grows wanted first past added each.0 in
+    let here = each.1.moves in
+    (before.0 ++ here.gained, here.tape ∙ ap (λ (t : List Entry). t ++ here.gained) before.1 ∙ append_assoc (now first past).device.tape before.0 here.gained)
+
+seen_at : {A : Type 0} (device : A → Device) (s : ServerView A) (first : Instant Device) (past : Calls) → Leads first past (server_of device s)
+    → IsSeenAt (visible_of device s) (now first past)
+seen_at device s first past leads = record {
+  device_is = leads.stands.device_is;
+  rows = leads.stands.machine.rows;
+  owner = leads.stands.machine.owner;
+  lent = leads.stands.machine.lent;
+  state = λ port. ap (λ (p : Ports). p.state port) leads.stands.ports_are;
+}
 
 -- ---- what a stretch of the tape lacks, each part of it lacks
 
@@ -132,101 +198,116 @@ module _ (laws : HistoryLaws) where
         },
       )
 
-  all_sound : (wanted : List Wanted) (first : Instant Device) (past : List (Happening Device DeviceStep)) → IsHistory wanted first past → EachSince (IsSound first) [] past
-  all_sound wanted first [] history = none
-  all_sound wanted first (h ∷ past) history =
-      one_more (all_sound wanted first past history.0)
-      (record {
-        moves = laws.moves wanted first past h history;
-        served = λ port healthy. served_well wanted first past h port history healthy;
-        part = λ port. (history.2.accesses, history.2.came, history.2.evidenced.port port, history.2.port port);
-        seen = λ port slot id asks ready serves clear inactive. laws.seen wanted first past h port slot id history asks ready serves clear inactive;
-        heeded = λ port asks ready failure. laws.heeded wanted first past h port history asks ready failure;
-      })
 
-  module _ {A : Type 0} (device : A → Device) (first : Instant Device) where
-    -- the tape after a call, or after calls, is the tape before with more
-    call_grows : (past : List (Happening Device DeviceStep)) (old mid : ServerView A) (h : Happening Device DeviceStep)
-        → Leads first past (server_of device old) → Leads first (h ∷ past) (server_of device mid)
-        → (gained : List Entry) × ((device mid.adapter).tape ≡ (device old.adapter).tape ++ gained)
-    call_grows past old mid h leads here =
-        let keeps = laws.moves mid.wanted first past h here.history in
-        (keeps.gained, ap (λ (d : Device). d.tape) (sym here.stands.device_is) ∙ keeps.tape ∙ ap (λ (d : Device). d.tape ++ keeps.gained) leads.stands.device_is)
+  all_confined : (wanted : List Wanted) (first : Instant Device) (past added : Calls) → IsHistory wanted first (added ++ past)
+      → EachAfter (IsConfinedCall wanted first) past added
+  all_confined wanted first past [] history = tt
+  all_confined wanted first past (h ∷ added) history = (
+    all_confined wanted first past added history.0,
+    record {
+      moves = laws.moves wanted first (added ++ past) h history;
+      holds = holds_between wanted (now first (h ∷ (added ++ past))) history.2.holds;
+    },
+  )
 
-    grows : (past later : List (Happening Device DeviceStep)) (old new : ServerView A) (events : List Event) (said : List Said)
-        → AddEach device first past old events said later new → Leads first past (server_of device old)
-        → (gained : List Entry) × ((device new.adapter).tape ≡ (device old.adapter).tape ++ gained)
-    grows past later old new [] [] adds leads =
-        ([], ap (λ (s : ServerView A). (device s.adapter).tape) adds.1 ∙ sym (append-nil (device old.adapter).tape))
-    grows past later old new [] (one ∷ more) adds leads = absurd adds
-    grows past later old new (event ∷ events) [] adds leads = absurd adds
-    grows past later old new (event ∷ events) (one ∷ more) (mid, h, its, ask_is, said_is, here, rest) leads =
-        let tape = call_grows past old mid h leads here in
-        let further = grows (h ∷ past) later mid new events more rest here in
-        (tape.0 ++ further.0, further.1 ∙ ap (λ (t : List Entry). t ++ further.0) tape.1 ∙ append_assoc (device old.adapter).tape tape.0 further.0)
+  module _ {A : Type 0} (device : A → Device) where
+    pub no_call : (s : ServerView A) → Simulates device s s [] []
+    no_call s first past leads = record {
+      added = [];
+      clients = record {
+        calls = record { asks = refl; says = refl };
+        from = seen_at device s first past leads;
+        to = seen_at device s first past leads;
+        run = laws.run s.wanted first past leads.history;
+        reads = laws.reads s.wanted first past leads.history;
+        begins = holds_between s.wanted (now first past) (holds_now s.wanted first past leads.history);
+        confined = tt;
+      };
+      driver = record { leads = leads; serves = tt; healthy = λ port ready stays spared. (tt, ready, stays.well) };
+    }
 
-    -- the history after calls is the history before with more
-    goes_further : (past later : List (Happening Device DeviceStep)) (old new : ServerView A) (events : List Event) (said : List Said)
-        → AddEach device first past old events said later new → (after : List (Happening Device DeviceStep)) × (later ≡ after ++ past)
-    goes_further past later old new [] [] adds = ([], adds.0)
-    goes_further past later old new [] (one ∷ more) adds = absurd adds
-    goes_further past later old new (event ∷ events) [] adds = absurd adds
-    goes_further past later old new (event ∷ events) (one ∷ more) (mid, h, its, ask_is, said_is, here, rest) =
-        let further = goes_further (h ∷ past) later mid new events more rest in
-        (further.0 ++ h ∷ [], further.1 ∙ sym (append_assoc further.0 (h ∷ []) past))
-
-    module _ (port : Port) where
-      -- no call since an earlier part is a reset, nor a tick that finds a request of the port so old that it is restarted
-      abbrev Spares : List (Happening Device DeviceStep) → List (Happening Device DeviceStep) → Type 0
-      Spares past later = (after since : List (Happening Device DeviceStep)) (h : Happening Device DeviceStep) → later ≡ after ++ h ∷ (since ++ past)
-          → (h.event.ask ≢ Reset) × (h.event.ask ≡ Tick → IsHung (now first (since ++ past)).moment port → ⊥)
-
-      abbrev Served : List (Happening Device DeviceStep) → List (Happening Device DeviceStep) → ServerView A → Type 0
-      Served past later new = EachSince (λ before h. IsServedWell port (now first before) h) past later
-          × (state_of (found_of new.ports port.0) ≡ Ready) × RunsWell ((device new.adapter).port port.0)
-
-      healthy : (past later : List (Happening Device DeviceStep)) (old new : ServerView A) (events : List Event) (said : List Said)
-          → AddEach device first past old events said later new → Leads first past (server_of device old)
-          → state_of (found_of old.ports port.0) ≡ Ready → StaysHealthy port.0 (device old.adapter) (device new.adapter) → Spares past later → Served past later new
-      healthy past later old new [] [] adds leads ready stays spared =
-          subst (λ (l : List (Happening Device DeviceStep)). Served past l new) (sym adds.0)
-          (subst (Served past past) (sym adds.1) (none, ready, stays.well))
-      healthy past later old new [] (one ∷ more) adds leads ready stays spared = absurd adds
-      healthy past later old new (event ∷ events) [] adds leads ready stays spared = absurd adds
-      healthy past later old new (event ∷ events) (one ∷ more) (mid, h, its, ask_is, said_is, here, rest) leads ready stays spared =
-          let tape = call_grows past old mid h leads here in
-          let further = grows (h ∷ past) later mid new events more rest here in
-          let u = parts port.0 (device old.adapter) (device mid.adapter) (device new.adapter) tape.0 further.0 tape.1 further.1 stays.undisturbed in
+    module _ (old new : ServerView A) (first : Instant Device) (past : Calls) (h : Happening Device DeviceStep)
+        (leads : Leads first past (server_of device old)) (here : Leads first (h ∷ past) (server_of device new)) (port : Port) where
+      -- a call on which nothing goes wrong on a port that runs well
+      goes_well : state_of (found_of old.ports port.0) ≡ Ready → StaysHealthy port.0 (device old.adapter) (device new.adapter)
+          → (h.event.ask ≢ Reset) × (h.event.ask ≡ Tick → IsHung (now first past).moment port → ⊥)
+          → IsServedWell port (now first past) h × (state_of (found_of new.ports port.0) ≡ Ready) × RunsWell ((device new.adapter).port port.0)
+      goes_well ready stays spared =
           let stays_in : StaysHealthy port.0 (now first past).device h.device =
           subst (λ (d : Device). StaysHealthy port.0 d h.device) (sym leads.stands.device_is)
-          (subst (StaysHealthy port.0 (device old.adapter)) (sym here.stands.device_is) (record { well = stays.well; undisturbed = u.before })) in
+          (subst (StaysHealthy port.0 (device old.adapter)) (sym here.stands.device_is) stays) in
           let is_ready : (now first past).moment.ports.state port ≡ Ready = ap (λ (p : Ports). p.state port) leads.stands.ports_are ∙ ready in
-          let served = served_well mid.wanted first past h port here.history (record {
-            ready = is_ready;
-            healthy = stays_in;
-            no_reset = (let more = goes_further (h ∷ past) later mid new events more rest in (spared more.0 [] h more.1).0);
-            young = (let more = goes_further (h ∷ past) later mid new events more rest in (spared more.0 [] h more.1).1);
-          }) in
-          let runs_on : RunsWell ((device mid.adapter).port port.0) = subst (λ (d : Device). RunsWell (d.port port.0)) here.stands.device_is served.0.well in
-          let stays_ready : state_of (found_of mid.ports port.0) ≡ Ready =
-          ap (λ (p : Ports). p.state port) (sym here.stands.ports_are) ∙ served.1.same.1 ∙ is_ready in
-          let others = healthy (h ∷ past) later mid new events more rest here stays_ready (record { well = runs_on; undisturbed = u.after })
-          (λ after since k. subst (λ (l : List (Happening Device DeviceStep)). later ≡ after ++ k ∷ l → (k.event.ask ≢ Reset) × (k.event.ask ≡ Tick → IsHung (now first l).moment port → ⊥))
-          (append_assoc since (h ∷ []) past) (spared after (since ++ h ∷ []) k)) in
-          (since_before h others.0 served, others.1, others.2)
+          let served = served_well new.wanted first past h port here.history
+          (record { ready = is_ready; healthy = stays_in; no_reset = spared.0; young = spared.1 }) in (
+            served,
+            ap (λ (p : Ports). p.state port) (sym here.stands.ports_are) ∙ served.1.same.1 ∙ is_ready,
+            subst (λ (d : Device). RunsWell (d.port port.0)) here.stands.device_is served.0.well,
+          )
 
-    pub serves_healthy : (past : List (Happening Device DeviceStep)) (old new : ServerView A) (events : List Event) (said : List Said)
-        → Ran device old new events said → Leads first past (server_of device old) → KeepsPromise device first past old new events said
-    serves_healthy past old new events said ran leads =
-        let x = run_adds device old new events said first past ran leads in
+    pub one_call : (old new : ServerView A) (event : Event) (one : Said) → AddsEvent (server_of device old) (server_of device new) (ask_of event) (said_of one)
+        → Simulates device old new (event ∷ []) (one ∷ [])
+    one_call old new event one adds first past leads =
+        let x = adds first past leads in
+        let h = x.0 in
+        let here = x.3 in
+        let history = here.history in
         record {
-          later = x.0;
-          adds = x.1;
-          leads = x.2;
-          run = laws.run new.wanted first x.0 x.2.history;
-          reads = laws.reads new.wanted first x.0 x.2.history;
-          sound = all_sound new.wanted first x.0 x.2.history;
-          healthy = λ port ready stays spared. healthy port past x.0 old new events said x.1 leads ready stays (λ after since h. since_has spared after since h);
+          added = h ∷ [];
+          clients = record {
+            calls = record { asks = ap (λ (a : Ask DeviceStep). a ∷ []) x.1; says = ap (λ (a : MachineSaid). a ∷ []) x.2 };
+            from = seen_at device old first past leads;
+            to = seen_at device new first (h ∷ past) here;
+            run = laws.run new.wanted first (h ∷ past) history;
+            reads = laws.reads new.wanted first (h ∷ past) history;
+            begins = holds_between old.wanted (now first past) (holds_now old.wanted first past leads.history);
+            confined = all_confined new.wanted first past (h ∷ []) history;
+          };
+          driver = record {
+            leads = here;
+            serves = (tt, record {
+              seen = λ port slot id. laws.seen new.wanted first past h port slot id history;
+              served = λ port healthy. served_well new.wanted first past h port history healthy;
+            });
+            healthy = λ port ready stays spared.
+                let well = goes_well old new first past h leads here port ready stays spared.1 in
+                ((tt, well.0), well.1, well.2);
+          };
+        }
+
+    pub more_calls : (old mid new : ServerView A) (events further : List Event) (said more : List Said) → Simulates device old mid events said
+        → Simulates device mid new further more → Simulates device old new (events ++ further) (said ++ more)
+    more_calls old mid new events further said more keeps goes_on first past leads =
+        let a = keeps first past leads in
+        let b = goes_on first (a.added ++ past) a.driver.leads in
+        let one = a.added in
+        let two = b.added in
+        let whole = sym (append_assoc two one past) in
+        let leads = subst (λ (l : Calls). Leads first l (server_of device new)) whole b.driver.leads in
+        record {
+          added = two ++ one;
+          clients = record {
+            calls = calls_joined one two events further said more a.clients.calls b.clients.calls;
+            from = a.clients.from;
+            to = subst (λ (l : Calls). IsSeenAt (visible_of device new) (now first l)) whole b.clients.to;
+            run = subst (λ (l : Calls). IsRun first.moment (events_of l)) whole b.clients.run;
+            reads = subst (λ (l : Calls). first.device.telling ≡ true → EveryReadHolds first.moment (events_of l)) whole b.clients.reads;
+            begins = a.clients.begins;
+            confined = all_confined new.wanted first past (two ++ one) leads.history;
+          };
+          driver = record {
+            leads = leads;
+            serves = each_joined (ServesPorts first) past one two a.driver.serves b.driver.serves;
+            healthy = λ port ready stays spared.
+                let started = grows mid.wanted first past one a.clients.confined in
+                let ended = grows new.wanted first (one ++ past) two b.clients.confined in
+                let u = parts port.0 (device old.adapter) (device mid.adapter) (device new.adapter) started.0 ended.0
+                (ap (λ (d : Device). d.tape) (sym a.clients.to.device_is) ∙ started.1 ∙ ap (λ (d : Device). d.tape ++ started.0) a.clients.from.device_is)
+                (ap (λ (d : Device). d.tape) (sym b.clients.to.device_is) ∙ ended.1 ∙ ap (λ (d : Device). d.tape ++ ended.0) b.clients.from.device_is) stays.undisturbed in
+                let spares = each_parted (Spares first port) past one two spared in
+                let here = a.driver.healthy port ready (record { well = stays.well; undisturbed = u.before }) spares.0 in
+                let there = b.driver.healthy port here.1 (record { well = here.2; undisturbed = u.after }) spares.1 in
+                (each_joined (λ before h. IsServedWell port (now first before) h) past one two here.0 there.0, there.1, there.2);
+          };
         }
 
 -- ---- a server as it is made

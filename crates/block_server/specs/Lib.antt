@@ -1,10 +1,11 @@
+pub mod Clients
 pub mod View
 pub mod Seen
 pub mod Made
 pub mod Calls
 pub mod Running
 pub mod Ports
-pub mod Healthy
+pub mod Promise
 pub mod Fates
 pub mod Recovery
 pub mod Resetting

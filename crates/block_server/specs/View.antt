@@ -4,13 +4,15 @@ use Rattle.ata_types.specs.declared.grant.GrantRow.{GrantRow}
 use Rattle.adapter.specs.Device.{Device}
 use Rattle.block_machine.specs.declared.due.Mode.{Mode}
 use Rattle.dma_frames.specs.Loan.{Lending}
-use Rattle.dma_frames.specs.Table.{Table}
+use Rattle.dma_frames.specs.Table.{Table, lent_to, owner_of}
+use Rattle.host_boot.specs.Taken.{found_of}
 use Rattle.host_boot.specs.declared.Found.{Found}
 use Rattle.identify.specs.declared.DiskInfo.{DiskInfo}
 use Rattle.identify.specs.declared.wanted.Wanted.{Wanted}
 use Rattle.request_queue.specs.Entries.{Held}
-use Rattle.server_history.specs.Server.{Server}
+use Rattle.server_history.specs.Server.{Server, state_of}
 use Rattle.slots.specs.Uses.{Uses as PortSlots}
+use Rattle.block_server.specs.Clients.{Visible}
 
 pub record ServerView (A : Type 0) : Type 0 where
   pub adapter : A
@@ -46,4 +48,15 @@ server_of device s = record {
   kept = s.kept;
   book = s.book;
   last = s.last;
+}
+
+-- what can be seen of it
+abbrev pub visible_of : {A : Type 0} → (A → Device) → ServerView A → Visible
+visible_of device s = record {
+  device = device s.adapter;
+  wanted = s.wanted;
+  rows = s.grants;
+  owner = owner_of s.table;
+  lent = lent_to s.table;
+  state = λ port. state_of (found_of s.ports port.0);
 }

@@ -16,4 +16,4 @@ mod types;
 
 pub use host_boot::AdapterStuck;
 pub use server::Server;
-pub use types::{Event, RunStopped, Said, ServerError, Told};
+pub use types::{Event, RunStopped, Said, ServerError};

@@ -11,7 +11,7 @@ use Rattle.std.proofs.lemmas.List.{take_all}
 use mathlib.Core.List.{map-append}
 use Rattle.adapter.specs.Device.{Device}
 use Rattle.adapter.specs.declared.tape.Entry.{Entry}
-use Rattle.block_server.specs.Running.{Answered}
+use Rattle.block_server.specs.Promise.{Simulates}
 use Rattle.block_server.specs.View.{ServerView}
 use Rattle.block_server.specs.declared.types.Event.{Event}
 use Rattle.block_server.specs.declared.types.Said.{Said}
@@ -110,12 +110,12 @@ module _ {A : Type 0} (device : A → Device) (starved : A → Bool) (trace : Bo
 
   -- one more call
   prints_more : (now next : ServerView A) (shown : ℕ) (lines : List Line) (line : Line) (said : List Said) (text last : List ℕ) (one : Said)
-      → Prints device starved trace first now shown (events_of lines) said text last → starved now.adapter ≡ false → Answered device (event_of line) one now next
+      → Prints device starved trace first now shown (events_of lines) said text last → starved now.adapter ≡ false → Simulates device now next (event_of line ∷ []) (one ∷ [])
       → Prints device starved trace first next (length (device next.adapter).tape) (events_of (lines ++ line ∷ [])) (said ++ one ∷ []) (text ++ last)
       (call_text trace shown (device next.adapter).tape one)
-  prints_more now next shown lines line said text last one prints fed answered =
+  prints_more now next shown lines line said text last one prints fed keeps =
       subst (λ (events : List Event). Prints device starved trace first next (length (device next.adapter).tape) events (said ++ one ∷ []) (text ++ last)
-      (call_text trace shown (device next.adapter).tape one)) (sym (map-append event_of lines (line ∷ []))) (call prints fed answered)
+      (call_text trace shown (device next.adapter).tape one)) (sym (map-append event_of lines (line ∷ []))) (call prints fed keeps)
 
   -- a line that was played, and printed whole
   pub played_line : (now next : ServerView A) (shown : ℕ) (text : List ℕ) (line : Line) (t : Bor (List ℕ)) (left : Option (Bor (List ℕ)))
@@ -130,7 +130,7 @@ module _ {A : Type 0} (device : A → Device) (starved : A → Bool) (trace : Bo
     said = so_far.said ++ p.one ∷ [];
     text = so_far.text ++ so_far.last;
     last = call_text trace shown (device next.adapter).tape p.one;
-    prints = prints_more now next shown so_far.played line so_far.said so_far.text so_far.last p.one so_far.prints fed p.answered;
+    prints = prints_more now next shown so_far.played line so_far.said so_far.text so_far.last p.one so_far.prints fed p.keeps;
     printed = appends_more before mid after (so_far.text ++ so_far.last) _ so_far.printed
         (subst (λ (printed : List ℕ). Appends mid after printed) (take_all p.part p.text whole ∙ p.text_is) p.printed);
   }
@@ -153,7 +153,7 @@ module _ {A : Type 0} (device : A → Device) (starved : A → Bool) (trace : Bo
       said = so_far.said ++ p.one ∷ [];
       text = so_far.text ++ so_far.last;
       last = call_text trace shown (device next.adapter).tape p.one;
-      prints = prints_more device starved trace first (lines_of script) now next shown so_far.played line so_far.said so_far.text so_far.last p.one so_far.prints fed p.answered;
+      prints = prints_more device starved trace first (lines_of script) now next shown so_far.played line so_far.said so_far.text so_far.last p.one so_far.prints fed p.keeps;
       part = p.part;
       printed = appends_more before mid after (so_far.text ++ so_far.last) _ so_far.printed
           (subst (λ (whole : List ℕ). Appends mid after (take p.part whole)) p.text_is p.printed);
@@ -204,12 +204,12 @@ module _ {A : Type 0} (device : A → Device) (starved : A → Bool) (trace : Bo
 
 -- a call whose text is these bytes, of which a part was printed
 abbrev pub part_of : {A : Type 0} (device : A → Device) (starved : A → Bool) (trace : Bool) (shown : ℕ) (event asked : Event) (one : Said) (old new : ServerView A)
-    (before after : Option (List ℕ)) (part : ℕ) (bytes : List ℕ) (tape : List Entry) → asked ≡ event → Answered device asked one old new
+    (before after : Option (List ℕ)) (part : ℕ) (bytes : List ℕ) (tape : List Entry) → asked ≡ event → Simulates device old new (asked ∷ []) (one ∷ [])
     → tape ≡ (device new.adapter).tape → bytes ≡ call_text trace shown tape one → Appends before after (take part bytes)
     → (starved new.adapter ≡ true → part ≡ 0) → PrintsPart device starved trace shown event old new before after
-part_of device starved trace shown event asked one old new before after part bytes tape is answered tape_is bytes_are printed silent = record {
+part_of device starved trace shown event asked one old new before after part bytes tape is keeps tape_is bytes_are printed silent = record {
   one = one;
-  answered = subst (λ (e : Event). Answered device e one old new) is answered;
+  keeps = subst (λ (e : Event). Simulates device old new (e ∷ []) (one ∷ [])) is keeps;
   text = bytes;
   text_is = bytes_are ∙ ap (λ (t : List Entry). call_text trace shown t one) tape_is;
   part = part;

@@ -2,12 +2,9 @@
 use Rattle.std.specs.Prelude.{ℕ, Bool, true, false, ◌≡◌, ◌≤◌, List, [], ◌∷◌, ◌++◌, Option, None, Some, IsSome, codes, length, string_bytes, take}
 use Rattle.std.specs.Io.KnownBytes.{Appends}
 use Rattle.adapter.specs.Device.{Device}
-use Rattle.adapter.specs.declared.access.DeviceStep.{DeviceStep}
-use Rattle.block_machine.specs.Events.{IsRun, EveryReadHolds}
-use Rattle.block_machine.specs.Histories.{Instant, Happening}
-use Rattle.block_machine.specs.Histories as histories
+use Rattle.block_machine.specs.Histories.{Instant}
 use Rattle.block_server.specs.Made.{IsNew}
-use Rattle.block_server.specs.Running.{AddEach, Answered}
+use Rattle.block_server.specs.Promise.{KeepsPromise, Simulates}
 use Rattle.block_server.specs.View.{ServerView, server_of}
 use Rattle.block_server.specs.declared.types.Event.{Event}
 use Rattle.block_server.specs.declared.types.Said.{Said}
@@ -68,39 +65,32 @@ pub record IsStarted {S : Type 0} (size : S → ℕ) (told : S → Option (ℕ �
   pub modelled : IsModelOf size told config image blank model
   pub made : IsNew (device_at size told) config model server
 
--- What these calls answered, from this server to that one, is a run of the block machine. It begins where a new server stands, of this
--- configuration and of a model of image and blank disk; each call adds an event to it, with what was asked and said, and it leads to the server
--- after each; and where image and blank disk tell their sectors, each read that was answered Ok has, at the end of the call that answered it,
--- what was left.
+-- What these calls answered, from this server to that one, keeps the server's promise. The history begins where a new server stands, of this
+-- configuration and of a model of image and blank disk; and where both disks tell their sectors, the adapter's disks do.
 pub record AreAnswers {S : Type 0} (size : S → ℕ) (told : S → Option (ℕ → List ℕ)) (config : Config) (image blank : S)
     (server last : ServerView (Model S)) (events : List Event) (said : List Said) : Type 0 where
-  pub model : Model S
-  pub modelled : IsModelOf size told config image blank model
-  pub made : IsNew (device_at size told) config model server
+  pub started : IsStarted size told config image blank server
   pub first : Instant Device
   pub begun : Leads first [] (server_of (device_at size told) server)
-  pub past : List (Happening Device DeviceStep)
-  pub adds : AddEach (device_at size told) first [] server events said past last
-  pub leads : Leads first past (server_of (device_at size told) last)
-  pub run : IsRun first.moment (histories.events_of past)
-  pub reads : IsSome (told image) → IsSome (told blank) → EveryReadHolds first.moment (histories.events_of past)
+  pub telling : IsSome (told image) → IsSome (told blank) → first.device.telling ≡ true
+  pub promise : KeepsPromise (device_at size told) first [] server last events said
 
--- These calls lead from the old server to the new one, and say this in turn; none is made of an adapter that is starved. The text of the last
+-- These calls lead from the old server to the new one, say this in turn, and keep the server's promise each; none is made of an adapter that is starved. The text of the last
 -- call stands by itself, after that of those before it; where there is none, both are empty. So many entries of the tape count as shown
 -- then: all, once a call was made.
 pub data Prints {A : Type 0} (device : A → Device) (starved : A → Bool) (trace : Bool) (old : ServerView A)
     : ServerView A → ℕ → List Event → List Said → List ℕ → List ℕ → Type 0 where
   none : Prints device starved trace old old 0 [] [] [] []
   call : {mid new : ServerView A} {shown : ℕ} {events : List Event} {event : Event} {said : List Said} {one : Said} {before last : List ℕ}
-      → Prints device starved trace old mid shown events said before last → starved mid.adapter ≡ false → Answered device event one mid new
+      → Prints device starved trace old mid shown events said before last → starved mid.adapter ≡ false → Simulates device mid new (event ∷ []) (one ∷ [])
       → Prints device starved trace old new (length (device new.adapter).tape) (events ++ event ∷ []) (said ++ one ∷ []) (before ++ last)
       (call_text trace shown (device new.adapter).tape one)
 
--- A call was made, and of what is printed of it a part was, from its beginning on: nothing, where it starved the adapter.
+-- A call was made, which keeps the server's promise, and of what is printed of it a part was, from its beginning on: nothing, where it starved the adapter.
 pub record PrintsPart {A : Type 0} (device : A → Device) (starved : A → Bool) (trace : Bool) (shown : ℕ) (event : Event) (old new : ServerView A)
     (before after : Option (List ℕ)) : Type 0 where
   pub one : Said
-  pub answered : Answered device event one old new
+  pub keeps : Simulates device old new (event ∷ []) (one ∷ [])
   pub text : List ℕ
   pub text_is : text ≡ call_text trace shown (device new.adapter).tape one
   pub part : ℕ

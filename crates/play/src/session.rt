@@ -1,7 +1,8 @@
 // A script, played from its first line to its last.
 ghost use Rattle.std.specs.Prelude.{◌≡◌, ◌≤◌, ◌∷◌, ◌⊎◌, [], false, List, None, Err, IfOk, IfErr, IfSome, OnOk, length};
+ghost use Rattle.std.specs.Vec.{vec_capacity};
 ghost use Rattle.block_server.specs.Made.{IsNew, IsReadyFor};
-ghost use Rattle.block_server.specs.Running.{Answered};
+ghost use Rattle.block_server.specs.Promise.{Simulates};
 ghost use Rattle.block_server.specs.View.{ServerView};
 ghost use Rattle.configuration.specs.Document.{IsReadFrom};
 ghost use Rattle.configuration.specs.Rules.{IsSound};
@@ -15,12 +16,10 @@ use crate::event;
 use crate::printed::{print_call, write_out};
 use crate::setting::new_model;
 use adapter::{Adapter, Stepped};
-use ata_types::Replies;
-use block_server::Server;
-use block_server::laws::runs_are_histories;
+use block_server::laws::runs_keep_their_promise;
+use block_server::{Event, Said, Server};
 use configuration::{Config, ConfigFault, Kind};
 use device_model::{Model, NoMemory, Watched};
-use driver_history::laws::{histories_are_runs, reads_hold};
 use script::{BadLine, Line, check_script, first_line, read_asked};
 use sector_store::SectorStore;
 use std::alloc::{AllocFailed, Global};
@@ -75,8 +74,8 @@ impl From<Stop> for Ended {
 /// What a run keeps from line to line.
 #[derive(Drop)]
 struct Room {
-    /// What a service, a tick or a reset answered.
-    replies: Replies,
+    /// What the last call said, for which there is room from the start.
+    said: Vec<Said>,
     /// What is printed of one line.
     text: Vec<u8>,
 }
@@ -159,6 +158,17 @@ fn start<S: SectorStore>(
     on_heap(alloc, server)
 }
 
+/// Makes one call. What it said is all that the list has then.
+fn make_call<A: Stepped>(server: &mut Server<A>, event: Event, said: &mut Vec<Said>)
+    requires { 1 ≤ vec_capacity said.old }
+    ensures keeps { (one : Said) × (said.new.items ≡ one ∷ []) × Simulates A.device server.old server.new (event ∷ []) (one ∷ []) }
+    ensures room { 1 ≤ vec_capacity said.new }
+{
+    said.clear();
+    // There is room for what one call says, so the run isn't stopped.
+    let _done = server.run(&[event], said);
+}
+
 /// Plays a line: makes its call, and prints of it what the tape gained past so many entries, with a trace, and what it said. Gives how many
 /// entries the tape has then. Where it fails, a beginning of that text is printed, which may be nothing.
 fn play_line<A: Watched, W: io::Write>(
@@ -170,25 +180,20 @@ fn play_line<A: Watched, W: io::Write>(
     out: &mut W,
 ) -> Result<usize, Stop>
     requires fed { A.ended server.old.adapter ≡ false }
+    requires room { 1 ≤ vec_capacity room.old.said }
+    ensures room { 1 ≤ vec_capacity room.new.said }
     ensures printed { (p : PrintsPart A.device A.ended trace shown (event_of line) server.old server.new (W.contents out.old) (W.contents out.new))
         × OnOk result (length p.text ≤ p.part) × IfErr result (IsWhy (A.ended server.new.adapter) p.part) }
     ensures fed { OnOk result (A.ended server.new.adapter ≡ false) }
     ensures shown { IfOk result (λ count. count ≡ length (A.device server.new.adapter).tape) }
 {
-    let told = server.answer(&event(line), &mut room.replies);
+    make_call(server, event(line), &mut room.said);
     let adapter = server.adapter();
     if adapter.has_ended() {
         return Err(Stop::NoMemory);
     }
     let tape = adapter.tape();
-    let Ok(()) = print_call(
-        &mut room.text,
-        trace,
-        tape,
-        shown,
-        &told,
-        room.replies.as_slice(),
-    ) else {
+    let Ok(()) = print_call(&mut room.text, trace, tape, shown, &room.said[0]) else {
         // A text in memory wants nothing but memory.
         return Err(Stop::NoMemory);
     };
@@ -215,8 +220,12 @@ fn perform<A: Watched, W: io::Write>(
     if server.adapter().has_ended() {
         return Err(Stop::NoMemory);
     }
+    let mut said = Vec::new(alloc);
+    if said.reserve(1).is_err() {
+        return Err(Stop::NoMemory);
+    }
     let mut room = Room {
-        replies: Replies::new(),
+        said,
         text: Vec::new(alloc),
     };
     let mut shown = 0;
@@ -300,9 +309,7 @@ pub fn play<S: SectorStore, W: io::Write>(
     let Ok(mut server) = start(alloc, &values, image, blank) else {
         return unbegun(Ended::NoMemory);
     };
-    histories_are_runs();
-    reads_hold();
-    runs_are_histories::<Model<S>>();
+    runs_keep_their_promise::<Model<S>>();
     let performed = perform(alloc, &mut server, script, trace, out);
     let model = Some(closed(server));
     match performed {

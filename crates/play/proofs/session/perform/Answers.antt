@@ -1,4 +1,4 @@
-use Rattle.std.proofs.Common.{refl, ap, ◌∙◌, sym, subst, Option, List, ℕ, Err}
+use Rattle.std.proofs.Common.{refl, rules, ap, ◌∙◌, sym, subst, Option, List, ℕ, Err}
 use Rattle.std.proofs.lemmas.Result.{err_from_is_err_and}
 use Rattle.std.specs.Borrow.{Bor}
 use Rattle.script.specs.Script.{Asks, lines_of, lines_after}
@@ -8,12 +8,20 @@ use Rattle.play.proofs.Printing.{PlayedSoFar, played_none, played_nothing, playe
 use Rattle.play.proofs.session.perform.Goals as goal
 
 pub loop-rest-init : goal.loop-rest-init
-loop-rest-init g c = record { fed = ap g.A.Watched.ended (sym c.adapter.ensures) ∙ sym c.has_ended.ensures ∙ c.if-has_ended.false; played = played_none _ _ _ _ _ _ _ refl }
+loop-rest-init g c = record { fed = ap g.A.Watched.ended (sym c.adapter.ensures) ∙ sym c.has_ended.ensures ∙ c.if-has_ended.false; room = search rules; played = played_none _ _ _ _ _ _ _ refl }
 
 pub returns-then-has_ended : goal.returns-then-has_ended
 returns-then-has_ended g c =
     let ran = ran_none g.A.Adapter.device g.A.Watched.ended c.args.trace c.args.server.now c.args.script.now _ c.requires.good.0 c.requires.good.1 in
     (ran.0, tt, ran.1)
+
+pub returns-then-is_err : goal.returns-then-is_err
+returns-then-is_err g c =
+    let ran = ran_none g.A.Adapter.device g.A.Watched.ended c.args.trace c.args.server.now c.args.script.now _ c.requires.good.0 c.requires.good.1 in
+    (ran.0, tt, ran.1)
+
+pub play_line-requires-clause-room : goal.play_line-requires-clause-room
+play_line-requires-clause-room g c = c.loop-rest.invariant.room
 
 -- a line that asks nothing
 pub loop-rest-preserved-in-Ok-None : goal.loop-rest-preserved-in-Ok-None
@@ -26,6 +34,7 @@ loop-rest-preserved-in-Ok-None g c =
     let asks = subst (λ (asked : Option Line). Asks c.first_line.result.0.now asked) c.in-Ok-None.field-0-is c.in-Ok-None.ensures.ok in
     record {
       fed = c.loop-rest.invariant.fed;
+      room = c.loop-rest.invariant.room;
       played = played_nothing device g.A.Watched.ended c.args.trace c.args.server.now all c.loop-rest.server c.loop-rest.shown c.in-Some.text.now c.first_line.result.0.now c.in-Some.text
           c.first_line.result.1 before here so_far c.first_line.ensures.first asks;
     }
@@ -87,6 +96,7 @@ loop-rest-preserved-in_ok-shown-in-Ok-Some g c =
     let printed = c.in_ok-shown-in-Ok-Some.ensures.printed in
     record {
       fed = c.in_ok-shown-in-Ok-Some.ensures.fed;
+      room = c.play_line.ensures.room;
       played = subst (λ (shown : ℕ). PlayedSoFar device g.A.Watched.ended c.args.trace c.args.server.now all c.play_line.new.server shown c.first_line.result.1 before after) (sym c.in_ok-shown-in-Ok-Some.ensures.shown)
           (played_line device g.A.Watched.ended c.args.trace c.args.server.now all c.loop-rest.server c.play_line.new.server c.loop-rest.shown c.first_line.result.0.now
           c.in-Ok-Some.asked c.in-Some.text c.first_line.result.1 before here after so_far c.first_line.ensures.first asks printed.0 printed.1 c.loop-rest.invariant.fed);

@@ -1,4 +1,5 @@
-use Rattle.std.proofs.Common.{◌≡◌, false}
+use Rattle.std.proofs.Common.{◌≡◌, ◌≤◌, false}
+use Rattle.std.specs.Vec.{vec_capacity}
 use Rattle.script.specs.Script.{lines_of}
 use Rattle.play.proofs.Printing.{PlayedSoFar, bytes_left}
 use Rattle.play.proofs.session.perform.Given as goal
@@ -6,6 +7,7 @@ use Rattle.play.proofs.session.perform.Given as goal
 abbrev pub invariant-loop-rest : goal.invariant-loop-rest
 invariant-loop-rest g l = record {
   fed : g.A.Watched.ended l.server.adapter ≡ false;
+  room : 1 ≤ vec_capacity l.room.said;
   played : PlayedSoFar g.A.Adapter.device g.A.Watched.ended l.trace l.initial.server (lines_of l.script) l.server l.shown l.rest
       (g.W.Write.contents l.initial.out) (g.W.Write.contents l.out);
 }

@@ -22,7 +22,7 @@ returns-in-Ok-performed g c =
     let Started : ServerView (Model g.row.S.Denot) → Type 0 = λ server. IsStarted g.S.SectorStore.size g.S.SectorStore.told c.in-Ok.values c.args.image c.args.blank server in (
       played_of g.S.SectorStore.size g.S.SectorStore.told c.args.config.now c.args.script.now c.args.image c.args.blank c.args.trace _ _ c.in-Ok.values
           c.in-Ok.ensures.read c.deref_mut.result.now c.perform-performed.new.server (subst Started (sym c.deref_mut.ensures.value) c.in-Ok-start.ensures) ran.0
-          c.histories_are_runs.ensures c.reads_hold.ensures c.runs_are_histories.ensures.more c.closed.result c.closed.ensures,
+          (record { none = c.runs_keep_their_promise.ensures.none; more = c.runs_keep_their_promise.ensures.more }) c.closed.result c.closed.ensures,
       ran.1,
     )
 
@@ -36,5 +36,5 @@ returns g c =
     (stopped _ _ c.args.config.now c.args.script.now c.args.image c.args.blank c.args.trace _ _ c.closed.result c.in-Err-performed.stop
     (played_of g.S.SectorStore.size g.S.SectorStore.told c.args.config.now c.args.script.now c.args.image c.args.blank c.args.trace _ _ c.in-Ok.values
     c.in-Ok.ensures.read c.deref_mut.result.now c.perform-performed.new.server (subst Started (sym c.deref_mut.ensures.value) c.in-Ok-start.ensures) ran.0
-    c.histories_are_runs.ensures c.reads_hold.ensures c.runs_are_histories.ensures.more c.closed.result left)
+    (record { none = c.runs_keep_their_promise.ensures.none; more = c.runs_keep_their_promise.ensures.more }) c.closed.result left)
     (subst (λ (m : Model g.row.S.Denot). IsWhy (is_starved m) ran.0.part c.in-Err-performed.stop) (sym left) ran.2))

@@ -1,0 +1,98 @@
+-- What the calls of a list are to clients (this project's own).
+use Rattle.std.specs.Prelude.{ℕ, Bool, true, false, ◌≡◌, ◌≢◌, ◌⊎◌, ◌↔◌, ◌<◌, List, [], ◌∷◌, ◌++◌, Option, map, reverse}
+use Rattle.ata_types.specs.declared.Port.{Port}
+use Rattle.ata_types.specs.declared.PortState.{PortState}
+use Rattle.ata_types.specs.declared.PortState.TheVariants.{Absent, Ready, Dead}
+use Rattle.ata_types.specs.declared.grant.GrantRow.{GrantRow}
+use Rattle.ata_types.specs.declared.request.ClientId.{ClientId}
+use Rattle.ata_types.specs.declared.request.Frame.{Frame}
+use Rattle.ata_types.specs.declared.request.RequestId.{RequestId}
+use Rattle.adapter.specs.Device.{Device}
+use Rattle.adapter.specs.Rules.{IsOn}
+use Rattle.adapter.specs.declared.access.DeviceStep.{DeviceStep}
+use Rattle.agreement.specs.Agrees.{IsDiskOf, SameMemory, SameSectors}
+use Rattle.block_machine.specs.Events.{Ask, Said, EveryReadHolds, IsRun, steps_of}
+use Rattle.block_machine.specs.Histories.{Happening, Instant, events_of, now}
+use Rattle.driver_history.specs.Holds.{NoneWaits, ShowsDiskInfo}
+use Rattle.driver_history.specs.Moves.{KeepsMoves}
+use Rattle.host_boot.specs.Taken.{IsServed, wanted_of}
+use Rattle.identify.specs.Wanted.{serial_of}
+use Rattle.identify.specs.declared.DiskInfo.{DiskInfo}
+use Rattle.identify.specs.declared.wanted.Wanted.{Wanted}
+use Rattle.port_boot.specs.States.{EndsAs, HasFitDisk}
+
+-- Each of these calls, the newest first, which came after that history, is of this kind.
+abbrev pub EachAfter : (List (Happening Device DeviceStep) → Happening Device DeviceStep → Type 0) → List (Happening Device DeviceStep)
+    → List (Happening Device DeviceStep) → Type 0
+EachAfter Is past [] = Unit {0}
+EachAfter Is past (h ∷ added) = EachAfter Is past added × Is (added ++ past) h
+
+-- These calls, the newest first, asked that and said this, one after another.
+pub record AreCalls (added : List (Happening Device DeviceStep)) (asked : List (Ask DeviceStep)) (said : List Said) : Type 0 where
+  pub asks : map (λ h. h.event.ask) (reverse added) ≡ asked
+  pub says : map (λ h. h.event.said) (reverse added) ≡ said
+
+-- What can be seen of a server: the device behind its adapter, the disks that are wanted in its ports, its grants, by frame the owner and the
+-- request that it is lent to, and the states of its ports.
+pub record Visible : Type 0 where
+  pub device : Device
+  pub wanted : List Wanted
+  pub rows : List GrantRow
+  pub owner : Frame → Option ClientId
+  pub lent : Frame → Option RequestId
+  pub state : Port → PortState
+
+-- so the server is seen at the instant
+pub record IsSeenAt (v : Visible) (i : Instant Device) : Type 0 where
+  pub device_is : i.device ≡ v.device
+  pub rows : i.moment.machine.rows ≡ v.rows
+  pub owner : (frame : Frame) → i.moment.machine.owner frame ≡ v.owner frame
+  pub lent : (frame : Frame) → i.moment.machine.lent frame ≡ v.lent frame
+  pub state : (port : Port) → i.moment.ports.state port ≡ v.state port
+
+-- ---- between two calls
+
+-- Why a port is in its state. One that isn't served is absent. Behind a ready one stands the page that its disk sent last, since PxSCTL was
+-- last written: it fits what is wanted, and says how many sectors there are and what else requests are checked by. Absent, unfit and foreign ones
+-- are stopped, for what was read last or for that page. Of a dead one an engine was awaited in vain; or the adapter isn't on, since its last
+-- reset wasn't seen to end (PxSSTS, PxTFD, PxSIG, PxCMD: AHCI 1.3.1, 3.3; IDENTIFY DEVICE: ACS-3, 7.12).
+abbrev pub IsInState : Wanted → Instant Device → Port → Bool → PortState → Type 0
+IsInState wanted i port false state = state ≡ Absent
+IsInState wanted i port true Ready =
+    (info : DiskInfo) × HasFitDisk (serial_of wanted) port.0 i.device info × ShowsDiskInfo i.moment.ports port i.device.cap info
+IsInState wanted i port true Dead = EndsAs (serial_of wanted) Dead port.0 i.device ⊎ (IsOn i.device → ⊥)
+IsInState wanted i port true state = EndsAs (serial_of wanted) state port.0 i.device
+
+-- What holds between two calls. Of ports 0 to 3 those are served in which a disk is wanted and which the adapter has; each is in its state for a
+-- reason; and on one that isn't ready no request waits, unless the adapter isn't on. Clients' frames hold what the machine's do. The disk of each
+-- port is the machine's; and where the adapter's disks tell their sectors, these hold the same.
+pub record HoldsBetween (wanted : List Wanted) (i : Instant Device) : Type 0 where
+  pub served : (port : Port) → port.0 < 4 → (i.moment.ports.served port ≡ true) ↔ IsServed (wanted_of wanted port.0) port.0 i.device
+  pub state : (port : Port) → port.0 < 4
+      → IsInState (wanted_of wanted port.0) i port (i.moment.ports.served port) (i.moment.ports.state port)
+  pub waits : (port : Port) → port.0 < 4 → i.moment.ports.state port ≢ Ready → IsOn i.device → NoneWaits i.moment.machine port
+  pub memory : SameMemory i.moment.machine i.device.memory
+  pub disk : (port : ℕ) → IsDiskOf i.moment.machine (i.device.port port) port
+  pub sectors : i.device.telling ≡ true → (port : ℕ) → SameSectors i.moment.machine (i.device.port port).disk port
+
+-- ---- the promise
+
+-- In a call moves and clears keep to their places, and after it there holds what holds between calls.
+pub record IsConfinedCall (wanted : List Wanted) (first : Instant Device) (past : List (Happening Device DeviceStep))
+    (h : Happening Device DeviceStep) : Type 0 where
+  pub moves : KeepsMoves first.moment.machine (steps_of (events_of past)) h.event.steps (now first past).device h.device
+  pub holds : HoldsBetween wanted (now first (h ∷ past))
+
+-- What is promised to clients of calls that asked that and said this, after a history from where the server was made. With them the history is a run
+-- of the block machine, which leads to the server as it is seen after them; in it each read that was answered Ok has what was left, where the
+-- adapter's disks tell their sectors. And in each of the calls moves and clears keep to their places, and before and after it there holds what
+-- holds between calls.
+pub record ServesClients (first : Instant Device) (past added : List (Happening Device DeviceStep)) (old new : Visible)
+    (asked : List (Ask DeviceStep)) (said : List Said) : Type 0 where
+  pub calls : AreCalls added asked said
+  pub from : IsSeenAt old (now first past)
+  pub to : IsSeenAt new (now first (added ++ past))
+  pub run : IsRun first.moment (events_of (added ++ past))
+  pub reads : first.device.telling ≡ true → EveryReadHolds first.moment (events_of (added ++ past))
+  pub begins : HoldsBetween old.wanted (now first past)
+  pub confined : EachAfter (IsConfinedCall new.wanted first) past added
