@@ -3,6 +3,7 @@ pub mod View
 pub mod Seen
 pub mod Made
 pub mod Calls
+pub mod Sayings
 pub mod Running
 pub mod Ports
 pub mod Promise

@@ -1,11 +1,9 @@
 -- The calls of a list, as the machine's (this project's own).
-use Rattle.std.specs.Prelude.{◌≡◌, min, Some, None, List, [], ◌∷◌, ◌++◌, Ok, Err}
-use Rattle.adapter.specs.Device.{Device}
+use Rattle.std.specs.Prelude.{min, Some, None, Ok, Err}
 use Rattle.adapter.specs.declared.access.DeviceStep.{DeviceStep}
 use Rattle.block_machine.specs.Events.{Ask, Submit as AskSubmit, StoreAt, LoadAt, Service as AskService, Tick as AskTick, Reset as AskReset, State as AskState, Device as AskDevice, Submitted, Loaded, Served, WasReset, Shown, Stepped}
 use Rattle.block_machine.specs.Events as machine
-use Rattle.server_history.specs.Histories.{AddsEvent, store_said}
-use Rattle.block_server.specs.View.{ServerView, server_of}
+use Rattle.server_history.specs.Histories.{store_said}
 use Rattle.block_server.specs.declared.types.Event.{Event}
 use Rattle.block_server.specs.declared.types.Event.TheVariants.{Submit, ClientStore, ClientLoad, Service, Tick, Reset, State, Device as Step}
 use Rattle.block_server.specs.declared.types.Said.{Said}
@@ -33,9 +31,3 @@ said_of (said.WasReset (Ok replies)) = WasReset (Some replies.items)
 said_of (said.WasReset (Err why)) = WasReset None
 said_of (said.State state) = Shown state
 said_of (said.Stepped done) = Stepped done
-
--- The call says one thing more, at the end of a list, and adds an event with it to each history that leads to the server before it.
-pub record SaysAtEnd {A : Type 0} (device : A → Device) (old new : ServerView A) (event : Event) (before after : List Said) : Type 0 where
-  pub one : Said
-  pub told : after ≡ before ++ one ∷ []
-  pub adds : AddsEvent (server_of device old) (server_of device new) (ask_of event) (said_of one)

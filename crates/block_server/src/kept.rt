@@ -35,7 +35,7 @@ impl KeptLoans {
         Ok(KeptLoans { loans })
     }
 
-    /// Simulates one more loan.
+    /// Keeps one more loan.
     pub(crate) fn keep(&mut self, loan: Loan)
         requires { length self.old < 32 }
         ensures { self.new ≡ self.old ++ loan ∷ [] }

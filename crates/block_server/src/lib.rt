@@ -10,10 +10,12 @@ mod port;
 mod recovery;
 mod resetting;
 mod run;
+mod sayings;
 mod server;
 mod trying;
 mod types;
 
 pub use host_boot::AdapterStuck;
+pub use sayings::Sayings;
 pub use server::Server;
-pub use types::{Event, RunStopped, Said, ServerError};
+pub use types::{Event, RunStopped, Said, ServerError, Told};

@@ -53,6 +53,20 @@ pub enum Said {
     Stepped(bool),
 }
 
+/// What a call answered, where the replies of a service, a tick or a reset stand in a list aside.
+#[derive(Debug, Drop)]
+pub enum Told {
+    Submitted(Result<RequestId, Refusal>),
+    Stored(Result<(), MemFault>),
+    Loaded(Result<ArrayVec<u8, 64>, MemFault>),
+    /// The list has what was answered.
+    Served,
+    /// So it has of a reset that ended.
+    WasReset(Result<(), AdapterStuck>),
+    State(PortState),
+    Stepped(bool),
+}
+
 /// Room for what the event `at` says was refused: the events before it are done, and it was not begun.
 #[derive(Clone, Copy, Debug, PartialEq, Eq)]
 pub struct RunStopped {

@@ -1,13 +1,14 @@
 // What is printed of a call.
 ghost use Rattle.std.specs.Prelude.{◌≡◌, ◌≤◌, ℕ, OnOk, length, take};
 ghost use Rattle.std.specs.Io.KnownBytes.{Appends};
+ghost use Rattle.block_server.specs.Sayings.{with_replies};
 ghost use Rattle.play.specs.Lines.{call_text, gained_text, replies_text, reset_text, said_text, trace_text};
 ghost use Rattle.script.specs.Answer.{answer_line};
 ghost use Rattle.std.specs.List.{flat_map};
 
 use adapter::Entry;
 use ata_types::Reply;
-use block_server::Said;
+use block_server::Told;
 use script::Answer;
 use std::io;
 
@@ -43,21 +44,21 @@ fn print_reset<W: io::Write>(out: &mut W, replies: &[Reply]) -> io::Result<()>
     print_each(out, replies)
 }
 
-/// Prints what a call said.
-fn print_said<W: io::Write>(out: &mut W, said: &Said) -> io::Result<()>
-    ensures { OnOk result (Appends (W.contents out.old) (W.contents out.new) (said_text said.now)) }
+/// Prints what a call said, of which the replies of a service, a tick or a reset stand in a list.
+fn print_told<W: io::Write>(out: &mut W, told: &Told, replies: &[Reply]) -> io::Result<()>
+    ensures { OnOk result (Appends (W.contents out.old) (W.contents out.new) (said_text (with_replies told.now replies.now))) }
 {
-    match said {
-        Said::Submitted(Ok(id)) => Answer::Accepted(*id).print(out),
-        Said::Submitted(Err(refusal)) => Answer::Refused(*refusal).print(out),
-        Said::Stored(Ok(())) => Answer::Stored.print(out),
-        Said::Loaded(Ok(bytes)) => Answer::Bytes(bytes.as_slice()).print(out),
-        Said::Stored(Err(fault)) | Said::Loaded(Err(fault)) => Answer::Barred(*fault).print(out),
-        Said::Served(replies) => print_replies(out, replies.as_slice()),
-        Said::WasReset(Ok(replies)) => print_reset(out, replies.as_slice()),
-        Said::WasReset(Err(_)) => Answer::Stuck.print(out),
-        Said::State(state) => Answer::State(*state).print(out),
-        Said::Stepped(did) => Answer::Stepped(*did).print(out),
+    match told {
+        Told::Submitted(Ok(id)) => Answer::Accepted(*id).print(out),
+        Told::Submitted(Err(refusal)) => Answer::Refused(*refusal).print(out),
+        Told::Stored(Ok(())) => Answer::Stored.print(out),
+        Told::Loaded(Ok(bytes)) => Answer::Bytes(bytes.as_slice()).print(out),
+        Told::Stored(Err(fault)) | Told::Loaded(Err(fault)) => Answer::Barred(*fault).print(out),
+        Told::Served => print_replies(out, replies),
+        Told::WasReset(Ok(())) => print_reset(out, replies),
+        Told::WasReset(Err(_)) => Answer::Stuck.print(out),
+        Told::State(state) => Answer::State(*state).print(out),
+        Told::Stepped(did) => Answer::Stepped(*did).print(out),
     }
 }
 
@@ -95,19 +96,20 @@ fn print_trace<W: io::Write>(
 }
 
 /// Writes what is printed of a call, in place of what the text had: with a trace, what the tape gained past so many entries, and then what the
-/// call said. It fails where memory is refused.
+/// call said, of which the replies of a service, a tick or a reset stand in a list. It fails where memory is refused.
 pub fn print_call(
     text: &mut Vec<u8>,
     trace: bool,
     tape: &[Entry],
     shown: usize,
-    said: &Said,
+    told: &Told,
+    replies: &[Reply],
 ) -> io::Result<()>
-    ensures { OnOk result (text.new.items ≡ call_text trace shown tape.now said.now) }
+    ensures { OnOk result (text.new.items ≡ call_text trace shown tape.now (with_replies told.now replies.now)) }
 {
     text.clear();
     print_trace(text, trace, tape, shown)?;
-    print_said(text, said)
+    print_told(text, told, replies)
 }
 
 /// Writes bytes. Where the output fails, it has taken a beginning of them, which may be nothing.

@@ -1,6 +1,8 @@
 // A script, played from its first line to its last.
-ghost use Rattle.std.specs.Prelude.{◌≡◌, ◌≤◌, ◌∷◌, ◌⊎◌, [], false, List, None, Err, IfOk, IfErr, IfSome, OnOk, length};
+ghost use Rattle.std.specs.Prelude.{◌≡◌, ◌≤◌, ◌∷◌, ◌⊎◌, [], false, List, None, Err, IfOk, IfErr, IfSome, OnOk, Some, length};
 ghost use Rattle.std.specs.Vec.{vec_capacity};
+ghost use Rattle.block_server.specs.Sayings.{with_replies};
+ghost use Rattle.block_server.specs.declared.types.Told.{Told};
 ghost use Rattle.block_server.specs.Made.{IsNew, IsReadyFor};
 ghost use Rattle.block_server.specs.Promise.{Simulates};
 ghost use Rattle.block_server.specs.View.{ServerView};
@@ -17,7 +19,7 @@ use crate::printed::{print_call, write_out};
 use crate::setting::new_model;
 use adapter::{Adapter, Stepped};
 use block_server::laws::runs_keep_their_promise;
-use block_server::{Event, Said, Server};
+use block_server::{Event, Sayings, Server};
 use configuration::{Config, ConfigFault, Kind};
 use device_model::{Model, NoMemory, Watched};
 use script::{BadLine, Line, check_script, first_line, read_asked};
@@ -75,7 +77,7 @@ impl From<Stop> for Ended {
 #[derive(Drop)]
 struct Room {
     /// What the last call said, for which there is room from the start.
-    said: Vec<Said>,
+    said: Sayings,
     /// What is printed of one line.
     text: Vec<u8>,
 }
@@ -158,11 +160,12 @@ fn start<S: SectorStore>(
     on_heap(alloc, server)
 }
 
-/// Makes one call. What it said is all that the list has then.
-fn make_call<A: Stepped>(server: &mut Server<A>, event: Event, said: &mut Vec<Said>)
-    requires { 1 ≤ vec_capacity said.old }
-    ensures keeps { (one : Said) × (said.new.items ≡ one ∷ []) × Simulates A.device server.old server.new (event ∷ []) (one ∷ []) }
-    ensures room { 1 ≤ vec_capacity said.new }
+/// Makes one call, for which there is room. What it said is all that was said then.
+fn make_call<A: Stepped>(server: &mut Server<A>, event: Event, said: &mut Sayings)
+    requires { 1 ≤ vec_capacity said.old.earlier }
+    ensures keeps { (told : Told) × (said.new.last ≡ Some told)
+        × Simulates A.device server.old server.new (event ∷ []) (with_replies told said.new.replies.items ∷ []) }
+    ensures room { 1 ≤ vec_capacity said.new.earlier }
 {
     said.clear();
     // There is room for what one call says, so the run isn't stopped.
@@ -180,8 +183,8 @@ fn play_line<A: Watched, W: io::Write>(
     out: &mut W,
 ) -> Result<usize, Stop>
     requires fed { A.ended server.old.adapter ≡ false }
-    requires room { 1 ≤ vec_capacity room.old.said }
-    ensures room { 1 ≤ vec_capacity room.new.said }
+    requires room { 1 ≤ vec_capacity room.old.said.earlier }
+    ensures room { 1 ≤ vec_capacity room.new.said.earlier }
     ensures printed { (p : PrintsPart A.device A.ended trace shown (event_of line) server.old server.new (W.contents out.old) (W.contents out.new))
         × OnOk result (length p.text ≤ p.part) × IfErr result (IsWhy (A.ended server.new.adapter) p.part) }
     ensures fed { OnOk result (A.ended server.new.adapter ≡ false) }
@@ -193,7 +196,14 @@ fn play_line<A: Watched, W: io::Write>(
         return Err(Stop::NoMemory);
     }
     let tape = adapter.tape();
-    let Ok(()) = print_call(&mut room.text, trace, tape, shown, &room.said[0]) else {
+    let Ok(()) = print_call(
+        &mut room.text,
+        trace,
+        tape,
+        shown,
+        room.said.last().unwrap(),
+        room.said.replies(),
+    ) else {
         // A text in memory wants nothing but memory.
         return Err(Stop::NoMemory);
     };
@@ -220,7 +230,7 @@ fn perform<A: Watched, W: io::Write>(
     if server.adapter().has_ended() {
         return Err(Stop::NoMemory);
     }
-    let mut said = Vec::new(alloc);
+    let mut said = Sayings::new(alloc);
     if said.reserve(1).is_err() {
         return Err(Stop::NoMemory);
     }

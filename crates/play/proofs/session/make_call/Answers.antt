@@ -1,29 +1,39 @@
-use Rattle.std.proofs.Common.{◌≡◌, ◌≤◌, ◌+◌, ◌∷◌, ◌++◌, [], List, ap, arith, length, refl, subst, ◌∙◌}
-use Rattle.std.specs.Prelude.{IsOk, OnOk, Ok, Err}
-use Rattle.std.specs.Vec.{vec_capacity}
+use Rattle.std.proofs.Common.{◌≡◌, ◌≤◌, ◌+◌, ◌∷◌, ◌++◌, [], List, Option, Some, None, ap, arith, length, length-append, refl, subst, sym, ◌∙◌}
+use Rattle.std.specs.Prelude.{IsOk, IsSome, OnOk, Ok, Err}
 use Rattle.std.specs.declared.result.Result.{Result}
-use Rattle.block_server.specs.Promise.{RunsAsPromised, Simulates}
+use Rattle.ata_types.specs.declared.request.Reply.{Reply}
+use Rattle.block_server.specs.Promise.{Simulates}
+use Rattle.block_server.specs.Sayings.{last_of, said_in, with_replies}
 use Rattle.block_server.specs.declared.types.Said.{Said}
+use Rattle.block_server.specs.declared.types.Told.{Told}
 use Rattle.play.proofs.session.make_call.Goals as goal
 
 on_ok : {T E : Type 0} (r : Result T E) (P : Type 0) → OnOk r P → IsOk r → P
 on_ok (Ok x) P given ok = given
 on_ok (Err e) P given ok = cc
 
--- a list of one item
-one_of : {X : Type 0} (items : List X) → length items ≡ 1 → (one : X) × (items ≡ one ∷ [])
-one_of [] is = absurd (omega (arith, is))
-one_of (x ∷ []) is = (x, refl)
-one_of (x ∷ (y ∷ more)) is = absurd (omega (arith, is))
+some_of : {X : Type 0} (o : Option X) → IsSome o → (x : X) × (o ≡ Some x)
+some_of None is = cc
+some_of (Some x) is = (x, refl)
+
+-- a list of one item, at whose end one stands, has that one
+alone : {X : Type 0} (earlier : List X) (one : X) (items : List X) → earlier ++ one ∷ [] ≡ items → length items ≡ 1 → items ≡ one ∷ []
+alone [] one items e is = sym e
+alone (x ∷ earlier) one items e is = absurd (omega (arith, is, ap length e, length-append earlier (one ∷ [])))
 
 pub returns-clause-keeps : goal.returns-clause-keeps
 returns-clause-keeps g c =
     let device = g.A.Adapter.device in
     let call = c.args.event ∷ [] in
-    let ran = on_ok c.run-done.result _ c.run-done.ensures.done (c.run-done.ensures.ample (omega (arith, c.requires, c.clear.ensures.len, c.clear.ensures.capacity))) in
-    let one = one_of ran.said ran.each in
+    let new = c.run-done.new.out in
+    let ok : IsOk c.run-done.result = c.run-done.ensures.ample (omega (arith, c.requires, c.clear.ensures.len, c.clear.ensures.capacity)) in
+    let ran = on_ok c.run-done.result _ c.run-done.ensures.done ok in
+    let last = some_of new.last (on_ok c.run-done.result _ c.run-done.ensures.last ok (omega arith)) in
+    let one = with_replies last.0 new.replies.items in
+    let shown : new.earlier.items ++ one ∷ [] ≡ ran.said =
+    ap (λ (o : Option Told). new.earlier.items ++ last_of o new.replies.items) (sym last.1) ∙ ran.told ∙ ap (λ (before : List Said). before ++ ran.said) c.clear.ensures.said in
     let Q : List Said → Type 0 = λ said. Simulates device c.args.server.now c.run-done.new.self call said in
-    (one.0, ran.told ∙ ap (λ (before : List Said). before ++ ran.said) c.clear.ensures.items ∙ one.1, subst Q one.1 ran.keeps)
+    (last.0, last.1, subst Q (alone new.earlier.items one ran.said shown ran.each) ran.keeps)
 
 pub returns-clause-room : goal.returns-clause-room
 returns-clause-room g c = omega (arith, c.requires, c.clear.ensures.capacity, c.run-done.ensures.room)

@@ -1,6 +1,9 @@
-use Rattle.std.proofs.Common.{◌≡◌, ◌∙◌, List, refl, ap, get_or, sym, false}
+use Rattle.std.proofs.Common.{◌≡◌, ◌∙◌, List, Option, Some, None, refl, ap, subst, sym, false}
+use Rattle.std.specs.Borrow.{Bor}
+use Rattle.std.specs.Prelude.{MatchOption}
 use Rattle.std.proofs.lemmas.Bool.{false≢true}
-use Rattle.block_server.specs.declared.types.Said.{Said}
+use Rattle.block_server.specs.Sayings.{with_replies}
+use Rattle.block_server.specs.declared.types.Told.{Told}
 use Rattle.play.specs.Lines.{call_text}
 use Rattle.play.proofs.Printing.{appends_none, part_of}
 use Rattle.play.proofs.session.play_line.Goals as goal
@@ -10,10 +13,11 @@ pub returns-then-has_ended-clause-printed : goal.returns-then-has_ended-clause-p
 returns-then-has_ended-clause-printed g c =
     let device = g.A.Adapter.device in
     let call = c.make_call.ensures.keeps in
+    let said = with_replies call.0 c.make_call.new.said.replies.items in
     let out = g.W.Write.contents c.args.out.now in
     let tape = (device c.make_call.new.server.adapter).tape in (
-      part_of device g.A.Watched.ended c.args.trace c.args.shown _ c.event.result call.0 c.args.server.now c.make_call.new.server out out 0
-          (call_text c.args.trace c.args.shown tape call.0) tape c.event.ensures call.2 refl refl (appends_none out) (λ is. refl),
+      part_of device g.A.Watched.ended c.args.trace c.args.shown _ c.event.result said c.args.server.now c.make_call.new.server out out 0
+          (call_text c.args.trace c.args.shown tape said) tape c.event.ensures call.2 refl refl (appends_none out) (λ is. refl),
       tt,
       refl,
     )
@@ -22,10 +26,11 @@ pub returns-in_default-clause-printed : goal.returns-in_default-clause-printed
 returns-in_default-clause-printed g c =
     let device = g.A.Adapter.device in
     let call = c.make_call.ensures.keeps in
+    let said = with_replies call.0 c.make_call.new.said.replies.items in
     let out = g.W.Write.contents c.args.out.now in
     let tape = (device c.make_call.new.server.adapter).tape in (
-      part_of device g.A.Watched.ended c.args.trace c.args.shown _ c.event.result call.0 c.args.server.now c.make_call.new.server out out 0
-          (call_text c.args.trace c.args.shown tape call.0) tape c.event.ensures call.2 refl refl (appends_none out) (λ is. refl),
+      part_of device g.A.Watched.ended c.args.trace c.args.shown _ c.event.result said c.args.server.now c.make_call.new.server out out 0
+          (call_text c.args.trace c.args.shown tape said) tape c.event.ensures call.2 refl refl (appends_none out) (λ is. refl),
       tt,
       refl,
     )
@@ -34,13 +39,19 @@ pub returns-in_default-write_out-clause-printed : goal.returns-in_default-write_
 returns-in_default-write_out-clause-printed g c =
     let device = g.A.Adapter.device in
     let call = c.make_call.ensures.keeps in
+    let said = with_replies call.0 c.make_call.new.said.replies.items in
     let tape : c.tape-tape.result.now ≡ (device c.make_call.new.server.adapter).tape =
     c.tape-tape.ensures ∙ ap (λ (m : g.row.A.Denot). (device m).tape) c.adapter-adapter.ensures in
     let fed : g.A.Watched.ended c.make_call.new.server.adapter ≡ false =
     ap g.A.Watched.ended (sym c.adapter-adapter.ensures) ∙ sym c.has_ended.ensures ∙ c.if-has_ended.false in
-    let one : c.index.result.now ≡ call.0 = c.index.ensures ∙ ap (λ (said : List Said). get_or said 0 c.index.result.now) call.1 in
+    let last = c.make_call.new.said.last in
+    let Last : Option (Bor Told) → Type 0 = λ o. MatchOption o (last ≡ None) (λ told. last ≡ Some told.now) in
+    let here = subst Last c.unwrap.ensures c.last.ensures in
+    let same : c.unwrap.result.now ≡ call.0 = cc in
+    let one : with_replies c.unwrap.result.now c.replies.result.now ≡ said =
+    ap (λ (told : Told). with_replies told c.replies.result.now) same ∙ ap (with_replies call.0) c.replies.ensures in
     let wrote = c.in_default-write_out.ensures in (
-      part_of device g.A.Watched.ended c.args.trace c.args.shown _ c.event.result call.0 c.args.server.now c.make_call.new.server _ _ wrote.0
+      part_of device g.A.Watched.ended c.args.trace c.args.shown _ c.event.result said c.args.server.now c.make_call.new.server _ _ wrote.0
           c.as_slice.result.now c.tape-tape.result.now c.event.ensures call.2 tape (c.as_slice.ensures.value ∙ c.in-Ok.ensures ∙ ap (call_text c.args.trace c.args.shown c.tape-tape.result.now) one) wrote.1 (λ is. absurd (false≢true (sym fed ∙ is))),
       tt,
       fed,
@@ -50,13 +61,19 @@ pub returns-clause-printed : goal.returns-clause-printed
 returns-clause-printed g c =
     let device = g.A.Adapter.device in
     let call = c.make_call.ensures.keeps in
+    let said = with_replies call.0 c.make_call.new.said.replies.items in
     let tape : c.tape-tape.result.now ≡ (device c.make_call.new.server.adapter).tape =
     c.tape-tape.ensures ∙ ap (λ (m : g.row.A.Denot). (device m).tape) c.adapter-adapter.ensures in
     let fed : g.A.Watched.ended c.make_call.new.server.adapter ≡ false =
     ap g.A.Watched.ended (sym c.adapter-adapter.ensures) ∙ sym c.has_ended.ensures ∙ c.if-has_ended.false in
-    let one : c.index.result.now ≡ call.0 = c.index.ensures ∙ ap (λ (said : List Said). get_or said 0 c.index.result.now) call.1 in
+    let last = c.make_call.new.said.last in
+    let Last : Option (Bor Told) → Type 0 = λ o. MatchOption o (last ≡ None) (λ told. last ≡ Some told.now) in
+    let here = subst Last c.unwrap.ensures c.last.ensures in
+    let same : c.unwrap.result.now ≡ call.0 = cc in
+    let one : with_replies c.unwrap.result.now c.replies.result.now ≡ said =
+    ap (λ (told : Told). with_replies told c.replies.result.now) same ∙ ap (with_replies call.0) c.replies.ensures in
     let wrote = c.in-Ok-write_out.ensures in (
-      part_of device g.A.Watched.ended c.args.trace c.args.shown _ c.event.result call.0 c.args.server.now c.make_call.new.server _ _ wrote.0
+      part_of device g.A.Watched.ended c.args.trace c.args.shown _ c.event.result said c.args.server.now c.make_call.new.server _ _ wrote.0
           c.as_slice.result.now c.tape-tape.result.now c.event.ensures call.2 tape (c.as_slice.ensures.value ∙ c.in-Ok.ensures ∙ ap (call_text c.args.trace c.args.shown c.tape-tape.result.now) one) wrote.1 (λ is. absurd (false≢true (sym fed ∙ is))),
       wrote.2,
       tt,

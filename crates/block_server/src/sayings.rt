@@ -1,0 +1,116 @@
+// What calls from a list said.
+ghost use Rattle.std.specs.Prelude.{◌≡◌, ◌<◌, ◌≤◌, ◌+◌, ◌++◌, ◌∷◌, [], None, Some, IsOk, MatchOption, OnErr, OnOk, vec_len};
+ghost use Rattle.std.specs.Vec.{vec_capacity};
+ghost use Rattle.block_server.specs.Sayings.{said_in, with_replies};
+
+use crate::{Said, Told};
+use ata_types::{Replies, Reply};
+use std::alloc::{AllocError, Global};
+use std::mem;
+
+/// What a call said, with what a service, a tick or a reset answered.
+fn said_with(told: Told, replies: Replies) -> Said
+    ensures { result ≡ with_replies told replies.items }
+{
+    match told {
+        Told::Submitted(result) => Said::Submitted(result),
+        Told::Stored(result) => Said::Stored(result),
+        Told::Loaded(result) => Said::Loaded(result),
+        Told::Served => Said::Served(replies),
+        Told::WasReset(Ok(())) => Said::WasReset(Ok(replies)),
+        Told::WasReset(Err(stuck)) => Said::WasReset(Err(stuck)),
+        Told::State(state) => Said::State(state),
+        Told::Stepped(done) => Said::Stepped(done),
+    }
+}
+
+/// What calls said, one thing each, in their order. What the last one said stands apart from the list of those before it, with room for all replies of a
+/// call: so it is made in its place, and not moved until another call is made.
+#[derive(Drop)]
+pub struct Sayings {
+    earlier: Vec<Said>,
+    pub(crate) last: Option<Told>,
+    /// Where `last` is of a service, a tick or a reset that ended, what it answered.
+    pub(crate) replies: Replies,
+}
+
+impl Sayings {
+    /// Nothing was said, and there is room for nothing.
+    pub fn new(alloc: Global) -> Sayings
+        ensures { said_in result ≡ [] }
+    {
+        Sayings {
+            earlier: Vec::new(alloc),
+            last: None,
+            replies: Replies::new(),
+        }
+    }
+
+    /// Makes room for what so many calls say.
+    pub fn reserve(&mut self, calls: usize) -> Result<(), AllocError>
+        ensures said { said_in self.new ≡ said_in self.old }
+        ensures len { vec_len self.new.earlier ≡ vec_len self.old.earlier }
+        ensures ok { OnOk result (vec_len self.new.earlier + calls ≤ vec_capacity self.new.earlier) }
+        ensures capacity { vec_capacity self.old.earlier ≤ vec_capacity self.new.earlier }
+        ensures succeeds { vec_len self.old.earlier + calls ≤ vec_capacity self.old.earlier → IsOk result }
+    {
+        self.earlier.reserve(calls)
+    }
+
+    /// Nothing was said. The room stays.
+    pub fn clear(&mut self)
+        ensures said { said_in self.new ≡ [] }
+        ensures len { vec_len self.new.earlier ≡ 0 }
+        ensures capacity { vec_capacity self.new.earlier ≡ vec_capacity self.old.earlier }
+    {
+        self.earlier.clear();
+        self.last = None;
+    }
+
+    /// What the calls before the last one said.
+    pub fn earlier(&self) -> &[Said]
+        ensures { result.now ≡ self.now.earlier.items }
+    {
+        self.earlier.as_slice()
+    }
+
+    /// What the last call said, if there was one.
+    pub fn last(&self) -> Option<&Told>
+        ensures { MatchOption result (self.now.last ≡ None) (λ told. self.now.last ≡ Some told.now) }
+    {
+        self.last.as_ref()
+    }
+
+    /// What the last call answered, where that is a service, a tick or a reset that ended; of another call nothing is told.
+    pub fn replies(&self) -> &[Reply]
+        ensures { result.now ≡ self.now.replies.items }
+    {
+        self.replies.as_slice()
+    }
+
+    /// Puts what the last call said with that of those before it. A function of its own, since it has room for all replies.
+    #[inline(never)]
+    fn join(&mut self, told: Told)
+        requires { vec_len self.old.earlier < vec_capacity self.old.earlier }
+        ensures earlier { self.new.earlier.items ≡ self.old.earlier.items ++ with_replies told self.old.replies.items ∷ [] }
+        ensures last { self.new.last ≡ self.old.last }
+        ensures len { vec_len self.new.earlier ≡ vec_len self.old.earlier + 1 }
+        ensures capacity { vec_capacity self.new.earlier ≡ vec_capacity self.old.earlier }
+    {
+        let replies = mem::replace(&mut self.replies, Replies::new());
+        self.earlier.push_reserved(said_with(told, replies));
+    }
+
+    /// Gets ready for what another call says.
+    pub(crate) fn go_on(&mut self)
+        requires { vec_len self.old.earlier < vec_capacity self.old.earlier }
+        ensures earlier { self.new.earlier.items ≡ said_in self.old }
+        ensures last { self.new.last ≡ None }
+        ensures len { vec_len self.new.earlier ≤ vec_len self.old.earlier + 1 }
+        ensures capacity { vec_capacity self.new.earlier ≡ vec_capacity self.old.earlier }
+    {
+        if let Some(told) = self.last.take() {
+            self.join(told);
+        }
+    }
+}
