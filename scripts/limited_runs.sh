@@ -47,6 +47,28 @@ compare 'the lines before are answered' "$(read_answers 40000 | head -n "$lines"
 printf 'state 0\n%.0s' {1..100000} >states.script
 compare '100,000 lines' "$({ printf 'state Ready\n%.0s' {1..100000}; echo 'status 0'; } | sha256sum)" "$(ends blockd.toml disk.img states.script | sha256sum)"
 
+# Nor are the largest values that the formats allow, all at once: four ports, eight clients, 64 grants, 1,024 frames, and a script of ten million bytes.
+{
+    printf 'frames = 1024\nslots = 32\nncq = true\ndepth = 32\ntrim = "full"\n'
+    printf '[[port]]\nnumber = %d\n' {0..3}
+    for client in {1..8}; do
+        printf '[[client]]\nid = %d\nfirst_frame = %d\nframes = 123\n' "$client" $((40 + 123 * (client - 1)))
+        for number in {0..7}; do
+            printf '[[grant]]\nclient = %d\nnumber = %d\nport = %d\nfirst = 0\ncount = 256\nrights = "rwtf"\n' "$client" "$number" $((number % 4))
+        done
+    done
+} >largest.toml
+head -c 10000000 < <(yes 'state 0') >long.script
+compare 'the largest of all' "$({ head -c 15000000 < <(yes 'state Ready'); echo 'status 0'; } | sha256sum)" "$(ends largest.toml disk.img long.script | sha256sum)"
+
+# Words too many are a bad command line, and no want of memory either.
+words() {
+    local status=0
+    "$blockd" "$@" 2>&1 || status=$?
+    echo "status $status"
+}
+compare '128 words' $'blockd: bad command line\nstatus 2' "$(words --config blockd.toml --image disk.img --script first.script --trace {8..128})"
+
 # The stack is small.
 cp fresh.img disk.img
 compare 'a stack of 80 KiB' "$(cat first.output; echo 'status 0')" "$(ulimit -s 80; ends blockd.toml disk.img first.script)"

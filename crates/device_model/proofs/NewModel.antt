@@ -1,12 +1,12 @@
 -- A new model is idle and sane.
-use Rattle.std.proofs.Common.{ℕ, Bool, true, false, zero, suc, ◌≡◌, ◌<◌, ◌≤◌, List, [], ◌∷◌, Option, None, Some, replicate, refl, ap, ◌∙◌, slice_index, subst, arith, ◌&&◌, slice_index_or}
+use Rattle.std.proofs.Common.{ℕ, true, false, zero, suc, ◌≡◌, ◌<◌, ◌≤◌, List, [], ◌∷◌, Option, None, Some, replicate, refl, ap, ◌∙◌, slice_index, subst, arith, ◌&&◌, slice_index_or}
 use Rattle.std.specs.Prelude.{is_some}
 use Rattle.std.proofs.lemmas.Nat.Bits.{bit_at-zero}
 use Rattle.hba_regs.specs.Bits.{bit}
 use Rattle.adapter.specs.Device.{IsDisk}
 use Rattle.adapter.specs.Idle.{IsIdlePort}
 use Rattle.device_model.specs.Disks.{given_for}
-use Rattle.device_model.specs.Modelled.{IsNewMedia, IsNewPort, IsReset, all_given_tell, all_tell, given_tell, media_of, tells}
+use Rattle.device_model.specs.Modelled.{IsNewMedia, IsNewPort, IsReset, all_tell, media_of}
 use Rattle.device_model.specs.declared.disks.Disks.{Disks}
 use Rattle.device_model.specs.declared.disks.PortDisks.{PortDisks}
 use Rattle.sector_store.specs.Stores.{AreSectors}

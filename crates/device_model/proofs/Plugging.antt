@@ -1,6 +1,6 @@
 -- A disk is put into a port, or isn't.
-use Rattle.std.proofs.Common.{ℕ, Bool, true, false, ◌≡◌, ◌≢◌, ◌<◌, ◌∙◌, ◌++◌, ◌∷◌, [], List, Option, Some, refl, sym, ap, subst, inl, inr, arith}
-use Rattle.std.specs.Prelude.{◌&&◌, if◌then◌else◌, is_some, map, nat_eq, option_map, slice_set}
+use Rattle.std.proofs.Common.{ℕ, true, false, ◌≡◌, ◌<◌, ◌∙◌, ◌++◌, ◌∷◌, [], List, Option, Some, refl, sym, ap, subst, inl, inr, arith}
+use Rattle.std.specs.Prelude.{if◌then◌else◌, is_some, map, nat_eq, option_map, slice_set}
 use Rattle.adapter.specs.Asked.{DoesPlug}
 use Rattle.adapter.specs.Device.{Device, Disk}
 use Rattle.adapter.specs.Steps.{IsKnownBy, after}
@@ -12,21 +12,18 @@ use Rattle.ata_types.specs.declared.Port.{Port}
 use Rattle.sector_store.specs.Stores.{AreSectors}
 use Rattle.sector_store.specs.declared.store.Failures.{Failures}
 use Rattle.device_model.specs.Disks.{bay_of, disk_in, disk_number, disk_over, identity}
-use Rattle.device_model.specs.Does.{Did, IsLeftOut, LacksMemory, Possible, StepKeeps}
-use Rattle.device_model.specs.Finishing.{HasRoom}
+use Rattle.device_model.specs.Does.{Did, IsLeftOut, LacksMemory, Possible}
 use Rattle.device_model.specs.Modelled.{device_at, media_of, outside_at, tells}
 use Rattle.device_model.specs.Tells.{bay_told, each_tells}
-use Rattle.device_model.specs.View.{Media}
 use Rattle.device_model.specs.Whole.{Outside, device_of, outside_plugged}
 use Rattle.device_model.specs.declared.bay.Bay.{Bay}
 use Rattle.device_model.specs.declared.disks.Inserted.{Inserted}
 use Rattle.device_model.specs.declared.disks.ModelDisk.{ModelDisk}
 use Rattle.device_model.specs.declared.disks.Which.{Which}
 use Rattle.device_model.specs.declared.disks.Which.TheVariants.{Disk0, Disk1}
-use Rattle.device_model.specs.declared.hardware.Hardware.{Hardware}
 use Rattle.device_model.specs.declared.model.Model.{Model}
 use Rattle.device_model.proofs.NewModel.{disks_are}
-use Rattle.device_model.proofs.Telling.{gains_none, gains_one}
+use Rattle.device_model.proofs.Telling.{gains_one}
 use Rattle.device_model.proofs.TwoDisks.{both_turned, has_disks, in_kept, number_small, of_number, one_number, seated_behind, seated_here, seated_keeps, seated_others, seated_outside, seated_same}
 
 module _ {S : Type 0} (size : S → ℕ) (told : S → Option (ℕ → List ℕ)) (failures : S → Option Failures) (m new : Model S) (p : Port) (number : DiskNumber)

@@ -1,5 +1,5 @@
 -- The model goes on by itself with commands that send a page, of one port after another.
-use Rattle.std.proofs.Common.{ℕ, Bool, true, false, ◌≡◌, ◌≢◌, ◌<◌, ◌+◌, ◌⊎◌, ◌∙◌, List, Option, Some, None, length, refl, sym, ap, subst, inl, inr, slice_index_or, slice_set, get_or-set_same, get_or-set_other, arith}
+use Rattle.std.proofs.Common.{ℕ, Bool, true, false, ◌≡◌, ◌≢◌, ◌<◌, ◌+◌, ◌⊎◌, ◌∙◌, List, Option, None, length, refl, sym, ap, subst, inl, inr, slice_index_or, slice_set, get_or-set_same, get_or-set_other, arith}
 use Rattle.std.specs.Prelude.{if◌then◌else◌, is_some}
 use Rattle.std.proofs.lemmas.List.{length-set}
 use Rattle.std.proofs.lemmas.Bool.Decides.{eqb_tells}
@@ -10,15 +10,14 @@ use Rattle.adapter.specs.declared.access.DeviceStep.TheVariants as asked
 use Rattle.ata_types.specs.declared.Port.{Port}
 use Rattle.ata_types.specs.declared.Slot.{Slot}
 use Rattle.sector_store.specs.declared.store.Failures.{Failures}
-use Rattle.device_model.specs.Disks.{disk_in, disk_of, which_of}
-use Rattle.device_model.specs.Does.{AnswersStep, Completes, Did, GoesOnSo}
+use Rattle.device_model.specs.Disks.{disk_of, which_of}
+use Rattle.device_model.specs.Does.{AnswersStep, Completes, GoesOnSo}
 use Rattle.device_model.specs.Finishing.{FindsPage, HasPage, HasRoom, IsBusy, MayPage}
 use Rattle.device_model.specs.Held.{IsPortHeld, IsPortLoose}
 use Rattle.device_model.specs.Modelled.{device_at}
 use Rattle.device_model.specs.Sent.{SendsEnd}
 use Rattle.device_model.specs.Settled.{IsSettled, LeadsOwn, LeavesOne, NoneIsLeft, SendsPages}
 use Rattle.device_model.specs.Whole.{HasDisks}
-use Rattle.device_model.specs.declared.bay.Bay.{Bay}
 use Rattle.device_model.specs.declared.disks.Which.{Which}
 use Rattle.device_model.specs.declared.model.Model.{Model}
 use Rattle.device_model.proofs.Absurd.{true-false}

@@ -113,6 +113,27 @@ impl<S: SectorStore> Bay<S> {
         }
     }
 
+    /// Gives the page of IDENTIFY DEVICE of the disk that is in, with the bits turned on which it lies. It is entered for this page alone, since its frame has
+    /// room for one, which is cleared at each entry.
+    #[inline(never)]
+    fn give_identity(&self, bytes: &mut [u8; 512])
+        ensures page { IsItsPage (identity S.size self.now.disk) self.now.says bytes.new }
+        ensures bytes { IsSector bytes.new }
+    {
+        *bytes = self.disk.page(self.says.abilities);
+        turn(bytes, &self.says.lies);
+    }
+
+    /// Gives the page of log 10h, with the bits turned on which the disks lie. It is entered for this page alone, as `give_identity`.
+    #[inline(never)]
+    fn give_log(&self, bytes: &mut [u8; 512])
+        ensures page { IsItsLog self.now.says bytes.new }
+        ensures bytes { IsSector bytes.new }
+    {
+        *bytes = log_page(self.says.log);
+        turn(bytes, &self.says.log_lies);
+    }
+
     /// Has the disk that is in give the sector of a read or its page, or take a write's sector from memory, or a trim's block; `false` says that the store
     /// failed, and that it tells what it told.
     pub fn exchange(&mut self, hardware: &Hardware, next: NextMove, bytes: &mut [u8; 512]) -> bool
@@ -146,13 +167,11 @@ impl<S: SectorStore> Bay<S> {
                 true
             }
             Transfer::Identify => {
-                *bytes = self.disk.page(self.says.abilities);
-                turn(bytes, &self.says.lies);
+                self.give_identity(bytes);
                 true
             }
             Transfer::ReadLog => {
-                *bytes = log_page(self.says.log);
-                turn(bytes, &self.says.log_lies);
+                self.give_log(bytes);
                 true
             }
             // A flush has no piece that could bring anything.

@@ -324,9 +324,9 @@ impl<S: SectorStore> Model<S> {
         true
     }
 
-    /// Moves the next piece of a slot's command, or fails it, if that is a sector on which the store fails, or one past the disk. The memory is taken to end
-    /// at 4 GiB.
-    fn move_piece(&mut self, port: Port, slot: Slot) -> Outcome
+    /// Moves the next piece of a slot's command, by this room for it, or fails it, if that is a sector on which the store fails, or one past the disk. The memory
+    /// is taken to end at 4 GiB.
+    fn move_piece(&mut self, port: Port, slot: Slot, bytes: &mut [u8; 512]) -> Outcome
         requires { slot.0 < 32 }
         ensures answers { AnswersStep S.size S.told S.failures (DeviceStep.Move port slot) (answer_of result) self.old self.new }
         ensures whole { result ≡ Outcome.Done → Completes S.size S.told S.failures (DeviceStep.Move port slot) self.old self.new }
@@ -355,13 +355,22 @@ impl<S: SectorStore> Model<S> {
             let _failed = self.fail(port, slot, PAST_THE_DISK);
             return Outcome::Failed;
         }
-        let mut bytes = [0; 512];
-        if !bay.exchange(&self.hardware, next, &mut bytes) {
+        if !bay.exchange(&self.hardware, next, bytes) {
             let _failed = self.fail(port, slot, STORE_FAILED);
             return Outcome::Failed;
         }
-        self.hardware.move_bytes(port.0, slot.0, next, &bytes);
+        self.hardware.move_bytes(port.0, slot.0, next, bytes);
         Outcome::Done
+    }
+
+    /// Moves the next piece alone; `false` says that nothing came of it. It is entered for such steps alone, since its frame has room for a piece.
+    #[inline(never)]
+    fn move_one(&mut self, port: Port, slot: Slot) -> bool
+        requires { slot.0 < 32 }
+        ensures { AnswersStep S.size S.told S.failures (DeviceStep.Move port slot) result self.old self.new }
+    {
+        let mut bytes = [0; 512];
+        self.move_piece(port, slot, &mut bytes).is_told()
     }
 
     /// Clears the next sectors of a slot's trim, so many at the most: those that follow one another. It fails on the first one past the disk, or on which the
@@ -422,8 +431,9 @@ impl<S: SectorStore> Model<S> {
             return false;
         };
         let mut did = was_taken;
+        let mut bytes = [0; 512];
         for _piece in 0..rest.left {
-            match self.move_piece(port, slot) {
+            match self.move_piece(port, slot, &mut bytes) {
                 Outcome::Left => return did,
                 Outcome::Failed => return true,
                 Outcome::Done => did = true,
@@ -545,7 +555,7 @@ impl<S: SectorStore> Model<S> {
     {
         match *s {
             DeviceStep::Fetch(port, slot) => self.fetch(port, slot),
-            DeviceStep::Move(port, slot) => slot.0 < 32 && self.move_piece(port, slot).is_told(),
+            DeviceStep::Move(port, slot) => slot.0 < 32 && self.move_one(port, slot),
             DeviceStep::Clear(port, slot, most) => {
                 slot.0 < 32 && self.clear_run(port, slot, most).is_told()
             }

@@ -1,7 +1,8 @@
 -- What a followed adapter makes of its model (this project's own).
-use Rattle.std.specs.Prelude.{ℕ, slice_index}
+use Rattle.std.specs.Prelude.{ℕ, ◌≡◌, ◌<◌, ◌&&◌, ◌||◌, Bool, List, nat_eq, not, slice_index, true}
 use Rattle.adapter.specs.Device.{Device}
 use Rattle.adapter.specs.Steps.{Steps}
+use Rattle.hba_regs.specs.Bits.{bit}
 use Rattle.hba_regs.specs.declared.reg.PortReg.TheVariants.{Tfd, Sact}
 use Rattle.hba_regs.specs.declared.reg.Reg.{Reg}
 use Rattle.hba_regs.specs.declared.reg.Reg.TheVariants.{Px}
@@ -17,3 +18,14 @@ slots_of (Px port Sact) d = slice_index d.untaken port.0
 slots_of (Px port Tfd) d = slice_index d.plain port.0
 slots_of (Px port r) d = slice_index d.failed port.0
 slots_of r d = 0
+
+-- Of the slots that are noted by port, this one of this port is among the new ones if it was, or if it is added, and each other one if it was.
+abbrev pub Adds : (is_added : Bool) (port slot : ℕ) (old new : List ℕ) → Type 0
+Adds is_added port slot old new =
+    (q k : ℕ) → q < 4 → k < 32 → bit (slice_index new q) k ≡ (bit (slice_index old q) k || (is_added && (nat_eq q port && nat_eq k slot)))
+
+-- It is noted that a slot's command has failed, a queued one or a plain one, and nothing else.
+pub record NotesFailed (port slot : ℕ) (is_queued : Bool) (old new : Differing) : Type 0 where
+  pub failed : Adds true port slot old.failed new.failed
+  pub plain : Adds (not is_queued) port slot old.plain new.plain
+  pub untaken : new.untaken ≡ old.untaken

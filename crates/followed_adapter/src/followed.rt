@@ -3,7 +3,7 @@ ghost use Rattle.std.specs.Prelude.{◌≡◌, ◌<◌, ◌||◌, IfSome, None, 
 ghost use Rattle.adapter.specs.Access.{Reads};
 ghost use Rattle.adapter.specs.Rules.{MayRead};
 ghost use Rattle.followed_adapter.specs.Compared.{Agrees};
-ghost use Rattle.followed_adapter.specs.Following.{GoesOn, slots_of};
+ghost use Rattle.followed_adapter.specs.Following.{Adds, GoesOn, NotesFailed, slots_of};
 
 use crate::differences::agree;
 use crate::peer::{Peer, PeerFault};
@@ -14,6 +14,7 @@ use ata_types::{DRIVER_BYTES, PORT_BYTES, Port, SCRATCH, Slot};
 use device_model::{Shown, Watched};
 use hba_regs::{
     GlobalControl, PortCommand, PortInterrupts, PortReg, Reg, SataStatus, TaskFile, is_set,
+    with_bit,
 };
 use identify::parse;
 
@@ -76,6 +77,16 @@ fn slots_at(slots: &[u32; PORTS], port: Port) -> u32
     ensures { result ≡ slice_index slots.now port.0 }
 {
     slots.get(usize::from(port.0)).copied().unwrap_or(0)
+}
+
+/// Adds a slot of a port.
+fn add_slot(slots: &mut [u32; PORTS], port: Port, slot: u32)
+    requires port { port.0 < 4 }
+    requires slot { slot < 32 }
+    ensures { Adds true port.0 slot slots.old slots.new }
+{
+    let place = usize::from(port.0);
+    slots[place] = with_bit(slots[place], slot);
 }
 
 /// A model beside a peer: each access is made on both, and what is answered is the model's.
@@ -186,7 +197,8 @@ impl<A: Shown, P: Peer> Followed<A, P> {
 
     /// Has the model do a step, if it is possible.
     fn go(&mut self, s: DeviceStep) -> bool
-        ensures { GoesOn (A.device self.old.model) (A.device self.new.model) }
+        ensures goes { GoesOn (A.device self.old.model) (A.device self.new.model) }
+        ensures rest { self.new ≡ record self.old { model = self.new.model } }
     {
         steps_compose();
         self.model.step(&s)
@@ -213,19 +225,21 @@ impl<A: Shown, P: Peer> Followed<A, P> {
     fn note_failed(&mut self, port: Port, slot: u32, queued: bool)
         requires port { port.0 < 4 }
         requires slot { slot < 32 }
-        ensures { self.new.model ≡ self.old.model }
+        ensures noted { NotesFailed port.0 slot queued self.old.differing self.new.differing }
+        ensures rest { self.new ≡ record self.old { differing = self.new.differing } }
     {
-        self.differing.failed[usize::from(port.0)] |= 1 << slot;
+        add_slot(&mut self.differing.failed, port, slot);
         if !queued {
-            self.differing.plain[usize::from(port.0)] |= 1 << slot;
+            add_slot(&mut self.differing.plain, port, slot);
         }
     }
 
-    /// Has a slot's command of the model fail as the peer's has, which shows this task file.
+    /// Has a slot's command of the model fail as the peer's has, which shows this task file. It is noted as a queued one where its bit of PxSACT was set.
     fn fail(&mut self, port: Port, slot: u32, task_file: TaskFile)
         requires port { port.0 < 4 }
         requires slot { slot < 32 }
-        ensures { GoesOn (A.device self.old.model) (A.device self.new.model) }
+        ensures goes { GoesOn (A.device self.old.model) (A.device self.new.model) }
+        ensures noted { NotesFailed port.0 slot (((A.device self.old.model).port port.0).sact slot) self.old.differing self.new.differing }
     {
         let step = Slot(slot as u8);
         let queued = is_set(self.model.shown(Reg::Px(port, PortReg::Sact)), slot);
