@@ -72,6 +72,8 @@ note Ci v p =
     record p.notes { last_ci = v; command_count = while_no_comreset p (counted (bit v 0) p.notes.command_count) p.notes.command_count }
 note Sig v p = record p.notes { last_sig = v }
 note Sact v p = record p.notes { last_sact = v }
+-- the causes that were read have to be written back before the port's bit of IS is written
+note Is v p = record p.notes { acknowledged = false }
 note _ v p = p.notes
 
 abbrev pub noted : Reg → ℕ → Device → Device

@@ -49,7 +49,7 @@ pub record Bases : Type 0 where
 -- What stands beside a port's state: how long the tape was when ST was last set and when SCTL was last written; the
 -- values last read; four counts of readings in a row, each at most 64 (engine: of CR or FR awaited; link: of SSTS without
 -- a device, and 64 once one was seen; busy: of TFD with BSY or DRQ; command: of CI with bit 0 set); and whether PxIS was
--- written, with any value, since the port's bit of IS was.
+-- written, with any value, since it was last read, and since the port's bit of IS was written.
 pub record Notes : Type 0 where
   pub st_set_at : ℕ
   pub sctl_written_at : ℕ

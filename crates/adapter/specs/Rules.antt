@@ -89,7 +89,8 @@ MayWritePort Is v d p = Unit {0}
 MayWritePort Ie v d p = Unit {0}
 MayWritePort _ v d p = ⊥
 
--- a port's bit of IS is cleared only after its PxIS
+-- A port's bit of IS is cleared only after its PxIS: that was written since it was last read, and since the bit was written
+-- (AHCI 1.3.1, 5.5.3 and 10.7.2.1).
 abbrev pub AreAcknowledged : Device → ℕ → Type 0
 AreAcknowledged d v = (port : ℕ) → port < 32 → bit v port ≡ true → (d.port port).notes.acknowledged ≡ true
 

@@ -8,7 +8,7 @@ use Rattle.hba_regs.specs.declared.reg.Reg.{Reg}
 use Rattle.hba_regs.specs.declared.reg.Reg.TheVariants.{Cap, Ghc, Pi, Vs, Cap2, Bohc, Px}
 use Rattle.hba_regs.specs.declared.reg.Reg.TheVariants as adapter
 use Rattle.hba_regs.specs.declared.reg.PortReg.{PortReg}
-use Rattle.hba_regs.specs.declared.reg.PortReg.TheVariants.{Cmd, Tfd, Sig, Ssts, Sctl, Sact, Ci}
+use Rattle.hba_regs.specs.declared.reg.PortReg.TheVariants.{Is, Cmd, Tfd, Sig, Ssts, Sctl, Sact, Ci}
 use Rattle.adapter.specs.Access.{Access, Does, Reads, PortShows, note, noted, written, port_written, with_st, with_fre, unacknowledged}
 use Rattle.adapter.specs.Access.Access.{Reading, Writing, Loading, Storing}
 use Rattle.adapter.specs.Device.{Notes, PortState, Device}
@@ -53,6 +53,7 @@ note_same Tfd v p q st fre det notes = rw det (rw notes refl)
 note_same Ci v p q st fre det notes = rw det (rw notes refl)
 note_same Sig v p q st fre det notes = rw notes refl
 note_same Sact v p q st fre det notes = rw notes refl
+note_same Is v p q st fre det notes = rw notes refl
 note_same _ v p q st fre det notes = notes
 
 pub notes_read : (port : Port) (r : PortReg) (v : ℕ) (old new : Device) → old.hr ≡ false → Reads (Px port r) v old new → (new.port port.0).notes ≡ note r v (old.port port.0)

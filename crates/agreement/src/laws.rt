@@ -484,7 +484,7 @@ pub fn commanding_is_permitted()
         → Stays (MayWrite (Px port Cmd) v) d }
 {}
 
-/// PxIS is written, and then the port's bit of IS may be, with those of ports whose PxIS was written since their own bits were.
+/// PxIS is written, and then the port's bit of IS may be, with those of ports whose PxIS was written since it was last read, and since their own bits were.
 pub fn acknowledging_is_permitted()
     ensures { (port : Port) (v : ℕ) (old new : Device) → IsOn old → Writes (Px port Is) v old new
         → (ports : ℕ) → ((q : ℕ) → q < 32 → bit ports q ≡ true → (q ≡ port.0) ⊎ ((old.port q).notes.acknowledged ≡ true))

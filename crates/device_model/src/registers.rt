@@ -96,6 +96,7 @@ impl PortModel {
             }
             PortReg::Sig => self.readings.last_sig = value,
             PortReg::Sact => self.readings.last_sact = value,
+            PortReg::Is => self.readings.acknowledged = false,
             _ => {}
         }
     }

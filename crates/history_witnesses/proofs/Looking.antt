@@ -48,8 +48,11 @@ goes = put_device tape_gone read_memory 0 (unfit 0 ∷ unfit 1 ∷ []) (gone ∷
 
 -- ---- the service
 
+abbrev told : PortState
+told = record gone { notes = note Is 0x400000 gone }
+
 abbrev looked : PortState
-looked = record gone { notes = note Ssts 0 gone }
+looked = record told { notes = note Ssts 0 told }
 
 abbrev commanded : PortState
 commanded = record looked { notes = note Cmd 0x4010 looked }
@@ -67,8 +70,11 @@ abbrev pub absent : PortState
 absent = record cleared { notes = note Ssts 0 cleared }
 
 -- the other one is looked at
+abbrev quiet : PortState
+quiet = record (unfit 1) { notes = note Is 0 (unfit 1) }
+
 abbrev pub passed : PortState
-passed = record (unfit 1) { notes = note Ssts 3 (unfit 1) }
+passed = record quiet { notes = note Ssts 3 quiet }
 
 abbrev pub looked_over : Device
 looked_over = dev absent passed
@@ -105,11 +111,11 @@ none_shown place = no_bit place ∙ sym (by (nat_eq place 6) (nat_eq place 22))
 
 unfoldable pub does : DoesAll (looking ++ passing) unplugged looked_over
 does = (
-  unplugged,
+  dev told (unfit 1),
   reads_here Is 0x400000 gone (λ place cause. prcs_shown place),
   (
     dev looked (unfit 1),
-    reads_here Ssts 0 gone refl,
+    reads_here Ssts 0 told refl,
     (
       dev commanded (unfit 1),
       reads_here Cmd 0x4010 looked (refl, refl, refl, refl),
@@ -126,9 +132,9 @@ does = (
               dev absent (unfit 1),
               reads_here Ssts 0 cleared refl,
               (
-                dev absent (unfit 1),
+                dev absent quiet,
                 reads_there Is 0 (unfit 1) (λ place cause. none_shown place),
-                (looked_over, reads_there Ssts 3 (unfit 1) refl, refl),
+                (looked_over, reads_there Ssts 3 quiet refl, refl),
               ),
             ),
           ),

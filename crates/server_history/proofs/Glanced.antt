@@ -1,4 +1,4 @@
--- What stands behind a port that isn't ready goes on over a look that found nothing: but for what was read of PxSSTS, the port is left to the device.
+-- What stands behind a port that isn't ready goes on over a look that found nothing: but for what was read of PxIS and PxSSTS, the port is left to the device.
 use Rattle.std.proofs.Common.{ℕ, ◌≡◌, ◌≢◌, ◌≤◌, ◌%◌, ◌==◌, ◌||◌, Bool, true, false, not, List, length, inl, inr, refl, sym, ap, ◌∙◌, subst, eq-eqb, eqb-true}
 use Rattle.std.proofs.lemmas.Bool.{false≢true}
 use Rattle.ata_types.specs.declared.Port.{Port}
@@ -9,7 +9,8 @@ use Rattle.hba_regs.specs.declared.reg.PortReg.TheVariants.{Is, Ssts}
 use Rattle.hba_regs.specs.declared.reg.Reg.TheVariants.{Px}
 use Rattle.adapter.specs.Access.{Reads}
 use Rattle.adapter.specs.Access.Access.{Reading}
-use Rattle.adapter.specs.Device.{Device, Notes}
+use Rattle.adapter.specs.Device.{Device, Notes, PortState}
+use Rattle.adapter.specs.Kept.{KeepsControls, KeepsPort}
 use Rattle.adapter.specs.Rules.{IsOn}
 use Rattle.adapter.specs.Seen.{SeenAt}
 use Rattle.adapter.specs.declared.command.Operation.TheVariants.{Identify}
@@ -50,48 +51,59 @@ unequal m n is same = false≢true (sym is ∙ eq-eqb m n same)
 abbrev noted_before : Device → Device → Device
 noted_before old new = record new { port = λ q. record (new.port q) { notes = (old.port q).notes } }
 
-module _ (laws : LawsBelow) (wanted : Wanted) (port : Port) (first old new : Device) (v : ℕ) (on : IsOn old) (same : SameAdapter first new) (left : LeavesPort (first.port port.0) (old.port port.0))
+-- a port is left to the device, but for what was noted
+but_notes : (noted : Notes) (old new : PortState) → KeepsPort old new → KeepsControls old new → LeavesPort (record old { notes = noted }) (record new { notes = noted })
+but_notes noted old new k c = record {
+  keeps = record { bases = k.bases; st = k.st; fre = k.fre; cr = k.cr; fr = k.fr; ci = k.ci; sact = k.sact; idle = k.idle; fallen = k.fallen; free = k.free };
+  controls = record { st = c.st; fre = c.fre; sctl_det = c.sctl_det; ie = c.ie; is = c.is; serr_n = c.serr_n; serr_x = c.serr_x; runs = c.runs };
+  notes = refl;
+}
+
+-- PxIS may have been read, and nothing else
+abbrev SameButAcknowledged : Notes → Notes → Type 0
+SameButAcknowledged old new = new ≡ record old { acknowledged = new.acknowledged }
+
+module _ (laws : LawsBelow) (wanted : Wanted) (port : Port) (first old new : Device) (v : ℕ) (on : IsOn old) (same : SameAdapter first new)
+    (left : LeavesPort (first.port port.0) (record (old.port port.0) { notes = (first.port port.0).notes })) (noted : SameButAcknowledged (first.port port.0).notes (old.port port.0).notes)
     (reads : Reads (Px port Ssts) v old new) (silent : SendsNone port.0 Identify first new) where
   at : SeenAt port.0 Ssts v old new
   at = laws.looking.seen port Ssts v old new reads on.no_reset
 
   abbrev was : Notes
-  was = (old.port port.0).notes
+  was = (first.port port.0).notes
 
   abbrev now : Notes
   now = (new.port port.0).notes
 
   abbrev before : Device
-  before = noted_before old new
+  before = noted_before first new
 
   shown : now.last_ssts ≡ v
   shown = ap (λ (n : Notes). n.last_ssts) at.notes
 
   busy : now.busy_count ≡ was.busy_count
-  busy = ap (λ (n : Notes). n.busy_count) at.notes
+  busy = ap (λ (n : Notes). n.busy_count) at.notes ∙ ap (λ (n : Notes). n.busy_count) noted
 
   commands : now.command_count ≡ was.command_count
-  commands = ap (λ (n : Notes). n.command_count) at.notes
+  commands = ap (λ (n : Notes). n.command_count) at.notes ∙ ap (λ (n : Notes). n.command_count) noted
 
   file : now.last_tfd ≡ was.last_tfd
-  file = ap (λ (n : Notes). n.last_tfd) at.notes
+  file = ap (λ (n : Notes). n.last_tfd) at.notes ∙ ap (λ (n : Notes). n.last_tfd) noted
 
   signature : now.last_sig ≡ was.last_sig
-  signature = ap (λ (n : Notes). n.last_sig) at.notes
+  signature = ap (λ (n : Notes). n.last_sig) at.notes ∙ ap (λ (n : Notes). n.last_sig) noted
 
   written : now.sctl_written_at ≡ was.sctl_written_at
-  written = ap (λ (n : Notes). n.sctl_written_at) at.notes
+  written = ap (λ (n : Notes). n.sctl_written_at) at.notes ∙ ap (λ (n : Notes). n.sctl_written_at) noted
 
   counted : was.link_count ≡ 64 → now.link_count ≡ 64
-  counted count = link_still port (Reading (Px port Ssts) v) old new on tt reads count
+  counted count = link_still port (Reading (Px port Ssts) v) old new on tt reads (ap (λ (n : Notes). n.link_count) noted ∙ count)
 
   -- but for that, the port is left to the device
   left_before : LeavesPort (first.port port.0) (before.port port.0)
-  left_before = laws.looking.leaves_more (first.port port.0) (old.port port.0) (before.port port.0) left (record {
-    keeps = let k = at.keeps.port port.0 in record { bases = k.bases; st = k.st; fre = k.fre; cr = k.cr; fr = k.fr; ci = k.ci; sact = k.sact; idle = k.idle; fallen = k.fallen; free = k.free };
-    controls = let c = at.keeps.on.controls port.0 in record { st = c.st; fre = c.fre; sctl_det = c.sctl_det; ie = c.ie; is = c.is; serr_n = c.serr_n; serr_x = c.serr_x; runs = c.runs };
-    notes = refl;
-  })
+  left_before =
+      laws.looking.leaves_more (first.port port.0) (record (old.port port.0) { notes = was }) (before.port port.0) left
+      (but_notes was (old.port port.0) (new.port port.0) (at.keeps.port port.0) (at.keeps.on.controls port.0))
 
   stopped : IsStopped (before.port port.0) → IsStopped (new.port port.0)
   stopped s = record { halted = record { st = s.halted.st; cr = s.halted.cr; ci = s.halted.ci; taken = s.halted.taken }; sact = s.sact }
@@ -143,10 +155,13 @@ looked_stands laws wanted port state result old new on lives looks none same sil
         let first = laws.looking.seen port Is f.causes old f.seen f.reads on.no_reset in
         let there = laws.looks.access_on (Reading (Px port Is) f.causes) old f.seen on (λ v e. absurd cc) f.reads in
         let link : (f.status % 16) ≡ 3 = eqb-true (f.status % 16) 3 (unchanged (bit f.causes 6) (bit f.causes 22) (f.status % 16 == 3) (sym f.tells ∙ none)).1 in
-        stands laws wanted port old f.seen new f.status there same (record { keeps = first.keeps.port port.0; controls = first.keeps.on.controls port.0; notes = first.notes }) f.shows silent its alive (subst (λ (P : ℕ → Type 0). P f.status) (sym kind) link) behind
+        let was : Notes = (old.port port.0).notes in
+        let noted : SameButAcknowledged was (f.seen.port port.0).notes =
+        first.notes ∙ ap (λ (yes : Bool). record was { acknowledged = yes }) (sym (ap (λ (n : Notes). n.acknowledged) first.notes)) in
+        stands laws wanted port old f.seen new f.status there same (but_notes was (old.port port.0) (f.seen.port port.0) (first.keeps.port port.0) (first.keeps.on.controls port.0)) noted f.shows silent its alive (subst (λ (P : ℕ → Type 0). P f.status) (sym kind) link) behind
 
     by : (its : Shown) → its ≢ Dead → IsLookedAt its port result old new → StillStandsBehind wanted (Unready its) port.0 old → StillStandsBehind wanted (Unready its) port.0 new
-    by Absent alive f behind = stands laws wanted port old old new f.status on same (laws.looking.leaves_none (old.port port.0)) f.reads silent Absent alive (unequal (f.status % 16) 3 (sym f.tells ∙ none)) behind
+    by Absent alive f behind = stands laws wanted port old old new f.status on same (laws.looking.leaves_none (old.port port.0)) refl f.reads silent Absent alive (unequal (f.status % 16) 3 (sym f.tells ∙ none)) behind
     by Foreign alive f behind = change Foreign alive refl f behind
     by (Unfit cause) alive f behind = change (Unfit cause) alive refl f behind
     by Dead alive f behind = absurd (alive refl)
