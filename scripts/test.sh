@@ -1,8 +1,8 @@
 #!/usr/bin/env bash
 # Proves and runs everything: `rt ci`, which keeps what this machine proved before of the same files; the edits that the prover must refuse;
 # the cases of the built program; a full book on four ports, disks that fail, and disks that are taken out at each moment of the worked cases, which are run without a
-# proof; the server over QEMU's adapter, where QEMU is installed; and the edits that the compiler must refuse; and looks for the names in the documents. The last line is
-# 'N passed, M failed', of all. What each part took is told on standard error.
+# proof; the server over QEMU's adapter, where QEMU is installed; and the edits that the compiler must refuse; looks for the names in the documents; and counts the
+# definitions behind the promise. The last line is 'N passed, M failed', of all. What each part took is told on standard error.
 set -euo pipefail
 cd "$(dirname "$0")/.."
 if [[ -z ${IS_MEASURED:-} ]]; then
@@ -47,5 +47,6 @@ part "surprise removal" scripts/unproved.sh surprise_removal
 part "QEMU's adapter" examples/qemu/test.sh
 part "compile-fail" scripts/compile-fail.sh
 part "names" scripts/names.py
+part "believed" scripts/believed.py --check
 scripts/borrowed.py >&2
 echo "$passed passed, $failed failed"

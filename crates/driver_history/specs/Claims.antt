@@ -9,7 +9,7 @@ use Rattle.adapter.specs.Device.{Device}
 use Rattle.adapter.specs.Rules.{IsOn}
 use Rattle.adapter.specs.declared.access.DeviceStep.{DeviceStep}
 use Rattle.agreement.specs.Facts.{RunsWell}
-use Rattle.block_machine.specs.Events.{Reset, Service, Tick, AnswersEnded, IsHung, NoneKeepsIssue, WasIssued, moment_after, tells_fault}
+use Rattle.block_machine.specs.Events.{Reset, Service, Tick, AnswersEnded, AreTold, IsHung, NoneKeepsIssue, WasIssued, moment_after, tells_fault}
 use Rattle.block_machine.specs.Histories.{Instant, Happening}
 use Rattle.block_machine.specs.Ports.{IsInterrupted, SamePort}
 use Rattle.block_machine.specs.State.{Pending}
@@ -71,3 +71,13 @@ pub record HeedsFailure (port : Port) (old : Instant Device) (h : Happening Devi
   pub single : count_by (tells_fault port) h.event.steps ≤ 1
   pub fatal : ShowsFatal (old.device.port port.0) → count_by (tells_fault port) h.event.steps ≡ 0
   pub told : TellsPlainFaults Service old h.event.ports h.device h.event.steps port
+
+-- ---- lost disks
+
+-- A service heeds that a port showed when it began that its disk was lost: what had ended on the port is answered Ok, and each of its other requests is answered, too, all with
+-- Unplugged, or all with PortDead. The port was stopped, or got stuck.
+pub record HeedsLoss (port : Port) (old : Instant Device) (h : Happening Device DeviceStep) : Type 0 where
+  pub ended : AnswersEnded old.moment.machine h.event.steps port
+  pub emptied : (e : Pending) → Contains (moment_after old.moment h.event).machine.book e → e.request.port ≢ port
+  pub told : AreTold outcome.Unplugged h.event.steps port ⊎ AreTold outcome.PortDead h.event.steps port
+  pub stopped : IsInterrupted h.event.evidence port

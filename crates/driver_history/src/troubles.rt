@@ -16,8 +16,8 @@ ghost use Rattle.block_machine.specs.Events.{Moment, Said, Service};
 ghost use Rattle.block_machine.specs.Histories.{Happening, Instant, now};
 ghost use Rattle.block_machine.specs.Ports.{Evidence, IsInterrupted, Ports, SamePort};
 ghost use Rattle.error_recovery.specs.Evidence.{GainsRunning};
-ghost use Rattle.driver_history.specs.Claims.{HeedsFailure};
-ghost use Rattle.driver_history.specs.Evidence.{ShowsChange, ShowsFailure};
+ghost use Rattle.driver_history.specs.Claims.{HeedsFailure, HeedsLoss};
+ghost use Rattle.driver_history.specs.Evidence.{ShowsChange, ShowsFailure, ShowsLoss};
 ghost use Rattle.driver_history.specs.Histories.{BootsAnew, IsUnfitOrForeign, HasFaultAlone, IsHistory, LosesNoTrouble, RunsWellAnew, TriesDisk};
 ghost use Rattle.driver_history.specs.Parts.{EndsLinked, HasTurnIn, NamesAlike, all_of};
 ghost use Rattle.driver_history.specs.Trace.{ClearsNone, ResetsLink};
@@ -33,6 +33,14 @@ pub fn shown_faults_are_heeded()
     ensures { (wanted : List Wanted) (first : Instant Device) (past : List (Happening Device DeviceStep)) (h : Happening Device DeviceStep)
         (port : Port) → IsHistory wanted first (h ∷ past) → h.event.ask ≡ Service → (now first past).moment.ports.state port ≡ Ready
         → ShowsFailure ((now first past).device.port port.0) → HeedsFailure port (now first past) h }
+{}
+
+/// A service heeds that a ready port showed a change of its link when it began, or no device, with no disk that comes meanwhile, whatever else it showed: what had ended is answered,
+/// all other requests of the port are told that the disk is gone, or that the port is dead, and the port was stopped.
+pub fn shown_losses_are_heeded()
+    ensures { (wanted : List Wanted) (first : Instant Device) (past : List (Happening Device DeviceStep)) (h : Happening Device DeviceStep)
+        (port : Port) → IsHistory wanted first (h ∷ past) → h.event.ask ≡ Service → (now first past).moment.ports.state port ≡ Ready
+        → ShowsLoss port (now first past).device h.device → HeedsLoss port (now first past) h }
 {}
 
 /// Accesses that leave the adapter on, and clear no bit that tells of a port's trouble, lose none of it; nor does the device by itself: a fault, a fatal error, or a
