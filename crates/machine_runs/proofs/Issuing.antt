@@ -1,24 +1,30 @@
 -- Each answer of a run is lawful; and an id is issued four times at most, and four times where it is answered Aborted.
 use Rattle.std.proofs.Common.{◌≡◌, ℕ, ◌+◌, ◌≤◌, ◌==◌, Bool, true, false, cond, List, [], ◌∷◌, ◌++◌, map, inl, ⊎_elim, refl, sym, ap, ◌∙◌, subst, arith, eqb-true}
-use Rattle.std.proofs.lemmas.Bool.{eqb-false}
+use Rattle.std.proofs.lemmas.Bool.{eqb-false, false_from_ne_true}
+use Rattle.std.proofs.lemmas.List.{append_assoc}
 use Rattle.std.proofs.lemmas.List.Elements.{Contains-append_cases}
 use Rattle.std.specs.List.{Contains, count_by}
+use Rattle.ata_types.specs.declared.Port.{Port}
 use Rattle.ata_types.specs.declared.request.RequestId.{RequestId}
+use Rattle.ata_types.specs.declared.request.Op.TheVariants.{Read}
 use Rattle.ata_types.specs.declared.request.Outcome.{Outcome}
-use Rattle.ata_types.specs.declared.request.Outcome.TheVariants.{Aborted}
+use Rattle.ata_types.specs.declared.request.Outcome.TheVariants.{Aborted, Ok}
 use Rattle.block_machine.specs.Ports.{Ports, Evidence}
-use Rattle.block_machine.specs.State.{Accepted, Pending, Machine}
+use Rattle.block_machine.specs.State.{Accepted, Pending, Machine, Memory}
 use Rattle.block_machine.specs.Steps.{Step, Accept, Issue, Touch, End, Age, Again, Answer, Release, Unplug, Replace, Store, Load, May, after_step, at, issue, touch, mark_ended, requeued, older}
-use Rattle.block_machine.specs.Left.{after, IsLegal, IsStart}
+use Rattle.block_machine.specs.Left.{after, IsLegal, IsStart, HoldsLeft}
 use Rattle.block_machine.specs.Confined.{WithinLimits}
-use Rattle.block_machine.specs.Events.{Moment, Event, AllLawful, IsLawful, IsRun, issues_it, moment_of, steps_of}
+use Rattle.block_machine.specs.Events.{Moment, Event, AllLawful, AnswersHold, EveryReadHolds, IsLawful, IsRun, issues_it, moment_of, steps_of}
 use Rattle.block_machine.proofs.Members.{contains_none, contains_here, contains_there, contains_cases, map_in, into_map, at_cases, without_in, append_in}
-use Rattle.block_machine.proofs.Keeps.{older_keeps}
+use Rattle.block_machine.proofs.Keeps.{older_keeps, older_issued}
 use Rattle.block_machine.proofs.Limits.{limits_hold, older_issues}
 use Rattle.block_machine.proofs.Sound.{Sound}
 use Rattle.block_machine.proofs.Runs.{traced, nobody}
-use Rattle.block_machine.proofs.Counting.{count_cons, count_append}
-use Rattle.block_machine.proofs.EventLemmas.{run_starts, run_legal, step_of_run}
+use Rattle.block_machine.proofs.Counting.{count_cons, count_append, issued_not_due}
+use Rattle.machine_runs.specs.Told.{IsAnsweredOk, waits_again}
+use Rattle.block_machine.proofs.EventLemmas.{moment_is, run_starts, run_legal, step_of_run}
+use Rattle.machine_runs.proofs.Once.{answered_was_accepted}
+use Rattle.machine_runs.proofs.Touching.{ok_was_touched, ok_was_ended}
 
 -- Each answer is lawful.
 
@@ -50,23 +56,33 @@ record IsCounted (m : Machine) (id : RequestId) (n : ℕ) : Type 0 where
   none : m.next ≤ id.0 → n ≡ 0
   here : (e : Pending) → Contains m.book e → e.request.id.0 ≡ id.0 → n ≡ e.issues
 
--- an unanswered request from which this one came, of the same id, and issued as often
-abbrev CameSo : Machine → Pending → Type 0
-CameSo m e = (o : Pending) × Contains m.book o × (o.request.id.0 ≡ e.request.id.0) × (o.issues ≡ e.issues)
+-- an unanswered request from which this one came, of the same id, and alike in what is looked at
+abbrev CameSo : {X : Type 0} → (Pending → X) → Machine → Pending → Type 0
+CameSo seen m e = (o : Pending) × Contains m.book o × (o.request.id.0 ≡ e.request.id.0) × (seen o ≡ seen e)
 
-came_same : (m : Machine) (e o : Pending) → Contains m.book o → e ≡ o → CameSo m e
-came_same m e o here same = (o, here, ap (λ (x : Pending). x.request.id.0) (sym same), ap (λ (x : Pending). x.issues) (sym same))
+came_same : {X : Type 0} (seen : Pending → X) (m : Machine) (e o : Pending) → Contains m.book o → e ≡ o → CameSo seen m e
+came_same seen m e o here same = (o, here, ap (λ (x : Pending). x.request.id.0) (sym same), ap seen (sym same))
 
-came_at : (m : Machine) (id : RequestId) (f : Pending → Pending) → ((o : Pending) → (f o).request ≡ o.request) → ((o : Pending) → (f o).issues ≡ o.issues) → (e : Pending) → Contains (map (at id f) m.book) e → CameSo m e
-came_at m id f keeps issues e h =
+came_at : {X : Type 0} (seen : Pending → X) (m : Machine) (id : RequestId) (f : Pending → Pending) → ((o : Pending) → (f o).request ≡ o.request) → ((o : Pending) → seen (f o) ≡ seen o) → (e : Pending)
+    → Contains (map (at id f) m.book) e → CameSo seen m e
+came_at seen m id f keeps sees e h =
     let r = map_in (at id f) m.book e h in
     ⊎_elim
-    (λ c. let same = r.2 ∙ c.1 in (r.0, r.1, sym (ap (λ (x : Pending). x.request.id.0) same ∙ ap (λ (x : Accepted). x.id.0) (keeps r.0)), sym (ap (λ (x : Pending). x.issues) same ∙ issues r.0)))
-    (λ c. came_same m e r.0 r.1 (r.2 ∙ c.1))
+    (λ c. let same = r.2 ∙ c.1 in (r.0, r.1, sym (ap (λ (x : Pending). x.request.id.0) same ∙ ap (λ (x : Accepted). x.id.0) (keeps r.0)), sym (ap seen same ∙ sees r.0)))
+    (λ c. came_same seen m e r.0 r.1 (r.2 ∙ c.1))
     (at_cases id f r.0)
 
+came_older : {X : Type 0} (seen : Pending → X) (m : Machine) (ready : Port → Bool) → ((o : Pending) → seen (older ready o) ≡ seen o) → (e : Pending) → Contains (map (older ready) m.book) e → CameSo seen m e
+came_older seen m ready sees e h =
+    let r = map_in (older ready) m.book e h in
+    (r.0, r.1, sym (ap (λ (x : Pending). x.request.id.0) r.2 ∙ ap (λ (x : Accepted). x.id.0) (older_keeps ready r.0)), sym (ap seen r.2 ∙ sees r.0))
+
+-- how often it was issued
+abbrev issues_of : Pending → ℕ
+issues_of e = e.issues
+
 -- a step that issues nothing
-counted_on : (m n : Machine) (id : RequestId) (k : ℕ) → n.next ≡ m.next → ((e : Pending) → Contains n.book e → CameSo m e) → IsCounted m id k → IsCounted n id (0 + k)
+counted_on : (m n : Machine) (id : RequestId) (k : ℕ) → n.next ≡ m.next → ((e : Pending) → Contains n.book e → CameSo issues_of m e) → IsCounted m id k → IsCounted n id (0 + k)
 counted_on m n id k next from c =
     let most = c.most in
     record {
@@ -123,21 +139,16 @@ counted_step m (Accept r) id n may s limits c =
           (λ new. let mine = ap (λ (y : Pending). y.request.id.0) new in let issues = ap (λ (y : Pending). y.issues) new in let zero = c.none (omega (arith, next, mine, is)) in omega (arith, zero, issues))
           (append_in m.book _ x h);
     }
-counted_step m (Touch p i block) id n may s limits c = counted_on m (after_step m (Touch p i block)) id n refl (came_at m p.request.id (touch i) (λ _. refl) (λ _. refl)) c
-counted_step m (End p) id n may s limits c = counted_on m (after_step m (End p)) id n refl (came_at m p.request.id mark_ended (λ _. refl) (λ _. refl)) c
-counted_step m (Again p) id n may s limits c = counted_on m (after_step m (Again p)) id n refl (came_at m p.request.id requeued (λ _. refl) (λ _. refl)) c
-counted_step m (Age ready) id n may s limits c = counted_on m (after_step m (Age ready)) id n refl from c
-  where
-    from : (e : Pending) → Contains (map (older ready) m.book) e → CameSo m e
-    from e h =
-        let r = map_in (older ready) m.book e h in
-        (r.0, r.1, sym (ap (λ (x : Pending). x.request.id.0) r.2 ∙ ap (λ (x : Accepted). x.id.0) (older_keeps ready r.0)), sym (ap (λ (x : Pending). x.issues) r.2 ∙ older_issues ready r.0))
-counted_step m (Answer p o) id n may s limits c = counted_on m (after_step m (Answer p o)) id n refl (λ e h. came_same m e e (without_in p.request.id m.book e h).0 refl) c
-counted_step m Release id n may s limits c = counted_on m (after_step m Release) id n refl (λ e h. came_same m e e h refl) c
-counted_step m (Unplug p) id n may s limits c = counted_on m (after_step m (Unplug p)) id n refl (λ e h. came_same m e e h refl) c
-counted_step m (Replace p i size disk) id n may s limits c = counted_on m (after_step m (Replace p i size disk)) id n refl (λ e h. came_same m e e h refl) c
-counted_step m (Store k f o b) id n may s limits c = counted_on m (after_step m (Store k f o b)) id n refl (λ e h. came_same m e e h refl) c
-counted_step m (Load k f o b) id n may s limits c = counted_on m (after_step m (Load k f o b)) id n refl (λ e h. came_same m e e h refl) c
+counted_step m (Touch p i block) id n may s limits c = counted_on m (after_step m (Touch p i block)) id n refl (came_at issues_of m p.request.id (touch i) (λ _. refl) (λ _. refl)) c
+counted_step m (End p) id n may s limits c = counted_on m (after_step m (End p)) id n refl (came_at issues_of m p.request.id mark_ended (λ _. refl) (λ _. refl)) c
+counted_step m (Again p) id n may s limits c = counted_on m (after_step m (Again p)) id n refl (came_at issues_of m p.request.id requeued (λ _. refl) (λ _. refl)) c
+counted_step m (Age ready) id n may s limits c = counted_on m (after_step m (Age ready)) id n refl (came_older issues_of m ready (older_issues ready)) c
+counted_step m (Answer p o) id n may s limits c = counted_on m (after_step m (Answer p o)) id n refl (λ e h. came_same issues_of m e e (without_in p.request.id m.book e h).0 refl) c
+counted_step m Release id n may s limits c = counted_on m (after_step m Release) id n refl (λ e h. came_same issues_of m e e h refl) c
+counted_step m (Unplug p) id n may s limits c = counted_on m (after_step m (Unplug p)) id n refl (λ e h. came_same issues_of m e e h refl) c
+counted_step m (Replace p i size disk) id n may s limits c = counted_on m (after_step m (Replace p i size disk)) id n refl (λ e h. came_same issues_of m e e h refl) c
+counted_step m (Store k f o b) id n may s limits c = counted_on m (after_step m (Store k f o b)) id n refl (λ e h. came_same issues_of m e e h refl) c
+counted_step m (Load k f o b) id n may s limits c = counted_on m (after_step m (Load k f o b)) id n refl (λ e h. came_same issues_of m e e h refl) c
 
 counted : (start : Machine) (h : List Step) (id : RequestId) → IsStart start → IsLegal start h → IsCounted (after start h) id (count_by (issues_it id) h)
 counted start [] id s legal = record { most = omega arith; none = λ le. refl; here = λ e h same. absurd (nobody start s e (inl h)) }
@@ -146,6 +157,109 @@ counted start (step ∷ past) id s legal = subst (IsCounted (after start (step �
 
 pub issued_four_times : {D : Type 0} (first : Moment) (run : List (Event D)) (id : RequestId) → IsRun first run → count_by (issues_it id) (steps_of run) ≤ 4
 issued_four_times first run id r = (counted first.machine (steps_of run) id (run_starts first run r) (run_legal first run r)).most
+
+-- An id that is still to come was neither issued nor made to wait again; and its unanswered request was issued once more where it is issued, and
+-- else as often as it was made to wait again.
+record IsBalanced (m : Machine) (id : RequestId) (issues waits : ℕ) : Type 0 where
+  none : m.next ≤ id.0 → (issues ≡ 0) × (waits ≡ 0)
+  here : (e : Pending) → Contains m.book e → e.request.id.0 ≡ id.0 → issues ≡ waits + cond e.issued 1 0
+
+abbrev issued_of : Pending → Bool
+issued_of e = e.issued
+
+-- a step that neither issues a request nor has one wait
+balanced_on : (m n : Machine) (id : RequestId) (issues waits : ℕ) → n.next ≡ m.next → ((e : Pending) → Contains n.book e → CameSo issued_of m e) → IsBalanced m id issues waits
+    → IsBalanced n id (0 + issues) (0 + waits)
+balanced_on m n id issues waits next from b = record {
+  none = λ le. let zero = b.none (omega (arith, le, next)) in let i = zero.0 in let w = zero.1 in (omega (arith, i), omega (arith, w));
+  here = λ e h same.
+      let o = from e h in
+      let count = b.here o.0 o.1 (o.2 ∙ same) in
+      let alike : ◌≡◌ {A = ℕ} (cond o.0.issued 1 0) (cond e.issued 1 0) = ap (λ (x : Bool). cond x 1 0) o.3 in
+      omega (arith, count, alike);
+}
+
+-- Where the requests of this id are made so, all that changes is whether they are issued, and how often.
+balanced_at : (m : Machine) (p : Pending) (id : RequestId) (f : Pending → Pending) (was now : Bool) (i w : ℕ) → Contains m.book p → Sound m → ((o : Pending) → (f o).request ≡ o.request)
+    → ((o : Pending) → (f o).issued ≡ now) → p.issued ≡ was → ((issues waits : ℕ) → issues ≡ waits + cond was 1 0 → i + issues ≡ (w + waits) + cond now 1 0)
+    → (issues waits : ℕ) → IsBalanced m id issues waits
+    → (b : Bool) → (p.request.id.0 == id.0) ≡ b → IsBalanced (record m { book = map (at p.request.id f) m.book }) id (cond b i 0 + issues) (cond b w 0 + waits)
+balanced_at m p id f was now i w here s keeps makes is_was goes issues waits c true e =
+    let same = eqb-true p.request.id.0 id.0 e in
+    let below = s.below p (inl here) in
+    let count = c.here p here same ∙ ap (λ (x : Bool). waits + cond x 1 0) is_was in
+    record {
+      none = λ le. absurd (omega (arith, le, same, below));
+      here = λ x h is.
+          let r = map_in (at p.request.id f) m.book x h in
+          ⊎_elim
+          (λ a. goes issues waits count ∙ ap (λ (y : Bool). (w + waits) + cond y 1 0) (sym (ap issued_of (r.2 ∙ a.1) ∙ makes r.0)))
+          (λ a. absurd (a.0 (ap (λ (y : Pending). y.request.id.0) (sym (r.2 ∙ a.1)) ∙ is ∙ sym same)))
+          (at_cases p.request.id f r.0);
+    }
+balanced_at m p id f was now i w here s keeps makes is_was goes issues waits c false e = record {
+  none = λ le. let zero = c.none le in let i0 = zero.0 in let w0 = zero.1 in (omega (arith, i0), omega (arith, w0));
+  here = λ x h is.
+      let r = map_in (at p.request.id f) m.book x h in
+      ⊎_elim
+      (λ a. let mine = ap (λ (y : Pending). y.request.id.0) (r.2 ∙ a.1) ∙ ap (λ (y : Accepted). y.id.0) (keeps r.0) in absurd (eqb-false p.request.id.0 id.0 e (sym a.0 ∙ sym mine ∙ is)))
+      (λ a.
+      let old = c.here r.0 r.1 (ap (λ (y : Pending). y.request.id.0) (sym (r.2 ∙ a.1)) ∙ is) in
+      let alike : ◌≡◌ {A = ℕ} (cond x.issued 1 0) (cond r.0.issued 1 0) = ap (λ (y : Pending). cond {A = ℕ} y.issued 1 0) (r.2 ∙ a.1) in
+      omega (arith, old, alike))
+      (at_cases p.request.id f r.0);
+}
+
+-- a test that counts nothing
+cond_same : (b : Bool) → cond {A = ℕ} b 0 0 ≡ 0
+cond_same true = refl
+cond_same false = refl
+
+balanced_step : (m : Machine) (step : Step) (id : RequestId) (issues waits : ℕ) → May m step → Sound m → IsBalanced m id issues waits
+    → IsBalanced (after_step m step) id (cond (issues_it id step) 1 0 + issues) (cond (waits_again id step) 1 0 + waits)
+balanced_step m (Issue mode p) id issues waits may s b =
+    let waited : p.issued ≡ false = false_from_ne_true p.issued (λ is. issued_not_due mode _ _ is may.1) in
+    subst (IsBalanced (after_step m (Issue mode p)) id (cond (p.request.id.0 == id.0) 1 0 + issues)) (ap (λ (k : ℕ). k + waits) (cond_same (p.request.id.0 == id.0)))
+    (balanced_at m p id issue false true 1 0 may.0 s (λ _. refl) (λ _. refl) waited (λ i w e. omega (arith, e)) issues waits b (p.request.id.0 == id.0) refl)
+balanced_step m (Again p) id issues waits may s b =
+    subst (λ (k : ℕ). IsBalanced (after_step m (Again p)) id (k + issues) (cond (p.request.id.0 == id.0) 1 0 + waits)) (cond_same (p.request.id.0 == id.0))
+    (balanced_at m p id requeued true false 0 1 may.0 s (λ _. refl) (λ _. refl) may.1 (λ i w e. omega (arith, e)) issues waits b (p.request.id.0 == id.0) refl)
+balanced_step m (Accept r) id issues waits may s b =
+    let next : r.id.0 ≡ m.next = may.id in
+    record {
+      none = λ le. let zero = b.none (omega (arith, le)) in let i = zero.0 in let w = zero.1 in (omega (arith, i), omega (arith, w));
+      here = λ x h is. ⊎_elim
+          (λ old. let count = b.here x old is in omega (arith, count))
+          (λ new.
+          let mine = ap (λ (y : Pending). y.request.id.0) new in
+          let waiting : ◌≡◌ {A = ℕ} (cond x.issued 1 0) 0 = ap (λ (y : Pending). cond {A = ℕ} y.issued 1 0) new in
+          let zero = b.none (omega (arith, next, mine, is)) in
+          let i = zero.0 in
+          let w = zero.1 in
+          omega (arith, i, w, waiting))
+          (append_in m.book _ x h);
+    }
+balanced_step m (Touch p i block) id issues waits may s b = balanced_on m (after_step m (Touch p i block)) id issues waits refl (came_at issued_of m p.request.id (touch i) (λ _. refl) (λ _. refl)) b
+balanced_step m (End p) id issues waits may s b = balanced_on m (after_step m (End p)) id issues waits refl (came_at issued_of m p.request.id mark_ended (λ _. refl) (λ _. refl)) b
+balanced_step m (Age ready) id issues waits may s b = balanced_on m (after_step m (Age ready)) id issues waits refl (came_older issued_of m ready (older_issued ready)) b
+balanced_step m (Answer p o) id issues waits may s b = balanced_on m (after_step m (Answer p o)) id issues waits refl (λ e h. came_same issued_of m e e (without_in p.request.id m.book e h).0 refl) b
+balanced_step m Release id issues waits may s b = balanced_on m (after_step m Release) id issues waits refl (λ e h. came_same issued_of m e e h refl) b
+balanced_step m (Unplug p) id issues waits may s b = balanced_on m (after_step m (Unplug p)) id issues waits refl (λ e h. came_same issued_of m e e h refl) b
+balanced_step m (Replace p i size disk) id issues waits may s b = balanced_on m (after_step m (Replace p i size disk)) id issues waits refl (λ e h. came_same issued_of m e e h refl) b
+balanced_step m (Store k f o x) id issues waits may s b = balanced_on m (after_step m (Store k f o x)) id issues waits refl (λ e h. came_same issued_of m e e h refl) b
+balanced_step m (Load k f o x) id issues waits may s b = balanced_on m (after_step m (Load k f o x)) id issues waits refl (λ e h. came_same issued_of m e e h refl) b
+
+balanced : (start : Machine) (h : List Step) (id : RequestId) → IsStart start → IsLegal start h → IsBalanced (after start h) id (count_by (issues_it id) h) (count_by (waits_again id) h)
+balanced start [] id s legal = record { none = λ le. (refl, refl); here = λ e h same. absurd (nobody start s e (inl h)) }
+balanced start (step ∷ past) id s legal =
+    subst (IsBalanced (after start (step ∷ past)) id (count_by (issues_it id) (step ∷ past))) (sym (count_cons (waits_again id) step past))
+    (subst (λ (n : ℕ). IsBalanced (after start (step ∷ past)) id n (cond (waits_again id step) 1 0 + count_by (waits_again id) past)) (sym (count_cons (issues_it id) step past))
+    (balanced_step (after start past) step id (count_by (issues_it id) past) (count_by (waits_again id) past) legal.1 (traced start past s legal.0).sound (balanced start past id s legal.0)))
+
+pub issues_are_counted : (start : Machine) (history : List Step) (e : Pending) → IsStart start → IsLegal start history → Contains (after start history).book e
+    → (count_by (issues_it e.request.id) history ≡ e.issues) × (count_by (issues_it e.request.id) history ≡ count_by (waits_again e.request.id) history + cond e.issued 1 0)
+issues_are_counted start history e starts legal here =
+    ((counted start history e.request.id starts legal).here e here refl, (balanced start history e.request.id starts legal).here e here refl)
 
 -- a step of a run is one of a call's
 abort_of_run : {D : Type 0} (first : Moment) (run : List (Event D)) (e : Pending) → IsRun first run → Contains (steps_of run) (Answer e Aborted) → e.issues ≡ 4
@@ -169,3 +283,52 @@ aborted_after_four first run late early e r split =
     let most = issued_four_times first run e.request.id r in
     let all : count_by issues (steps_of run) ≡ count_by issues (late ++ Answer e Aborted ∷ early) = ap (count_by issues) split in
     omega (arith, four, count, most, all, count_append issues late (Answer e Aborted ∷ early), count_cons issues (Answer e Aborted) early)
+
+-- one id is one request, at each moment of a run
+pub one_of_run : {D : Type 0} (first : Moment) (run : List (Event D)) (a b : Pending) → IsRun first run → Contains (moment_of first run).machine.book a → Contains (moment_of first run).machine.book b
+    → a.request.id.0 ≡ b.request.id.0 → a ≡ b
+one_of_run first run a b r h k same =
+    let there : (x : Pending) → Contains (moment_of first run).machine.book x → Contains (after first.machine (steps_of run)).book x = λ x i. subst (λ (m : Machine). Contains m.book x) (moment_is first run) i in
+    (traced first.machine (steps_of run) (run_starts first run r) (run_legal first run r)).sound.one a b (there a h) (there b k) same
+
+pub counted_more : {X : Type 0} (p : X → Bool) (x : X) (xs : List X) → count_by p (x ∷ xs) ≡ cond (p x) 1 0 + count_by p xs
+counted_more p x xs = count_cons p x xs
+
+-- What is answered Ok was served.
+
+in_place : (steps : List Step) (step : Step) → Contains steps step → (late : List Step) × (early : List Step) × (steps ≡ late ++ step ∷ early)
+in_place [] step h = absurd (contains_none step h)
+in_place (x ∷ steps) step h = ⊎_elim
+    (λ (same : step ≡ x). ([], steps, ap (λ (y : Step). y ∷ steps) (sym same)))
+    (λ i. let p = in_place steps step i in (x ∷ p.0, p.1, ap (λ (ys : List Step). x ∷ ys) p.2))
+    (contains_cases x steps step h)
+
+answer_holds : (start : Machine) (memory : Memory) (past steps late early : List Step) (e : Pending) → AnswersHold start memory past steps → steps ≡ late ++ Answer e Ok ∷ early
+    → e.request.asked.op ≡ Read → HoldsLeft start (early ++ past) memory e.request
+answer_holds start memory past steps late early e holds split = go late (subst (AnswersHold start memory past) split holds)
+  where
+    go : (late : List Step) → AnswersHold start memory past (late ++ Answer e Ok ∷ early) → e.request.asked.op ≡ Read → HoldsLeft start (early ++ past) memory e.request
+    go [] h = h.1
+    go (x ∷ late) h = go late h.0
+
+pub ok_was_served : {D : Type 0} (first : Moment) (past : List (Event D)) (event : Event D) (e : Pending) → IsRun first (event ∷ past) → EveryReadHolds first (event ∷ past)
+    → Contains event.steps (Answer e Ok) → IsAnsweredOk first past event e
+ok_was_served first past event e r holds h =
+    let p = in_place event.steps (Answer e Ok) h in
+    let split : steps_of (event ∷ past) ≡ p.0 ++ Answer e Ok ∷ (p.1 ++ steps_of past) = ap (λ (xs : List Step). xs ++ steps_of past) p.2 ∙ append_assoc p.0 (Answer e Ok ∷ p.1) (steps_of past) in
+    let u = step_of_run first (event ∷ past) p.0 (Answer e Ok) (p.1 ++ steps_of past) r split in
+    let issued = (answers_are_lawful first past event e Ok r h).1 in
+    let counted = (issues_are_counted first.machine (p.1 ++ steps_of past) e (run_starts first (event ∷ past) r) u.0 u.1).1 in
+    let one : ◌≡◌ {A = ℕ} (cond e.issued 1 0) 1 = ap (λ (b : Bool). cond {A = ℕ} b 1 0) issued in
+    record {
+      late = p.0;
+      early = p.1;
+      answered = p.2;
+      served = record {
+        accepted = answered_was_accepted first (event ∷ past) p.0 (p.1 ++ steps_of past) e Ok r split;
+        issued = omega (arith, counted, one);
+        touched = ok_was_touched first (event ∷ past) p.0 (p.1 ++ steps_of past) e r split;
+        ended = ok_was_ended first (event ∷ past) p.0 (p.1 ++ steps_of past) e r split;
+      };
+      holds = answer_holds first.machine (moment_of first (event ∷ past)).machine.memory (steps_of past) event.steps p.0 p.1 e holds.1 p.2;
+    }

@@ -1,11 +1,11 @@
 mod Changes
 mod CallSteps
 mod RunLaws
-mod NoneDue
 mod Touching
 mod Once
 mod Staying
 mod Issuing
+mod NoneDue
 mod Unwritten
 mod Lasting
 mod Scene

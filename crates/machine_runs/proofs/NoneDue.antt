@@ -1,19 +1,22 @@
--- At each moment of a run no request of a ready port is due: what comes between two calls that issue changes nothing of it.
-use Rattle.std.proofs.Common.{◌≡◌, Bool, true, false, List, [], ◌∷◌, map, Some, None, Ok, Err, ⊎_elim, refl, sym, ap, ◌∙◌, subst}
-use Rattle.std.specs.List.{Contains}
-use Rattle.std.proofs.lemmas.Bool.{cases_Bool, false≢true}
+-- At each moment of a run no request of a ready port is due: what comes between two calls that issue changes nothing of it. So the only unanswered request is issued.
+use Rattle.std.proofs.Common.{◌≡◌, ℕ, ◌==◌, Bool, true, false, not, cond, ◌&&◌, ◌||◌, List, [], ◌∷◌, map, Some, None, Ok, Err, ⊎_elim, refl, sym, ap, ◌∙◌, subst, arith}
+use Rattle.std.specs.Prelude.{nat_lt, if◌then◌else◌}
+use Rattle.std.specs.List.{Contains, count_by, list_any}
+use Rattle.std.proofs.lemmas.Bool.{cases_Bool, false≢true, le-ltb, or_from, true_from_ne_false}
 use Rattle.ata_types.specs.declared.Port.{Port}
+use Rattle.ata_types.specs.declared.PortState.TheVariants.{Ready}
 use Rattle.ata_types.specs.declared.request.RequestId.{RequestId}
 use Rattle.block_machine.specs.declared.due.Mode.{Mode}
 use Rattle.block_machine.specs.declared.due.Unanswered.{Unanswered}
-use Rattle.block_machine.specs.Due.{NoneDue}
+use Rattle.block_machine.specs.Due.{NoneDue, ahead, holds_back, is_clear, is_earlier, is_plain, issued_count}
 use Rattle.block_machine.specs.Ports.{Ports, Evidence, AreFit, SamePorts, IsStuck}
 use Rattle.block_machine.specs.State.{Pending, Machine, unanswered}
 use Rattle.block_machine.specs.Steps.{Step, Accept, Issue, Touch, End, Age, Again, Answer, Store, Load, after_step, at, touch, mark_ended}
 use Rattle.block_machine.specs.Left.{after}
 use Rattle.block_machine.specs.Events.{Moment, Ask, Submit, StoreAt, LoadAt, Service, Tick, Reset, State, Device, Said, Submitted, Stored, Loaded, Served, WasReset, Shown, Stepped, Event, AllIssued, IsAnswered, IsDevices, IsServers, Belong, IsRun, moment_of}
-use Rattle.block_machine.proofs.Members.{contains_none, at_cases}
-use Rattle.machine_runs.proofs.RunLaws.{is_ready}
+use Rattle.block_machine.proofs.Members.{contains_none, contains_here, contains_there, at_cases, map_in, into_map}
+use Rattle.machine_runs.proofs.RunLaws.{is_ready, run_fit}
+use Rattle.machine_runs.proofs.Issuing.{counted_more, one_of_run}
 
 same_due : (id : RequestId) (f : Pending → Pending) → ((e : Pending) → unanswered (f e) ≡ unanswered e) → (es : List Pending) → map unanswered (map (at id f) es) ≡ map unanswered es
 same_due id f same [] = refl
@@ -108,3 +111,78 @@ issued_event ask said old evidence steps ports a b fit all = absurd a
 pub none_due_between : {D : Type 0} (first : Moment) (run : List (Event D)) → IsRun first run → AllIssued (moment_of first run)
 none_due_between first [] r = λ port ready x here due. contains_none x (subst (λ (es : List Pending). Contains (map unanswered es) x) r.0.book due.here)
 none_due_between first (event ∷ past) r = issued_event event.ask event.said (moment_of first past) event.evidence event.steps event.ports r.1.answered r.1.belong r.1.fit (none_due_between first past r.0)
+
+-- The only unanswered request waits for nothing: so where its port is ready, it is issued.
+
+none_any : (p : Unanswered → Bool) (us : List Unanswered) → ((u : Unanswered) → Contains us u → p u ≡ false) → list_any p us ≡ false
+none_any p [] f = refl
+none_any p (u ∷ us) f = or_from _ _ (f u (contains_here u us u refl)) (none_any p us (λ x i. f x (contains_there u us x i)))
+
+none_counted : (p : Unanswered → Bool) (us : List Unanswered) → ((u : Unanswered) → Contains us u → p u ≡ false) → count_by p us ≡ 0
+none_counted p [] f = refl
+none_counted p (u ∷ us) f =
+    let rest = none_counted p us (λ x i. f x (contains_there u us x i)) in
+    let head : ◌≡◌ {A = ℕ} (cond (p u) 1 0) 0 = ap (λ (b : Bool). cond {A = ℕ} b 1 0) (f u (contains_here u us u refl)) in
+    omega (arith, rest, head, counted_more p u us)
+
+-- one that waits, and isn't earlier than itself, doesn't hold itself back
+held_none : (port plain issued earlier other : Bool) → issued ≡ false → earlier ≡ false
+    → (port && (if plain then issued || earlier else ((plain && issued) || (earlier && other)))) ≡ false
+held_none port plain true earlier other i l = absurd (false≢true (sym i))
+held_none port plain false true other i l = absurd (false≢true (sym l))
+held_none true true false false other i l = refl
+held_none true false false false other i l = refl
+held_none false plain false false other i l = refl
+
+not_earlier : (port earlier clear : Bool) → earlier ≡ false → ((port && earlier) && clear) ≡ false
+not_earlier port true clear l = absurd (false≢true (sym l))
+not_earlier true false clear l = refl
+not_earlier false false clear l = refl
+
+not_issued : (port issued : Bool) → issued ≡ false → (port && issued) ≡ false
+not_issued port true i = absurd (false≢true (sym i))
+not_issued true false i = refl
+not_issued false false i = refl
+
+clear_from : (issued held : Bool) → issued ≡ false → held ≡ false → (not issued && not held) ≡ true
+clear_from true held i h = absurd (false≢true (sym i))
+clear_from false true i h = absurd (false≢true (sym h))
+clear_from false false i h = refl
+
+pub lone_is_issued : {D : Type 0} (first : Moment) (run : List (Event D)) (e : Pending) → IsRun first run → Contains (moment_of first run).machine.book e
+    → (moment_of first run).ports.state e.request.port ≡ Ready → ((o : Pending) → Contains (moment_of first run).machine.book o → o.request.id ≡ e.request.id) → e.issued ≡ true
+lone_is_issued first run e r h ready alone = true_from_ne_false e.issued due
+  where
+    book : List Pending
+    book = (moment_of first run).machine.book
+
+    mode : Mode
+    mode = (moment_of first run).ports.mode e.request.port
+
+    -- each of the book is this one
+    same : (u : Unanswered) → Contains (map unanswered book) u → u ≡ unanswered e
+    same u i =
+        let o = map_in unanswered book u i in
+        o.2 ∙ ap unanswered (one_of_run first run o.0 e r o.1 h (ap (λ (id : RequestId). id.0) (alone o.0 o.1)))
+
+    -- so what this one isn't, none is
+    none : (p : Unanswered → Bool) → p (unanswered e) ≡ false → (u : Unanswered) → Contains (map unanswered book) u → p u ≡ false
+    none p is u i = subst (λ (x : Unanswered). p x ≡ false) (sym (same u i)) is
+
+    later : nat_lt e.request.id.0 e.request.id.0 ≡ false
+    later = le-ltb e.request.id.0 e.request.id.0 (omega arith)
+
+    due : e.issued ≡ false → ⊥
+    due waits =
+        let alone_there = none_any (holds_back mode (unanswered e)) (map unanswered book)
+        (none (holds_back mode (unanswered e)) (held_none (e.request.port.0 == e.request.port.0) (is_plain mode e.request.asked.op) e.issued (nat_lt e.request.id.0 e.request.id.0) _ waits later)) in
+        let first_there : ahead mode (map unanswered book) (unanswered e) ≡ 0 = none_counted (λ other. is_earlier other (unanswered e) && is_clear mode (map unanswered book) other) (map unanswered book)
+        (none _ (not_earlier (e.request.port.0 == e.request.port.0) (nat_lt e.request.id.0 e.request.id.0) _ later)) in
+        let free_there : issued_count (map unanswered book) e.request.port ≡ 0 = none_counted (λ (other : Unanswered). other.port.0 == e.request.port.0 && other.issued) (map unanswered book)
+        (none _ (not_issued (e.request.port.0 == e.request.port.0) e.issued waits)) in
+        let usable = ((run_fit first run r).slots e.request.port ready).0 in
+        none_due_between first run r e.request.port ready (unanswered e) refl (record {
+          here = into_map unanswered book e h;
+          clear = clear_from e.issued (list_any (holds_back mode (unanswered e)) (map unanswered book)) waits alone_there;
+          slot = λ queued. omega (arith, first_there, free_there, usable);
+        })

@@ -13,11 +13,12 @@ use Rattle.block_machine.specs.Steps.{Step, Accept, Answer, May, after_step}
 use Rattle.block_machine.specs.Left.{after, IsLegal, IsStart}
 use Rattle.block_machine.specs.Confined.{WasAccepted}
 use Rattle.block_machine.specs.Events.{Moment, Ask, Submit, Service, Tick, Reset, Said, Submitted, Served, WasReset, Event, AllMay, Belong, Tells, IsAnswered, IsRun, accepts_it, answers_it, accepts_of, answers_of, reply_of, replies_of, all_replies, gives_id, WasGiven, moment_of, steps_of}
-use Rattle.block_machine.proofs.Members.{contains_none, contains_here, contains_cases, map_in, without_in, append_in}
+use Rattle.block_machine.proofs.Members.{contains_none, contains_here, contains_there, contains_cases, map_in, without_in, append_in}
 use Rattle.block_machine.proofs.Sound.{Sound}
 use Rattle.block_machine.proofs.Runs.{traced, nobody}
 use Rattle.block_machine.proofs.Accepts.{living_accepted}
 use Rattle.block_machine.proofs.Counting.{count_cons, count_append, count_map}
+use Rattle.machine_runs.specs.Told.{CameFrom, WasAsked}
 use Rattle.machine_runs.proofs.CallSteps.{Came, came, Since, IsAccepted, since, is_submit, none_accepted, all_fit, accepted_asked}
 use Rattle.block_machine.proofs.EventLemmas.{run_starts, run_legal, step_of_run}
 
@@ -178,28 +179,45 @@ run_gives {D} first (event ∷ past) id r =
 pub given_once : {D : Type 0} (first : Moment) (run : List (Event D)) (id : RequestId) → IsRun first run → count_by (λ (event : Event D). gives_id id event.said) run ≤ 1
 given_once first run id r = let few = run_gives first run id r in let once = accepted_once first run id r in omega (arith, few, once)
 
--- Each unanswered request has an id that a submit of its client gave.
+-- Each unanswered request is one that a submit asked for.
 
-abbrev IsGiven : {D : Type 0} → RequestId → ClientId → Ask D → Said → Type 0
-IsGiven id client ask said = (r : Request) × (ask ≡ Submit r) × (said ≡ Submitted (Ok id)) × (r.client ≡ client)
-
-accepts_gives : {D : Type 0} (r : Accepted) (ask : Ask D) (said : Said) (old : Moment) (evidence : Evidence) (steps : List Step) (ports : Ports) (new : Moment) → Belong ask ports steps
-    → IsAnswered ask said old evidence steps new → Contains (accepts_of steps) r → IsGiven r.id r.asked.client ask said
-accepts_gives {D} r (Submit q) (Submitted (Ok given)) old evidence steps ports new b a h =
+accepts_asked : {D : Type 0} (r : Accepted) (ask : Ask D) (said : Said) (old : Moment) (evidence : Evidence) (steps : List Step) (ports : Ports) (new : Moment) → Belong ask ports steps
+    → IsAnswered ask said old evidence steps new → Contains (accepts_of steps) r → (ask ≡ Submit r.asked) × (said ≡ Submitted (Ok r.id))
+accepts_asked {D} r (Submit q) (Submitted (Ok given)) old evidence steps ports new b a h =
     let same : r ≡ a.1.0 = ⊎_elim (λ e. e) (λ n. absurd (contains_none r n)) (contains_cases a.1.0 [] r (subst (λ (xs : List Accepted). Contains xs r) a.1.1 h)) in
-    (q, refl, ap (λ (x : RequestId). Submitted (Ok x)) (sym a.1.2 ∙ ap (λ (x : Accepted). x.id) (sym same)), ap (λ (x : Request). x.client) (sym (accepted_asked D q ports steps r b h)))
-accepts_gives r (Submit q) (Submitted (Err refusal)) old evidence steps ports new b a h = absurd (contains_none r (subst (λ (xs : List Step). Contains (accepts_of xs) r) a.1 h))
-accepts_gives r (Submit q) said old evidence steps ports new b a h = absurd a
-accepts_gives r ask said old evidence steps ports new b a h = absurd (contains_none r (subst (λ (xs : List Accepted). Contains xs r) (none_accepted ask steps refl (all_fit ask ports steps b)) h))
+    let asks : Request → Ask D = λ x. Submit x in
+    (ap asks (sym (accepted_asked D q ports steps r b h)), ap (λ (x : RequestId). Submitted (Ok x)) (sym a.1.2 ∙ ap (λ (x : Accepted). x.id) (sym same)))
+accepts_asked r (Submit q) (Submitted (Err refusal)) old evidence steps ports new b a h = absurd (contains_none r (subst (λ (xs : List Step). Contains (accepts_of xs) r) a.1 h))
+accepts_asked r (Submit q) said old evidence steps ports new b a h = absurd a
+accepts_asked r ask said old evidence steps ports new b a h = absurd (contains_none r (subst (λ (xs : List Accepted). Contains xs r) (none_accepted ask steps refl (all_fit ask ports steps b)) h))
 
-was_given : {D : Type 0} (first : Moment) (run : List (Event D)) (e : Pending) → IsRun first run → Contains (moment_of first run).machine.book e → WasGiven e.request.id e.request.asked.client run
-was_given first [] e r h = absurd (nobody first.machine r.0 e (inl h))
-was_given first (event ∷ past) e r h = ⊎_elim
-    (λ (s : Since (moment_of first past).machine event.steps e). inr
-    (subst (λ (x : Accepted). WasGiven x.id x.asked.client past) s.same (was_given first past s.old r.0 s.here)))
-    (λ (a : IsAccepted event.steps e). inl
-    (accepts_gives e.request event.ask event.said (moment_of first past) event.evidence event.steps event.ports _ r.1.belong r.1.answered a.0))
+-- it was there before its last call, or that asked for it
+pub came_from : {D : Type 0} (first : Moment) (past : List (Event D)) (event : Event D) (e : Pending) → IsRun first (event ∷ past) → Contains (moment_of first (event ∷ past)).machine.book e
+    → CameFrom (moment_of first past).machine event.steps e ⊎ ((event.ask ≡ Submit e.request.asked) × (event.said ≡ Submitted (Ok e.request.id)))
+came_from first past event e r h = ⊎_elim
+    (λ (s : Since (moment_of first past).machine event.steps e). inl (record {
+      before = s.old;
+      here = s.here;
+      same = s.same;
+      issued = λ t. ⊎_elim (λ anew. inl anew.0) (λ kept. inr kept.1) (s.issued t);
+    }))
+    (λ (a : IsAccepted event.steps e). inr
+    (accepts_asked e.request event.ask event.said (moment_of first past) event.evidence event.steps event.ports _ r.1.belong r.1.answered a.0))
     (since (moment_of first past).machine event.steps e h)
+
+was_asked : {D : Type 0} (first : Moment) (run : List (Event D)) (e : Pending) → IsRun first run → Contains (moment_of first run).machine.book e → WasAsked e.request run
+was_asked first [] e r h = absurd (nobody first.machine r.0 e (inl h))
+was_asked first (event ∷ past) e r h = ⊎_elim
+    (λ (c : CameFrom (moment_of first past).machine event.steps e). inr
+    (subst (λ (x : Accepted). WasAsked x past) c.same (was_asked first past c.before r.0 c.here)))
+    (λ asked. inl asked)
+    (came_from first past event e r h)
+
+-- so a submit of its client gave its id
+asked_given : {D : Type 0} (r : Accepted) (run : List (Event D)) → WasAsked r run → WasGiven r.id r.asked.client run
+asked_given r [] w = w
+asked_given r (event ∷ past) (inl w) = inl (r.asked, w.0, w.1, refl)
+asked_given r (event ∷ past) (inr w) = inr (asked_given r past w)
 
 -- So has each reply.
 
@@ -220,14 +238,33 @@ was_open m (Answer p o ∷ before) answer may none h = ⊎_elim
     (contains_cases (p, o) (answers_of before) answer h)
 was_open m (step ∷ before) answer may none h = was_open m before answer may.0 none h
 
-pub replied_was_given : {D : Type 0} (first : Moment) (past : List (Event D)) (event : Event D) (reply : Reply) → IsRun first (event ∷ past) → Contains (replies_of event.said) reply
-    → WasGiven reply.id reply.client past
-replied_was_given first past event reply r h = ⊎_elim
+answers_in : (steps : List Step) (a : Pending × Outcome) → Contains (answers_of steps) a → Contains steps (Answer a.0 a.1)
+answers_in [] a h = absurd (contains_none a h)
+answers_in (Answer e o ∷ before) a h = ⊎_elim
+    (λ (same : a ≡ (e, o)). contains_here (Answer e o) before (Answer a.0 a.1) (ap (λ (x : Pending × Outcome). Answer x.0 x.1) same))
+    (λ i. contains_there (Answer e o) before (Answer a.0 a.1) (answers_in before a i))
+    (contains_cases (e, o) (answers_of before) a h)
+answers_in (step ∷ before) a h = contains_there step before (Answer a.0 a.1) (answers_in before a h)
+
+-- the request that a reply tells of
+abbrev pub IsRepliedBy : {D : Type 0} → Reply → Event D → List (Event D) → Type 0
+IsRepliedBy reply event past = (e : Pending) × Contains event.steps (Answer e reply.outcome) × (e.request.id ≡ reply.id) × (e.request.asked.client ≡ reply.client) × WasAsked e.request past
+
+pub replied_was_asked : {D : Type 0} (first : Moment) (past : List (Event D)) (event : Event D) (reply : Reply) → IsRun first (event ∷ past) → Contains (replies_of event.said) reply
+    → IsRepliedBy reply event past
+replied_was_asked first past event reply r h = ⊎_elim
     (λ (t : Tells event.steps (replies_of event.said) × (is_submit event.ask ≡ false)).
     let a = map_in reply_of t.0.answers reply (subst (λ (xs : List Reply). Contains xs reply) t.0.told h) in
-    let waited = was_open (moment_of first past).machine event.steps a.0 r.1.may
-    (none_accepted event.ask event.steps t.1 (all_fit event.ask event.ports event.steps r.1.belong)) (Contains-permutation t.0.answers (answers_of event.steps) a.0 t.0.same a.1) in
-    subst (λ (x : Reply). WasGiven x.id x.client past) (sym a.2)
-    (subst (λ (x : Accepted). WasGiven x.id x.asked.client past) waited.2 (was_given first past waited.0 r.0 waited.1)))
+    let i = Contains-permutation t.0.answers (answers_of event.steps) a.0 t.0.same a.1 in
+    let waited = was_open (moment_of first past).machine event.steps a.0 r.1.may (none_accepted event.ask event.steps t.1 (all_fit event.ask event.ports event.steps r.1.belong)) i in
+    let asked : WasAsked a.0.0.request past = subst (λ (x : Accepted). WasAsked x past) waited.2 (was_asked first past waited.0 r.0 waited.1) in
+    let told : IsRepliedBy (reply_of a.0) event past = (a.0.0, answers_in event.steps a.0 i, refl, refl, asked) in
+    subst (λ (x : Reply). IsRepliedBy x event past) (sym a.2) told)
     (λ e. absurd (contains_none reply (subst (λ (xs : List Reply). Contains xs reply) e h)))
     (told_or_none event.ask event.said (moment_of first past) event.evidence event.steps _ r.1.answered)
+
+pub replied_was_given : {D : Type 0} (first : Moment) (past : List (Event D)) (event : Event D) (reply : Reply) → IsRun first (event ∷ past) → Contains (replies_of event.said) reply
+    → WasGiven reply.id reply.client past
+replied_was_given first past event reply r h =
+    let told = replied_was_asked first past event reply r h in
+    subst (λ (c : ClientId). WasGiven reply.id c past) told.3 (subst (λ (id : RequestId). WasGiven id told.0.request.asked.client past) told.2 (asked_given told.0.request past told.4))

@@ -92,7 +92,7 @@ ready_or : (s : PortState) → (s ≡ Ready) ⊎ (s ≢ Ready)
 ready_or Ready = inl refl
 ready_or _ = inr (λ e. false≢true (ap is_ready e))
 
-run_fit : {D : Type 0} (first : Moment) (run : List (Event D)) → IsRun first run → AreFit (moment_of first run).ports
+pub run_fit : {D : Type 0} (first : Moment) (run : List (Event D)) → IsRun first run → AreFit (moment_of first run).ports
 run_fit first [] r = r.1
 run_fit first (event ∷ past) r = r.1.fit
 

@@ -1,7 +1,7 @@
 //! Laws over whole histories and runs, and that such runs exist. The clause of each function is the law; the functions do
 //! nothing, and nothing calls them. `D` are the steps that a device can be told to do: a law on runs holds for any device.
 
-ghost use Rattle.std.specs.Prelude.{◌≡◌, ◌≢◌, ◌⊎◌, ◌+◌, ◌<◌, ◌≤◌, ◌==◌, ℕ, true, List, ◌∷◌, ◌++◌, count_by, Contains};
+ghost use Rattle.std.specs.Prelude.{◌≡◌, ◌≢◌, ◌⊎◌, ◌+◌, ◌<◌, ◌≤◌, ◌==◌, ℕ, true, List, ◌∷◌, ◌++◌, cond, count_by, Contains};
 ghost use Rattle.ata_types.specs.declared.Port.{Port};
 ghost use Rattle.ata_types.specs.declared.PortState.TheVariants.{Ready, Dead};
 ghost use Rattle.ata_types.specs.declared.request.Frame.{Frame};
@@ -17,7 +17,8 @@ ghost use Rattle.block_machine.specs.Steps.{Step, Answer, after_step, IsLiving, 
 ghost use Rattle.block_machine.specs.Left.{IsStart, IsLegal, HasTouched, HasTouchedSince, HasEndedSince, IsLeft, after, bytes_when_plugged, disk_read};
 ghost use Rattle.block_machine.specs.Confined.{GrantsNoWrites, WasAccepted, MayChangeByte, MayChangeSector};
 ghost use Rattle.machine_runs.specs.Durable.{IsVolatile, EveryPlugFinds};
-ghost use Rattle.block_machine.specs.Events.{Moment, Event, AllIssued, Happens, IsLawful, IsRun, IsStillStuck, accepts_it, answers_it, issues_it, gives_id, replies_of, all_replies, WasGiven, moment_of, steps_of};
+ghost use Rattle.block_machine.specs.Events.{Moment, Event, AllIssued, Happens, EveryReadHolds, IsLawful, IsRun, IsStillStuck, accepts_it, answers_it, issues_it, gives_id, replies_of, all_replies, WasGiven, moment_of, steps_of};
+ghost use Rattle.machine_runs.specs.Told.{AsksFor, CameFrom, IsAnsweredOk, WasAsked, waits_again};
 ghost use Rattle.machine_runs.specs.Worked.{FindsTheFlushed, WaitsItsTurn, EndsWithAReset, MeetsTrouble, EndsAtATick, IsTakenOutBeforeATick, GoesAgainInResets, DiesInAService, GoesWrong};
 
 /// Where no grant lets its client write or trim, what is left on a sector for a read is what the disk that it found
@@ -109,6 +110,40 @@ pub fn replied_was_given<D>()
         → WasGiven reply.id reply.client past }
 {}
 
+/// Each reply of a call is an answer of its steps, to a request for which an earlier submit of the run asked.
+pub fn replied_was_asked<D>()
+    ensures { (first : Moment) (past : List (Event D)) (event : Event D) (reply : Reply)
+        → IsRun first (event ∷ past) → Contains (replies_of event.said) reply
+        → (e : Pending) × Contains event.steps (Answer e reply.outcome) × (e.request.id ≡ reply.id)
+        × (e.request.asked.client ≡ reply.client) × WasAsked e.request past }
+{}
+
+/// An unanswered request was there before the last call of a run, which issues it where it is issued, and wasn't before; or that call is the submit which
+/// asked for it.
+pub fn unanswered_came_from<D>()
+    ensures { (first : Moment) (past : List (Event D)) (event : Event D) (e : Pending)
+        → IsRun first (event ∷ past) → Contains (moment_of first (event ∷ past)).machine.book e
+        → CameFrom (moment_of first past).machine event.steps e
+        ⊎ AsksFor e.request event }
+{}
+
+/// What a call of a run answers Ok was served before: it was accepted and issued, its sectors were touched, and it was ended. And where
+/// each read of the run holds what is left, a read that is answered so has it at the call's end.
+pub fn ok_was_served<D>()
+    ensures { (first : Moment) (past : List (Event D)) (event : Event D) (e : Pending)
+        → IsRun first (event ∷ past) → EveryReadHolds first (event ∷ past)
+        → Contains event.steps (Answer e Ok) → IsAnsweredOk first past event e }
+{}
+
+/// At each moment of a run the only unanswered request is issued, where its port is ready.
+pub fn a_lone_request_is_issued<D>()
+    ensures { (first : Moment) (run : List (Event D)) (e : Pending) → IsRun first run
+        → Contains (moment_of first run).machine.book e
+        → (moment_of first run).ports.state e.request.port ≡ Ready
+        → ((other : Pending) → Contains (moment_of first run).machine.book other → other.request.id ≡ e.request.id)
+        → e.issued ≡ true }
+{}
+
 /// What has to stand behind an answer stands behind each that a call of a run gives.
 pub fn answers_are_lawful<D>()
     ensures { (first : Moment) (past : List (Event D)) (event : Event D) (e : Pending) (outcome : Outcome)
@@ -137,6 +172,15 @@ pub fn ok_was_ended<D>()
     ensures { (first : Moment) (run : List (Event D)) (late early : List Step) (e : Pending)
         → IsRun first run → steps_of run ≡ late ++ Answer e Ok ∷ early
         → HasEndedSince e.request early }
+{}
+
+/// After every history an unanswered request was issued as often as it says: where it is issued, once more than it was made to wait again, and else as
+/// often.
+pub fn issues_are_counted()
+    ensures { (start : Machine) (history : List Step) (e : Pending) → IsStart start → IsLegal start history
+        → Contains (after start history).book e
+        → (count_by (issues_it e.request.id) history ≡ e.issues)
+        × (count_by (issues_it e.request.id) history ≡ count_by (waits_again e.request.id) history + cond e.issued 1 0) }
 {}
 
 /// A call issues a request once at most.

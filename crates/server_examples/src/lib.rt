@@ -1,15 +1,18 @@
 //! What the server, its boot and the play of a script do where no script shows it: which accesses are made, when waits end, what lying
-//! disks are found to be, and what comes of an output that fails. There is no other code here.
+//! disks are found to be, and what comes of an output that fails; and that histories of the server exist in which it answers. There is no other code here.
 #![tactic(auto)]
 
 #[cfg(test)]
 mod boots;
+pub mod histories;
 #[cfg(test)]
 mod outputs;
 #[cfg(test)]
 mod plans;
 #[cfg(test)]
 mod servers;
+#[cfg(test)]
+mod shown;
 #[cfg(test)]
 mod waits;
 #[cfg(test)]

@@ -1,5 +1,5 @@
 // What a server does to its adapter, seen through one that watches, and calls that no line of a script spells.
-ghost use Rattle.std.specs.Prelude.{IfOk};
+ghost use Rattle.std.specs.Prelude.{◌≡◌, IfOk, true};
 ghost use Rattle.block_server.specs.Made.{IsReadyFor};
 ghost use Rattle.configuration.specs.Rules.{IsSound};
 
@@ -48,13 +48,13 @@ rights = \"rwtf\"
 const PLAIN: &str = text_with!("slots = 1\nncq = false\ndepth = 1\n");
 
 /// Commands are queued.
-const QUEUED: &str = text_with!("slots = 32\nncq = true\ndepth = 32\n");
+pub const QUEUED: &str = text_with!("slots = 32\nncq = true\ndepth = 32\n");
 
 /// Neither adapter nor disk queues commands.
 const UNQUEUED: &str = text_with!("slots = 32\nncq = false\ndepth = 32\n");
 
 /// The values of the text.
-fn config(alloc: Global, text: &str) -> Result<Config, Fail>
+pub fn config(alloc: Global, text: &str) -> Result<Config, Fail>
     ensures { IfOk result IsSound }
 {
     Ok(
@@ -65,16 +65,17 @@ fn config(alloc: Global, text: &str) -> Result<Config, Fail>
 }
 
 /// The model that the configuration asks for, with a disk of so many sectors in port 0.
-fn model_of(alloc: Global, config: &Config, sectors: u32) -> Result<Model<MemStore>, Fail>
+pub fn model_of(alloc: Global, config: &Config, sectors: u32) -> Result<Model<MemStore>, Fail>
     requires { IsSound config.now }
-    ensures { IfOk result (λ m. IsReadyFor config.now (⟦<Model<MemStore> as Adapter>⟧.device m)) }
+    ensures ready { IfOk result (λ m. IsReadyFor config.now (⟦<Model<MemStore> as Adapter>⟧.device m)) }
+    ensures telling { IfOk result (λ m. (⟦<Model<MemStore> as Adapter>⟧.device m).telling ≡ true) }
 {
     let image = MemStore::new(alloc, sectors)?;
     Ok(new_model(alloc, config, image, MemStore::new(alloc, 0)?)?)
 }
 
 /// Client 1's request by its grant, with so many frames from one on.
-fn request(op: Op, first: u64, count: u32, frame: u16, frames: u16) -> Request {
+pub fn request(op: Op, first: u64, count: u32, frame: u16, frames: u16) -> Request {
     let mut list = ArrayVec::new();
     for next in frame..frame.saturating_add(frames) {
         let _full = list.try_push(Frame(next)).is_err();

@@ -1,0 +1,517 @@
+-- What calls of a new server show, by what they said.
+use Rattle.std.proofs.Common.{◌≡◌, ℕ, ◌+◌, ◌<◌, ◌≤◌, zero, suc, Bool, true, false, cond, ◌||◌, List, [], ◌∷◌, ◌++◌, length, get_or, Option, Some, None, Ok, Err, inl, ⊎_elim, refl, sym, ap, ◌∙◌, subst, arith, rules}
+use Rattle.std.specs.Prelude.{IsSome}
+use Rattle.std.specs.List.{Contains, count_by, list_any}
+use Rattle.std.proofs.lemmas.Bool.{cases_Bool, false≢true}
+use Rattle.std.proofs.lemmas.List.{length-map, nil_from_length}
+use Rattle.std.proofs.lemmas.List.Elements.{Contains-append_left, Contains-append_right, Contains-push}
+use Rattle.std.proofs.lemmas.List.Sorted.{length_permutation}
+use Rattle.std.proofs.lemmas.List.Sums.{sum_by-cons, sum_by-append}
+use Rattle.ata_types.specs.declared.Port.{Port}
+use Rattle.ata_types.specs.declared.PortState.{PortState}
+use Rattle.ata_types.specs.declared.PortState.TheVariants.{Absent, Ready, Dead}
+use Rattle.ata_types.specs.declared.refusal.MemFault.TheVariants.{FrameLent}
+use Rattle.ata_types.specs.declared.request.ClientId.{ClientId}
+use Rattle.ata_types.specs.declared.request.Frame.{Frame}
+use Rattle.ata_types.specs.declared.request.RequestId.{RequestId}
+use Rattle.ata_types.specs.declared.request.Reply.{Reply}
+use Rattle.ata_types.specs.declared.request.Request.{Request}
+use Rattle.ata_types.specs.declared.request.Op.TheVariants.{Read}
+use Rattle.ata_types.specs.declared.request.Outcome.{Outcome}
+use Rattle.ata_types.specs.declared.request.Outcome.TheVariants as outcome
+use Rattle.adapter.specs.Device.{Device}
+use Rattle.adapter.specs.Access.{Access}
+use Rattle.adapter.specs.Memory.{changed}
+use Rattle.adapter.specs.declared.access.DeviceStep.{DeviceStep}
+use Rattle.adapter.specs.declared.access.DeviceStep.TheVariants.{Hold, Fatal}
+use Rattle.adapter.specs.declared.access.FatalError.TheVariants.{Interface, HostBus}
+use Rattle.block_machine.specs.Events.{Event as Call, Ask, Moment, Submit as AskSubmit, StoreAt, Service as AskService, Reset as AskReset, State as AskState, Device as AskDevice, Submitted, Stored, Served, WasReset, Shown, Stepped, AllDevices, EveryReadHolds, IsAnswered, IsIssuedIn, IsRun, IsStillStuck, StaysStuck, answers_of, issues_it, reply_of, moment_after, moment_of, replies_of, steps_of}
+use Rattle.block_machine.specs.Events as machine
+use Rattle.block_machine.specs.Histories.{Happening, Instant, events_of}
+use Rattle.block_machine.specs.Left.{after}
+use Rattle.block_machine.specs.State.{Accepted, Pending, Machine}
+use Rattle.block_machine.specs.Steps.{Step, Touch, End, Unplug, Replace, Answer, Release}
+use Rattle.driver_history.specs.Evidence.{ShowsFailure}
+use Rattle.driver_history.specs.Histories.{CameBy}
+use Rattle.machine_runs.specs.Told.{AsksFor, CameFrom, WasAsked, waits_again}
+use Rattle.server_history.specs.Histories.{HasBegun, Leads}
+use Rattle.server_history.specs.Server.{Server}
+use Rattle.block_server.specs.Healthy.{EachSince, IsSound, RunsAsPromised, one_more}
+use Rattle.block_server.specs.Running.{AddEach, ask_of, said_of}
+use Rattle.block_server.specs.View.{ServerView, server_of}
+use Rattle.block_server.specs.declared.types.Event.{Event}
+use Rattle.block_server.specs.declared.types.Event.TheVariants.{Submit, ClientStore, Service, Reset, State, Device as Tell}
+use Rattle.block_server.specs.declared.types.Said.{Said}
+use Rattle.block_server.specs.declared.types.Said.TheVariants as said
+use Rattle.server_examples.specs.Shown.{HasRun, ReleasesFrame, RunLaws, ServesRead, ServesReadAnew}
+
+pub has_run : {A : Type 0} (device : A → Device) (old new : ServerView A) (events : List Event) (before after : List Said) → RunsAsPromised device old new events before after → before ≡ []
+    → HasBegun (server_of device old) → (device old.adapter).telling ≡ true → HasRun device old new events after
+has_run device old new events before after promised empty begun telling =
+    let kept = promised.keeps begun.0 [] begun.1 in
+    let is : promised.said ≡ after = sym (promised.told ∙ ap (λ (xs : List Said). xs ++ promised.said) empty) in
+    subst (HasRun device old new events) is (record {
+      first = begun.0;
+      begun = begun.1;
+      past = kept.later;
+      adds = kept.adds;
+      leads = kept.leads;
+      run = kept.run;
+      reads = kept.reads (ap (λ (d : Device). d.telling) begun.1.stands.device_is ∙ telling);
+      sound = kept.sound;
+    })
+
+-- what calls asked and said
+abbrev asks_of : List Event → List Said → List (Ask DeviceStep × machine.Said)
+asks_of (event ∷ events) (one ∷ more) = (ask_of event, said_of one) ∷ asks_of events more
+asks_of _ _ = []
+
+-- a history has grown by calls that asked and said this
+abbrev Grows : List (Happening Device DeviceStep) → List (Ask DeviceStep × machine.Said) → List (Happening Device DeviceStep) → Type 0
+Grows past [] later = later ≡ past
+Grows past (one ∷ more) later = (h : Happening Device DeviceStep) × (h.event.ask ≡ one.0) × (h.event.said ≡ one.1) × Grows (h ∷ past) more later
+
+grows : {A : Type 0} (device : A → Device) (first : Instant Device) (past : List (Happening Device DeviceStep)) (old : ServerView A) (events : List Event) (some : List Said)
+    (later : List (Happening Device DeviceStep)) (new : ServerView A) → AddEach device first past old events some later new → Grows past (asks_of events some) later
+grows device first past old [] [] later new a = a.0
+grows device first past old (event ∷ events) (one ∷ more) later new a = (a.1, a.3, a.4, grows device first (a.1 ∷ past) a.0 events more later new a.6)
+grows device first past old [] (one ∷ more) later new a = absurd a
+grows device first past old (event ∷ events) [] later new a = absurd a
+
+grown : {A : Type 0} {device : A → Device} {old new : ServerView A} {events : List Event} {some : List Said} (r : HasRun device old new events some) → Grows [] (asks_of events some) r.past
+grown {A} {device} {old} {new} {events} {some} r = grows device r.first [] old events some r.past new r.adds
+
+pub has_said : {A : Type 0} {device : A → Device} {old new : ServerView A} {events : List Event} {some other : List Said} → HasRun device old new events some → some ≡ other → HasRun device old new events other
+has_said {A} {device} {old} {new} {events} {some} {other} r is = subst (HasRun device old new events) is r
+
+in_middle : {X : Type 0} (late : List X) (x : X) (early : List X) → Contains (late ++ x ∷ early) x
+in_middle late x early = Contains-append_right late (x ∷ early) x (Contains-append_left (x ∷ []) early x (Contains-push [] x))
+
+-- ---- who asked
+
+-- a call that isn't a submit asked for nothing
+device_asks_none : (r : Accepted) (event : Call DeviceStep) (step : DeviceStep) → event.ask ≡ AskDevice step → AsksFor r event → ⊥
+device_asks_none r event step is asks = let e : AskDevice step ≡ AskSubmit r.asked = sym is ∙ asks.0 in cc
+
+state_asks_none : (r : Accepted) (event : Call DeviceStep) (port : Port) → event.ask ≡ AskState port → AsksFor r event → ⊥
+state_asks_none r event port is asks = let e : ◌≡◌ {A = Ask DeviceStep} (AskState port) (AskSubmit r.asked) = sym is ∙ asks.0 in cc
+
+service_asks_none : (r : Accepted) (event : Call DeviceStep) → event.ask ≡ AskService → AsksFor r event → ⊥
+service_asks_none r event is asks = let e : ◌≡◌ {A = Ask DeviceStep} AskService (AskSubmit r.asked) = sym is ∙ asks.0 in cc
+
+submit_asks : (r : Accepted) (event : Call DeviceStep) (asked : Request) → event.ask ≡ AskSubmit asked → AsksFor r event → r.asked ≡ asked
+submit_asks r event asked is asks = let e : ◌≡◌ {A = Ask DeviceStep} (AskSubmit asked) (AskSubmit r.asked) = sym is ∙ asks.0 in cc
+
+-- ---- a read that is answered Ok
+
+-- the one reply of the last call
+told_alone : (items : List Reply) (reply : Reply) → items ≡ reply ∷ [] → Contains items reply
+told_alone items reply only = subst (λ (xs : List Reply). Contains xs reply) (sym only) (in_middle [] reply [])
+
+served_last : (laws : RunLaws) (old new : Server) (asked : Request) (first : Instant Device) → Leads first [] old → (past : List (Happening Device DeviceStep)) (last : Happening Device DeviceStep)
+    → Leads first (last ∷ past) new → IsRun first.moment (events_of (last ∷ past)) → EveryReadHolds first.moment (events_of (last ∷ past)) → (items : List Reply) (reply : Reply)
+    → last.event.said ≡ Served items → items ≡ reply ∷ [] → reply.outcome ≡ outcome.Ok → asked.op ≡ Read → ((r : Accepted) → WasAsked r (events_of past) → r.asked ≡ asked) → ServesRead old new asked
+served_last laws old new asked first begun past last leads run holds items reply says only ok reads asks =
+    let there : Contains (replies_of last.event.said) reply = subst (λ (s : machine.Said). Contains (replies_of s) reply) (sym says) (told_alone items reply only) in
+    let told = laws.asked first.moment (events_of past) last.event reply run there in
+    let answered : Contains last.event.steps (Answer told.0 outcome.Ok) = subst (λ (o : Outcome). Contains last.event.steps (Answer told.0 o)) ok told.1 in
+    record {
+      first = first;
+      begun = begun;
+      past = past;
+      last = last;
+      leads = leads;
+      run = run;
+      read = told.0;
+      its = asks told.0.request told.4;
+      reads = reads;
+      told = laws.served first.moment (events_of past) last.event told.0 run holds answered;
+    }
+
+pub shows_a_read : {A : Type 0} (device : A → Device) (old new : ServerView A) (read : Request) (step : DeviceStep) (id : RequestId) (did : Bool) (replies : List Reply) (reply : Reply) → RunLaws
+    → HasRun device old new (Submit read ∷ Tell step ∷ Service ∷ []) (said.Submitted (Ok id) ∷ said.Stepped did ∷ said.Served (record { items = replies }) ∷ [])
+    → replies ≡ reply ∷ [] → reply.outcome ≡ outcome.Ok → read.op ≡ Read → ServesRead (server_of device old) (server_of device new) read
+shows_a_read device old new read step id did replies reply laws r only ok reads =
+    let a = grown r in
+    let b = a.3 in
+    let c = b.3 in
+    let calls : List (Happening Device DeviceStep) = c.0 ∷ b.0 ∷ a.0 ∷ [] in
+    let is : r.past ≡ calls = c.3 in
+    served_last laws (server_of device old) (server_of device new) read r.first r.begun (b.0 ∷ a.0 ∷ []) c.0
+    (subst (λ (p : List (Happening Device DeviceStep)). Leads r.first p (server_of device new)) is r.leads)
+    (subst (λ (p : List (Happening Device DeviceStep)). IsRun r.first.moment (events_of p)) is r.run)
+    (subst (λ (p : List (Happening Device DeviceStep)). EveryReadHolds r.first.moment (events_of p)) is r.reads)
+    replies reply c.2 only ok reads
+    (λ q asked. ⊎_elim
+    (λ now. absurd (device_asks_none q b.0.event step b.1 now))
+    (λ before. ⊎_elim (λ now. submit_asks q a.0.event read a.1 now) (λ no. absurd no) before)
+    asked)
+
+-- ---- a read that goes again
+
+-- what the device does issues nothing
+devices_issue_none : (id : RequestId) (steps : List Step) → AllDevices steps → IsIssuedIn id steps → ⊥
+devices_issue_none id [] d i = false≢true i
+devices_issue_none id (Touch e k block ∷ before) d i = devices_issue_none id before d.0 i
+devices_issue_none id (End e ∷ before) d i = devices_issue_none id before d.0 i
+devices_issue_none id (Unplug port ∷ before) d i = devices_issue_none id before d.0 i
+devices_issue_none id (Replace port name size disk ∷ before) d i = devices_issue_none id before d.0 i
+devices_issue_none id (step ∷ before) d i = absurd d.1
+
+any_first : (p : Step → Bool) (step : Step) (before : List Step) → (list_any p before ≡ true → 1 ≤ count_by p before) → (b : Bool) → p step ≡ b → list_any p (step ∷ before) ≡ true → 1 ≤ count_by p (step ∷ before)
+any_first p step before rest true is some =
+    let one : ◌≡◌ {A = ℕ} (cond (p step) 1 0) 1 = ap (λ (b : Bool). cond {A = ℕ} b 1 0) is in
+    omega (arith, one, sum_by-cons (λ s. cond {A = ℕ} (p s) 1 0) step before)
+any_first p step before rest false is some =
+    let more = rest (subst (λ (b : Bool). (b || list_any p before) ≡ true) is some) in
+    omega (arith, more, sum_by-cons (λ s. cond {A = ℕ} (p s) 1 0) step before)
+
+any_counted : (p : Step → Bool) (steps : List Step) → list_any p steps ≡ true → 1 ≤ count_by p steps
+any_counted p [] some = absurd (false≢true some)
+any_counted p (step ∷ before) some = any_first p step before (any_counted p before) (p step) refl some
+
+count_append : (p : Step → Bool) (late early : List Step) → count_by p (late ++ early) ≡ count_by p late + count_by p early
+count_append p late early = sum_by-append (λ s. cond {A = ℕ} (p s) 1 0) late early
+
+-- A call of the kind that lets all be: of its steps none is the server's, and ports are what they were.
+record LetsBe (old : Moment) (event : Call DeviceStep) : Type 0 where
+  issues : (id : RequestId) → IsIssuedIn id event.steps → ⊥
+  asks : (r : Accepted) → AsksFor r event → ⊥
+  ports : (port : Port) → event.ports.state port ≡ old.ports.state port
+  calm : (past : List (Call DeviceStep)) → IsStillStuck (event ∷ past) → IsStillStuck past
+
+state_lets_be : (first : Moment) (past : List (Call DeviceStep)) (event : Call DeviceStep) (port : Port) (shown : PortState) → IsRun first (event ∷ past) → event.ask ≡ AskState port → event.said ≡ Shown shown
+    → LetsBe (moment_of first past) event × (shown ≡ (moment_of first past).ports.state port)
+state_lets_be first past event port shown r is says =
+    let old = moment_of first past in
+    let new = moment_of first (event ∷ past) in
+    let said_so = subst (λ (s : machine.Said). IsAnswered event.ask s old event.evidence event.steps new) says r.1.answered in
+    let a = subst (λ (q : Ask DeviceStep). IsAnswered q (Shown shown) old event.evidence event.steps new) is said_so in (
+      record {
+        issues = λ id i. let P : List Step → Type 0 = IsIssuedIn id in false≢true (subst P a.1 i);
+        asks = λ q asks. state_asks_none q event port is asks;
+        ports = λ q. (a.2 q).1;
+        calm = λ earlier w. subst (λ (q : Ask DeviceStep). StaysStuck q event.said (IsStillStuck earlier)) is w;
+      },
+      a.0,
+    )
+
+device_lets_be : (first : Moment) (past : List (Call DeviceStep)) (event : Call DeviceStep) (step : DeviceStep) → IsRun first (event ∷ past) → event.ask ≡ AskDevice step → event.said ≡ Stepped true
+    → LetsBe (moment_of first past) event
+device_lets_be first past event step r is says =
+    let old = moment_of first past in
+    let new = moment_of first (event ∷ past) in
+    let said_so = subst (λ (s : machine.Said). IsAnswered event.ask s old event.evidence event.steps new) says r.1.answered in
+    let a = subst (λ (q : Ask DeviceStep). IsAnswered q (Stepped true) old event.evidence event.steps new) is said_so in
+    record {
+      issues = λ id i. devices_issue_none id event.steps a.0 i;
+      asks = λ q asks. device_asks_none q event step is asks;
+      ports = λ q. (a.1 q).1;
+      calm = λ earlier w. subst (λ (q : Ask DeviceStep). StaysStuck q event.said (IsStillStuck earlier)) is w;
+    }
+
+-- an unanswered request, and what it was before
+record Was (m : Machine) (e : Pending) : Type 0 where
+  before : Pending
+  here : Contains m.book before
+  same : before.request ≡ e.request
+  issued : e.issued ≡ true → before.issued ≡ true
+
+was_then : (laws : RunLaws) (first : Moment) (past : List (Call DeviceStep)) (event : Call DeviceStep) (e : Pending) → IsRun first (event ∷ past) → LetsBe (moment_of first past) event
+    → Contains (moment_of first (event ∷ past)).machine.book e → Was (moment_of first past).machine e
+was_then laws first past event e r lets h = ⊎_elim
+    (λ (c : CameFrom (moment_of first past).machine event.steps e). record {
+      before = c.before;
+      here = c.here;
+      same = c.same;
+      issued = λ is. ⊎_elim (λ now. absurd (lets.issues e.request.id now)) (λ was. was) (c.issued is);
+    })
+    (λ asks. absurd (lets.asks e.request asks))
+    (laws.came first past event e r h)
+
+sound_of : {Is : List (Happening Device DeviceStep) → Happening Device DeviceStep → Type 0} (past : List (Happening Device DeviceStep)) (h : Happening Device DeviceStep) → EachSince Is [] (h ∷ past)
+    → EachSince Is [] past × Is past h
+sound_of past h (one_more each is) = (each, is)
+
+abbrev pub port_0 : Port
+port_0 = record { 0 = 0 }
+
+-- a port that isn't one of the others is the first
+is_port_0 : (q : Port) → q.0 < 4 → (q.0 ≡ 1 → ⊥) → (q.0 ≡ 2 → ⊥) → (q.0 ≡ 3 → ⊥) → q.0 ≡ 0
+is_port_0 q few one two three = go q.0 refl
+  where
+    go : (n : ℕ) → q.0 ≡ n → q.0 ≡ 0
+    go zero is = is
+    go (suc zero) is = absurd (one is)
+    go (suc (suc zero)) is = absurd (two is)
+    go (suc (suc (suc zero))) is = absurd (three is)
+    go (suc (suc (suc (suc n)))) is = absurd (omega (arith, few, is))
+
+-- The first of these calls asks for the request, the next three tell that no port but the first is ready, then that meets a fatal error, and a service follows, and then the device goes on.
+record Restarted (first : Instant Device) (asked : Request) (id : RequestId) (submit one two three fatal service finish : Happening Device DeviceStep) : Type 0 where
+  run : IsRun first.moment (events_of (finish ∷ service ∷ fatal ∷ three ∷ two ∷ one ∷ submit ∷ []))
+  sound : EachSince (IsSound first) [] (finish ∷ service ∷ fatal ∷ three ∷ two ∷ one ∷ submit ∷ [])
+  submits : (submit.event.ask ≡ AskSubmit asked) × (submit.event.said ≡ Submitted (Ok id))
+  shows_1 : (one.event.ask ≡ AskState (record { 0 = 1 })) × (one.event.said ≡ Shown Absent)
+  shows_2 : (two.event.ask ≡ AskState (record { 0 = 2 })) × (two.event.said ≡ Shown Absent)
+  shows_3 : (three.event.ask ≡ AskState (record { 0 = 3 })) × (three.event.said ≡ Shown Absent)
+  fails : (fatal.event.ask ≡ AskDevice (Fatal port_0 Interface)) × (fatal.event.said ≡ Stepped true)
+  serves : service.event.ask ≡ AskService
+  goes_on : (step : DeviceStep) × (finish.event.ask ≡ AskDevice step) × (finish.event.said ≡ Stepped true)
+
+-- after the fatal error the port shows it
+shows_failure : (past : Moment) (event : Call DeviceStep) (old new : Device) (accesses : List Access) → event.ask ≡ AskDevice (Fatal port_0 Interface) → event.said ≡ Stepped true
+    → CameBy past event.ask event.said accesses old new → ShowsFailure (new.port 0)
+unfolding changed
+shows_failure past event old new accesses is says came =
+    let said_so = subst (λ (s : machine.Said). CameBy past event.ask s accesses old new) says came in
+    let done = subst (λ (q : Ask DeviceStep). CameBy past q (Stepped true) accesses old new) is said_so in
+    ⊎_elim
+    (λ fatal. inl (record { place = 27; from = omega arith; to = omega arith; set = ap (λ (d : Device). (d.port 0).is 27) fatal.effect }))
+    (λ no. absurd no)
+    done.1
+
+-- what was unanswered before the port failed, and is the only one
+record Lone (first : Instant Device) (submit one two three fatal : Happening Device DeviceStep) (e : Pending) : Type 0 where
+  begun : Pending
+  here : Contains (moment_of first.moment (events_of (submit ∷ []))).machine.book begun
+  same : begun.request ≡ e.request
+  at_port_0 : e.request.port.0 ≡ 0
+  ready : (moment_of first.moment (events_of (fatal ∷ three ∷ two ∷ one ∷ submit ∷ []))).ports.state e.request.port ≡ Ready
+
+lone_of : (laws : RunLaws) (first : Instant Device) (asked : Request) (id : RequestId) (submit one two three fatal service finish : Happening Device DeviceStep)
+    → Restarted first asked id submit one two three fatal service finish → (e : Pending)
+    → Contains (moment_of first.moment (events_of (fatal ∷ three ∷ two ∷ one ∷ submit ∷ []))).machine.book e → Lone first submit one two three fatal e
+lone_of laws first asked id submit one two three fatal service finish c e here =
+    let r5 : IsRun first.moment (events_of (fatal ∷ three ∷ two ∷ one ∷ submit ∷ [])) = c.run.0.0 in
+    let r4 = r5.0 in
+    let r3 = r4.0 in
+    let r2 = r3.0 in
+    let l5 = device_lets_be first.moment (events_of (three ∷ two ∷ one ∷ submit ∷ [])) fatal.event (Fatal port_0 Interface) r5 c.fails.0 c.fails.1 in
+    let l4 = state_lets_be first.moment (events_of (two ∷ one ∷ submit ∷ [])) three.event (record { 0 = 3 }) Absent r4 c.shows_3.0 c.shows_3.1 in
+    let l3 = state_lets_be first.moment (events_of (one ∷ submit ∷ [])) two.event (record { 0 = 2 }) Absent r3 c.shows_2.0 c.shows_2.1 in
+    let l2 = state_lets_be first.moment (events_of (submit ∷ [])) one.event (record { 0 = 1 }) Absent r2 c.shows_1.0 c.shows_1.1 in
+    let w4 = was_then laws first.moment (events_of (three ∷ two ∷ one ∷ submit ∷ [])) fatal.event e r5 l5 here in
+    let w3 = was_then laws first.moment (events_of (two ∷ one ∷ submit ∷ [])) three.event w4.before r4 l4.0 w4.here in
+    let w2 = was_then laws first.moment (events_of (one ∷ submit ∷ [])) two.event w3.before r3 l3.0 w3.here in
+    let w1 = was_then laws first.moment (events_of (submit ∷ [])) one.event w2.before r2 l2.0 w2.here in
+    let state : Port → PortState = fatal.event.ports.state in
+    let calm : IsStillStuck (events_of (submit ∷ [])) → ⊥ = λ stuck. subst (λ (q : Ask DeviceStep). StaysStuck q submit.event.said ⊥) c.submits.0 stuck in
+    let ready : state e.request.port ≡ Ready = ⊎_elim (λ is. is) (λ dead. absurd (calm (l2.0.calm (events_of (submit ∷ [])) (l3.0.calm (events_of (one ∷ submit ∷ [])) (l4.0.calm (events_of (two ∷ one ∷ submit ∷ [])) (l5.calm (events_of (three ∷ two ∷ one ∷ submit ∷ [])) dead.1))))))
+    (laws.ready first.moment (events_of (fatal ∷ three ∷ two ∷ one ∷ submit ∷ [])) e r5 here) in
+    let fit = r5.1.fit in
+    let served : fatal.event.ports.served e.request.port ≡ true = ⊎_elim (λ is. is) (λ no. absurd (absent_ready (sym (fit.absent e.request.port no) ∙ ready))) (cases_Bool (fatal.event.ports.served e.request.port)) in
+    let of : (n : ℕ) → e.request.port.0 ≡ n → state (record { 0 = n }) ≡ Ready = λ n is. subst (λ (k : ℕ). state (record { 0 = k }) ≡ Ready) is ready in
+    let absent_1 : state (record { 0 = 1 }) ≡ Absent = l5.ports _ ∙ l4.0.ports _ ∙ l3.0.ports _ ∙ l2.0.ports _ ∙ sym l2.1 in
+    let absent_2 : state (record { 0 = 2 }) ≡ Absent = l5.ports _ ∙ l4.0.ports _ ∙ l3.0.ports _ ∙ sym l3.1 in
+    let absent_3 : state (record { 0 = 3 }) ≡ Absent = l5.ports _ ∙ l4.0.ports _ ∙ sym l4.1 in
+    record {
+      begun = w1.before;
+      here = w1.here;
+      same = w1.same ∙ w2.same ∙ w3.same ∙ w4.same;
+      at_port_0 = is_port_0 e.request.port (fit.few e.request.port served)
+          (λ is. absent_ready (sym absent_1 ∙ of 1 is)) (λ is. absent_ready (sym absent_2 ∙ of 2 is)) (λ is. absent_ready (sym absent_3 ∙ of 3 is));
+      ready = ready;
+    }
+  where
+    absent_ready : Absent ≡ Ready → ⊥
+    absent_ready is = cc
+
+-- it was issued by the submit
+issued_first : (laws : RunLaws) (first : Instant Device) (asked : Request) (id : RequestId) (submit : Happening Device DeviceStep) (e : Pending) → IsRun first.moment (events_of (submit ∷ []))
+    → submit.event.ask ≡ AskSubmit asked → submit.event.said ≡ Submitted (Ok id) → Contains (moment_of first.moment (events_of (submit ∷ []))).machine.book e
+    → 1 ≤ count_by (issues_it e.request.id) (steps_of (events_of (submit ∷ [])))
+issued_first laws first asked id submit e r is says here =
+    let run = events_of (submit ∷ []) in
+    let legal = laws.legal first.moment run r in
+    let its : (x : Pending) → Contains (moment_of first.moment run).machine.book x → x.request.id ≡ id = λ x h. ⊎_elim
+    (λ (c : CameFrom first.moment.machine submit.event.steps x). absurd (nothing c.before (subst (λ (xs : List Pending). Contains xs c.before) legal.0.book c.here)))
+    (λ asks. let e : ◌≡◌ {A = machine.Said} (Submitted (Ok x.request.id)) (Submitted (Ok id)) = sym asks.1 ∙ says in cc)
+    (laws.came first.moment [] submit.event x r h) in
+    let ready = ⊎_elim (λ is. is) (λ (dead : ((moment_of first.moment run).ports.state e.request.port ≡ Dead) × IsStillStuck run).
+    let no : ⊥ = subst (λ (q : Ask DeviceStep). StaysStuck q submit.event.said ⊥) is dead.1 in absurd no) (laws.ready first.moment run e r here) in
+    let issued = laws.alone first.moment run e r here ready (λ x h. its x h ∙ sym (its e here)) in
+    let counted = (laws.counted first.moment.machine (steps_of run) e legal.0 legal.1 (subst (λ (m : Machine). Contains m.book e) legal.2 here)).1 in
+    let one : ◌≡◌ {A = ℕ} (cond e.issued 1 0) 1 = ap (λ (b : Bool). cond {A = ℕ} b 1 0) issued in
+    omega (arith, counted, one)
+  where
+    nothing : (x : Pending) → Contains [] x → ⊥
+    nothing x h = search rules
+
+-- So what is answered Ok after these was issued twice, and made to wait again.
+went_again : (laws : RunLaws) (first : Instant Device) (asked : Request) (id : RequestId) (submit one two three fatal service finish : Happening Device DeviceStep)
+    → Restarted first asked id submit one two three fatal service finish → (e : Pending)
+    → Contains (moment_of first.moment (events_of (finish ∷ service ∷ fatal ∷ three ∷ two ∷ one ∷ submit ∷ []))).machine.book e → e.issued ≡ true
+    → (2 ≤ count_by (issues_it e.request.id) (steps_of (events_of (finish ∷ service ∷ fatal ∷ three ∷ two ∷ one ∷ submit ∷ []))))
+    × (1 ≤ count_by (waits_again e.request.id) (steps_of (events_of (finish ∷ service ∷ fatal ∷ three ∷ two ∷ one ∷ submit ∷ []))))
+went_again laws first asked id submit one two three fatal service finish c e here issued =
+    let calls = finish ∷ service ∷ fatal ∷ three ∷ two ∷ one ∷ submit ∷ [] in
+    let r7 = c.run in
+    let r6 = r7.0 in
+    let r5 = r6.0 in
+    let l7 = device_lets_be first.moment (events_of (service ∷ fatal ∷ three ∷ two ∷ one ∷ submit ∷ [])) finish.event c.goes_on.0 r7 c.goes_on.1 c.goes_on.2 in
+    let w6 = was_then laws first.moment (events_of (service ∷ fatal ∷ three ∷ two ∷ one ∷ submit ∷ [])) finish.event e r7 l7 here in
+    let came = ⊎_elim (λ x. x) (λ asks. absurd (service_asks_none w6.before.request service.event c.serves asks))
+    (laws.came first.moment (events_of (fatal ∷ three ∷ two ∷ one ∷ submit ∷ [])) service.event w6.before r6 w6.here) in
+    let lone = lone_of laws first asked id submit one two three fatal service finish c came.before came.here in
+    let id_is : (x : Pending) → x.request ≡ e.request → x.request.id ≡ e.request.id = λ x same. ap (λ (a : Accepted). a.id) same in
+    let s6 = (sound_of _ _ (sound_of _ _ c.sound).0) in
+    let s5 = sound_of _ _ s6.0 in
+    let part = s5.1.part port_0 in
+    let fails : ShowsFailure (fatal.device.port 0) = shows_failure _ fatal.event _ fatal.device part.0 c.fails.0 c.fails.1 part.1 in
+    let port_is : came.before.request.port ≡ port_0 = ap (λ (n : ℕ). record { 0 = n }) lone.at_port_0 in
+    let anew = (s6.1.heeded port_0 c.serves (subst (λ (p : Port). fatal.event.ports.state p ≡ Ready) port_is lone.ready) fails).anew in
+    let again : IsIssuedIn w6.before.request.id service.event.steps = anew w6.before w6.here (ap (λ (a : Accepted). a.port) (sym came.same) ∙ port_is) (w6.issued issued) in
+    let count : List Step → ℕ = count_by (issues_it e.request.id) in
+    let second : 1 ≤ count service.event.steps = subst (λ (i : RequestId). 1 ≤ count_by (issues_it i) service.event.steps) (id_is w6.before w6.same) (any_counted (issues_it w6.before.request.id) service.event.steps again) in
+    let one_at_first : 1 ≤ count (steps_of (events_of (submit ∷ []))) = subst (λ (i : RequestId). 1 ≤ count_by (issues_it i) (steps_of (events_of (submit ∷ []))))
+    (id_is lone.begun (lone.same ∙ came.same ∙ w6.same)) (issued_first laws first asked id submit lone.begun r5.0.0.0.0 c.submits.0 c.submits.1 lone.here) in
+    let p = issues_it e.request.id in
+    let twice : 2 ≤ count (steps_of (events_of calls)) = omega (
+      arith,
+      second,
+      one_at_first,
+      count_append p finish.event.steps (steps_of (events_of (service ∷ fatal ∷ three ∷ two ∷ one ∷ submit ∷ []))),
+      count_append p service.event.steps (steps_of (events_of (fatal ∷ three ∷ two ∷ one ∷ submit ∷ []))),
+      count_append p fatal.event.steps (steps_of (events_of (three ∷ two ∷ one ∷ submit ∷ []))),
+      count_append p three.event.steps (steps_of (events_of (two ∷ one ∷ submit ∷ []))),
+      count_append p two.event.steps (steps_of (events_of (one ∷ submit ∷ []))),
+      count_append p one.event.steps (steps_of (events_of (submit ∷ []))),
+    ) in
+    let legal = laws.legal first.moment (events_of calls) r7 in
+    let counted = (laws.counted first.moment.machine (steps_of (events_of calls)) e legal.0 legal.1 (subst (λ (m : Machine). Contains m.book e) legal.2 here)).1 in
+    let is_one : ◌≡◌ {A = ℕ} (cond e.issued 1 0) 1 = ap (λ (b : Bool). cond {A = ℕ} b 1 0) issued in
+    (twice, omega (arith, twice, counted, is_one))
+
+pub shows_a_read_anew : {A : Type 0} (device : A → Device) (old new : ServerView A) (read : Request) (step : DeviceStep) (id : RequestId) (before replies : List Reply) (reply : Reply) → RunLaws
+    → HasRun device old new
+    (Submit read ∷ State (record { 0 = 1 }) ∷ State (record { 0 = 2 }) ∷ State (record { 0 = 3 }) ∷ Tell (Fatal port_0 Interface) ∷ Service ∷ Tell step ∷ Service ∷ [])
+    (said.Submitted (Ok id) ∷ said.State Absent ∷ said.State Absent ∷ said.State Absent ∷ said.Stepped true ∷ said.Served (record { items = before }) ∷ said.Stepped true
+    ∷ said.Served (record { items = replies }) ∷ [])
+    → replies ≡ reply ∷ [] → reply.outcome ≡ outcome.Ok → read.op ≡ Read → ServesReadAnew (server_of device old) (server_of device new) read
+unfolding grown served_last
+shows_a_read_anew device old new read step id before replies reply laws r only ok reads =
+    let a = grown r in
+    let b = a.3 in
+    let c = b.3 in
+    let d = c.3 in
+    let e = d.3 in
+    let f = e.3 in
+    let g = f.3 in
+    let h = g.3 in
+    let past : List (Happening Device DeviceStep) = g.0 ∷ f.0 ∷ e.0 ∷ d.0 ∷ c.0 ∷ b.0 ∷ a.0 ∷ [] in
+    let is : r.past ≡ h.0 ∷ past = h.3 in
+    let run : IsRun r.first.moment (events_of (h.0 ∷ past)) = subst (λ (p : List (Happening Device DeviceStep)). IsRun r.first.moment (events_of p)) is r.run in
+    let sound : EachSince (IsSound r.first) [] (h.0 ∷ past) = subst (EachSince (IsSound r.first) []) is r.sound in
+    let serves = served_last laws (server_of device old) (server_of device new) read r.first r.begun past h.0
+    (subst (λ (p : List (Happening Device DeviceStep)). Leads r.first p (server_of device new)) is r.leads) run
+    (subst (λ (p : List (Happening Device DeviceStep)). EveryReadHolds r.first.moment (events_of p)) is r.reads)
+    replies reply h.2 only ok reads
+    (λ q asked. ⊎_elim (λ x. absurd (device_asks_none q g.0.event step g.1 x)) (λ asked. ⊎_elim (λ x. absurd (service_asks_none q f.0.event f.1 x))
+    (λ asked. ⊎_elim (λ x. absurd (device_asks_none q e.0.event _ e.1 x)) (λ asked. ⊎_elim (λ x. absurd (state_asks_none q d.0.event _ d.1 x))
+    (λ asked. ⊎_elim (λ x. absurd (state_asks_none q c.0.event _ c.1 x)) (λ asked. ⊎_elim (λ x. absurd (state_asks_none q b.0.event _ b.1 x))
+    (λ asked. ⊎_elim (λ x. submit_asks q a.0.event read a.1 x) (λ no. absurd no) asked) asked) asked) asked) asked) asked) asked) in
+    let restarted : Restarted r.first read id a.0 b.0 c.0 d.0 e.0 f.0 g.0 = record {
+      run = run.0;
+      sound = (sound_of _ _ sound).0;
+      submits = (a.1, a.2);
+      shows_1 = (b.1, b.2);
+      shows_2 = (c.1, c.2);
+      shows_3 = (d.1, d.2);
+      fails = (e.1, e.2);
+      serves = f.1;
+      goes_on = (step, g.1, g.2);
+    } in
+    let answered : Contains h.0.event.steps (Answer serves.read outcome.Ok) = answer_in h.0.event.steps serves.told.late serves.told.early (Answer serves.read outcome.Ok) serves.told.answered in
+    let was = (laws.lawful r.first.moment (events_of past) h.0.event serves.read outcome.Ok run answered).0 in
+    let went = went_again laws r.first read id a.0 b.0 c.0 d.0 e.0 f.0 g.0 restarted was.pending was.here was.issued in
+    record {
+      serves = serves;
+      twice = subst (λ (i : RequestId). 2 ≤ count_by (issues_it i) (steps_of (events_of past))) was.id_is went.0;
+      again = subst (λ (i : RequestId). 1 ≤ count_by (waits_again i) (steps_of (events_of past))) was.id_is went.1;
+    }
+  where
+    answer_in : (steps late early : List Step) (x : Step) → steps ≡ late ++ x ∷ early → Contains steps x
+    answer_in steps late early x is = subst (λ (xs : List Step). Contains xs x) (sym is) (in_middle late x early)
+
+-- ---- a frame that a reset releases
+
+none_of : {X : Type 0} (o : Option X) → (IsSome o → ⊥) → o ≡ None
+none_of None isnt = refl
+none_of (Some x) isnt = absurd (isnt (search rules))
+
+-- a store that is told the frame is lent
+store_refused : (old : Moment) (event : Call DeviceStep) (client : ClientId) (frame : Frame) (offset : ℕ) (bytes : List ℕ) → event.ask ≡ StoreAt client frame offset bytes → event.said ≡ Stored (Some FrameLent)
+    → IsAnswered event.ask event.said old event.evidence event.steps (moment_after old event) → IsSome ((moment_after old event).machine.lent frame)
+store_refused old event client frame offset bytes is says answered =
+    let said_so = subst (λ (s : machine.Said). IsAnswered event.ask s old event.evidence event.steps (moment_after old event)) says answered in
+    let a = subst (λ (q : Ask DeviceStep). IsAnswered q (Stored (Some FrameLent)) old event.evidence event.steps (moment_after old event)) is said_so in
+    subst (λ (xs : List Step). IsSome ((after old.machine xs).lent frame)) (sym a.1) a.0.0
+
+-- a store that is told to be done
+store_done : (old : Moment) (event : Call DeviceStep) (client : ClientId) (frame : Frame) (offset : ℕ) (bytes : List ℕ) → event.ask ≡ StoreAt client frame offset bytes → event.said ≡ Stored None
+    → IsAnswered event.ask event.said old event.evidence event.steps (moment_after old event) → old.machine.lent frame ≡ None
+store_done old event client frame offset bytes is says answered =
+    let said_so = subst (λ (s : machine.Said). IsAnswered event.ask s old event.evidence event.steps (moment_after old event)) says answered in
+    let a = subst (λ (q : Ask DeviceStep). IsAnswered q (Stored None) old event.evidence event.steps (moment_after old event)) is said_so in
+    none_of (old.machine.lent frame) (λ lent. a.0 FrameLent lent)
+
+-- a reset that ends, and answers nothing
+reset_releases : (old : Moment) (event : Call DeviceStep) → event.ask ≡ AskReset → event.said ≡ WasReset (Some [])
+    → IsAnswered event.ask event.said old event.evidence event.steps (moment_after old event) → Contains event.steps Release × (answers_of event.steps ≡ [])
+reset_releases old event is says answered =
+    let said_so = subst (λ (s : machine.Said). IsAnswered event.ask s old event.evidence event.steps (moment_after old event)) says answered in
+    let a = subst (λ (q : Ask DeviceStep). IsAnswered q (WasReset (Some [])) old event.evidence event.steps (moment_after old event)) is said_so in
+    let few : length a.tells.answers ≡ 0 = sym (length-map a.tells.answers reply_of) ∙ sym (ap length a.tells.told) in (
+      subst (λ (xs : List Step). Contains xs Release) (sym a.releases.split) (in_middle a.releases.later Release a.releases.earlier),
+      nil_from_length (answers_of event.steps) (length_permutation a.tells.answers (answers_of event.steps) a.tells.same ∙ few),
+    )
+
+pub shows_a_release : {A : Type 0} (device : A → Device) (old new : ServerView A) (request : Request) (client : ClientId) (frame : Frame) (bytes last_bytes : List ℕ) (id : RequestId) (replies : List Reply) (reply : Reply)
+    (others : List Reply) → RunLaws
+    → HasRun device old new
+    (Tell (Hold port_0) ∷ Tell (Fatal port_0 HostBus) ∷ Submit request ∷ Service ∷ ClientStore client frame 0 (record { items = bytes }) ∷ Reset ∷ ClientStore client frame 0 (record { items = last_bytes }) ∷ [])
+    (said.Stepped true ∷ said.Stepped true ∷ said.Submitted (Ok id) ∷ said.Served (record { items = replies }) ∷ said.Stored (Err FrameLent) ∷ said.WasReset (Ok (record { items = others }))
+    ∷ said.Stored (Ok tt) ∷ [])
+    → others ≡ [] → replies ≡ reply ∷ [] → reply.outcome ≡ outcome.PortDead → ReleasesFrame (server_of device old) (server_of device new) request frame
+shows_a_release device old new request client frame bytes last_bytes id replies reply others laws r silent only dead =
+    let a = grown r in
+    let b = a.3 in
+    let c = b.3 in
+    let d = c.3 in
+    let e = d.3 in
+    let f = e.3 in
+    let g = f.3 in
+    let before : List (Happening Device DeviceStep) = c.0 ∷ b.0 ∷ a.0 ∷ [] in
+    let past : List (Happening Device DeviceStep) = e.0 ∷ d.0 ∷ before in
+    let is : r.past ≡ g.0 ∷ f.0 ∷ past = g.3 in
+    let run : IsRun r.first.moment (events_of (g.0 ∷ f.0 ∷ past)) = subst (λ (p : List (Happening Device DeviceStep)). IsRun r.first.moment (events_of p)) is r.run in
+    let there : Contains (replies_of d.0.event.said) reply = subst (λ (s : machine.Said). Contains (replies_of s) reply) (sym d.2) (told_alone replies reply only) in
+    let told = laws.asked r.first.moment (events_of before) d.0.event reply run.0.0.0 there in
+    let answered : Contains d.0.event.steps (Answer told.0 outcome.PortDead) = subst (λ (o : Outcome). Contains d.0.event.steps (Answer told.0 o)) dead told.1 in
+    let released = reset_releases (moment_of r.first.moment (events_of past)) f.0.event f.1 (f.2 ∙ ap (λ (xs : List Reply). WasReset (Some xs)) silent) run.0.1.answered in
+    record {
+      first = r.first;
+      begun = r.begun;
+      past = past;
+      reset = f.0;
+      later = g.0 ∷ [];
+      leads = subst (λ (p : List (Happening Device DeviceStep)). Leads r.first p (server_of device new)) is r.leads;
+      run = run;
+      dead = told.0;
+      its = ⊎_elim (λ x. submit_asks told.0.request c.0.event request c.1 x)
+          (λ asked. ⊎_elim (λ x. absurd (device_asks_none told.0.request b.0.event _ b.1 x))
+          (λ asked. ⊎_elim (λ x. absurd (device_asks_none told.0.request a.0.event _ a.1 x)) (λ no. absurd no) asked) asked) told.4;
+      told = Contains-append_right e.0.event.steps _ _ (Contains-append_left d.0.event.steps _ _ answered);
+      lent = store_refused (moment_of r.first.moment (events_of (d.0 ∷ before))) e.0.event client frame 0 bytes e.1 e.2 run.0.0.1.answered;
+      resets = f.1;
+      releases = released.0;
+      silent = released.1;
+      free = store_done (moment_of r.first.moment (events_of (f.0 ∷ past))) g.0.event client frame 0 last_bytes g.1 g.2 run.1.answered;
+    }
+
+-- eight members, each by its place
+pub eight : {X : Type 0} (xs : List X) (a b c d e f g h : X) → length xs ≡ 8 → a ≡ get_or xs 0 a → b ≡ get_or xs 1 b → c ≡ get_or xs 2 c → d ≡ get_or xs 3 d → e ≡ get_or xs 4 e → f ≡ get_or xs 5 f
+    → g ≡ get_or xs 6 g → h ≡ get_or xs 7 h → xs ≡ a ∷ b ∷ c ∷ d ∷ e ∷ f ∷ g ∷ h ∷ []
+eight (k ∷ l ∷ m ∷ n ∷ o ∷ p ∷ q ∷ r ∷ []) a b c d e f g h len of_a of_b of_c of_d of_e of_f of_g of_h = cc
+eight _ a b c d e f g h len of_a of_b of_c of_d of_e of_f of_g of_h = absurd (omega (arith, len))

@@ -1,0 +1,117 @@
+-- Histories of the server that are shown to exist, by calls of it that are made (this project's own).
+use Rattle.std.specs.Prelude.{◌≡◌, ◌⊎◌, ◌≤◌, true, None, List, [], ◌∷◌, ◌++◌, count_by, cond, Contains, IsSome, ◌+◌, Ok as Done, Err}
+use Rattle.ata_types.specs.declared.PortState.TheVariants.{Absent, Ready, Dead}
+use Rattle.ata_types.specs.declared.request.Frame.{Frame}
+use Rattle.ata_types.specs.declared.refusal.MemFault.TheVariants.{FrameLent}
+use Rattle.ata_types.specs.declared.request.Reply.{Reply}
+use Rattle.ata_types.specs.declared.request.RequestId.{RequestId}
+use Rattle.ata_types.specs.declared.request.Request.{Request}
+use Rattle.ata_types.specs.declared.request.Op.TheVariants.{Read}
+use Rattle.ata_types.specs.declared.request.Outcome.{Outcome}
+use Rattle.ata_types.specs.declared.request.Outcome.TheVariants.{Ok, PortDead}
+use Rattle.adapter.specs.Device.{Device}
+use Rattle.adapter.specs.declared.access.DeviceStep.{DeviceStep}
+use Rattle.block_machine.specs.Events.{Event as Call, Moment, Reset, EveryReadHolds, IsLawful, IsRun, IsStillStuck, answers_of, issues_it, moment_of, replies_of, steps_of}
+use Rattle.block_machine.specs.Histories.{Happening, Instant, events_of, now}
+use Rattle.block_machine.specs.Left.{IsLegal, IsStart, after}
+use Rattle.block_machine.specs.State.{Machine, Pending}
+use Rattle.block_machine.specs.Steps.{Step, Answer, Release}
+use Rattle.machine_runs.specs.Told.{AsksFor, CameFrom, IsAnsweredOk, WasAsked, waits_again}
+use Rattle.server_history.specs.Histories.{Leads}
+use Rattle.server_history.specs.Server.{Server}
+use Rattle.block_server.specs.Healthy.{EachSince, IsSound}
+use Rattle.block_server.specs.Running.{AddEach}
+use Rattle.block_server.specs.View.{ServerView, server_of}
+use Rattle.block_server.specs.declared.types.Event.{Event}
+use Rattle.block_server.specs.declared.types.Said.{Said}
+use Rattle.block_server.specs.declared.types.Said.TheVariants as says
+
+-- These calls of a new server said this: a history leads to the server before them without calls, and with theirs to the server after them. It is a run,
+-- each read that it answers Ok holds what was left, and each of its calls is sound.
+pub record HasRun {A : Type 0} (device : A → Device) (old new : ServerView A) (events : List Event) (said : List Said) : Type 0 where
+  pub first : Instant Device
+  pub begun : Leads first [] (server_of device old)
+  pub past : List (Happening Device DeviceStep)
+  pub adds : AddEach device first [] old events said past new
+  pub leads : Leads first past (server_of device new)
+  pub run : IsRun first.moment (events_of past)
+  pub reads : EveryReadHolds first.moment (events_of past)
+  pub sound : EachSince (IsSound first) [] past
+
+-- A history leads from the new server to the other one, in whose last call the read that was asked for is answered Ok. Before that it was accepted and issued, each
+-- of its sectors was moved since its last issue, and it was ended; and its frames have what was left (`told`).
+pub record ServesRead (old new : Server) (asked : Request) : Type 0 where
+  pub first : Instant Device
+  pub begun : Leads first [] old
+  pub past : List (Happening Device DeviceStep)
+  pub last : Happening Device DeviceStep
+  pub leads : Leads first (last ∷ past) new
+  pub run : IsRun first.moment (events_of (last ∷ past))
+  pub read : Pending
+  pub its : read.request.asked ≡ asked
+  pub reads : asked.op ≡ Read
+  pub told : IsAnsweredOk first.moment (events_of past) last.event read
+
+-- And before that last call it was issued twice, and made to wait again.
+pub record ServesReadAnew (old new : Server) (asked : Request) : Type 0 where
+  pub serves : ServesRead old new asked
+  pub twice : 2 ≤ count_by (issues_it serves.read.request.id) (steps_of (events_of serves.past))
+  pub again : 1 ≤ count_by (waits_again serves.read.request.id) (steps_of (events_of serves.past))
+
+-- A history leads from the new server to the other one, in which what was asked for is answered PortDead, and this frame stays lent. Then a reset ends that answers nothing, but
+-- releases what is lent to answered requests; and after it the frame is lent to none.
+pub record ReleasesFrame (old new : Server) (asked : Request) (frame : Frame) : Type 0 where
+  pub first : Instant Device
+  pub begun : Leads first [] old
+  pub past : List (Happening Device DeviceStep)
+  pub reset : Happening Device DeviceStep
+  pub later : List (Happening Device DeviceStep)
+  pub leads : Leads first (later ++ reset ∷ past) new
+  pub run : IsRun first.moment (events_of (later ++ reset ∷ past))
+  pub dead : Pending
+  pub its : dead.request.asked ≡ asked
+  pub told : Contains (steps_of (events_of past)) (Answer dead PortDead)
+  pub lent : IsSome ((now first past).moment.machine.lent frame)
+  pub resets : reset.event.ask ≡ Reset
+  pub releases : Contains reset.event.steps Release
+  pub silent : answers_of reset.event.steps ≡ []
+  pub free : (now first (reset ∷ past)).moment.machine.lent frame ≡ None
+
+-- A request was accepted; the device did what it was told; and a service told one request Ok.
+abbrev pub IsServedAtOnce : List Said → Type 0
+IsServedAtOnce said = (id : RequestId) × (reply : Reply) × (reply.outcome ≡ Ok)
+    × (said ≡ says.Submitted (Done id) ∷ says.Stepped true ∷ says.Served (record { items = reply ∷ [] }) ∷ [])
+
+-- A request was accepted where three ports are absent; the device did what it was told; a service followed, the device once more, and a service that told one request Ok.
+abbrev pub IsServedAnew : List Said → Type 0
+IsServedAnew said = (id : RequestId) × (before : List Reply) × (reply : Reply) × (reply.outcome ≡ Ok)
+    × (said ≡ says.Submitted (Done id) ∷ says.State Absent ∷ says.State Absent ∷ says.State Absent ∷ says.Stepped true ∷ says.Served (record { items = before })
+    ∷ says.Stepped true ∷ says.Served (record { items = reply ∷ [] }) ∷ [])
+
+-- The device did what it was told, twice; a request was accepted, and a service told one PortDead. A store was refused since its frame is lent; and after a reset
+-- that answered nothing one was done.
+abbrev pub IsReleased : List Said → Type 0
+IsReleased said = (id : RequestId) × (reply : Reply) × (reply.outcome ≡ PortDead)
+    × (said ≡ says.Stepped true ∷ says.Stepped true ∷ says.Submitted (Done id) ∷ says.Served (record { items = reply ∷ [] }) ∷ says.Stored (Err FrameLent)
+    ∷ says.WasReset (Done (record { items = [] })) ∷ says.Stored (Done tt) ∷ [])
+
+-- What laws of `block_machine` and `machine_runs` say of runs: what is shown rests on them.
+pub record RunLaws : Type 0 where
+  pub legal : (first : Moment) (run : List (Call DeviceStep)) → IsRun first run
+      → IsStart first.machine × IsLegal first.machine (steps_of run) × ((moment_of first run).machine ≡ after first.machine (steps_of run))
+  pub asked : (first : Moment) (past : List (Call DeviceStep)) (event : Call DeviceStep) (reply : Reply) → IsRun first (event ∷ past) → Contains (replies_of event.said) reply
+      → (e : Pending) × Contains event.steps (Answer e reply.outcome) × (e.request.id ≡ reply.id) × (e.request.asked.client ≡ reply.client) × WasAsked e.request past
+  pub lawful : (first : Moment) (past : List (Call DeviceStep)) (event : Call DeviceStep) (e : Pending) (o : Outcome) → IsRun first (event ∷ past)
+      → Contains event.steps (Answer e o) → IsLawful (moment_of first past) event.evidence event.ports e o
+  pub came : (first : Moment) (past : List (Call DeviceStep)) (event : Call DeviceStep) (e : Pending) → IsRun first (event ∷ past)
+      → Contains (moment_of first (event ∷ past)).machine.book e → CameFrom (moment_of first past).machine event.steps e ⊎ AsksFor e.request event
+  pub served : (first : Moment) (past : List (Call DeviceStep)) (event : Call DeviceStep) (e : Pending) → IsRun first (event ∷ past) → EveryReadHolds first (event ∷ past)
+      → Contains event.steps (Answer e Ok) → IsAnsweredOk first past event e
+  pub alone : (first : Moment) (run : List (Call DeviceStep)) (e : Pending) → IsRun first run → Contains (moment_of first run).machine.book e
+      → (moment_of first run).ports.state e.request.port ≡ Ready
+      → ((other : Pending) → Contains (moment_of first run).machine.book other → other.request.id ≡ e.request.id) → e.issued ≡ true
+  pub counted : (start : Machine) (history : List Step) (e : Pending) → IsStart start → IsLegal start history → Contains (after start history).book e
+      → (count_by (issues_it e.request.id) history ≡ e.issues)
+      × (count_by (issues_it e.request.id) history ≡ count_by (waits_again e.request.id) history + cond e.issued 1 0)
+  pub ready : (first : Moment) (run : List (Call DeviceStep)) (e : Pending) → IsRun first run → Contains (moment_of first run).machine.book e
+      → ((moment_of first run).ports.state e.request.port ≡ Ready) ⊎ (((moment_of first run).ports.state e.request.port ≡ Dead) × IsStillStuck run)

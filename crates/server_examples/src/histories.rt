@@ -1,0 +1,257 @@
+//! Calls of a new server after which a history of it is proved to exist: each function makes its calls by `Server::run`,
+//! compares what they said, and answers yes where that is what was to be shown. Its contract says what is proved then; a
+//! test makes the server, and has it answer yes.
+ghost use Rattle.std.specs.Prelude.{◌≡◌, IfSome, IsTrue, List, [], ◌∷◌, Ok, Err, true};
+ghost use Rattle.ata_types.specs.declared.request.Reply.{Reply};
+ghost use Rattle.server_examples.specs.Shown.{HasRun, IsReleased, IsServedAnew, IsServedAtOnce};
+ghost use Rattle.server_examples.specs.Shown.{ReleasesFrame, RunLaws, ServesRead, ServesReadAnew};
+ghost use Rattle.server_history.specs.Histories.{HasBegun};
+ghost use Rattle.block_server.specs.View.{server_of};
+
+use adapter::{DeviceStep, FatalError, Stepped};
+use arrayvec::ArrayVec;
+use ata_types::{
+    ClientId, Frame, MemFault, Op, Outcome, Port, PortState, Request, RequestId, Slot,
+};
+use block_machine::laws::runs_are_legal;
+use block_server::{Event, Said, Server};
+use machine_runs::laws::{
+    a_lone_request_is_issued, answers_are_lawful, issues_are_counted, ok_was_served,
+    replied_was_asked, unanswered_came_from, unanswered_where_ready,
+};
+use std::alloc::Global;
+
+/// What laws say of runs.
+fn laws_of_runs()
+    ensures { RunLaws }
+{
+    runs_are_legal::<DeviceStep>();
+    replied_was_asked::<DeviceStep>();
+    answers_are_lawful::<DeviceStep>();
+    unanswered_came_from::<DeviceStep>();
+    ok_was_served::<DeviceStep>();
+    a_lone_request_is_issued::<DeviceStep>();
+    issues_are_counted();
+    unanswered_where_ready::<DeviceStep>();
+}
+
+/// What calls of a new server say, one after another. None where memory for that is refused.
+fn calls<A: Stepped>(alloc: Global, server: &mut Server<A>, events: &[Event]) -> Option<Vec<Said>>
+    requires begun { HasBegun (server_of A.device server.old) }
+    requires telling { (A.device server.old.adapter).telling ≡ true }
+    ensures { IfSome result (λ said. HasRun A.device server.old server.new events.now said.items) }
+{
+    let mut said = Vec::new(alloc);
+    match server.run(events, &mut said) {
+        Ok(()) => Some(said),
+        Err(_) => None,
+    }
+}
+
+/// Whether the call accepted a request.
+fn is_accepted(said: &Said) -> bool
+    ensures { IsTrue result → (id : RequestId) × (said.now ≡ Said.Submitted (Ok id)) }
+{
+    matches!(said, Said::Submitted(Ok(_)))
+}
+
+/// Whether the call told that a port is absent.
+fn is_absent(said: &Said) -> bool
+    ensures { IsTrue result → said.now ≡ Said.State PortState.Absent }
+{
+    matches!(said, Said::State(PortState::Absent))
+}
+
+/// Whether the device did what it was told.
+fn is_done(said: &Said) -> bool
+    ensures { IsTrue result → said.now ≡ Said.Stepped true }
+{
+    matches!(said, Said::Stepped(true))
+}
+
+/// Whether the call was a service or a tick.
+fn is_served(said: &Said) -> bool
+    ensures { IsTrue result → (replies : List Reply) × (said.now ≡ Said.Served (record { items = replies })) }
+{
+    matches!(said, Said::Served(_))
+}
+
+/// Whether a service or a tick told one request this outcome, and no other any.
+fn is_told(said: &Said, outcome: Outcome) -> bool
+    ensures { IsTrue result → (reply : Reply) × (said.now ≡ Said.Served (record { items = reply ∷ [] })) × (reply.outcome ≡ outcome) }
+{
+    let Said::Served(replies) = said else {
+        return false;
+    };
+    match replies.as_slice() {
+        [reply] => reply.outcome == outcome,
+        _ => false,
+    }
+}
+
+/// Whether a store was refused since its frame is lent.
+fn is_refused(said: &Said) -> bool
+    ensures { IsTrue result → said.now ≡ Said.Stored (Err MemFault.FrameLent) }
+{
+    matches!(said, Said::Stored(Err(MemFault::FrameLent)))
+}
+
+/// Whether a store was done.
+fn is_stored(said: &Said) -> bool
+    ensures { IsTrue result → said.now ≡ Said.Stored (Ok tt) }
+{
+    matches!(said, Said::Stored(Ok(())))
+}
+
+/// Whether a reset ended, and answered nothing.
+fn is_reset(said: &Said) -> bool
+    ensures { IsTrue result → said.now ≡ Said.WasReset (Ok (record { items = [] })) }
+{
+    match said {
+        Said::WasReset(Ok(replies)) => replies.is_empty(),
+        _ => false,
+    }
+}
+
+/// A read is accepted, its device does all of it, and a service answers it Ok.
+pub fn serves_a_read<A: Stepped>(alloc: Global, server: &mut Server<A>, read: Request) -> bool
+    requires begun { HasBegun (server_of A.device server.old) }
+    requires telling { (A.device server.old.adapter).telling ≡ true }
+    ensures { IsTrue result → ServesRead (server_of A.device server.old) (server_of A.device server.new) read }
+{
+    laws_of_runs();
+    let Op::Read = read.op else {
+        return false;
+    };
+    let events = [
+        Event::Submit(read),
+        Event::Device(DeviceStep::Finish(Port(0), Slot(0))),
+        Event::Service,
+    ];
+    let Some(said) = calls(alloc, server, &events) else {
+        return false;
+    };
+    is_served_at_once(&said)
+}
+
+/// Whether a request was accepted, the device did what it was told, and then one request was told Ok.
+fn is_served_at_once(said: &[Said]) -> bool
+    ensures { IsTrue result → IsServedAtOnce said.now }
+{
+    match said {
+        [first, done, last] => is_accepted(first) && is_done(done) && is_told(last, Outcome::Ok),
+        _ => false,
+    }
+}
+
+/// A read is accepted, its port meets a fatal error of the interface, and a service boots the port anew. Then the device
+/// does all of the read, which the next service answers Ok. (No other port is there.)
+pub fn serves_a_read_anew<A: Stepped>(alloc: Global, server: &mut Server<A>, read: Request) -> bool
+    requires begun { HasBegun (server_of A.device server.old) }
+    requires telling { (A.device server.old.adapter).telling ≡ true }
+    ensures { IsTrue result → ServesReadAnew (server_of A.device server.old) (server_of A.device server.new) read }
+{
+    laws_of_runs();
+    let Op::Read = read.op else {
+        return false;
+    };
+    let events = [
+        Event::Submit(read),
+        Event::State(Port(1)),
+        Event::State(Port(2)),
+        Event::State(Port(3)),
+        Event::Device(DeviceStep::Fatal(Port(0), FatalError::Interface)),
+        Event::Service,
+        Event::Device(DeviceStep::Finish(Port(0), Slot(0))),
+        Event::Service,
+    ];
+    let Some(said) = calls(alloc, server, &events) else {
+        return false;
+    };
+    is_served_anew(&said)
+}
+
+/// Whether a request was accepted where three other ports are absent.
+fn is_alone(first: &Said, one: &Said, two: &Said, three: &Said) -> bool
+    ensures { IsTrue result → (id : RequestId) × (first.now ≡ Said.Submitted (Ok id))
+        × (one.now ≡ Said.State PortState.Absent) × (two.now ≡ Said.State PortState.Absent) × (three.now ≡ Said.State PortState.Absent) }
+{
+    is_accepted(first) && is_absent(one) && is_absent(two) && is_absent(three)
+}
+
+/// Whether the device did something, and so once more after a service, and then one request was told Ok.
+fn is_mended(failed: &Said, served: &Said, done: &Said, last: &Said) -> bool
+    ensures { IsTrue result → (before : List Reply) × (reply : Reply) × (reply.outcome ≡ Outcome.Ok) × (failed.now ≡ Said.Stepped true)
+        × (served.now ≡ Said.Served (record { items = before })) × (done.now ≡ Said.Stepped true) × (last.now ≡ Said.Served (record { items = reply ∷ [] })) }
+{
+    is_done(failed) && is_served(served) && is_done(done) && is_told(last, Outcome::Ok)
+}
+
+/// Whether all that was said in turn.
+fn is_served_anew(said: &[Said]) -> bool
+    ensures { IsTrue result → IsServedAnew said.now }
+{
+    match said {
+        [first, one, two, three, failed, served, done, last] => {
+            is_alone(first, one, two, three) && is_mended(failed, served, done, last)
+        }
+        _ => false,
+    }
+}
+
+/// The port of a request doesn't stop, so that the request is told `PortDead`, and its first frame stays lent until a
+/// reset ends. (The client stores no bytes into it, which tells whether it is lent.)
+pub fn releases_a_frame<A: Stepped>(
+    alloc: Global,
+    server: &mut Server<A>,
+    request: Request,
+    client: ClientId,
+    frame: Frame,
+) -> bool
+    requires begun { HasBegun (server_of A.device server.old) }
+    requires telling { (A.device server.old.adapter).telling ≡ true }
+    ensures { IsTrue result → ReleasesFrame (server_of A.device server.old) (server_of A.device server.new) request frame }
+{
+    laws_of_runs();
+    let events = [
+        Event::Device(DeviceStep::Hold(Port(0))),
+        Event::Device(DeviceStep::Fatal(Port(0), FatalError::HostBus)),
+        Event::Submit(request),
+        Event::Service,
+        Event::ClientStore {
+            client,
+            frame,
+            offset: 0,
+            bytes: ArrayVec::new(),
+        },
+        Event::Reset,
+        Event::ClientStore {
+            client,
+            frame,
+            offset: 0,
+            bytes: ArrayVec::new(),
+        },
+    ];
+    let Some(said) = calls(alloc, server, &events) else {
+        return false;
+    };
+    is_released(&said)
+}
+
+/// Whether the device did two things, a request was accepted and told `PortDead`, and a store into a lent frame was done only after a reset.
+fn is_released(said: &[Said]) -> bool
+    ensures { IsTrue result → IsReleased said.now }
+{
+    match said {
+        [held, failed, accepted, dead, refused, reset, stored] => {
+            is_done(held)
+                && is_done(failed)
+                && is_accepted(accepted)
+                && is_told(dead, Outcome::PortDead)
+                && is_refused(refused)
+                && is_reset(reset)
+                && is_stored(stored)
+        }
+        _ => false,
+    }
+}
