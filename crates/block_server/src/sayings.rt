@@ -1,5 +1,5 @@
 // What calls from a list said.
-ghost use Rattle.std.specs.Prelude.{◌≡◌, ◌<◌, ◌≤◌, ◌+◌, ◌++◌, ◌∷◌, [], None, Some, IsOk, MatchOption, OnErr, OnOk, vec_len};
+ghost use Rattle.std.specs.Prelude.{◌≡◌, ◌<◌, ◌≤◌, ◌+◌, ◌++◌, ◌∷◌, [], None, Some, IfOk, IsOk, MatchOption, OnOk, vec_len};
 ghost use Rattle.std.specs.Vec.{vec_capacity};
 ghost use Rattle.block_server.specs.Sayings.{said_in, with_replies};
 
@@ -112,5 +112,16 @@ impl Sayings {
         if let Some(told) = self.last.take() {
             self.join(told);
         }
+    }
+
+    /// All that was said, in one list. Memory for what the last call said may be refused.
+    pub fn into_list(self) -> Result<Vec<Said>, AllocError>
+        ensures { IfOk result (λ list. list.items ≡ said_in self) }
+    {
+        let mut said = self;
+        said.reserve(1)?;
+        said.go_on();
+        let Sayings { earlier, .. } = said;
+        Ok(earlier)
     }
 }

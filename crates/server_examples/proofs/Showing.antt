@@ -1,9 +1,9 @@
 -- What calls of a new server show, by what they said.
 use Rattle.std.proofs.Common.{◌≡◌, ℕ, ◌+◌, ◌<◌, ◌≤◌, zero, suc, Bool, true, false, cond, ◌||◌, List, [], ◌∷◌, ◌++◌, length, get_or, Option, Some, None, Ok, Err, inl, ⊎_elim, refl, sym, ap, ◌∙◌, subst, arith, rules}
-use Rattle.std.specs.Prelude.{IsSome}
+use Rattle.std.specs.Prelude.{IsSome, map, reverse}
 use Rattle.std.specs.List.{Contains, count_by, list_any}
 use Rattle.std.proofs.lemmas.Bool.{cases_Bool, false≢true}
-use Rattle.std.proofs.lemmas.List.{length-map, nil_from_length}
+use Rattle.std.proofs.lemmas.List.{append-nil, append_assoc, length-map, nil_from_length, reverse-reverse}
 use Rattle.std.proofs.lemmas.List.Elements.{Contains-append_left, Contains-append_right, Contains-push}
 use Rattle.std.proofs.lemmas.List.Sorted.{length_permutation}
 use Rattle.std.proofs.lemmas.List.Sums.{sum_by-cons, sum_by-append}
@@ -32,12 +32,13 @@ use Rattle.block_machine.specs.Left.{after}
 use Rattle.block_machine.specs.State.{Accepted, Pending, Machine}
 use Rattle.block_machine.specs.Steps.{Step, Touch, End, Unplug, Replace, Answer, Release}
 use Rattle.driver_history.specs.Evidence.{ShowsFailure}
-use Rattle.driver_history.specs.Histories.{CameBy}
+use Rattle.driver_history.specs.Histories.{CameBy, IsHistory}
+use Rattle.identify.specs.declared.wanted.Wanted.{Wanted}
 use Rattle.machine_runs.specs.Told.{AsksFor, CameFrom, WasAsked, waits_again}
 use Rattle.server_history.specs.Histories.{HasBegun, Leads}
 use Rattle.server_history.specs.Server.{Server}
-use Rattle.block_server.specs.Healthy.{EachSince, IsSound, RunsAsPromised, one_more}
-use Rattle.block_server.specs.Running.{AddEach, ask_of, said_of}
+use Rattle.block_server.specs.Promise.{RunsAsPromised}
+use Rattle.block_server.specs.Running.{ask_of, said_of}
 use Rattle.block_server.specs.View.{ServerView, server_of}
 use Rattle.block_server.specs.declared.types.Event.{Event}
 use Rattle.block_server.specs.declared.types.Event.TheVariants.{Submit, ClientStore, Service, Reset, State, Device as Tell}
@@ -49,16 +50,17 @@ pub has_run : {A : Type 0} (device : A → Device) (old new : ServerView A) (eve
     → HasBegun (server_of device old) → (device old.adapter).telling ≡ true → HasRun device old new events after
 has_run device old new events before after promised empty begun telling =
     let kept = promised.keeps begun.0 [] begun.1 in
+    let whole = append-nil kept.added in
     let is : promised.said ≡ after = sym (promised.told ∙ ap (λ (xs : List Said). xs ++ promised.said) empty) in
     subst (HasRun device old new events) is (record {
       first = begun.0;
       begun = begun.1;
-      past = kept.later;
-      adds = kept.adds;
-      leads = kept.leads;
-      run = kept.run;
-      reads = kept.reads (ap (λ (d : Device). d.telling) begun.1.stands.device_is ∙ telling);
-      sound = kept.sound;
+      past = kept.added;
+      calls = kept.clients.calls;
+      leads = subst (λ (past : List (Happening Device DeviceStep)). Leads begun.0 past (server_of device new)) whole kept.driver.leads;
+      run = subst (λ (past : List (Happening Device DeviceStep)). IsRun begun.0.moment (events_of past)) whole kept.clients.run;
+      reads = subst (λ (past : List (Happening Device DeviceStep)). EveryReadHolds begun.0.moment (events_of past)) whole
+          (kept.clients.reads (ap (λ (d : Device). d.telling) begun.1.stands.device_is ∙ telling));
     })
 
 -- what calls asked and said
@@ -71,15 +73,24 @@ abbrev Grows : List (Happening Device DeviceStep) → List (Ask DeviceStep × ma
 Grows past [] later = later ≡ past
 Grows past (one ∷ more) later = (h : Happening Device DeviceStep) × (h.event.ask ≡ one.0) × (h.event.said ≡ one.1) × Grows (h ∷ past) more later
 
-grows : {A : Type 0} (device : A → Device) (first : Instant Device) (past : List (Happening Device DeviceStep)) (old : ServerView A) (events : List Event) (some : List Said)
-    (later : List (Happening Device DeviceStep)) (new : ServerView A) → AddEach device first past old events some later new → Grows past (asks_of events some) later
-grows device first past old [] [] later new a = a.0
-grows device first past old (event ∷ events) (one ∷ more) later new a = (a.1, a.3, a.4, grows device first (a.1 ∷ past) a.0 events more later new a.6)
-grows device first past old [] (one ∷ more) later new a = absurd a
-grows device first past old (event ∷ events) [] later new a = absurd a
+-- so it has by calls that stand in their order
+grows : (calls past : List (Happening Device DeviceStep)) (events : List Event) (some : List Said) → map (λ h. h.event.ask) calls ≡ map ask_of events
+    → map (λ h. h.event.said) calls ≡ map said_of some → Grows past (asks_of events some) (reverse calls ++ past)
+grows [] past [] [] asks says = refl
+grows [] past [] (one ∷ more) asks says = cc
+grows [] past (event ∷ events) some asks says = cc
+grows (h ∷ calls) past [] some asks says = cc
+grows (h ∷ calls) past (event ∷ events) [] asks says = cc
+grows (h ∷ calls) past (event ∷ events) (one ∷ more) asks says = (
+  h,
+  cc,
+  cc,
+  subst (Grows (h ∷ past) (asks_of events more)) (sym (append_assoc (reverse calls) (h ∷ []) past)) (grows calls (h ∷ past) events more cc cc),
+)
 
 grown : {A : Type 0} {device : A → Device} {old new : ServerView A} {events : List Event} {some : List Said} (r : HasRun device old new events some) → Grows [] (asks_of events some) r.past
-grown {A} {device} {old} {new} {events} {some} r = grows device r.first [] old events some r.past new r.adds
+grown {A} {device} {old} {new} {events} {some} r =
+    subst (Grows [] (asks_of events some)) (append-nil (reverse (reverse r.past)) ∙ reverse-reverse r.past) (grows (reverse r.past) [] events some r.calls.asks r.calls.says)
 
 pub has_said : {A : Type 0} {device : A → Device} {old new : ServerView A} {events : List Event} {some other : List Said} → HasRun device old new events some → some ≡ other → HasRun device old new events other
 has_said {A} {device} {old} {new} {events} {some} {other} r is = subst (HasRun device old new events) is r
@@ -229,10 +240,6 @@ was_then laws first past event e r lets h = ⊎_elim
     (λ asks. absurd (lets.asks e.request asks))
     (laws.came first past event e r h)
 
-sound_of : {Is : List (Happening Device DeviceStep) → Happening Device DeviceStep → Type 0} (past : List (Happening Device DeviceStep)) (h : Happening Device DeviceStep) → EachSince Is [] (h ∷ past)
-    → EachSince Is [] past × Is past h
-sound_of past h (one_more each is) = (each, is)
-
 abbrev pub port_0 : Port
 port_0 = record { 0 = 0 }
 
@@ -248,9 +255,9 @@ is_port_0 q few one two three = go q.0 refl
     go (suc (suc (suc (suc n)))) is = absurd (omega (arith, few, is))
 
 -- The first of these calls asks for the request, the next three tell that no port but the first is ready, then that meets a fatal error, and a service follows, and then the device goes on.
-record Restarted (first : Instant Device) (asked : Request) (id : RequestId) (submit one two three fatal service finish : Happening Device DeviceStep) : Type 0 where
+record Restarted (wanted : List Wanted) (first : Instant Device) (asked : Request) (id : RequestId) (submit one two three fatal service finish : Happening Device DeviceStep) : Type 0 where
   run : IsRun first.moment (events_of (finish ∷ service ∷ fatal ∷ three ∷ two ∷ one ∷ submit ∷ []))
-  sound : EachSince (IsSound first) [] (finish ∷ service ∷ fatal ∷ three ∷ two ∷ one ∷ submit ∷ [])
+  history : IsHistory wanted first (finish ∷ service ∷ fatal ∷ three ∷ two ∷ one ∷ submit ∷ [])
   submits : (submit.event.ask ≡ AskSubmit asked) × (submit.event.said ≡ Submitted (Ok id))
   shows_1 : (one.event.ask ≡ AskState (record { 0 = 1 })) × (one.event.said ≡ Shown Absent)
   shows_2 : (two.event.ask ≡ AskState (record { 0 = 2 })) × (two.event.said ≡ Shown Absent)
@@ -279,10 +286,10 @@ record Lone (first : Instant Device) (submit one two three fatal : Happening Dev
   at_port_0 : e.request.port.0 ≡ 0
   ready : (moment_of first.moment (events_of (fatal ∷ three ∷ two ∷ one ∷ submit ∷ []))).ports.state e.request.port ≡ Ready
 
-lone_of : (laws : RunLaws) (first : Instant Device) (asked : Request) (id : RequestId) (submit one two three fatal service finish : Happening Device DeviceStep)
-    → Restarted first asked id submit one two three fatal service finish → (e : Pending)
+lone_of : (laws : RunLaws) (wanted : List Wanted) (first : Instant Device) (asked : Request) (id : RequestId) (submit one two three fatal service finish : Happening Device DeviceStep)
+    → Restarted wanted first asked id submit one two three fatal service finish → (e : Pending)
     → Contains (moment_of first.moment (events_of (fatal ∷ three ∷ two ∷ one ∷ submit ∷ []))).machine.book e → Lone first submit one two three fatal e
-lone_of laws first asked id submit one two three fatal service finish c e here =
+lone_of laws wanted first asked id submit one two three fatal service finish c e here =
     let r5 : IsRun first.moment (events_of (fatal ∷ three ∷ two ∷ one ∷ submit ∷ [])) = c.run.0.0 in
     let r4 = r5.0 in
     let r3 = r4.0 in
@@ -339,12 +346,12 @@ issued_first laws first asked id submit e r is says here =
     nothing x h = search rules
 
 -- So what is answered Ok after these was issued twice, and made to wait again.
-went_again : (laws : RunLaws) (first : Instant Device) (asked : Request) (id : RequestId) (submit one two three fatal service finish : Happening Device DeviceStep)
-    → Restarted first asked id submit one two three fatal service finish → (e : Pending)
+went_again : (laws : RunLaws) (wanted : List Wanted) (first : Instant Device) (asked : Request) (id : RequestId) (submit one two three fatal service finish : Happening Device DeviceStep)
+    → Restarted wanted first asked id submit one two three fatal service finish → (e : Pending)
     → Contains (moment_of first.moment (events_of (finish ∷ service ∷ fatal ∷ three ∷ two ∷ one ∷ submit ∷ []))).machine.book e → e.issued ≡ true
     → (2 ≤ count_by (issues_it e.request.id) (steps_of (events_of (finish ∷ service ∷ fatal ∷ three ∷ two ∷ one ∷ submit ∷ []))))
     × (1 ≤ count_by (waits_again e.request.id) (steps_of (events_of (finish ∷ service ∷ fatal ∷ three ∷ two ∷ one ∷ submit ∷ []))))
-went_again laws first asked id submit one two three fatal service finish c e here issued =
+went_again laws wanted first asked id submit one two three fatal service finish c e here issued =
     let calls = finish ∷ service ∷ fatal ∷ three ∷ two ∷ one ∷ submit ∷ [] in
     let r7 = c.run in
     let r6 = r7.0 in
@@ -353,14 +360,12 @@ went_again laws first asked id submit one two three fatal service finish c e her
     let w6 = was_then laws first.moment (events_of (service ∷ fatal ∷ three ∷ two ∷ one ∷ submit ∷ [])) finish.event e r7 l7 here in
     let came = ⊎_elim (λ x. x) (λ asks. absurd (service_asks_none w6.before.request service.event c.serves asks))
     (laws.came first.moment (events_of (fatal ∷ three ∷ two ∷ one ∷ submit ∷ [])) service.event w6.before r6 w6.here) in
-    let lone = lone_of laws first asked id submit one two three fatal service finish c came.before came.here in
+    let lone = lone_of laws wanted first asked id submit one two three fatal service finish c came.before came.here in
     let id_is : (x : Pending) → x.request ≡ e.request → x.request.id ≡ e.request.id = λ x same. ap (λ (a : Accepted). a.id) same in
-    let s6 = (sound_of _ _ (sound_of _ _ c.sound).0) in
-    let s5 = sound_of _ _ s6.0 in
-    let part = s5.1.part port_0 in
-    let fails : ShowsFailure (fatal.device.port 0) = shows_failure _ fatal.event _ fatal.device part.0 c.fails.0 c.fails.1 part.1 in
+    let failed = c.history.0.0 in
+    let fails : ShowsFailure (fatal.device.port 0) = shows_failure _ fatal.event _ fatal.device failed.2.accesses c.fails.0 c.fails.1 failed.2.came in
     let port_is : came.before.request.port ≡ port_0 = ap (λ (n : ℕ). record { 0 = n }) lone.at_port_0 in
-    let anew = (s6.1.heeded port_0 c.serves (subst (λ (p : Port). fatal.event.ports.state p ≡ Ready) port_is lone.ready) fails).anew in
+    let anew = (laws.heeded wanted first (fatal ∷ three ∷ two ∷ one ∷ submit ∷ []) service port_0 c.history.0 c.serves (subst (λ (p : Port). fatal.event.ports.state p ≡ Ready) port_is lone.ready) fails).anew in
     let again : IsIssuedIn w6.before.request.id service.event.steps = anew w6.before w6.here (ap (λ (a : Accepted). a.port) (sym came.same) ∙ port_is) (w6.issued issued) in
     let count : List Step → ℕ = count_by (issues_it e.request.id) in
     let second : 1 ≤ count service.event.steps = subst (λ (i : RequestId). 1 ≤ count_by (issues_it i) service.event.steps) (id_is w6.before w6.same) (any_counted (issues_it w6.before.request.id) service.event.steps again) in
@@ -389,7 +394,7 @@ pub shows_a_read_anew : {A : Type 0} (device : A → Device) (old new : ServerVi
     (said.Submitted (Ok id) ∷ said.State Absent ∷ said.State Absent ∷ said.State Absent ∷ said.Stepped true ∷ said.Served (record { items = before }) ∷ said.Stepped true
     ∷ said.Served (record { items = replies }) ∷ [])
     → replies ≡ reply ∷ [] → reply.outcome ≡ outcome.Ok → read.op ≡ Read → ServesReadAnew (server_of device old) (server_of device new) read
-unfolding grown served_last
+unfolding served_last
 shows_a_read_anew device old new read step id before replies reply laws r only ok reads =
     let a = grown r in
     let b = a.3 in
@@ -402,7 +407,7 @@ shows_a_read_anew device old new read step id before replies reply laws r only o
     let past : List (Happening Device DeviceStep) = g.0 ∷ f.0 ∷ e.0 ∷ d.0 ∷ c.0 ∷ b.0 ∷ a.0 ∷ [] in
     let is : r.past ≡ h.0 ∷ past = h.3 in
     let run : IsRun r.first.moment (events_of (h.0 ∷ past)) = subst (λ (p : List (Happening Device DeviceStep)). IsRun r.first.moment (events_of p)) is r.run in
-    let sound : EachSince (IsSound r.first) [] (h.0 ∷ past) = subst (EachSince (IsSound r.first) []) is r.sound in
+    let history : IsHistory new.wanted r.first (h.0 ∷ past) = subst (IsHistory new.wanted r.first) is r.leads.history in
     let serves = served_last laws (server_of device old) (server_of device new) read r.first r.begun past h.0
     (subst (λ (p : List (Happening Device DeviceStep)). Leads r.first p (server_of device new)) is r.leads) run
     (subst (λ (p : List (Happening Device DeviceStep)). EveryReadHolds r.first.moment (events_of p)) is r.reads)
@@ -411,9 +416,9 @@ shows_a_read_anew device old new read step id before replies reply laws r only o
     (λ asked. ⊎_elim (λ x. absurd (device_asks_none q e.0.event _ e.1 x)) (λ asked. ⊎_elim (λ x. absurd (state_asks_none q d.0.event _ d.1 x))
     (λ asked. ⊎_elim (λ x. absurd (state_asks_none q c.0.event _ c.1 x)) (λ asked. ⊎_elim (λ x. absurd (state_asks_none q b.0.event _ b.1 x))
     (λ asked. ⊎_elim (λ x. submit_asks q a.0.event read a.1 x) (λ no. absurd no) asked) asked) asked) asked) asked) asked) asked) in
-    let restarted : Restarted r.first read id a.0 b.0 c.0 d.0 e.0 f.0 g.0 = record {
+    let restarted : Restarted new.wanted r.first read id a.0 b.0 c.0 d.0 e.0 f.0 g.0 = record {
       run = run.0;
-      sound = (sound_of _ _ sound).0;
+      history = history.0;
       submits = (a.1, a.2);
       shows_1 = (b.1, b.2);
       shows_2 = (c.1, c.2);
@@ -424,7 +429,7 @@ shows_a_read_anew device old new read step id before replies reply laws r only o
     } in
     let answered : Contains h.0.event.steps (Answer serves.read outcome.Ok) = answer_in h.0.event.steps serves.told.late serves.told.early (Answer serves.read outcome.Ok) serves.told.answered in
     let was = (laws.lawful r.first.moment (events_of past) h.0.event serves.read outcome.Ok run answered).0 in
-    let went = went_again laws r.first read id a.0 b.0 c.0 d.0 e.0 f.0 g.0 restarted was.pending was.here was.issued in
+    let went = went_again laws new.wanted r.first read id a.0 b.0 c.0 d.0 e.0 f.0 g.0 restarted was.pending was.here was.issued in
     record {
       serves = serves;
       twice = subst (λ (i : RequestId). 2 ≤ count_by (issues_it i) (steps_of (events_of past))) was.id_is went.0;

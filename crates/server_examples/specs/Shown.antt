@@ -1,5 +1,6 @@
 -- Histories of the server that are shown to exist, by calls of it that are made (this project's own).
-use Rattle.std.specs.Prelude.{◌≡◌, ◌⊎◌, ◌≤◌, true, None, List, [], ◌∷◌, ◌++◌, count_by, cond, Contains, IsSome, ◌+◌, Ok as Done, Err}
+use Rattle.std.specs.Prelude.{◌≡◌, ◌⊎◌, ◌≤◌, true, None, List, [], ◌∷◌, ◌++◌, count_by, cond, Contains, IsSome, ◌+◌, map, Ok as Done, Err}
+use Rattle.ata_types.specs.declared.Port.{Port}
 use Rattle.ata_types.specs.declared.PortState.TheVariants.{Absent, Ready, Dead}
 use Rattle.ata_types.specs.declared.request.Frame.{Frame}
 use Rattle.ata_types.specs.declared.refusal.MemFault.TheVariants.{FrameLent}
@@ -11,32 +12,35 @@ use Rattle.ata_types.specs.declared.request.Outcome.{Outcome}
 use Rattle.ata_types.specs.declared.request.Outcome.TheVariants.{Ok, PortDead}
 use Rattle.adapter.specs.Device.{Device}
 use Rattle.adapter.specs.declared.access.DeviceStep.{DeviceStep}
-use Rattle.block_machine.specs.Events.{Event as Call, Moment, Reset, EveryReadHolds, IsLawful, IsRun, IsStillStuck, answers_of, issues_it, moment_of, replies_of, steps_of}
+use Rattle.block_machine.specs.Events.{Event as Call, Moment, Reset, Service, EveryReadHolds, IsLawful, IsRun, IsStillStuck, answers_of, issues_it, moment_of, replies_of, steps_of}
 use Rattle.block_machine.specs.Histories.{Happening, Instant, events_of, now}
 use Rattle.block_machine.specs.Left.{IsLegal, IsStart, after}
 use Rattle.block_machine.specs.State.{Machine, Pending}
 use Rattle.block_machine.specs.Steps.{Step, Answer, Release}
+use Rattle.driver_history.specs.Claims.{HeedsFailure}
+use Rattle.driver_history.specs.Evidence.{ShowsFailure}
+use Rattle.driver_history.specs.Histories.{IsHistory}
+use Rattle.identify.specs.declared.wanted.Wanted.{Wanted}
 use Rattle.machine_runs.specs.Told.{AsksFor, CameFrom, IsAnsweredOk, WasAsked, waits_again}
 use Rattle.server_history.specs.Histories.{Leads}
 use Rattle.server_history.specs.Server.{Server}
-use Rattle.block_server.specs.Healthy.{EachSince, IsSound}
-use Rattle.block_server.specs.Running.{AddEach}
+use Rattle.block_server.specs.Clients.{AreCalls}
+use Rattle.block_server.specs.Running.{ask_of, said_of}
 use Rattle.block_server.specs.View.{ServerView, server_of}
 use Rattle.block_server.specs.declared.types.Event.{Event}
 use Rattle.block_server.specs.declared.types.Said.{Said}
 use Rattle.block_server.specs.declared.types.Said.TheVariants as says
 
--- These calls of a new server said this: a history leads to the server before them without calls, and with theirs to the server after them. It is a run,
--- each read that it answers Ok holds what was left, and each of its calls is sound.
+-- These calls of a new server said this: a history leads to the server before them without calls, and with theirs to the server after them. It is a run, and
+-- each read that it answers Ok holds what was left.
 pub record HasRun {A : Type 0} (device : A → Device) (old new : ServerView A) (events : List Event) (said : List Said) : Type 0 where
   pub first : Instant Device
   pub begun : Leads first [] (server_of device old)
   pub past : List (Happening Device DeviceStep)
-  pub adds : AddEach device first [] old events said past new
+  pub calls : AreCalls past (map ask_of events) (map said_of said)
   pub leads : Leads first past (server_of device new)
   pub run : IsRun first.moment (events_of past)
   pub reads : EveryReadHolds first.moment (events_of past)
-  pub sound : EachSince (IsSound first) [] past
 
 -- A history leads from the new server to the other one, in whose last call the read that was asked for is answered Ok. Before that it was accepted and issued, each
 -- of its sectors was moved since its last issue, and it was ended; and its frames have what was left (`told`).
@@ -95,7 +99,7 @@ IsReleased said = (id : RequestId) × (reply : Reply) × (reply.outcome ≡ Port
     × (said ≡ says.Stepped true ∷ says.Stepped true ∷ says.Submitted (Done id) ∷ says.Served (record { items = reply ∷ [] }) ∷ says.Stored (Err FrameLent)
     ∷ says.WasReset (Done (record { items = [] })) ∷ says.Stored (Done tt) ∷ [])
 
--- What laws of `block_machine` and `machine_runs` say of runs: what is shown rests on them.
+-- What laws of `block_machine` and `machine_runs` say of runs, and one of `driver_history` of histories: what is shown rests on them.
 pub record RunLaws : Type 0 where
   pub legal : (first : Moment) (run : List (Call DeviceStep)) → IsRun first run
       → IsStart first.machine × IsLegal first.machine (steps_of run) × ((moment_of first run).machine ≡ after first.machine (steps_of run))
@@ -115,3 +119,6 @@ pub record RunLaws : Type 0 where
       × (count_by (issues_it e.request.id) history ≡ count_by (waits_again e.request.id) history + cond e.issued 1 0)
   pub ready : (first : Moment) (run : List (Call DeviceStep)) (e : Pending) → IsRun first run → Contains (moment_of first run).machine.book e
       → ((moment_of first run).ports.state e.request.port ≡ Ready) ⊎ (((moment_of first run).ports.state e.request.port ≡ Dead) × IsStillStuck run)
+  pub heeded : (wanted : List Wanted) (first : Instant Device) (past : List (Happening Device DeviceStep)) (h : Happening Device DeviceStep) (port : Port)
+      → IsHistory wanted first (h ∷ past) → h.event.ask ≡ Service → (now first past).moment.ports.state port ≡ Ready
+      → ShowsFailure ((now first past).device.port port.0) → HeedsFailure port (now first past) h

@@ -14,7 +14,8 @@ use ata_types::{
     ClientId, Frame, MemFault, Op, Outcome, Port, PortState, Request, RequestId, Slot,
 };
 use block_machine::laws::runs_are_legal;
-use block_server::{Event, Said, Server};
+use block_server::{Event, Said, Sayings, Server};
+use driver_history::troubles::shown_faults_are_heeded;
 use machine_runs::laws::{
     a_lone_request_is_issued, answers_are_lawful, issues_are_counted, ok_was_served,
     replied_was_asked, unanswered_came_from, unanswered_where_ready,
@@ -33,6 +34,7 @@ fn laws_of_runs()
     a_lone_request_is_issued::<DeviceStep>();
     issues_are_counted();
     unanswered_where_ready::<DeviceStep>();
+    shown_faults_are_heeded();
 }
 
 /// What calls of a new server say, one after another. None where memory for that is refused.
@@ -41,9 +43,9 @@ fn calls<A: Stepped>(alloc: Global, server: &mut Server<A>, events: &[Event]) ->
     requires telling { (A.device server.old.adapter).telling ≡ true }
     ensures { IfSome result (λ said. HasRun A.device server.old server.new events.now said.items) }
 {
-    let mut said = Vec::new(alloc);
+    let mut said = Sayings::new(alloc);
     match server.run(events, &mut said) {
-        Ok(()) => Some(said),
+        Ok(()) => said.into_list().ok(),
         Err(_) => None,
     }
 }
