@@ -3,7 +3,7 @@ use Rattle.std.proofs.Common.{◌≡◌, ℕ, ◌+◌, ◌<◌, ◌≤◌, zero,
 use Rattle.std.specs.Prelude.{IsSome, map, reverse}
 use Rattle.std.specs.List.{Contains, count_by, list_any}
 use Rattle.std.proofs.lemmas.Bool.{cases_Bool, false≢true}
-use Rattle.std.proofs.lemmas.List.{append-nil, append_assoc, length-map, nil_from_length, reverse-reverse}
+use Rattle.std.proofs.lemmas.List.{append-nil, append_assoc, length-map, nil_from_length, reverse-append, reverse-reverse}
 use Rattle.std.proofs.lemmas.List.Elements.{Contains-append_left, Contains-append_right, Contains-push}
 use Rattle.std.proofs.lemmas.List.Sorted.{length_permutation}
 use Rattle.std.proofs.lemmas.List.Sums.{sum_by-cons, sum_by-append}
@@ -81,12 +81,13 @@ grows [] past [] (one ∷ more) asks says = cc
 grows [] past (event ∷ events) some asks says = cc
 grows (h ∷ calls) past [] some asks says = cc
 grows (h ∷ calls) past (event ∷ events) [] asks says = cc
-grows (h ∷ calls) past (event ∷ events) (one ∷ more) asks says = (
-  h,
-  cc,
-  cc,
-  subst (Grows (h ∷ past) (asks_of events more)) (sym (append_assoc (reverse calls) (h ∷ []) past)) (grows calls (h ∷ past) events more cc cc),
-)
+grows (h ∷ calls) past (event ∷ events) (one ∷ more) asks says =
+    let asked : h.event.ask ≡ ask_of event = cc in
+    let told : h.event.said ≡ said_of one = cc in
+    let asks_on : map (λ h. h.event.ask) calls ≡ map ask_of events = cc in
+    let says_on : map (λ h. h.event.said) calls ≡ map said_of more = cc in
+    let turned = ap (λ (l : List (Happening Device DeviceStep)). l ++ past) (reverse-append (h ∷ []) calls) ∙ append_assoc (reverse calls) (h ∷ []) past in
+    (h, asked, told, subst (Grows (h ∷ past) (asks_of events more)) (sym turned) (grows calls (h ∷ past) events more asks_on says_on))
 
 grown : {A : Type 0} {device : A → Device} {old new : ServerView A} {events : List Event} {some : List Said} (r : HasRun device old new events some) → Grows [] (asks_of events some) r.past
 grown {A} {device} {old} {new} {events} {some} r =

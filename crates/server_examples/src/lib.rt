@@ -6,6 +6,8 @@
 mod boots;
 pub mod histories;
 #[cfg(test)]
+mod lists;
+#[cfg(test)]
 mod outputs;
 #[cfg(test)]
 mod plans;

@@ -5,6 +5,8 @@
 #[cfg(test)]
 mod block_machine_calls;
 #[cfg(test)]
+mod command_lines;
+#[cfg(test)]
 mod command_tables;
 #[cfg(test)]
 mod dues_and_disks;

@@ -1,0 +1,100 @@
+// What a list of calls says: a read that is asked for, done by the disk, answered, and looked at by its client.
+use crate::servers::{QUEUED, config, request};
+use adapter::DeviceStep;
+use arrayvec::ArrayVec;
+use ata_types::{ClientId, Frame, Op, Outcome, Port, Reply, RequestId, Slot};
+use block_server::{Event, Said, Sayings, Server};
+use device_model::Model;
+use play::new_model;
+use sector_store::{MemStore, SectorStore};
+use std::alloc::Global;
+use std::test::Fail;
+
+/// A server over a disk in memory of which every byte of sector k is k modulo 256.
+fn server_of_numbers(alloc: Global) -> Result<Server<Model<MemStore>>, Fail> {
+    let config = config(alloc, QUEUED)?;
+    let mut image = MemStore::new(alloc, 356)?;
+    for sector in 0..356_u16 {
+        let bytes = [sector.to_le_bytes()[0]; 512];
+        let _done = image.write(u64::from(sector), &bytes);
+    }
+    let model = new_model(alloc, &config, image, MemStore::new(alloc, 0)?)?;
+    match Server::new(alloc, &config, model) {
+        Ok(server) => Ok(server),
+        Err(_) => Err(Fail::from("no server")),
+    }
+}
+
+/// A look of client 1 at so many bytes of frame 40.
+fn look(offset: u32, length: u32) -> Event {
+    Event::ClientLoad {
+        client: ClientId(1),
+        frame: Frame(40),
+        offset,
+        length,
+    }
+}
+
+/// The first calls of a read.
+fn first_calls() -> [Event; 2] {
+    [
+        Event::Submit(request(Op::Read, 100, 8, 40, 1)),
+        Event::Device(DeviceStep::Finish(Port(0), Slot(0))),
+    ]
+}
+
+/// The others.
+fn last_calls() -> [Event; 3] {
+    [Event::Service, look(0, 4), look(512, 2)]
+}
+
+/// Whether the calls said what a read says; the last two, these bytes.
+fn is_of_a_read(said: &[Said]) -> bool {
+    let [
+        Said::Submitted(Ok(id)),
+        Said::Stepped(true),
+        Said::Served(replies),
+        Said::Loaded(Ok(first)),
+        Said::Loaded(Ok(second)),
+    ] = said
+    else {
+        return false;
+    };
+    let reply = Reply {
+        id: RequestId(1),
+        client: ClientId(1),
+        outcome: Outcome::Ok,
+    };
+    *id == RequestId(1)
+        && replies.as_slice() == [reply].as_slice()
+        && first.as_slice() == [0x64; 4].as_slice()
+        && second.as_slice() == [0x65; 2].as_slice()
+}
+
+#[test]
+fn a_list_of_calls_says_one_thing_each(rt: HostRuntime) -> Result<(), Fail> {
+    let mut server = server_of_numbers(rt.alloc())?;
+    let mut said = Sayings::new(rt.alloc());
+    let mut ran = server.run(&first_calls(), &mut said);
+    if ran.is_ok() {
+        ran = server.run(&last_calls(), &mut said);
+    }
+    let _model = server.close();
+    let list = said.into_list()?;
+    assert_eq!(rt; ran, Ok(()));
+    assert!(rt; is_of_a_read(list.as_slice()));
+    Ok(())
+}
+
+// No more room is asked for than two calls need.
+#[test]
+fn two_calls_need_room_for_two(rt: HostRuntime) -> Result<(), Fail> {
+    let mut said = Sayings::new(rt.alloc());
+    said.reserve(2)?;
+    let mut server = server_of_numbers(rt.alloc())?;
+    let ran = server.run(&first_calls(), &mut said);
+    let _model = server.close();
+    let is_last = matches!(said.last(), Some(block_server::Told::Stepped(true)));
+    assert_eq!(rt; (ran, said.earlier().len(), is_last), (Ok(()), 1, true));
+    Ok(())
+}
