@@ -29,7 +29,7 @@ returns-in_default-write_out-clause-printed g c =
     ap g.A.Watched.ended (sym c.adapter-adapter.ensures) ∙ sym c.has_ended.ensures ∙ c.if-has_ended.false in
     let one : with_replies c.answer-told.result c.as_slice.result.now ≡ said =
     ap (λ (replies : List Reply). with_replies c.answer-told.result replies) c.as_slice.ensures.value in
-    let wrote = c.in_default-write_out.ensures in (
+    let wrote = c.in_default-write_out.ensures.written in (
       part_of device g.A.Watched.ended c.args.trace c.args.shown _ c.event.result said c.args.server.now c.answer-told.new.self _ _ wrote.0
           c.as_slice-2.result.now c.tape-tape.result.now c.event.ensures c.answer-told.ensures tape (c.as_slice-2.ensures.value ∙ c.in-Ok.ensures ∙ ap (call_text c.args.trace c.args.shown c.tape-tape.result.now) one) wrote.1 (λ is. absurd (false≢true (sym fed ∙ is))),
       tt,
@@ -46,7 +46,7 @@ returns-clause-printed g c =
     ap g.A.Watched.ended (sym c.adapter-adapter.ensures) ∙ sym c.has_ended.ensures ∙ c.if-has_ended.false in
     let one : with_replies c.answer-told.result c.as_slice.result.now ≡ said =
     ap (λ (replies : List Reply). with_replies c.answer-told.result replies) c.as_slice.ensures.value in
-    let wrote = c.in-Ok-write_out.ensures in (
+    let wrote = c.in-Ok-write_out.ensures.written in (
       part_of device g.A.Watched.ended c.args.trace c.args.shown _ c.event.result said c.args.server.now c.answer-told.new.self _ _ wrote.0
           c.as_slice-2.result.now c.tape-tape.result.now c.event.ensures c.answer-told.ensures tape (c.as_slice-2.ensures.value ∙ c.in-Ok.ensures ∙ ap (call_text c.args.trace c.args.shown c.tape-tape.result.now) one) wrote.1 (λ is. absurd (false≢true (sym fed ∙ is))),
       wrote.2,
