@@ -5,19 +5,17 @@
 #![tactic(auto)]
 
 use command_line::{Args, ArgsFault};
-use fault::{Fault, outcome};
-use play::{Ended, play};
-use sector_store::{Disk, FileStore, MemStore};
+use fault::Fault;
+use program::{Host, Inputs, Unread, disks_over, load, run_script};
+use sector_store::FileStore;
 use std::fs::{self, File, Files};
-use std::io::{self, BufWriter, IsTerminal, Read, Write};
+use std::io::{self, BufWriter, IsTerminal, Read};
 use std::process::ExitCode;
 use std::rt::Env;
 use std::{env, str};
 
 mod fault;
-
-/// The sectors of the blank disk.
-const BLANK_SECTORS: u32 = 2048;
+mod program;
 
 /// The bytes that are gathered before they are written.
 const GATHERED: usize = 8192;
@@ -44,12 +42,52 @@ fn words(rt: &(impl Env + AllocGlobal)) -> Result<Args, Fault> {
     })
 }
 
-/// The bytes of a file, and the file, which is still open.
-fn read(rt: &(impl AllocGlobal + Files<File = File>), path: &str) -> io::Result<(Vec<u8>, File)> {
-    let mut file = fs::open(rt, path)?;
-    let mut bytes = Vec::new(rt.alloc());
-    file.read_to_end(&mut bytes)?;
-    Ok((bytes, file))
+/// The files of the system. It gives a file the lowest number that is free, and 0, 1 and 2 are those of standard input, output and error. Where
+/// some of these were closed, three files that can only be read take their places until the end, and never the image: else
+/// what is printed would be written into it.
+#[derive(Drop)]
+struct System<'a, R> {
+    rt: &'a R,
+    /// The files that were read, and the first one of them twice.
+    kept: Vec<File>,
+}
+
+impl From<io::Error> for Unread {
+    fn from(error: io::Error) -> Unread {
+        if error.kind() == io::ErrorKind::OutOfMemory {
+            Unread::NoMemory
+        } else {
+            Unread::Refused
+        }
+    }
+}
+
+impl<R> System<'_, R> {
+    /// Keeps a file open.
+    fn keep(&mut self, file: File) -> Result<(), Unread> {
+        self.kept.push(file).map_err(|_full| Unread::NoMemory)
+    }
+}
+
+impl<R: AllocGlobal + Files<File = File>> Host for System<'_, R> {
+    ghost reads = { λ _ _ _ _. Unit {0} };
+
+    ghost opens = { λ _ _ _ _. Unit {0} };
+
+    fn read(&mut self, name: &str) -> Result<Vec<u8>, Unread> {
+        let mut file = fs::open(self.rt, name)?;
+        let mut bytes = Vec::new(self.rt.alloc());
+        file.read_to_end(&mut bytes)?;
+        if self.kept.is_empty() {
+            self.keep(file.try_clone()?)?;
+        }
+        self.keep(file)?;
+        Ok(bytes)
+    }
+
+    fn open(&mut self, name: &str) -> Result<FileStore, Unread> {
+        Ok(FileStore::open(self.rt, name)?)
+    }
 }
 
 /// Plays a script over an image, and prints what it answers. Where somebody watches, what a line answers is written at once, and else it is
@@ -62,28 +100,15 @@ fn print_played(
     trace: bool,
     is_watched: bool,
 ) -> Result<(), Fault> {
-    let blank = MemStore::new(rt.alloc(), BLANK_SECTORS)?;
+    let (image, blank) = disks_over(rt.alloc(), image)?;
     let gathered = if is_watched { 0 } else { GATHERED };
     let mut out = BufWriter::with_capacity(rt.alloc(), gathered, io::writer(rt)).map_err(
         |error| unless_memory(&error, Fault::Unwritten),
     )?;
-    let finished = play(
-        rt.alloc(),
-        config,
-        script,
-        Disk::File(image),
-        Disk::Memory(blank),
-        trace,
-        &mut out,
-    );
-    let flushed = match finished.ended {
-        Ended::Unwritten => Ok(()),
-        _ => out.flush(),
-    };
+    let ran = run_script(rt.alloc(), config, script, image, blank, trace, &mut out);
     // What couldn't be written isn't tried again.
     let (_writer, _unwritten) = out.into_parts();
-    outcome(finished.ended)?;
-    flushed.map_err(|_error| Fault::Unwritten)
+    ran
 }
 
 /// Does what the words ask: the configuration and the script are read, and the image is opened, in this order, and the script is played.
@@ -92,20 +117,15 @@ fn run(
     is_watched: bool,
 ) -> Result<(), Fault> {
     let args = words(rt)?;
-    // The system gives a file the lowest number that is free, and 0, 1 and 2 are those of standard input, output and error. Where
-    // some of these were closed, three files that can only be read take their places until the end, and never the image: else
-    // what is printed would be written into it.
-    let unread = |error: io::Error| unless_memory(&error, Fault::Config(0));
-    let (config, config_file) = read(rt, args.config.as_str()).map_err(unread)?;
-    let _second = config_file.try_clone().map_err(unread)?;
-    let (script, _third) = read(rt, args.script.as_str()).map_err(|error| unless_memory(
-        &error,
-        Fault::Script,
-    ))?;
-    let image = FileStore::open(rt, args.image.as_str()).map_err(|error| unless_memory(
-        &error,
-        Fault::Image,
-    ))?;
+    let mut system = System {
+        rt,
+        kept: Vec::new(rt.alloc()),
+    };
+    let Inputs {
+        config,
+        script,
+        image,
+    } = load(&mut system, &args)?;
     print_played(
         rt,
         config.as_slice(),

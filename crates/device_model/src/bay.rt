@@ -136,6 +136,7 @@ impl<S: SectorStore> Bay<S> {
 
     /// Has the disk that is in give the sector of a read or its page, or take a write's sector from memory, or a trim's block; `false` says that the store
     /// failed, and that it tells what it told.
+    #[inline(always)]
     pub fn exchange(&mut self, hardware: &Hardware, next: NextMove, bytes: &mut [u8; 512]) -> bool
         requires { next.address + 512 ≤ length hardware.now.memory.items }
         ensures inside { result ≡ true → is_ranged (operation_of next.transfer) ≡ true → next.sector < S.size self.old.disk.store }

@@ -333,7 +333,8 @@ impl<S: SectorStore> Model<S> {
     }
 
     /// Moves the next piece of a slot's command, by this room for it, or fails it, if that is a sector on which the store fails, or one past the disk. The memory
-    /// is taken to end at 4 GiB.
+    /// is taken to end at 4 GiB. It is entered for each sector, so it stands in its callers' code, with what it calls for each.
+    #[inline(always)]
     fn move_piece(&mut self, port: Port, slot: Slot, bytes: &mut [u8; 512]) -> Outcome
         requires { slot.0 < 32 }
         ensures answers { AnswersStep S.size S.told S.failures (DeviceStep.Move port slot) (answer_of result) self.old self.new }
@@ -425,6 +426,7 @@ impl<S: SectorStore> Model<S> {
 
     /// Takes a slot's command if it isn't taken, moves and clears all that is left of it, and ends it. The tape's memory is found first. A sector on which
     /// the store fails, or that is past the disk, fails it.
+    #[inline(never)]
     fn finish(&mut self, port: Port, slot: Slot) -> bool
         requires { slot.0 < 32 }
         ensures answers { AnswersStep S.size S.told S.failures (DeviceStep.Finish port slot) result self.old self.new }
@@ -558,6 +560,7 @@ impl<S: SectorStore> Model<S> {
     }
 
     /// Has the device do a step.
+    #[inline(never)]
     fn do_step(&mut self, s: &DeviceStep) -> bool
         ensures { AnswersStep S.size S.told S.failures s.now result self.old self.new }
     {
@@ -582,6 +585,7 @@ impl<S: SectorStore> Model<S> {
 
     /// Before an access, the steps that are queued before it, in their order; each leaves the queue, whether it was possible
     /// or not.
+    #[inline(always)]
     fn do_queued(&mut self)
         ensures { BeginsAccess S.size S.told S.failures self.old self.new }
     {

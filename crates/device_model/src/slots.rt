@@ -37,6 +37,7 @@ impl PortModel {
     }
 
     /// A piece of a slot's command was moved, these bytes.
+    #[inline(always)]
     pub fn advance(&mut self, slot: u8, transfer: Transfer, bytes: &[u8; 512])
         requires slot { slot < 32 }
         requires held { (t : TakenCommand) × (held_in self.old.taken slot ≡ Some t) × (t.transfer ≡ transfer) × (t.moved + 1 < 2 ^ 32) }

@@ -71,6 +71,7 @@ impl NextMove {
 }
 
 /// Adds an entry to the tape; `false` says that there was no memory, which is told from then on.
+#[inline(always)]
 pub fn record(tape: &mut Vec<Entry>, starved: &mut bool, entry: Entry) -> bool
     ensures added { result ≡ true → tape.new.items ≡ tape.old.items ++ entry ∷ [] }
     ensures kept { result ≡ false → tape.new.items ≡ tape.old.items }
@@ -165,6 +166,7 @@ fn sector_of(command: &TakenCommand) -> u64
 }
 
 /// Puts the bytes of a move into memory, unless it takes them from there.
+#[inline(always)]
 fn put_piece(memory: &mut [u8], next: NextMove, bytes: &[u8; 512])
     requires { next.address + 512 ≤ length memory.old }
     ensures size { length memory.new ≡ length memory.old }
@@ -296,6 +298,7 @@ impl Hardware {
 
     /// Moves these bytes, which the disk has given or taken, as the next piece of a command: it puts those of a read
     /// into memory, and notes the move on the tape.
+    #[inline(always)]
     pub fn move_bytes(&mut self, port: u8, slot: u8, next: NextMove, bytes: &[u8; 512])
         requires port { port < 4 }
         requires slot { slot < 32 }

@@ -1,6 +1,7 @@
 // What is printed of a call.
-ghost use Rattle.std.specs.Prelude.{◌≡◌, ◌≤◌, ℕ, OnOk, length, take};
+ghost use Rattle.std.specs.Prelude.{◌≡◌, ◌≢◌, ◌≤◌, ℕ, IfErr, OnOk, length, take};
 ghost use Rattle.std.specs.Io.KnownBytes.{Appends};
+ghost use Rattle.std.specs.declared.io.ErrorKind.TheVariants.{Interrupted};
 ghost use Rattle.block_server.specs.Sayings.{with_replies};
 ghost use Rattle.play.specs.Lines.{call_text, gained_text, replies_text, reset_text, said_text, trace_text};
 ghost use Rattle.script.specs.Answer.{answer_line};
@@ -14,7 +15,19 @@ use std::io;
 
 /// The output failed.
 #[derive(Clone, Copy, Debug, PartialEq, Eq)]
-pub struct Unwritten;
+pub struct Unwritten {
+    /// How: of the write that failed, or `WriteZero` where one took nothing.
+    pub kind: io::ErrorKind,
+}
+
+impl Unwritten {
+    /// A failure of this kind.
+    fn of(kind: io::ErrorKind) -> Unwritten
+        ensures { result.kind ≡ kind }
+    {
+        Unwritten { kind }
+    }
+}
 
 /// Prints a line for each reply.
 fn print_each<W: io::Write>(out: &mut W, replies: &[Reply]) -> io::Result<()>
@@ -112,22 +125,24 @@ pub fn print_call(
     print_told(text, told, replies)
 }
 
-/// Writes bytes. Where the output fails, it has taken a beginning of them, which may be nothing.
+/// Writes bytes. Where the output fails, it has taken a beginning of them, which may be nothing; and never is it that a signal interrupted a write, which is made
+/// again then.
 pub fn write_out<W: io::Write>(out: &mut W, bytes: &[u8]) -> Result<(), Unwritten>
-    ensures { (part : ℕ) × Appends (W.contents out.old) (W.contents out.new) (take part bytes.now) × OnOk result (length bytes.now ≤ part) }
+    ensures written { (part : ℕ) × Appends (W.contents out.old) (W.contents out.new) (take part bytes.now) × OnOk result (length bytes.now ≤ part) }
+    ensures failed { IfErr result (λ unwritten. unwritten.kind ≢ Interrupted) }
 {
     let mut written = 0;
-    // A write that a signal interrupted is made again.
     for _turn in 0..u64::MAX {
         if written == bytes.len() {
             return Ok(());
         }
         match out.write(&bytes[written..]) {
-            Ok(0) => return Err(Unwritten),
+            Ok(0) => return Err(Unwritten::of(io::ErrorKind::WriteZero)),
             Ok(count) => written += count,
             Err(error) if error.kind() == io::ErrorKind::Interrupted => {}
-            Err(_) => return Err(Unwritten),
+            Err(error) => return Err(Unwritten::of(error.kind())),
         }
     }
-    Err(Unwritten)
+    // Nobody waits for so many interruptions.
+    Err(Unwritten::of(io::ErrorKind::TimedOut))
 }

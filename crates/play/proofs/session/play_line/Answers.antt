@@ -50,7 +50,7 @@ returns-in_default-write_out-clause-printed g c =
     let same : c.unwrap.result.now ≡ call.0 = cc in
     let one : with_replies c.unwrap.result.now c.replies.result.now ≡ said =
     ap (λ (told : Told). with_replies told c.replies.result.now) same ∙ ap (with_replies call.0) c.replies.ensures in
-    let wrote = c.in_default-write_out.ensures in (
+    let wrote = c.in_default-write_out.ensures.written in (
       part_of device g.A.Watched.ended c.args.trace c.args.shown _ c.event.result said c.args.server.now c.make_call.new.server _ _ wrote.0
           c.as_slice.result.now c.tape-tape.result.now c.event.ensures call.2 tape (c.as_slice.ensures.value ∙ c.in-Ok.ensures ∙ ap (call_text c.args.trace c.args.shown c.tape-tape.result.now) one) wrote.1 (λ is. absurd (false≢true (sym fed ∙ is))),
       tt,
@@ -72,7 +72,7 @@ returns-clause-printed g c =
     let same : c.unwrap.result.now ≡ call.0 = cc in
     let one : with_replies c.unwrap.result.now c.replies.result.now ≡ said =
     ap (λ (told : Told). with_replies told c.replies.result.now) same ∙ ap (with_replies call.0) c.replies.ensures in
-    let wrote = c.in-Ok-write_out.ensures in (
+    let wrote = c.in-Ok-write_out.ensures.written in (
       part_of device g.A.Watched.ended c.args.trace c.args.shown _ c.event.result said c.args.server.now c.make_call.new.server _ _ wrote.0
           c.as_slice.result.now c.tape-tape.result.now c.event.ensures call.2 tape (c.as_slice.ensures.value ∙ c.in-Ok.ensures ∙ ap (call_text c.args.trace c.args.shown c.tape-tape.result.now) one) wrote.1 (λ is. absurd (false≢true (sym fed ∙ is))),
       wrote.2,

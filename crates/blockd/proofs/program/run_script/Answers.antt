@@ -1,0 +1,11 @@
+use Rattle.blockd.proofs.program.run_script.Goals as goal
+
+pub returns : goal.returns
+returns g c = record {
+  ended = c.play-finished.result.ended;
+  model = c.play-finished.result.model;
+  printed = g.W.Write.contents c.play-finished.new.out;
+  ends = c.play-finished.ensures;
+  keeps = c.hand_on.ensures.keeps;
+  tells = c.hand_on.ensures.tells;
+}

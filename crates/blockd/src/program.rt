@@ -1,0 +1,125 @@
+// What the program makes of its files, once they are read: `main` hands over what the system gives.
+ghost use Rattle.std.specs.Prelude.{◌≡◌, ℕ, IfOk, List};
+ghost use Rattle.std.specs.Global.{Vec as VecOf};
+ghost use Rattle.std.specs.Io.KnownBytes.{Keeps};
+ghost use Rattle.std.specs.declared.result.Result.{Result as ResultOf};
+ghost use Rattle.sector_store.specs.declared.file.FileStore.{FileStore as FileStoreOf};
+ghost use Rattle.blockd.specs.Program.{AreDisksOver, Loads, RunsScript, Tells, fault_of};
+ghost use Rattle.blockd.specs.declared.program.Unread.{Unread as UnreadOf};
+
+use crate::fault::{Fault, outcome};
+use command_line::Args;
+use play::{Ended, play};
+use sector_store::{Disk, FileStore, MemStore, SectorStore};
+use std::alloc::{AllocError, Global};
+use std::io;
+
+/// The sectors of the blank disk.
+const BLANK_SECTORS: u32 = 2048;
+
+/// Why a file can't be had.
+#[derive(Clone, Copy, Debug, PartialEq, Eq)]
+pub enum Unread {
+    /// Memory was refused.
+    NoMemory,
+    /// The system doesn't give it.
+    Refused,
+}
+
+impl Unread {
+    /// The fault that is told of it: this one, unless memory was refused.
+    fn fault(self, fault: Fault) -> Fault
+        ensures { result ≡ fault_of self fault }
+    {
+        match self {
+            Unread::NoMemory => Fault::NoMemory,
+            Unread::Refused => fault,
+        }
+    }
+}
+
+/// Who has the files: a system.
+pub trait Host {
+    /// From one state to the next, a file of this name was read, with this result; or opened as an image.
+    ghost reads: { Self → Self → List ℕ → ResultOf (VecOf ℕ) UnreadOf → Type 0 };
+
+    ghost opens: { Self → Self → List ℕ → ResultOf FileStoreOf UnreadOf → Type 0 };
+
+    /// The bytes of a file.
+    fn read(&mut self, name: &str) -> Result<Vec<u8>, Unread>
+        ensures { reads self.old self.new name.now result };
+
+    /// A file, as an image.
+    fn open(&mut self, name: &str) -> Result<FileStore, Unread>
+        ensures { opens self.old self.new name.now result };
+}
+
+/// What a run is made of.
+#[derive(Drop)]
+pub struct Inputs {
+    pub config: Vec<u8>,
+    pub script: Vec<u8>,
+    pub image: FileStore,
+}
+
+/// Reads the configuration and the script, and opens the image, in this order. The first that can't be had is told, and nothing is asked after it.
+pub fn load<H: Host>(host: &mut H, args: &Args) -> Result<Inputs, Fault>
+    ensures { Loads H.reads H.opens args.now host.old host.new result }
+{
+    let config = match host.read(args.config.as_str()) {
+        Ok(config) => config,
+        Err(why) => return Err(why.fault(Fault::Config(0))),
+    };
+    let script = match host.read(args.script.as_str()) {
+        Ok(script) => script,
+        Err(why) => return Err(why.fault(Fault::Script)),
+    };
+    match host.open(args.image.as_str()) {
+        Ok(image) => Ok(Inputs {
+            config,
+            script,
+            image,
+        }),
+        Err(why) => Err(why.fault(Fault::Image)),
+    }
+}
+
+/// The two disks of a run: the image, which is in at first, and the blank one, in memory.
+pub fn disks_over(alloc: Global, image: FileStore) -> Result<(Disk, Disk), AllocError>
+    ensures { IfOk result (λ disks. AreDisksOver image disks.0 disks.1) }
+{
+    let blank = MemStore::new(alloc, BLANK_SECTORS)?;
+    Ok((Disk::File(image), Disk::Memory(blank)))
+}
+
+/// What is told of how a play ended, once the output was asked to hand on what it gathered. One that failed isn't asked again; where all was played, and it fails
+/// now, it is that which is told.
+fn hand_on<W: io::Write>(ended: Ended, out: &mut W) -> Result<(), Fault>
+    ensures keeps { Keeps (W.contents out.old) (W.contents out.new) }
+    ensures tells { Tells ended result }
+{
+    match ended {
+        Ended::Unwritten => Err(Fault::Unwritten),
+        Ended::Done => out.flush().map_err(|_error| Fault::Unwritten),
+        _ => {
+            let _flushed = out.flush();
+            outcome(ended)
+        }
+    }
+}
+
+/// Plays a script over an image and a blank disk, and has the output hand on what it gathered.
+pub fn run_script<S: SectorStore, W: io::Write>(
+    alloc: Global,
+    config: &[u8],
+    script: &[u8],
+    image: S,
+    blank: S,
+    trace: bool,
+    out: &mut W,
+) -> Result<(), Fault>
+    ensures { RunsScript S.size S.told config.now script.now image blank trace (W.contents out.old) (W.contents out.new) result }
+{
+    let finished = play(alloc, config, script, image, blank, trace, out);
+    hand_on(finished.ended, out)
+}
