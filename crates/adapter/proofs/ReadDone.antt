@@ -80,7 +80,6 @@ module _ (old : Device) (port slot first count : ℕ) (places : List ℕ) (told 
     may_move = record {
       works = m.works;
       left = omega (arith, left, many);
-      inside = omega (arith, may.inside n left, m.size);
       sector = is_sector;
       brings =
           let P : Disk → Type 0 = λ disk. (first + n < disk.size) × IfSome disk.sectors (λ f. told (first + n) ≡ f (first + n)) in

@@ -134,7 +134,6 @@ Brings disk memory t _ bytes = Unit {0}
 pub record MayMove (d : Device) (port slot : ℕ) (t : Taken) (bytes : List ℕ) : Type 0 where
   pub works : WorksOn (d.port port) slot t t.meaning.operation
   pub left : t.moved < length t.places
-  pub inside : next_place t + 512 ≤ d.size
   pub sector : IsSector bytes
   pub brings : Brings (d.port port).disk d.memory t t.meaning.operation bytes
 

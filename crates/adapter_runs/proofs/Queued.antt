@@ -177,7 +177,6 @@ unfolding changed
 may_move = record {
   works = record { taken = refl; working = record { running = refl; present = refl; fresh = refl; admitted = refl; whole = refl } };
   left = omega arith;
-  inside = omega arith;
   sector = told_bytes 100 (omega arith);
   brings = (omega arith, refl);
 }

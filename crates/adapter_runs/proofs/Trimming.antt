@@ -110,7 +110,6 @@ unfolding changed
 may_move = record {
   works = record { taken = refl; working = record { running = refl; present = refl; fresh = refl; admitted = refl; whole = refl } };
   left = omega arith;
-  inside = omega arith;
   sector = is_sector block block_size block_bytes;
   brings = refl;
 }

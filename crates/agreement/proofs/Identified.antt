@@ -97,7 +97,6 @@ unfolding changed
 can_move = record {
   works = record { taken = refl; working = record { running = refl; present = refl; fresh = refl; admitted = refl; whole = refl } };
   left = omega arith;
-  inside = omega arith;
   sector = page_is_sector;
   brings = tt;
 }

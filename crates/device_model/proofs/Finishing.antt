@@ -7,7 +7,7 @@ use Rattle.adapter.specs.Device.{Disk, Taken, Halt, PortState, Device}
 use Rattle.adapter.specs.Memory.{changed}
 use Rattle.adapter.specs.OneCommand.{IsFreeSlot}
 use Rattle.adapter.specs.Says.{pieces}
-use Rattle.adapter.specs.Steps.{Can, IsWorking, WorksOn, admits, begun, Brings, next_sector, with_fetch, with_move, with_clear, with_done, block_after}
+use Rattle.adapter.specs.Steps.{Can, IsWorking, WorksOn, admits, begun, Brings, next_place, next_sector, with_fetch, with_move, with_clear, with_done, block_after}
 use Rattle.adapter.specs.Steps.Step.{Fetch, Move, Done}
 use Rattle.adapter.specs.declared.command.Operation.{Operation}
 use Rattle.adapter.specs.declared.command.Operation.TheVariants.{Trim}
@@ -321,11 +321,11 @@ brings_on_disk disk memory t transfer.Flush bytes ranged brings = absurd (cc ran
 brings_on_disk disk memory t transfer.Trim bytes ranged brings = absurd (cc ranged)
 brings_on_disk disk memory t transfer.ReadLog bytes ranged brings = absurd (cc ranged)
 
--- where a move may be made on a port that has disks, it is possible
+-- where a move may be made on a port that has disks, and its piece is in the memory, it is possible
 pub has_move : (d : Device) (port slot : ℕ) (t : Taken) (bytes : List ℕ) → ((sector : ℕ) → sector < (d.port port).disk.size → HasDisks d port) →
-    HasDisk d port t.meaning.operation → Can (Move port slot t bytes) d → HasMove d port slot t
-has_move d port slot t bytes sized has can =
-    record { works = can.works; left = can.left; inside = can.inside; has_disks = elim has [ inl here ↦ here | inr ranged ↦ on ranged ] }
+    HasDisk d port t.meaning.operation → next_place t + 512 ≤ d.size → Can (Move port slot t bytes) d → HasMove d port slot t
+has_move d port slot t bytes sized has inside can =
+    record { works = can.works; left = can.left; inside = inside; has_disks = elim has [ inl here ↦ here | inr ranged ↦ on ranged ] }
   where
     on : is_ranged t.meaning.operation ≡ true → HasDisks d port
     on ranged =

@@ -1,5 +1,5 @@
 -- Steps of the hardware, of a port by its index in the array.
-use Rattle.std.proofs.Common.{ℕ, Bool, true, false, ◌≡◌, ◌<◌, ◌≤◌, ◌+◌, List, [], ◌∷◌, ◌++◌, Some, length, ◌⊎◌, refl, sym, ◌∙◌, ap, subst, inl, inr}
+use Rattle.std.proofs.Common.{ℕ, Bool, true, false, ◌≡◌, ◌<◌, List, [], ◌∷◌, ◌++◌, Some, length, ◌⊎◌, refl, sym, ◌∙◌, ap, subst, inl, inr}
 use Rattle.std.specs.Prelude.{slice_set, slice_index_or, IfSome, if◌then◌else◌}
 use Rattle.std.specs.Global.{Vec}
 use Rattle.adapter.specs.Commands.{Meaning, direction_of, is_queued, is_ranged, reads_memory}
@@ -232,12 +232,9 @@ pub may_move : (h : Hardware) (o : Outside) (port slot : ℕ) (next : NextMove) 
     (is_ranged (operation_of next.transfer) ≡ true → reads_memory (operation_of next.transfer) ≡ false → IfSome (o.media port).disk.sectors (λ f. bytes ≡ f next.sector)) →
     (reads_memory (operation_of next.transfer) ≡ true → bytes ≡ bytes_at (bytes_of h.memory.items) next.address 512) → MayMove (device_of h o) port slot (taken_of t) bytes
 may_move h o port slot next t bytes is sized small gives takes =
-    let place : next.address ≡ next_place (taken_of t) = is.address_is in
-    let inside : next.address + 512 ≤ length h.memory.items = is.inside in
     record {
       works = is.holds.works (o.media port);
       left = is.left;
-      inside = rw place at inside;
       sector = sized;
       brings = subst (λ (k : Transfer). Brings (o.media port).disk (bytes_of h.memory.items) (taken_of t) (operation_of k) bytes) is.transfer_is
           (by next.transfer refl);

@@ -1,11 +1,11 @@
 // Laws of the definitions, for callers: the clause is the theorem. These functions do nothing.
-ghost use Rattle.std.specs.Prelude.{◌≡◌, ◌≢◌, ◌<◌, ◌≤◌, true, false, is_some, ℕ, Bool, List, Some, All};
+ghost use Rattle.std.specs.Prelude.{◌≡◌, ◌≢◌, ◌+◌, ◌<◌, ◌≤◌, true, false, is_some, ℕ, Bool, List, Some, All};
 ghost use Rattle.ata_types.specs.declared.Port.{Port};
 ghost use Rattle.ata_types.specs.declared.Slot.{Slot};
 ghost use Rattle.adapter.specs.Commands.{Meaning, is_queued};
 ghost use Rattle.adapter.specs.Device.{Device, Taken};
 ghost use Rattle.adapter.specs.Idle.{TellsDisks};
-ghost use Rattle.adapter.specs.Steps.{Can, IsFinished, WorksOn};
+ghost use Rattle.adapter.specs.Steps.{Can, IsFinished, WorksOn, next_place};
 ghost use Rattle.adapter.specs.Steps.Step.{Clear, Fetch, Move};
 ghost use Rattle.adapter.specs.declared.access.DeviceStep.{DeviceStep};
 ghost use Rattle.adapter.specs.declared.access.DeviceStep.TheVariants as asked;
@@ -28,10 +28,10 @@ pub fn disks_are_told<S: SectorStore>()
     ensures telling { ((store : S) → is_some (S.told store) ≡ true) → (m : Model S) → (device_at S.size S.told m).telling ≡ true }
 {}
 
-/// A move that the device may make, on a port that has a disk, is possible for a model.
+/// A move that the device may make, on a port that has a disk, is possible for a model where its piece is in the memory.
 pub fn moves_are_possible<S: SectorStore>()
     ensures { (m : Model S) (p : Port) (slot : Slot) (t : Taken) (bytes : List ℕ) → slot.0 < 32 → HasDisk (device_at S.size S.told m) p.0 t.meaning.operation →
-        Can (Move p.0 slot.0 t bytes) (device_at S.size S.told m) → Possible (asked.Move p slot) (device_at S.size S.told m) }
+        next_place t + 512 ≤ (device_at S.size S.told m).size → Can (Move p.0 slot.0 t bytes) (device_at S.size S.told m) → Possible (asked.Move p slot) (device_at S.size S.told m) }
 {}
 
 /// A clear that the device may make, of a sector at least, is possible for a model.

@@ -50,7 +50,6 @@ moves new = step_first (Move 0 0 command (sector_of 100)) (device_with pages rea
     (record {
       works = record { taken = refl; working = record { running = refl; present = refl; fresh = refl; admitted = refl; whole = refl } };
       left = omega arith;
-      inside = omega arith;
       sector = is_sector 100 (omega arith);
       brings = (omega arith, refl);
     })

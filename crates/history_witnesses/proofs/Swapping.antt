@@ -63,15 +63,14 @@ module _ (tape : List Entry) (memory : ℕ → ℕ) (p : PortState) (stands : St
       taken = with_fetch p slot (queued_read k) (cut (4096 * n) 1)
 
   -- so it is once the sector was moved, and the command has ended
-  finishes : p.taken slot ≡ Some (reads_into k n) → k < 256 → n < 256 → (new : Device)
+  finishes : p.taken slot ≡ Some (reads_into k n) → k < 256 → (new : Device)
       → Steps (device_with ((tape ++ entry.Move (move_of 0 slot (reads_into k n) (sector_of k)) ∷ []) ++ done_entry 0 slot ReadQueued ∷ []) (patched memory (4096 * n) (sector_of k)) (finished slot k n p ∷ second ∷ [])) new
       → Steps (device_with tape memory (p ∷ second ∷ [])) new
-  finishes taken low room new rest =
+  finishes taken low new rest =
       step_first (Move 0 slot (reads_into k n) (sector_of k)) (device_with tape memory (p ∷ second ∷ [])) (device_with tape_moved memory_moved (moved ∷ second ∷ [])) new
       (record {
         works = record { taken = taken; working = works p stands };
         left = omega arith;
-        inside = omega (arith, room);
         sector = is_sector k low;
         brings = subst (λ (disk : Disk). Brings disk memory (reads_into k n) ReadQueued (sector_of k)) (sym (ap (λ (q : PortState). q.disk) stands.same)) (omega (arith, low), ap sector_of (let same : k ≡ k + 0 = omega arith in same));
       })
@@ -254,10 +253,10 @@ second_ends =
     (fetches pages two_memory first_taken (record { same = refl; quiet = λ place from. refl }) 1 101 41
     (past_first two_issued.ci false 0) (past_first two_issued.taken (Some (reads_into 100 40)) 0) beside second_told second_ended
     (finishes pages two_memory both_taken (record { same = refl; quiet = λ place from. refl }) 1 101 41
-    (changed_here first_taken.taken 1 (Some (reads_into 101 41))) (omega arith) (omega arith) second_ended (stays second_ended)))
+    (changed_here first_taken.taken 1 (Some (reads_into 101 41))) (omega arith) second_ended (stays second_ended)))
 
 first_ends : Steps swapped first_ended
-first_ends = finishes (pages ++ ends 1 101 41) swapped_memory found found_stands 0 100 40 found_taken (omega arith) (omega arith) first_ended (stays first_ended)
+first_ends = finishes (pages ++ ends 1 101 41) swapped_memory found found_stands 0 100 40 found_taken (omega arith) first_ended (stays first_ended)
 
 pub finds_second : (does : DoesAll second_found issued_device swapped) × AreAllowed second_found issued_device swapped does
 finds_second = finds issued_device (pages ++ ends 1 101 41) swapped_memory second_done 0 1 second_ends (λ k low. no_bit k ∙ sym (none_waits k)) (λ k low. sym (one_active k))
