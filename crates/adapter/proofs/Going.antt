@@ -4,10 +4,11 @@ use Rattle.adapter.specs.Device.{Device}
 use Rattle.adapter.specs.Steps.{Steps}
 use Rattle.adapter.specs.Steps.Step.{Fetch, FetchFault, Move, Clear, Done, Fault, Fatal, Unplug, Plug, Scribble}
 use Rattle.adapter.specs.declared.command.Operation.{Operation}
+use Rattle.adapter.specs.declared.command.Operation.TheVariants.{Identify}
 use Rattle.adapter.specs.declared.access.DeviceStep.{DeviceStep}
 use Rattle.adapter.specs.declared.access.DeviceStep.TheVariants as asked
 use Rattle.adapter.proofs.Runs.{Steps-refl, Steps-one, Steps-trans}
-use Rattle.adapter.specs.Asked.{DoesClear, DoesFault, DoesOne, DoesSome, FailsAfter, FailsOf, GoesOn, MayPost, Asked, DoneOf, fatal_bit}
+use Rattle.adapter.specs.Asked.{DoesClear, DoesOne, DoesSome, Fails, FailsAfter, FailsOf, GoesOn, MayPost, Asked, DoneOf, fatal_bit}
 
 module _ (Posts : (port flag : ℕ) → Operation → Device → Device → Type 0) where
   pub goes_one : (port slot : ℕ) (old new : Device) → DoesOne Posts port slot old new → GoesOn Posts port slot old new
@@ -43,13 +44,15 @@ some_steps : (n port slot : ℕ) (old new : Device) → DoesSome MayPost n port 
 some_steps zero port slot old new e = let P : Device → Type 0 = λ d. Steps old d in subst P (sym e) (Steps-refl old)
 some_steps (suc n) port slot old new s = Steps-trans (some_steps n port slot old s.0 s.1) (one_steps port slot s.0 new s.2)
 
-fault_steps : (port slot error : ℕ) (old new : Device) → DoesFault port slot error old new → Steps old new
-fault_steps port slot error old new f = Steps-one (Fault port slot error 0 f.t) old new f.can f.effect
+fault_steps : (port slot error : ℕ) (old new : Device) → Fails MayPost port slot error old new → Steps old new
+fault_steps port slot error old new f =
+    Steps-trans (Steps-one (Fault port slot error 0 f.fault.t) old f.mid f.fault.can f.fault.effect)
+    (post_steps port 30 f.fault.t.meaning.operation f.mid new f.posts)
 
 -- a command failed after some steps, or none
 fails_steps : (Some : Device → Device → Type 0) → ((old new : Device) → Some old new → Steps old new) → (port slot : ℕ) (old new : Device) →
-    FailsAfter Some port slot old new → Steps old new
-fails_steps Some steps port slot old new f = Steps-trans (before f.before) (fault_steps port slot f.error f.mid new f.fault)
+    FailsAfter MayPost Some port slot old new → Steps old new
+fails_steps Some steps port slot old new f = Steps-trans (before f.before) (fault_steps port slot f.error f.mid new f.fails)
   where
     before : (f.mid ≡ old) ⊎ Some old f.mid → Steps old f.mid
     before (inl same) = let P : Device → Type 0 = λ d. Steps old d in subst P (sym same) (Steps-refl old)
@@ -74,7 +77,9 @@ done_steps (asked.Unplug p) old new did = Steps-one (Unplug p.0) old new did.can
 done_steps (asked.Plug p number) old new did = Steps-one (Plug p.0 did.disk) old new did.can did.effect
 
 failed_steps : (s : DeviceStep) (old new : Device) → FailsOf MayPost s old new → Steps old new
-failed_steps (asked.Fetch p slot) old new f = Steps-one (FetchFault p.0 slot.0 f.queued 0) old new f.can f.effect
+failed_steps (asked.Fetch p slot) old new f =
+    Steps-trans (Steps-one (FetchFault p.0 slot.0 f.fault.queued 0) old f.mid f.fault.can f.fault.effect)
+    (post_steps p.0 30 Identify f.mid new (f.posts Identify))
 failed_steps (asked.Move p slot) old new f = fault_steps p.0 slot.0 f.0 old new f.1
 failed_steps (asked.Clear p slot most) old new f = fails_steps (DoesClear p.0 slot.0 most) (clear_steps p.0 slot.0 most) p.0 slot.0 old new f
 failed_steps (asked.Finish p slot) old new f = fails_steps (GoesOn MayPost p.0 slot.0) (goes_steps p.0 slot.0) p.0 slot.0 old new f

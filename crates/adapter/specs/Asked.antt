@@ -1,5 +1,5 @@
--- What was asked of the device, and done; or a command that failed as it was to be done. A command that ends may end with a FIS in the received FIS
--- area of its port.
+-- What was asked of the device, and done; or a command that failed as it was to be done. A command that ends or fails may do so with a FIS in the
+-- received FIS area of its port.
 use Rattle.std.specs.Prelude.{ℕ, Bool, zero, suc, ◌≡◌, ◌+◌, ◌<◌, ◌≤◌, ◌⊎◌, true, List, length, All}
 use Rattle.ata_types.specs.declared.memory.TheConstants.{RECEIVED_BYTES}
 use Rattle.adapter.specs.Commands.{Meaning}
@@ -52,7 +52,7 @@ pub record IsPosted (port at : ℕ) (bytes : List ℕ) (old new : Device) : Type
   pub are_bytes : All (λ byte. byte < 256) bytes
   pub effect : new ≡ record old { memory = patched old.memory at bytes }
 
--- What an adapter may post as a command of this operation ends, with this cause in PxIS: any bytes in the port's area, or nothing.
+-- What an adapter may post as a command of this operation ends or fails, with this cause in PxIS: any bytes in the port's area, or nothing.
 abbrev pub MayPost : (port flag : ℕ) → Operation → Device → Device → Type 0
 MayPost port flag operation old new = (new ≡ old) ⊎ ((at : ℕ) × (bytes : List ℕ) × IsPosted port at bytes old new)
 
@@ -92,12 +92,24 @@ pub record DoesFetchFault (port slot : ℕ) (old new : Device) : Type 0 where
   pub can : Can (FetchFault port slot queued 0) old
   pub effect : new ≡ after (FetchFault port slot queued 0) old
 
+-- The slot's command failed, and then this was posted, with TFES of PxIS (AHCI 1.3.1, 6.2.2).
+pub record Fails (Posts : (port flag : ℕ) → Operation → Device → Device → Type 0) (port slot error : ℕ) (old new : Device) : Type 0 where
+  pub mid : Device
+  pub fault : DoesFault port slot error old mid
+  pub posts : Posts port 30 fault.t.meaning.operation mid new
+
+-- or what is issued in the slot failed, since its bytes mean no command, and then this was posted, as for any operation
+pub record FailsToMean (Posts : (port flag : ℕ) → Operation → Device → Device → Type 0) (port slot : ℕ) (old new : Device) : Type 0 where
+  pub mid : Device
+  pub fault : DoesFetchFault port slot old mid
+  pub posts : (operation : Operation) → Posts port 30 operation mid new
+
 -- so much was done, or nothing, and then the slot's command failed
-pub record FailsAfter (Some : Device → Device → Type 0) (port slot : ℕ) (old new : Device) : Type 0 where
+pub record FailsAfter (Posts : (port flag : ℕ) → Operation → Device → Device → Type 0) (Some : Device → Device → Type 0) (port slot : ℕ) (old new : Device) : Type 0 where
   pub mid : Device
   pub before : (mid ≡ old) ⊎ Some old mid
   pub error : ℕ
-  pub fault : DoesFault port slot error mid new
+  pub fails : Fails Posts port slot error mid new
 
 -- the bit of PxIS that tells of a fatal error: IFS or HBFS (AHCI 1.3.1, 3.3.5)
 abbrev pub fatal_bit : FatalError → ℕ
@@ -121,7 +133,7 @@ pub record DoesPlug (port number : ℕ) (old new : Device) : Type 0 where
   pub can : Can (Plug port disk) old
   pub effect : new ≡ after (Plug port disk) old
 
--- What was asked of the device, and nothing else, where this is posted as commands end. What its disks will say of themselves, and on which ports it
+-- What was asked of the device, and nothing else, where this is posted as commands end or fail. What its disks will say of themselves, and on which ports it
 -- does nothing by itself, is no part of its state.
 abbrev pub DoneOf : ((port flag : ℕ) → Operation → Device → Device → Type 0) → DeviceStep → Device → Device → Type 0
 DoneOf Posts (asked.Fetch p s) old new = DoesFetch p.0 s.0 old new
@@ -129,7 +141,7 @@ DoneOf Posts (asked.Move p s) old new = DoesMove p.0 s.0 old new
 DoneOf Posts (asked.Clear p s most) old new = DoesClear p.0 s.0 most old new
 DoneOf Posts (asked.Done p s) old new = Ends Posts p.0 s.0 old new
 DoneOf Posts (asked.Finish p s) old new = GoesOn Posts p.0 s.0 old new
-DoneOf Posts (asked.Fault p s error) old new = DoesFault p.0 s.0 error old new
+DoneOf Posts (asked.Fault p s error) old new = Fails Posts p.0 s.0 error old new
 DoneOf Posts (asked.Fatal p error) old new = DoesFatal p.0 error old new
 DoneOf Posts (asked.Lie p page offset bits) old new = new ≡ old
 DoneOf Posts (asked.Truth p) old new = new ≡ old
@@ -140,16 +152,16 @@ DoneOf Posts (asked.Plug p number) old new = DoesPlug p.0 number.0 old new
 
 -- Or the command failed in its place: as it was taken, as its next piece was to be moved, or after some of what was asked, or none.
 abbrev pub FailsOf : ((port flag : ℕ) → Operation → Device → Device → Type 0) → DeviceStep → Device → Device → Type 0
-FailsOf Posts (asked.Fetch p s) old new = DoesFetchFault p.0 s.0 old new
-FailsOf Posts (asked.Move p s) old new = (error : ℕ) × DoesFault p.0 s.0 error old new
-FailsOf Posts (asked.Clear p s most) old new = FailsAfter (DoesClear p.0 s.0 most) p.0 s.0 old new
-FailsOf Posts (asked.Finish p s) old new = FailsAfter (GoesOn Posts p.0 s.0) p.0 s.0 old new
+FailsOf Posts (asked.Fetch p s) old new = FailsToMean Posts p.0 s.0 old new
+FailsOf Posts (asked.Move p s) old new = (error : ℕ) × Fails Posts p.0 s.0 error old new
+FailsOf Posts (asked.Clear p s most) old new = FailsAfter Posts (DoesClear p.0 s.0 most) p.0 s.0 old new
+FailsOf Posts (asked.Finish p s) old new = FailsAfter Posts (GoesOn Posts p.0 s.0) p.0 s.0 old new
 FailsOf Posts step old new = ⊥
 
 -- the one or the other
 abbrev pub AskedOf : ((port flag : ℕ) → Operation → Device → Device → Type 0) → DeviceStep → Device → Device → Type 0
 AskedOf Posts step old new = DoneOf Posts step old new ⊎ FailsOf Posts step old new
 
--- what was asked of the device, or a fault in its place, and any FIS as a command ended, or none
+-- what was asked of the device, or a fault in its place, and any FIS as a command ended or failed, or none
 abbrev pub Asked : DeviceStep → Device → Device → Type 0
 Asked step old new = AskedOf MayPost step old new

@@ -17,6 +17,7 @@ use Rattle.device_model.specs.Disks.{bay_of, disk_over, failing, failures_of, sa
 use Rattle.device_model.specs.Does.{ClearsFewer, HasCleared, HasFailed, IsCause}
 use Rattle.device_model.specs.Modelled.{device_at, media_of, outside_at}
 use Rattle.device_model.specs.Paged.{GainsPages, naming}
+use Rattle.device_model.specs.Sent.{SendsFault}
 use Rattle.device_model.specs.Slots.{IsNextRun}
 use Rattle.device_model.specs.Trims.{HasClear, next_uncleared, span, uncleared}
 use Rattle.device_model.specs.View.{taken_of}
@@ -238,7 +239,8 @@ module _ {S : Type 0} (size : S → ℕ) (told : S → Option (ℕ → List ℕ)
       let R : ℕ → Type 0 = λ k. IsCause true k (size a.disk.store) error (failures a.disk.store) (failures b.disk.store) in
       let before : failures a.disk.store ≡ failures_of failures m p.0 = sym (ap (failing failures) was) in
       let plain : is_queued t.meaning.operation ≡ false = ap is_queued has.trim in
-      let one : failed.fault.t ≡ t = failed.same in (
+      let one : failed.fails.fault.t ≡ t = failed.same in
+      let T : Taken → Device → Type 0 = λ x d. SendsFault (is_queued x.meaning.operation) p.0 d (device_at size told last) in (
         device_at size told then_model,
         part.before fewer,
         record {
@@ -246,8 +248,9 @@ module _ {S : Type 0} (size : S → ℕ) (told : S → Option (ℕ → List ℕ)
           clear = more;
           error = error;
           cause = subst (λ x. P x (failures_of failures last p.0)) before (subst (P (failures a.disk.store)) (sym fine) (subst Q sizes (subst R sector cause)));
-          can = subst (λ (x : Taken). Can (Fault p.0 slot.0 error 0 x) (device_at size told then_model)) one failed.fault.can;
-          effect = failed.fault.effect ∙ ap (λ (x : Taken). after (Fault p.0 slot.0 error 0 x) (device_at size told then_model)) one;
+          can = subst (λ (x : Taken). Can (Fault p.0 slot.0 error 0 x) (device_at size told then_model)) one failed.fails.fault.can;
+          sends = subst (T t) (failed.fails.fault.effect ∙ ap (λ (x : Taken). after (Fault p.0 slot.0 error 0 x) (device_at size told then_model)) one)
+              (subst (λ (x : Taken). T x failed.fails.mid) one failed.fails.posts);
           log = failed.says
               ∙ (ap (λ (x : Bool). if x then option_map (naming (record { tag = slot.0; error = error })) (says_of then_model p.0) else says_of then_model p.0) plain
               ∙ store_says m then_model p.0 a b was items rest p.0);

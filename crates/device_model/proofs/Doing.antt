@@ -1,7 +1,7 @@
 -- What a model makes of a step that it is told.
 use Rattle.std.proofs.Common.{ℕ, Bool, true, false, ◌≡◌, ◌≢◌, ◌<◌, ◌≤◌, ◌^◌, ◌⊎◌, ◌∙◌, List, Option, Some, refl, sym, ap, subst, inl, inr}
 use Rattle.std.specs.Prelude.{option_map}
-use Rattle.adapter.specs.Asked.{DoesFault, GoesOn}
+use Rattle.adapter.specs.Asked.{Fails, GoesOn}
 use Rattle.adapter.specs.declared.access.DeviceStep.TheVariants as asked
 use Rattle.ata_types.specs.declared.Port.{Port}
 use Rattle.ata_types.specs.declared.Slot.{Slot}
@@ -17,7 +17,7 @@ use Rattle.device_model.specs.Disks.{bay_of, disk_in, disk_of, failures_of, iden
 use Rattle.device_model.specs.Modelled.{device_at}
 use Rattle.device_model.specs.Paged.{GainsPages}
 use Rattle.device_model.proofs.TwoDisks.{each_port, failures_kept, identity_kept}
-use Rattle.device_model.specs.Sent.{SendsEnd}
+use Rattle.device_model.specs.Sent.{SendsEnd, SendsFailed}
 use Rattle.device_model.proofs.Posting.{did_may}
 use Rattle.device_model.proofs.Absurd.{some_one}
 use Rattle.device_model.specs.Finishing.{HasRoom}
@@ -292,8 +292,8 @@ module _ {S : Type 0} (size : S → ℕ) (told : S → Option (ℕ → List ℕ)
 
   -- it is done, where the tape has memory for it
   pub record IsFailed (p : Port) (slot : Slot) (error : ℕ) (t : Taken) (old new : Model S) : Type 0 where
-    pub fault : DoesFault p.0 slot.0 error (device_at size told old) (device_at size told new)
-    pub same : fault.t ≡ t
+    pub fails : Fails SendsFailed p.0 slot.0 error (device_at size told old) (device_at size told new)
+    pub same : fails.fault.t ≡ t
     pub says : says_of new p.0 ≡ says_failed (Some t) slot.0 error (says_of old p.0)
     pub held : new.held ≡ old.held
     pub which : which_of new p.0 ≡ which_of old p.0
@@ -309,9 +309,9 @@ module _ {S : Type 0} (size : S → ℕ) (told : S → Option (ℕ → List ℕ)
       elim a.1.came [
         | inr never ↦ absurd never
         | inl whole ↦
-            let one : whole.asked.t ≡ t = some_one (sym whole.asked.can.taken ∙ can.taken) in
+            let one : whole.asked.fault.t ≡ t = some_one (sym whole.asked.fault.can.taken ∙ can.taken) in
             record {
-              fault = whole.asked;
+              fails = whole.asked;
               same = one;
               says = whole.says ∙ ap (λ (x : Option Taken). says_failed x slot.0 error (says_of old p.0)) can.taken;
               held = a.1.held;

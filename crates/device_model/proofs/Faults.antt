@@ -1,7 +1,7 @@
 -- A command fails on a sector: the store of the disk has failed, or the sector is past the disk.
 use Rattle.std.specs.Prelude.{option_map}
 use Rattle.std.proofs.Common.{ℕ, true, ◌≡◌, ◌≢◌, ◌∙◌, List, Option, Some, sym, ap, subst, inr}
-use Rattle.adapter.specs.Commands.{is_ranged, reads_memory}
+use Rattle.adapter.specs.Commands.{is_queued, is_ranged, reads_memory}
 use Rattle.adapter.specs.Device.{Device, Taken}
 use Rattle.adapter.specs.Steps.{Can, after, next_sector}
 use Rattle.adapter.specs.Steps.Step.{Fault}
@@ -16,6 +16,7 @@ use Rattle.device_model.specs.Finishing.{HasMove}
 use Rattle.device_model.specs.Held.{held_after}
 use Rattle.device_model.specs.Modelled.{device_at}
 use Rattle.device_model.specs.Paged.{GainsPages}
+use Rattle.device_model.specs.Sent.{SendsFault}
 use Rattle.device_model.specs.declared.disks.ModelDisk.{ModelDisk}
 use Rattle.device_model.specs.declared.model.Model.{Model}
 use Rattle.device_model.proofs.Doing.{IsFailed, keeps_on, pages_on, whichs}
@@ -38,14 +39,16 @@ module _ {S : Type 0} (size : S → ℕ) (told : S → Option (ℕ → List ℕ)
       let P : Option Failures → Type 0 = λ now.
       IsCause (reads_memory t.meaning.operation) (next_sector t) ((device_at size told m).port p.0).disk.size error (failures_of failures m p.0) now in
       let Q : Taken → Device → Type 0 = λ x d. Can (Fault p.0 slot.0 error 0 x) d in
+      let R : Taken → Device → Type 0 = λ x d. SendsFault (is_queued x.meaning.operation) p.0 d (device_at size told last) in
       record {
         t = t;
         move = move;
         ranged = ranged;
         error = error;
         cause = subst P (sym (fine_on size told failures p slot error t mid last failed)) cause;
-        can = subst (λ (d : Device). Q t d) same (subst (λ (x : Taken). Q x (device_at size told mid)) failed.same failed.fault.can);
-        effect = failed.fault.effect ∙ (λ i. after (Fault p.0 slot.0 error 0 (failed.same i)) (same i));
+        can = subst (λ (d : Device). Q t d) same (subst (λ (x : Taken). Q x (device_at size told mid)) failed.same failed.fails.fault.can);
+        sends = subst (R t) (failed.fails.fault.effect ∙ (λ i. after (Fault p.0 slot.0 error 0 (failed.same i)) (same i)))
+            (subst (λ (x : Taken). R x failed.fails.mid) failed.same failed.fails.posts);
         log = failed.says ∙ ap (λ says. says_failed (Some t) slot.0 error says) says;
       }
 

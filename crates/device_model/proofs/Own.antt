@@ -3,7 +3,7 @@ use Rattle.std.proofs.Common.{ℕ, Bool, zero, suc, true, false, ◌≡◌, ◌+
 use Rattle.std.proofs.lemmas.Bool.Decides.{eqb_tells}
 use Rattle.std.proofs.lemmas.List.Elements.{All-append, All-nil}
 use Rattle.std.specs.Prelude.{if◌then◌else◌, slice_index_or}
-use Rattle.adapter.specs.Asked.{DoesFatal, DoesFault, DoesOne, DoesSome, GoesOn, fatal_bit}
+use Rattle.adapter.specs.Asked.{DoesFatal, DoesOne, DoesSome, Fails, GoesOn, fatal_bit}
 use Rattle.adapter.specs.Commands.{Meaning, is_queued}
 use Rattle.adapter.specs.Device.{PortState, Device, Taken}
 use Rattle.adapter.specs.Memory.{changed}
@@ -16,9 +16,9 @@ use Rattle.adapter.proofs.Runs.{Steps-one, Steps-refl, Steps-trans}
 use Rattle.adapter.specs.Steps.Step.{Fetch, FetchFault, Move, Clear, Done, Fault, Fatal, Fall, FrFall, LinkUp, Unplug, Plug, ResetEnds, Scribble}
 use Rattle.device_model.specs.Finishing.{sends_page}
 use Rattle.device_model.specs.Held.{IsPortHeld, IsPortLoose}
-use Rattle.device_model.specs.Sent.{SendsAfter, SendsEnd}
+use Rattle.device_model.specs.Sent.{SendsAfter, SendsEnd, SendsFailed, SendsFault}
 use Rattle.device_model.specs.Settled.{DoesOwn, EndsReset, SendsPages, IsOwn, LeadsOwn, LeadsSending}
-use Rattle.device_model.proofs.Posting.{after_rest, after_steps, end_rest}
+use Rattle.device_model.proofs.Posting.{after_rest, after_steps, end_rest, fault_rest}
 use Rattle.device_model.proofs.Transfers.{page_plain}
 
 pub own_none : (Own : Step → Type 0) (d : Device) → LeadsOwn Own d d
@@ -77,19 +77,21 @@ one_keeps_present q port slot old new (inr (inr (inl e))) =
     ap (λ (d : Device). (d.port q).present) (end_rest port slot e.done.flag e.done.t.meaning.operation e.mid new e.posts)
     ∙ (ap (λ (d : Device). (d.port q).present) e.done.effect ∙ present_with q old.port port (with_done (old.port port) slot e.done.flag e.done.t.meaning.operation) refl)
 
-pub fault_keeps_present : (q : ℕ) (port slot error : ℕ) (old new : Device) → DoesFault port slot error old new → (new.port q).present ≡ (old.port q).present
+pub fault_keeps_present : (q : ℕ) (port slot error : ℕ) (old new : Device) → Fails SendsFailed port slot error old new → (new.port q).present ≡ (old.port q).present
 fault_keeps_present q port slot error old new f =
-    ap (λ (d : Device). (d.port q).present) f.effect
-    ∙ present_with q old.port port (with_fault (old.port port) (is_queued f.t.meaning.operation) error 0) refl
+    let queued : Bool = is_queued f.fault.t.meaning.operation in
+    ap (λ (d : Device). (d.port q).present) (fault_rest queued port f.mid new f.posts)
+    ∙ (ap (λ (d : Device). (d.port q).present) f.fault.effect ∙ present_with q old.port port (with_fault (old.port port) queued error 0) refl)
 
 pub fatal_keeps_present : (q : ℕ) (port : ℕ) (error : FatalError) (old new : Device) → DoesFatal port error old new → (new.port q).present ≡ (old.port q).present
 fatal_keeps_present q port error old new f =
     ap (λ (d : Device). (d.port q).present) f.effect
     ∙ present_with q old.port port (record (old.port port) { is = changed (old.port port).is (fatal_bit error) true; broken = true }) refl
 
-pub senseless_keeps_present : (q : ℕ) (port slot : ℕ) (old new : Device) → new ≡ after (FetchFault port slot false 0) old → (new.port q).present ≡ (old.port q).present
-senseless_keeps_present q port slot old new effect =
-    ap (λ (d : Device). (d.port q).present) effect ∙ present_with q old.port port (with_fault (old.port port) false 4 0) refl
+pub senseless_keeps_present : (q : ℕ) (port slot : ℕ) (old new : Device) → SendsFault false port (after (FetchFault port slot false 0) old) new →
+    (new.port q).present ≡ (old.port q).present
+senseless_keeps_present q port slot old new sends =
+    ap (λ (d : Device). (d.port q).present) (fault_rest false port (after (FetchFault port slot false 0) old) new sends) ∙ present_with q old.port port (with_fault (old.port port) false 4 0) refl
 
 pub some_keep_present : (q : ℕ) (n port slot : ℕ) (old new : Device) → DoesSome (SendsEnd slot) n port slot old new → (new.port q).present ≡ (old.port q).present
 some_keep_present q zero port slot old new same = ap (λ (d : Device). (d.port q).present) same

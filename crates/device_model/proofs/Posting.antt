@@ -1,9 +1,10 @@
 -- What the model sends is one of the device's own steps, and changes the memory alone.
 use Rattle.std.proofs.Common.{ℕ, Bool, true, false, zero, suc, ◌≡◌, ◌∙◌, ◌+◌, ◌≤◌, ◌⊎◌, List, Option, refl, sym, ap, inl, inr, arith}
 use Rattle.std.proofs.lemmas.Bool.Decides.{leb_tells}
-use Rattle.adapter.specs.Asked.{Asked, DoesClear, DoesFault, DoesOne, DoneOf, FailsAfter, GoesOn, DoesSome, Ends, MayPost}
+use Rattle.adapter.specs.Asked.{Asked, DoesClear, DoesOne, DoneOf, Fails, FailsAfter, GoesOn, DoesSome, Ends, MayPost}
+use Rattle.adapter.specs.Commands.{is_queued}
 use Rattle.adapter.specs.Device.{PortState, Device}
-use Rattle.adapter.specs.Steps.{Step, Steps}
+use Rattle.adapter.specs.Steps.{Step, Steps, after}
 use Rattle.adapter.specs.Steps.Step.{Fetch, FetchFault, Move, Clear, Done, Fault, Fatal, Fall, FrFall, LinkUp, Unplug, Plug, ResetEnds, Scribble}
 use Rattle.adapter.specs.declared.access.DeviceStep.{DeviceStep}
 use Rattle.adapter.specs.declared.access.DeviceStep.TheVariants as asked
@@ -13,7 +14,7 @@ use Rattle.adapter.proofs.Going.{post_steps}
 use Rattle.sector_store.specs.declared.store.Failures.{Failures}
 use Rattle.device_model.specs.Does.{ClearsFewer, Did, StepFails, FailsToClear, FailsToMove}
 use Rattle.device_model.specs.Modelled.{device_at}
-use Rattle.device_model.specs.Sent.{IsSent, Sends, SendsAfter, SendsEnd, is_received}
+use Rattle.device_model.specs.Sent.{IsSent, Sends, SendsAfter, SendsEnd, SendsFailed, SendsFault, is_received}
 use Rattle.device_model.specs.declared.bay.Description.{Description}
 use Rattle.device_model.specs.declared.model.Model.{Model}
 
@@ -41,6 +42,10 @@ end_may port slot flag operation.WriteQueued old new s = sent_may port 0x58 s.1.
 end_may port slot flag operation.Flush old new s = sent_may port 0x40 s.1.0 old new s.1.2
 end_may port slot flag operation.Trim old new s = sent_may port 0x40 s.1.0 old new s.1.2
 end_may port slot flag operation.ReadLog old new s = sent_may port 0x20 s.1.0 old new s.1.2
+
+fault_may : (queued : Bool) (port : ℕ) (o : Operation) (old new : Device) → SendsFault queued port old new → MayPost port 30 o old new
+fault_may true port o old new s = sent_may port 0x58 s.0 old new s.2
+fault_may false port o old new s = sent_may port 0x40 s.0 old new s.2
 
 after_may : (step : Step) (old new : Device) → SendsAfter step old new → (port : ℕ) × MayPost port 0 operation.Read old new
 after_may (Done port slot flag t) old new s = (port, end_may port slot flag t.meaning.operation old new s)
@@ -70,6 +75,9 @@ may_rest port flag o old new (inr post) = with_memory old new _ post.2.effect
 pub end_rest : (port slot flag : ℕ) (o : Operation) (old new : Device) → SendsEnd slot port flag o old new → new ≡ record old { memory = new.memory }
 end_rest port slot flag o old new s = may_rest port flag o old new (end_may port slot flag o old new s)
 
+pub fault_rest : (queued : Bool) (port : ℕ) (old new : Device) → SendsFault queued port old new → new ≡ record old { memory = new.memory }
+fault_rest queued port old new s = may_rest port 30 operation.Read old new (fault_may queued port operation.Read old new s)
+
 pub after_rest : (step : Step) (old new : Device) → SendsAfter step old new → new ≡ record old { memory = new.memory }
 after_rest step old new s = let m = after_may step old new s in may_rest m.0 0 operation.Read old new m.1
 
@@ -93,13 +101,18 @@ some_may : (n port slot : ℕ) (old new : Device) → DoesSome (SendsEnd slot) n
 some_may zero port slot old new e = e
 some_may (suc n) port slot old new s = (s.0, some_may n port slot old s.0 s.1, one_may port slot s.0 new s.2)
 
+failed_may : (port slot error : ℕ) (old new : Device) → Fails SendsFailed port slot error old new → Fails MayPost port slot error old new
+failed_may port slot error old new f =
+    let o : Operation = f.fault.t.meaning.operation in
+    record { mid = f.mid; fault = f.fault; posts = fault_may (is_queued o) port o f.mid new f.posts }
+
 done_may : (s : DeviceStep) (old new : Device) → DoneOf (Sends s) s old new → DoneOf MayPost s old new
 done_may (asked.Fetch p slot) old new did = did
 done_may (asked.Move p slot) old new did = did
 done_may (asked.Clear p slot most) old new did = did
 done_may (asked.Done p slot) old new did = ends_may p.0 slot.0 old new did
 done_may (asked.Finish p slot) old new did = (did.0, some_may (suc did.0) p.0 slot.0 old new did.1)
-done_may (asked.Fault p slot error) old new did = did
+done_may (asked.Fault p slot error) old new did = failed_may p.0 slot.0 error old new did
 done_may (asked.Fatal p error) old new did = did
 done_may (asked.Lie p page offset bits) old new did = did
 done_may (asked.Truth p) old new did = did
@@ -109,23 +122,31 @@ done_may (asked.Unplug p) old new did = did
 done_may (asked.Plug p number) old new did = did
 
 -- a fault in the place of a step, or on its way, is one of the device's own
-moving_fails : (port slot : ℕ) (was now : Option Failures) (says later : Option Description) (old new : Device) (f : FailsToMove port slot was now says later old new) →
-    DoesFault port slot f.error old new
-moving_fails port slot was now says later old new f = record { t = f.t; can = f.can; effect = f.effect }
+pub moving_fails : (port slot : ℕ) (was now : Option Failures) (says later : Option Description) (old new : Device) (f : FailsToMove port slot was now says later old new) →
+    Fails SendsFailed port slot f.error old new
+moving_fails port slot was now says later old new f =
+    record { mid = after (Fault port slot f.error 0 f.t) old; fault = record { t = f.t; can = f.can; effect = refl }; posts = f.sends }
 
-clearing_fails : (port slot : ℕ) (was now : Option Failures) (says later : Option Description) (old new : Device) (f : FailsToClear port slot was now says later old new) →
-    DoesFault port slot f.error old new
-clearing_fails port slot was now says later old new f = record { t = f.t; can = f.can; effect = f.effect }
+pub clearing_fails : (port slot : ℕ) (was now : Option Failures) (says later : Option Description) (old new : Device) (f : FailsToClear port slot was now says later old new) →
+    Fails SendsFailed port slot f.error old new
+clearing_fails port slot was now says later old new f =
+    record { mid = after (Fault port slot f.error 0 f.t) old; fault = record { t = f.t; can = f.can; effect = refl }; posts = f.sends }
 
 fails_after_may : (port slot error : ℕ) (Part More : Device → Device → Type 0) → ((old mid : Device) → Part old mid → More old mid) → (old mid new : Device) →
-    (mid ≡ old) ⊎ Part old mid → DoesFault port slot error mid new → FailsAfter More port slot old new
-fails_after_may port slot error Part More more old mid new (inl same) fault = record { mid = mid; before = inl same; error = error; fault = fault }
-fails_after_may port slot error Part More more old mid new (inr some) fault =
-    record { mid = mid; before = inr (more old mid some); error = error; fault = fault }
+    (mid ≡ old) ⊎ Part old mid → Fails SendsFailed port slot error mid new → FailsAfter MayPost More port slot old new
+fails_after_may port slot error Part More more old mid new (inl same) f =
+    record { mid = mid; before = inl same; error = error; fails = failed_may port slot error mid new f }
+fails_after_may port slot error Part More more old mid new (inr some) f =
+    record { mid = mid; before = inr (more old mid some); error = error; fails = failed_may port slot error mid new f }
 
 fails_may : (s : DeviceStep) (was now : Option Failures) (says later : Option Description) (old new : Device) → StepFails s was now says later old new → Asked s old new
-fails_may (asked.Fetch p s) was now says later old new f = inr (record { queued = false; can = f.can; effect = f.effect })
-fails_may (asked.Move p s) was now says later old new f = inr (f.error, moving_fails p.0 s.0 was now says later old new f)
+fails_may (asked.Fetch p s) was now says later old new f = inr (record {
+  mid = after (FetchFault p.0 s.0 false 0) old;
+  fault = record { queued = false; can = f.can; effect = refl };
+  posts = λ o. fault_may false p.0 o (after (FetchFault p.0 s.0 false 0) old) new f.sends;
+})
+fails_may (asked.Move p s) was now says later old new f =
+    inr (f.error, failed_may p.0 s.0 f.error old new (moving_fails p.0 s.0 was now says later old new f))
 fails_may (asked.Clear p s most) was now says later old new (mid, before, f) =
     inr (fails_after_may p.0 s.0 f.error (ClearsFewer p.0 s.0 most) (DoesClear p.0 s.0 most) (λ a b some. some.0) old mid new before
     (clearing_fails p.0 s.0 was now says later mid new f))

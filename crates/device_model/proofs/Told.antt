@@ -1,8 +1,8 @@
 -- Steps of the hardware, as a model answers them.
-use Rattle.std.proofs.Common.{ℕ, Bool, true, false, ◌≡◌, ◌<◌, ◌∙◌, List, [], ◌∷◌, ◌++◌, Option, Some, refl, sym, ap, subst, inl, inr}
+use Rattle.std.proofs.Common.{ℕ, Bool, true, false, ◌≡◌, ◌<◌, ◌∙◌, List, [], ◌∷◌, ◌++◌, Option, refl, sym, ap, subst, inl, inr}
 use Rattle.std.specs.Global.{Vec}
 use Rattle.std.specs.Prelude.{if◌then◌else◌, option_map}
-use Rattle.adapter.specs.Asked.{DoesFatal, DoesFault, DoesFetch, DoneOf, Ends, fatal_bit}
+use Rattle.adapter.specs.Asked.{DoesFatal, DoesFault, DoesFetch, DoneOf, Ends, Fails, fatal_bit}
 use Rattle.adapter.specs.Commands.{Meaning, is_queued}
 use Rattle.adapter.specs.Device.{Device, Taken}
 use Rattle.adapter.specs.Steps.{Can, after, fault_entry}
@@ -21,16 +21,26 @@ use Rattle.device_model.specs.Does.{AnswersStep, EndsIt, IsLeftOut, MayBeFetched
 use Rattle.device_model.specs.Finishing.{HasRoom, IsPassed}
 use Rattle.device_model.specs.Held.{held_after}
 use Rattle.device_model.specs.Modelled.{device_at, outside_at}
-use Rattle.device_model.specs.Sent.{Sends, SendsEnd}
+use Rattle.device_model.specs.Sent.{Sends, SendsEnd, SendsFailed, SendsFault}
 use Rattle.device_model.specs.Whole.{Outside, device_of}
 use Rattle.device_model.specs.declared.hardware.Hardware.{Hardware}
 use Rattle.device_model.specs.declared.bay.Bay.{Bay}
 use Rattle.device_model.specs.declared.bay.Description.{Description}
 use Rattle.device_model.specs.declared.disks.ModelDisk.{ModelDisk}
 use Rattle.device_model.specs.declared.model.Model.{Model}
+use Rattle.device_model.proofs.Posting.{fault_rest}
 use Rattle.device_model.proofs.Telling.{gains_none, gains_one, gains_done}
 use Rattle.device_model.proofs.TwoDisks.{saying_here, saying_keeps, saying_others, saying_outside, saying_same}
 use Rattle.device_model.specs.Paged.{naming}
+
+-- a command failed, and then its FIS was sent
+abbrev pub fault_sent : (port at slot error : ℕ) (queued : Bool) (old mid new : Device) (f : DoesFault port slot error old mid) → queued ≡ is_queued f.t.meaning.operation →
+    at ≡ port → SendsFault queued at mid new → Fails SendsFailed port slot error old new
+fault_sent port at slot error queued old mid new f kind here sent = record {
+  mid = mid;
+  fault = f;
+  posts = subst (λ (b : Bool). SendsFault b port mid new) kind (subst (λ (q : ℕ). SendsFault queued q mid new) here sent);
+}
 
 module _ {S : Type 0} (size : S → ℕ) (told : S → Option (ℕ → List ℕ)) (failures : S → Option Failures) (m : Model S) (h : Hardware) where
   abbrev new : Model S
@@ -124,18 +134,18 @@ module _ {S : Type 0} (size : S → ℕ) (told : S → Option (ℕ → List ℕ)
   -- or what is issued means none, and it failed for that; or neither
   pub senseless_answers : (p : Port) (s : Slot) (did : Bool) → p.0 < 4 → s.0 < 32 →
       ((g : Meaning) (places : List ℕ) → Can (Fetch p.0 s.0 g places) (device_of m.hardware behind) → ⊥) →
-      (did ≡ true → Can (FetchFault p.0 s.0 false 0) (device_of m.hardware behind) × (device_of h behind ≡ after (FetchFault p.0 s.0 false 0) (device_of m.hardware behind))) →
+      (did ≡ true → Can (FetchFault p.0 s.0 false 0) (device_of m.hardware behind) × SendsFault false p.0 (after (FetchFault p.0 s.0 false 0) (device_of m.hardware behind)) (device_of h behind)) →
       (did ≡ false → device_of h behind ≡ device_of m.hardware behind) → (did ≡ false → IsPassed m.hardware h (Can (FetchFault p.0 s.0 false 0) (device_of m.hardware behind))) →
       (did ≡ true → h.starved ≡ m.hardware.starved) → AnswersStep size told failures (asked.Fetch p s) did m new
   senseless_answers p s true port slot only done same passed starved =
       let d = done refl in (
         (port, slot, inr d.0),
         record {
-          came = inr (record { can = d.0; effect = d.1; stores = refl; log = refl });
+          came = inr (record { can = d.0; sends = d.1; stores = refl; log = refl });
           held = refl;
           which = refl;
           others = λ _ _. refl;
-          pages = gains_one size m new (fault_entry p.0 s.0 4 0) (ap (λ (x : Device). x.tape) d.1) (λ x e. absurd (cc e));
+          pages = gains_one size m new (fault_entry p.0 s.0 4 0) (ap (λ (x : Device). x.tape) (fault_rest false p.0 (after (FetchFault p.0 s.0 false 0) (device_of m.hardware behind)) (device_of h behind) d.1)) (λ x e. absurd (cc e));
           disks = λ _ _. refl;
           keeps = on_hardware;
           starved = starved refl;
@@ -167,23 +177,26 @@ module _ {S : Type 0} (size : S → ℕ) (told : S → Option (ℕ → List ℕ)
       (λ may. (port, slot, may.0, may.1, may.2)) (λ none. none) (same refl) (passed refl)
 
   -- a command that is taken fails: in the model the log names it, if it is queued
-  module _ (p : Port) (s : Slot) (error : ℕ) (port : p.0 < 4) (slot : s.0 < 32) (f : DoesFault p.0 s.0 error (device_of m.hardware behind) (device_of h behind))
+  module _ (p : Port) (s : Slot) (error : ℕ) (port : p.0 < 4) (slot : s.0 < 32) (f : Fails SendsFailed p.0 s.0 error (device_of m.hardware behind) (device_of h behind))
       (starved : h.starved ≡ m.hardware.starved) where
-    pub plain_fails : is_queued f.t.meaning.operation ≡ false → AnswersStep size told failures (asked.Fault p s error) true m new
+    noted : h.tape.items ≡ m.hardware.tape.items ++ fault_entry p.0 s.0 error 0 ∷ []
+    noted = ap (λ (x : Device). x.tape) (fault_rest (is_queued f.fault.t.meaning.operation) p.0 f.mid (device_of h behind) f.posts) ∙ ap (λ (x : Device). x.tape) f.fault.effect
+
+    pub plain_fails : is_queued f.fault.t.meaning.operation ≡ false → AnswersStep size told failures (asked.Fault p s error) true m new
     plain_fails plain = (
-      (port, slot, f.t, f.can),
+      (port, slot, f.fault.t, f.fault.can),
       record {
         came = inl (record {
           asked = f;
           fine = λ _ _. refl;
           says = ap (λ (b : Bool). if b then option_map (naming (record { tag = s.0; error = error })) (says_of m p.0) else says_of m p.0) (sym plain)
-              ∙ ap (λ (t : Option Taken). says_failed t s.0 error (says_of m p.0)) (sym f.can.taken);
+              ∙ ap (λ (t : Option Taken). says_failed t s.0 error (says_of m p.0)) (sym f.fault.can.taken);
           ends = λ _. tt;
         });
         held = refl;
         which = refl;
         others = λ _ _. refl;
-        pages = gains_one size m new (fault_entry p.0 s.0 error 0) (ap (λ (x : Device). x.tape) f.effect) (λ x e. absurd (cc e));
+        pages = gains_one size m new (fault_entry p.0 s.0 error 0) noted (λ x e. absurd (cc e));
         disks = λ _ _. refl;
         keeps = on_hardware;
         starved = starved;
@@ -191,25 +204,25 @@ module _ {S : Type 0} (size : S → ℕ) (told : S → Option (ℕ → List ℕ)
     )
 
     pub queued_fails : (bays : Vec (Option (Bay S))) → SaysOnly (naming (record { tag = s.0; error = error })) p.0 m.bays.items bays.items →
-        is_queued f.t.meaning.operation ≡ true → AnswersStep size told failures (asked.Fault p s error) true m (record new { bays = bays })
+        is_queued f.fault.t.meaning.operation ≡ true → AnswersStep size told failures (asked.Fault p s error) true m (record new { bays = bays })
     queued_fails bays only queued =
         let name : Description → Description = naming (record { tag = s.0; error = error }) in
         let last : Model S = record new { bays = bays } in
-        let P : Outside → Type 0 = λ o. DoesFault p.0 s.0 error (device_of m.hardware behind) (device_of h o) in (
-          (port, slot, f.t, f.can),
+        let P : Outside → Type 0 = λ o. Fails SendsFailed p.0 s.0 error (device_of m.hardware behind) (device_of h o) in (
+          (port, slot, f.fault.t, f.fault.can),
           record {
             came = inl (record {
               asked = subst P (sym (saying_outside name m last p.0 only size told)) f;
               fine = λ q w. saying_same name m last p.0 only (λ x. option_map (λ (y : ModelDisk S). failures y.store) (option_map (λ (y : Bay S). disk_in y w) x)) (λ b. refl) q;
               says = saying_here name m last p.0 only
                   ∙ (ap (λ (b : Bool). if b then option_map name (says_of m p.0) else says_of m p.0) (sym queued)
-                  ∙ ap (λ (t : Option Taken). says_failed t s.0 error (says_of m p.0)) (sym f.can.taken));
+                  ∙ ap (λ (t : Option Taken). says_failed t s.0 error (says_of m p.0)) (sym f.fault.can.taken));
               ends = λ _. tt;
             });
             held = refl;
             which = saying_same name m last p.0 only (option_map (λ (y : Bay S). y.which)) (λ b. refl) p.0;
             others = saying_others name m last p.0 only;
-            pages = gains_one size m last (fault_entry p.0 s.0 error 0) (ap (λ (x : Device). x.tape) f.effect) (λ x e. absurd (cc e));
+            pages = gains_one size m last (fault_entry p.0 s.0 error 0) noted (λ x e. absurd (cc e));
             disks = λ _ w. saying_same name m last p.0 only (option_map (λ (y : Bay S). disk_in y w)) (λ b. refl) p.0;
             keeps = saying_keeps name m last p.0 only size refl refl;
             starved = starved;

@@ -24,6 +24,7 @@ use Rattle.device_model.specs.declared.bay.Bay.{Bay}
 use Rattle.device_model.proofs.Absurd.{some-none, some_one, true-false}
 use Rattle.device_model.proofs.Doing.{whichs}
 use Rattle.device_model.proofs.TwoDisks.{each_port}
+use Rattle.device_model.proofs.Posting.{clearing_fails, moving_fails}
 use Rattle.device_model.proofs.Own.{fatal_keeps_present, fault_keeps_present, one_keeps_present, senseless_keeps_present, some_keep_present}
 
 named_by : (w : Which) (number : ℕ) → number < 2 → w ≡ (if nat_eq number 0 then Disk0 else Disk1) → number ≡ disk_number w
@@ -85,12 +86,12 @@ still_empty (asked.Plug p number) old new q w (Some v) empty never may did same 
 moving_keeps : (q port slot : ℕ) (was now : Option Failures) (says later : Option Description) (old new : Device) → FailsToMove port slot was now says later old new →
     (new.port q).present ≡ (old.port q).present
 moving_keeps q port slot was now says later old new f =
-    fault_keeps_present q port slot f.error old new (record { t = f.t; can = f.can; effect = f.effect })
+    fault_keeps_present q port slot f.error old new (moving_fails port slot was now says later old new f)
 
 clearing_keeps : (q port slot : ℕ) (was now : Option Failures) (says later : Option Description) (old new : Device) → FailsToClear port slot was now says later old new →
     (new.port q).present ≡ (old.port q).present
 clearing_keeps q port slot was now says later old new f =
-    fault_keeps_present q port slot f.error old new (record { t = f.t; can = f.can; effect = f.effect })
+    fault_keeps_present q port slot f.error old new (clearing_fails port slot was now says later old new f)
 
 -- nor does a fault
 still_failed : (q : ℕ) (s : DeviceStep) (was now : Option Failures) (says later : Option Description) (old new : Device) → (old.port q).present ≡ false →
@@ -111,7 +112,7 @@ still_failed q (asked.Finish p s) was now says later old new empty (mid, before,
     by : FailsToMove p.0 s.0 was now says later mid new ⊎ FailsToClear p.0 s.0 was now says later mid new → (new.port q).present ≡ (mid.port q).present
     by (inl moves) = moving_keeps q p.0 s.0 was now says later mid new moves
     by (inr clears) = clearing_keeps q p.0 s.0 was now says later mid new clears
-still_failed q (asked.Fetch p s) was now says later old new empty f = senseless_keeps_present q p.0 s.0 old new f.effect ∙ empty
+still_failed q (asked.Fetch p s) was now says later old new empty f = senseless_keeps_present q p.0 s.0 old new f.sends ∙ empty
 still_failed q (asked.Done p s) was now says later old new empty f = absurd f
 still_failed q (asked.Fault p s error) was now says later old new empty f = absurd f
 still_failed q (asked.Fatal p error) was now says later old new empty f = absurd f

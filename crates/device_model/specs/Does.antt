@@ -18,7 +18,7 @@ use Rattle.device_model.specs.Finishing.{HasMove, HasRoom, MayFinish}
 use Rattle.device_model.specs.Held.{held_after}
 use Rattle.device_model.specs.Modelled.{device_at}
 use Rattle.device_model.specs.Paged.{GainsPages, lying, naming, truthful}
-use Rattle.device_model.specs.Sent.{Sends, SendsEnd}
+use Rattle.device_model.specs.Sent.{Sends, SendsEnd, SendsFault}
 use Rattle.device_model.specs.Trims.{HasClear, next_uncleared, span}
 use Rattle.device_model.specs.declared.disks.Which.{Which}
 use Rattle.device_model.specs.declared.disks.Which.TheVariants.{Disk0, Disk1}
@@ -149,7 +149,7 @@ IsCause writes sector size error was now =
 -- What is issued in the slot fails as it is to be taken, since its bytes mean no command: with 04h, aborted. It is told as a plain one.
 pub record FailsToFetch (port slot : ℕ) (was now : Option Failures) (says after_it : Option Description) (old new : Device) : Type 0 where
   pub can : Can (FetchFault port slot false 0) old
-  pub effect : new ≡ after (FetchFault port slot false 0) old
+  pub sends : SendsFault false port (after (FetchFault port slot false 0) old) new
   pub stores : now ≡ was
   pub log : after_it ≡ says
 
@@ -161,7 +161,7 @@ pub record FailsToMove (port slot : ℕ) (was now : Option Failures) (says after
   pub error : ℕ
   pub cause : IsCause (reads_memory t.meaning.operation) (next_sector t) (old.port port).disk.size error was now
   pub can : Can (Fault port slot error 0 t) old
-  pub effect : new ≡ after (Fault port slot error 0 t) old
+  pub sends : SendsFault (is_queued t.meaning.operation) port (after (Fault port slot error 0 t) old) new
   pub log : after_it ≡ says_failed (Some t) slot error says
 
 -- or on the one that it clears next
@@ -171,7 +171,7 @@ pub record FailsToClear (port slot : ℕ) (was now : Option Failures) (says afte
   pub error : ℕ
   pub cause : IsCause true (next_uncleared t) (old.port port).disk.size error was now
   pub can : Can (Fault port slot error 0 t) old
-  pub effect : new ≡ after (Fault port slot error 0 t) old
+  pub sends : SendsFault (is_queued t.meaning.operation) port (after (Fault port slot error 0 t) old) new
   pub log : after_it ≡ says
 
 -- after some of what a step asks, or nothing of it
@@ -226,7 +226,7 @@ EndsIt (asked.Clear p s most) old new = HasCleared old new p.0 s.0 most
 EndsIt (asked.Finish p s) old new = HasEnded old new p.0 s.0
 EndsIt step old new = Unit {0}
 
--- A step is done whole: the device did what it was asked, and sent the FIS of a command that ended. No call on a store has failed; a Clear did all that it
+-- A step is done whole: the device did what it was asked, and sent the FIS of a command that ended or failed. No call on a store has failed; a Clear did all that it
 -- could at once, and a Finish ended its command, in a memory of at most 4 GiB; and the disks say of themselves what they say after it.
 pub record Completes {S : Type 0} (size : S → ℕ) (told : S → Option (ℕ → List ℕ)) (failures : S → Option Failures) (s : DeviceStep) (old new : Model S) : Type 0 where
   pub asked : DoneOf (Sends s) s (device_at size told old) (device_at size told new)

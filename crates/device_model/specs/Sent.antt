@@ -2,6 +2,7 @@
 use Rattle.std.specs.Prelude.{ℕ, Bool, true, false, ◌≡◌, ◌+◌, ◌/◌, ◌%◌, ◌^◌, ◌&&◌, List, bit_and, bit_or, nat_le}
 use Rattle.ata_types.specs.declared.memory.TheConstants.{RECEIVED_BYTES}
 use Rattle.adapter.specs.Asked.{IsPosted, PostsNone}
+use Rattle.adapter.specs.Commands.{is_queued}
 use Rattle.adapter.specs.Device.{PortState, Device}
 use Rattle.adapter.specs.Steps.{Step}
 use Rattle.adapter.specs.Steps.Step.{Done, LinkUp}
@@ -31,13 +32,17 @@ page_setup p =
       transfer_count = 512;
     }
 
--- a command ended without error: LBA, device and count are reserved (ACS-3), and zero
+-- a command ended, or a plain one failed: LBA, device and count, which are reserved where it ended (ACS-3), are zero
 abbrev pub end_of : PortState → DeviceToHost
 end_of p = record { interrupt = true; status = p.tfd % 256; error = p.tfd / 256; lba = 0; device = 0; count = 0 }
 
 -- the queued command of a slot ended without error: its tag, and the status without BSY and DRQ, which this FIS doesn't set
 abbrev pub tag_of : ℕ → PortState → SetDeviceBits
 tag_of slot p = record { interrupt = true; status = bit_and (p.tfd % 256) 0x77; error = p.tfd / 256; tags = 2 ^ slot }
+
+-- a queued command failed: no tag is named, since none has ended
+abbrev pub no_tag_of : PortState → SetDeviceBits
+no_tag_of p = record (tag_of 0 p) { tags = 0 }
 
 -- the first FIS of an ATA disk: its signature has LBA 1 and count 1 (ACS-3), as PxSIG shows it; it asks for no interrupt
 abbrev pub signature_of : PortState → DeviceToHost
@@ -75,10 +80,19 @@ SendsEnd slot port flag ReadQueued old new = (flag ≡ 3) × SendsBits port (tag
 SendsEnd slot port flag WriteQueued old new = (flag ≡ 3) × SendsBits port (tag_of slot (old.port port)) old new
 SendsEnd slot port flag _ old new = (flag ≡ 0) × SendsRegisters port (end_of (old.port port)) old new
 
--- as the command of the slot that a step names ends
+-- As a command fails, with TFES of PxIS: of a queued one a Set Device Bits FIS, and of another one, or of what means none, a Register FIS (AHCI 1.3.1, 6.2.2).
+abbrev pub SendsFault : (queued : Bool) → (port : ℕ) → Device → Device → Type 0
+SendsFault true port old new = SendsBits port (no_tag_of (old.port port)) old new
+SendsFault false port old new = SendsRegisters port (end_of (old.port port)) old new
+
+abbrev pub SendsFailed : (port flag : ℕ) → Operation → Device → Device → Type 0
+SendsFailed port flag operation old new = SendsFault (is_queued operation) port old new
+
+-- as the command of the slot that a step names ends or fails
 abbrev pub Sends : DeviceStep → (port flag : ℕ) → Operation → Device → Device → Type 0
 Sends (asked.Done p s) = SendsEnd s.0
 Sends (asked.Finish p s) = SendsEnd s.0
+Sends (asked.Fault p s error) = SendsFailed
 Sends step = PostsNone
 
 -- after a step that the model does by itself: as a command ends, and as the link comes up

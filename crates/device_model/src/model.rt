@@ -248,7 +248,14 @@ impl<S: SectorStore> Model<S> {
         if port.0 >= 4 || slot.0 >= 32 {
             return false;
         }
-        self.hardware.fetch(port.0, slot.0) || self.hardware.fail_senseless(port.0, slot.0)
+        if self.hardware.fetch(port.0, slot.0) {
+            return true;
+        }
+        if !self.hardware.fail_senseless(port.0, slot.0) {
+            return false;
+        }
+        self.hardware.send_fault(usize::from(port.0), false);
+        true
     }
 
     /// Ends a slot's command, of which nothing is left to move or to clear.
@@ -271,6 +278,7 @@ impl<S: SectorStore> Model<S> {
         let Some(queued) = self.hardware.fail(port.0, slot.0, error) else {
             return false;
         };
+        self.hardware.send_fault(usize::from(port.0), queued);
         if queued {
             let tag = slot.0;
             log_failed(

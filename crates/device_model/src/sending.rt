@@ -1,7 +1,7 @@
 // The FISes that the model sends, in the received FIS area of a port (Serial ATA; AHCI 1.3.1, 4.2.1).
 ghost use Rattle.std.specs.Prelude.{◌≡◌, ◌+◌, ◌<◌, ◌≤◌, ◌/◌, ◌%◌, true, false, length};
 ghost use Rattle.ata_types.specs.declared.memory.TheConstants.{RECEIVED_BYTES};
-ghost use Rattle.device_model.specs.Sent.{IsSent, SendsEnd, SendsRegisters, end_of, page_setup, signature_of, tag_of};
+ghost use Rattle.device_model.specs.Sent.{IsSent, SendsEnd, SendsFault, SendsRegisters, end_of, no_tag_of, page_setup, signature_of, tag_of};
 ghost use Rattle.device_model.specs.View.{Media, cause_of, operation_of, port_of};
 ghost use Rattle.device_model.specs.Whole.{Outside, device_of};
 
@@ -54,7 +54,7 @@ impl PortModel {
         }
     }
 
-    /// What a Register FIS tells of a command that has ended.
+    /// What a Register FIS tells of a command that has ended or failed.
     fn end_registers(&self) -> DeviceToHost
         ensures { (m : Media) → result ≡ end_of (port_of self.now m) }
     {
@@ -80,6 +80,19 @@ impl PortModel {
             status: status & SET_STATUS,
             error,
             tags: 1 << slot,
+        }
+    }
+
+    /// What a Set Device Bits FIS tells of a queued command that has failed: it names no tag.
+    fn failed_bits(&self) -> SetDeviceBits
+        ensures { (m : Media) → result ≡ no_tag_of (port_of self.now m) }
+    {
+        let (status, error) = self.status_and_error();
+        SetDeviceBits {
+            interrupt: true,
+            status: status & SET_STATUS,
+            error,
+            tags: 0,
         }
     }
 
@@ -134,6 +147,21 @@ impl Hardware {
                 let fis = encode_d2h(&self.ports[port].end_registers());
                 self.send(port, REGISTERS, &fis);
             }
+        }
+    }
+
+    /// Sends the FIS of a command that has failed: of a queued one a Set Device Bits FIS, and else a Register FIS.
+    pub fn send_fault(&mut self, port: usize, queued: bool)
+        requires { port < 4 }
+        ensures sent { (o : Outside) → SendsFault queued port (device_of self.old o) (device_of self.new o) }
+        ensures rest { self.new ≡ record self.old { memory = self.new.memory } }
+    {
+        if queued {
+            let fis = encode_set_device_bits(&self.ports[port].failed_bits());
+            self.send(port, DEVICE_BITS, &fis);
+        } else {
+            let fis = encode_d2h(&self.ports[port].end_registers());
+            self.send(port, REGISTERS, &fis);
         }
     }
 

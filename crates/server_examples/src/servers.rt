@@ -417,3 +417,44 @@ fn unspelled_calls_are_answered(rt: HostRuntime) -> Result<(), Fail> {
     );
     Ok(())
 }
+
+/// A plain command failed: status 41h, with ERR, and error 40h, UNC (ACS-3, 6.2 and 6.3).
+const FAILED: [u8; 20] = [
+    0x34, 0x40, 0x41, 0x40, 0, 0, 0, 0, 0, 0, 0, 0, 0, 0, 0, 0, 0, 0, 0, 0,
+];
+
+/// A queued one did, so: no tag has ended.
+const FAILED_QUEUED: [u8; 8] = [0xa1, 0x40, 0x41, 0x40, 0, 0, 0, 0];
+
+/// The received FIS area, once a write was taken and has failed.
+fn area_after_a_fault(alloc: Global, text: &str) -> Result<[u8; 256], Fail> {
+    let config = config(alloc, text)?;
+    let model = model_of(alloc, &config, 356)?;
+    let Ok(server) = Server::new(alloc, &config, model) else {
+        return Err(Fail::from("no server"));
+    };
+    let mut server = server;
+    let slot = ata_types::Slot(0);
+    let accepted = server.submit(&request(Op::Write, 100, 3, 41, 1)).is_ok();
+    let taken = server.device(&DeviceStep::Fetch(Port(0), slot));
+    let failed = server.device(&DeviceStep::Fault(Port(0), slot, 0x40));
+    let area = piece(server.adapter().memory(), 0x400);
+    let _model = server.close();
+    if accepted && taken && failed {
+        Ok(area)
+    } else {
+        Err(Fail::from("no write has failed"))
+    }
+}
+
+// A Set Device Bits FIS stands at 58h (AHCI 1.3.1, 4.2.1), beside the first FIS of the disk.
+#[test]
+fn fises_of_faults_stand_in_memory(rt: HostRuntime) -> Result<(), Fail> {
+    let plain = area_after_a_fault(rt.alloc(), PLAIN)?;
+    let queued = area_after_a_fault(rt.alloc(), QUEUED)?;
+    let mut wanted = received(SIGNATURE);
+    wanted[0x58..0x60].copy_from_slice(&FAILED_QUEUED);
+    assert!(rt; plain == received(FAILED));
+    assert!(rt; queued == wanted);
+    Ok(())
+}

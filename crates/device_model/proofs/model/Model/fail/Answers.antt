@@ -1,9 +1,12 @@
-use Rattle.std.proofs.Common.{ℕ, ◌∙◌, refl, sym, subst, arith}
+use Rattle.std.proofs.Common.{ℕ, ◌∙◌, ap, refl, sym, subst, arith}
+use Rattle.adapter.specs.Asked.{Fails}
 use Rattle.device_model.specs.Modelled.{outside_at}
 use Rattle.device_model.specs.Disks.{SaysOnly}
 use Rattle.device_model.specs.Paged.{naming}
-use Rattle.device_model.specs.Whole.{Outside}
-use Rattle.device_model.proofs.Told.{fail_left, plain_fails, queued_fails}
+use Rattle.device_model.specs.Sent.{SendsFailed}
+use Rattle.device_model.specs.Whole.{Outside, device_of}
+use Rattle.device_model.specs.declared.hardware.Hardware.{Hardware}
+use Rattle.device_model.proofs.Told.{fail_left, fault_sent, plain_fails, queued_fails}
 use Rattle.device_model.proofs.model.Model.fail.Goals as goal
 
 -- no command failed
@@ -16,17 +19,24 @@ returns-in_default g c =
 -- a queued one did
 pub returns-then-queued : goal.returns-then-queued
 returns-then-queued g c =
-    let o : Outside = outside_at g.S.SectorStore.size g.S.SectorStore.told c.args.self.now in
+    let m = c.args.self.now in
+    let o : Outside = outside_at g.S.SectorStore.size g.S.SectorStore.told m in
     let did = c.in-Some.ensures.did o in
-    let P : ℕ → Type 0 = λ q. SaysOnly (naming (record { tag = c.args.slot.0; error = c.args.error })) q c.args.self.now.bays.items c.log_failed.new.bays.items in
-    queued_fails g.S.SectorStore.size g.S.SectorStore.told g.S.SectorStore.failures c.args.self.now c.fail.new.self c.args.port c.args.slot c.args.error
-    (omega (arith, c.if-port-ge4.false)) (omega (arith, c.if-slot-ge32.false)) did.0 c.in-Some.ensures.fed c.log_failed.new.bays (subst P c.from.ensures c.log_failed.ensures)
-    (sym did.1 ∙ c.if-queued.true)
+    let P : ℕ → Type 0 = λ q. SaysOnly (naming (record { tag = c.args.slot.0; error = c.args.error })) q m.bays.items c.log_failed.new.bays.items in
+    let fails : Fails SendsFailed c.args.port.0 c.args.slot.0 c.args.error (device_of m.hardware o) (device_of c.send_fault.new.self o) =
+    fault_sent c.args.port.0 _ c.args.slot.0 c.args.error _ _ _ _ did.0 did.1 c.from.ensures (c.send_fault.ensures.sent o) in
+    queued_fails g.S.SectorStore.size g.S.SectorStore.told g.S.SectorStore.failures m c.send_fault.new.self c.args.port c.args.slot c.args.error
+    (omega (arith, c.if-port-ge4.false)) (omega (arith, c.if-slot-ge32.false)) fails (ap (λ (h : Hardware). h.starved) c.send_fault.ensures.rest ∙ c.in-Some.ensures.fed)
+    c.log_failed.new.bays (subst P c.from-then-queued.ensures c.log_failed.ensures) (sym did.1 ∙ c.if-queued.true)
 
 -- a plain one did
 pub returns-else-queued : goal.returns-else-queued
 returns-else-queued g c =
-    let o : Outside = outside_at g.S.SectorStore.size g.S.SectorStore.told c.args.self.now in
+    let m = c.args.self.now in
+    let o : Outside = outside_at g.S.SectorStore.size g.S.SectorStore.told m in
     let did = c.in-Some.ensures.did o in
-    plain_fails g.S.SectorStore.size g.S.SectorStore.told g.S.SectorStore.failures c.args.self.now c.fail.new.self c.args.port c.args.slot c.args.error
-    (omega (arith, c.if-port-ge4.false)) (omega (arith, c.if-slot-ge32.false)) did.0 c.in-Some.ensures.fed (sym did.1 ∙ c.if-queued.false)
+    let fails : Fails SendsFailed c.args.port.0 c.args.slot.0 c.args.error (device_of m.hardware o) (device_of c.send_fault.new.self o) =
+    fault_sent c.args.port.0 _ c.args.slot.0 c.args.error _ _ _ _ did.0 did.1 c.from.ensures (c.send_fault.ensures.sent o) in
+    plain_fails g.S.SectorStore.size g.S.SectorStore.told g.S.SectorStore.failures m c.send_fault.new.self c.args.port c.args.slot c.args.error
+    (omega (arith, c.if-port-ge4.false)) (omega (arith, c.if-slot-ge32.false)) fails (ap (λ (h : Hardware). h.starved) c.send_fault.ensures.rest ∙ c.in-Some.ensures.fed)
+    (sym did.1 ∙ c.if-queued.false)

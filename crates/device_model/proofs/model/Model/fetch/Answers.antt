@@ -1,10 +1,10 @@
-use Rattle.std.proofs.Common.{Bool, false, ◌≡◌, ◌∙◌, ap, arith, subst, sym}
+use Rattle.std.proofs.Common.{ℕ, false, true, ◌≡◌, ◌∙◌, ap, arith, subst}
+use Rattle.adapter.specs.Device.{Device}
 use Rattle.adapter.specs.Steps.{Can, after}
 use Rattle.adapter.specs.Steps.Step.{FetchFault}
-use Rattle.adapter.specs.declared.access.DeviceStep.TheVariants as asked
-use Rattle.device_model.specs.Does.{AnswersStep}
 use Rattle.device_model.specs.Finishing.{IsPassed}
 use Rattle.device_model.specs.Modelled.{outside_at}
+use Rattle.device_model.specs.Sent.{SendsFault}
 use Rattle.device_model.specs.Whole.{Outside, device_of}
 use Rattle.device_model.specs.declared.hardware.Hardware.{Hardware}
 use Rattle.device_model.proofs.Told.{fetch_answers, senseless_answers}
@@ -14,22 +14,36 @@ pub returns-then-fetch : goal.returns-then-fetch
 returns-then-fetch g c =
     let m = c.args.self.now in
     let f = c.fetch.ensures in
-    let P : Bool → Type 0 = λ answer.
-    AnswersStep g.S.SectorStore.size g.S.SectorStore.told g.S.SectorStore.failures (asked.Fetch c.args.port c.args.slot) answer m (record m { hardware = c.fetch.new.self }) in
-    subst P (sym c.if-fetch.true)
-    (fetch_answers g.S.SectorStore.size g.S.SectorStore.told g.S.SectorStore.failures m c.fetch.new.self c.args.port c.args.slot
-    (omega (arith, c.if-port-ge4.false)) (omega (arith, c.if-slot-ge32.false)) (f.did c.if-fetch.true _) f.tape f.starved)
+    fetch_answers g.S.SectorStore.size g.S.SectorStore.told g.S.SectorStore.failures m c.fetch.new.self c.args.port c.args.slot
+    (omega (arith, c.if-port-ge4.false)) (omega (arith, c.if-slot-ge32.false)) (f.did c.if-fetch.true _) f.tape f.starved
 
-pub returns-else-fetch : goal.returns-else-fetch
-returns-else-fetch g c =
+-- nothing was taken, and nothing failed
+pub returns-then-not-fail_senseless : goal.returns-then-not-fail_senseless
+returns-then-not-fail_senseless g c =
     let m = c.args.self.now in
     let o : Outside = outside_at g.S.SectorStore.size g.S.SectorStore.told m in
     let f = c.fail_senseless.ensures in
     let kept : c.fetch.new.self ≡ m.hardware = c.fetch.ensures.refused c.if-fetch.false in
-    let P : Hardware → Type 0 = λ h. Can (FetchFault c.args.port.0 c.args.slot.0 false 0) (device_of h o)
-    × (device_of c.fail_senseless.new.self o ≡ after (FetchFault c.args.port.0 c.args.slot.0 false 0) (device_of h o)) in
+    let not : c.fail_senseless.result ≡ false = c.if-not-fail_senseless.true in
     let Q : Hardware → Type 0 = λ h. IsPassed h c.fail_senseless.new.self (Can (FetchFault c.args.port.0 c.args.slot.0 false 0) (device_of h o)) in
     senseless_answers g.S.SectorStore.size g.S.SectorStore.told g.S.SectorStore.failures m c.fail_senseless.new.self c.args.port c.args.slot
-    c.fail_senseless.result (omega (arith, c.if-port-ge4.false)) (omega (arith, c.if-slot-ge32.false)) (c.fetch.ensures.only c.if-fetch.false o)
-    (λ e. subst P kept (f.did e o)) (λ e. f.refused e o ∙ ap (λ (h : Hardware). device_of h o) kept) (λ e. subst Q kept (f.left e o))
-    (λ e. f.fed e ∙ ap (λ (h : Hardware). h.starved) kept)
+    false (omega (arith, c.if-port-ge4.false)) (omega (arith, c.if-slot-ge32.false)) (c.fetch.ensures.only c.if-fetch.false o)
+    (λ e. absurd (cc e)) (λ _. f.refused not o ∙ ap (λ (h : Hardware). device_of h o) kept) (λ _. subst Q kept (f.left not o)) (λ e. absurd (cc e))
+
+-- what is issued means no command, and failed for that
+pub returns : goal.returns
+returns g c =
+    let m = c.args.self.now in
+    let o : Outside = outside_at g.S.SectorStore.size g.S.SectorStore.told m in
+    let f = c.fail_senseless.ensures in
+    let kept : c.fetch.new.self ≡ m.hardware = c.fetch.ensures.refused c.if-fetch.false in
+    let did = f.did c.if-not-fail_senseless.false o in
+    let new : Device = device_of c.send_fault.new.self o in
+    let P : Hardware → Type 0 = λ h. Can (FetchFault c.args.port.0 c.args.slot.0 false 0) (device_of h o)
+    × SendsFault false c.args.port.0 (after (FetchFault c.args.port.0 c.args.slot.0 false 0) (device_of h o)) new in
+    let sent : SendsFault false c.args.port.0 (device_of c.fail_senseless.new.self o) new =
+    subst (λ (q : ℕ). SendsFault false q (device_of c.fail_senseless.new.self o) new) c.from.ensures (c.send_fault.ensures.sent o) in
+    senseless_answers g.S.SectorStore.size g.S.SectorStore.told g.S.SectorStore.failures m c.send_fault.new.self c.args.port c.args.slot
+    true (omega (arith, c.if-port-ge4.false)) (omega (arith, c.if-slot-ge32.false)) (c.fetch.ensures.only c.if-fetch.false o)
+    (λ _. subst P kept (did.0, subst (λ (d : Device). SendsFault false c.args.port.0 d new) did.1 sent)) (λ e. absurd (cc e)) (λ e. absurd (cc e))
+    (λ _. ap (λ (h : Hardware). h.starved) c.send_fault.ensures.rest ∙ (f.fed c.if-not-fail_senseless.false ∙ ap (λ (h : Hardware). h.starved) kept))
