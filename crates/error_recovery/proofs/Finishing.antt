@@ -10,7 +10,7 @@ use Rattle.hba_regs.specs.declared.reg.PortReg.{PortReg}
 use Rattle.adapter.specs.declared.command.Operation.{Operation}
 use Rattle.hba_regs.specs.declared.reg.PortReg.TheVariants.{Ci, Cmd, Sact}
 use Rattle.adapter.specs.Access.{Access}
-use Rattle.adapter.specs.Device.{Device}
+use Rattle.adapter.specs.Device.{Device, Notes}
 use Rattle.adapter.specs.Device.Halt.{NotHalted}
 use Rattle.adapter.specs.Rules.{IsOn}
 use Rattle.adapter.specs.declared.command.Operation.TheVariants.{Identify, ReadLog}
@@ -312,7 +312,7 @@ module _ (laws : Laws) where
 
           -- the engine stopped: the port has to be booted
           stopped : (token : stopped_token.Stopped) → token.port ≡ port → (b : IsFollowed (IsRecovering port) (λ uses. AllFree uses port.0) r.quiets.stopped new) → Halts port log new →
-              (WaitsAnew port (total laws port outstanding queued before after old d r (λ uses. uses) new b) ⊎ ((page : List ℕ) × BringsLog port old new page × (TellsNoError page ⊎ NamesForeign outstanding page))) →
+              (WaitsAnew port (total laws port outstanding queued before after old d r (λ uses. uses) new b) new ⊎ ((page : List ℕ) × BringsLog port old new page × (TellsNoError page ⊎ NamesForeign outstanding page))) →
               (AgreesWith (λ uses. uses port.0 0 ≡ Own Identify → ⊥) old → SendsNone port.0 Identify old new) →
               Recovers port outstanding queued (record { failed = None; again = outstanding; next = Restart token }) old new
           stopped token names b halts why silent = record {
@@ -338,16 +338,24 @@ module _ (laws : Laws) where
             };
           }
 
-          pub restarts : (token : stopped_token.Stopped) → token.port ≡ port → Halts port log new → ReadsLog port outstanding None start log →
+          pub restarts : (token : stopped_token.Stopped) → token.port ≡ port → HasStopped (log.port port.0) (new.port port.0) → Halts port log new → ReadsLog port outstanding None start log →
               Recovers port outstanding queued (record { failed = None; again = outstanding; next = Restart token }) old new
-          restarts token names halts (inl (count, a)) =
+          restarts token names has halts (inl (count, a)) =
               let t = told_both laws (WaitsInVain port) (Stops port) (WaitsInVain port) (λ early late w is. laws.vain_then port early late w) (Recovering PortUnused port) (Controlling Commanding AnyUses port)
               (λ uses. put uses port.0 0 (Own ReadLog)) (λ uses. uses) (commands_recover laws port) (λ uses free. tt) r.quiets.stopped log new (b_vain a) halts.told in
               let o = laws.over (Recovering PortUnused port) port ReadLog 1 r.quiets.stopped new (inr (refl, refl)) (λ uses free. free 0)
               (record { issued = halts.stopped.halted.ci 0; free = halts.stopped.halted.taken 0 }) t.followed in
               let b = o.followed in
-              stopped token names b halts (inl (record { early = r.quiets.stops.followed.driven.accesses; late = b.driven.accesses; here = refl; stopped = r.quiets.stops.tells.1; vain = subst (WaitsInVain port) (sym o.tells) t.tells })) (vain_silent a.followed halts.told.followed)
-          restarts token names halts (inr (page, (brings, a), why)) =
+              stopped token names b halts
+              (inl (record {
+                early = r.quiets.stops.followed.driven.accesses;
+                late = b.driven.accesses;
+                here = refl;
+                stopped = r.quiets.stops.tells.1;
+                vain = subst (WaitsInVain port) (sym o.tells) t.tells;
+                still = ap (λ (n : Notes). n.command_count) has.notes ∙ count;
+              })) (vain_silent a.followed halts.told.followed)
+          restarts token names has halts (inr (page, (brings, a), why)) =
               let b = (told_both laws (λ made. Unit {0}) (Stops port) (λ made. Unit {0}) (λ early late w is. tt) (Recovering PortUnused port) (Controlling Commanding AnyUses port)
               (λ uses. uses) (λ uses. uses) (commands_recover laws port) (λ uses free. tt) r.quiets.stopped log new (record { followed = b_log a; tells = tt }) halts.told).followed in
               stopped token names b halts (inr (page, still_last page brings a halts.told.followed.driven, why)) (page_silent a halts.told.followed)

@@ -132,21 +132,23 @@ pub record NamesForeign (outstanding : ℕ) (page : List ℕ) : Type 0 where
 abbrev pub IssueNone : Port → List Access → Type 0
 IssueNone port accesses = All (SparesRegister (Px port Ci)) accesses
 
--- The port was stopped, which clears PxCI; and then 64 readings in a row showed slot 0's bit, of a command that was issued since.
-pub record WaitsAnew (port : Port) (accesses : List Access) : Type 0 where
+-- The port was stopped, which clears PxCI; and then 64 readings in a row showed slot 0's bit, of a command that was issued since. No later reading
+-- showed it clear: the count of these readings, which stands beside the device's state, is 64 at the end.
+pub record WaitsAnew (port : Port) (accesses : List Access) (new : Device) : Type 0 where
   pub early : List Access
   pub late : List Access
   pub here : accesses ≡ early ++ late
   pub stopped : Stops port early
   pub vain : WaitsInVain port late
+  pub still : (new.port port.0).notes.command_count ≡ 64
 
 -- Why a port has to be booted: BSY or DRQ is what was read last of PxTFD, and no command was issued of which they could be. Or, where queued
--- commands are outstanding, the log named none of them: once the port had stopped, 64 readings in a row showed READ LOG EXT issued, or its page
+-- commands are outstanding, the log named none of them: once the port had stopped, the last 64 readings showed READ LOG EXT issued, or its page
 -- names no command, or one that isn't outstanding.
 abbrev pub MayRestart : Bool → Port → ℕ → List Access → Device → Device → Type 0
 MayRestart queued port outstanding accesses old new =
     (IssueNone port accesses × (ShowsIdle (new.port port.0).notes.last_tfd → ⊥))
-    ⊎ ((queued ≡ true) × (WaitsAnew port accesses
+    ⊎ ((queued ≡ true) × (WaitsAnew port accesses new
     ⊎ ((page : List ℕ) × BringsLog port old new page × (TellsNoError page ⊎ NamesForeign outstanding page))))
 
 -- ---- how it ends

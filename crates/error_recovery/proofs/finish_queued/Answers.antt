@@ -59,12 +59,12 @@ returns-in-Ok-clause-recovers g c = λ old r.
     let start = g.A.Adapter.device c.go_on-running.new.adapter in
     let log = g.A.Adapter.device c.read_log.new.adapter in
     let new = g.A.Adapter.device c.stop.new.adapter in
-    let P : Port → Type 0 = λ p. LeavesRunning p.0 start log × SendsNone p.0 Identify start log × ReadsLog p c.args.outstanding None start log × Halts p log new in
+    let P : Port → Type 0 = λ p. LeavesRunning p.0 start log × SendsNone p.0 Identify start log × ReadsLog p c.args.outstanding None start log × Halts p log new × HasStopped (log.port p.0) (new.port p.0) in
     let e = c.in_default.ensures in
-    let x = subst P same (e.leaves, e.silent, e.reads, c.in-Ok.ensures.halts) in
+    let x = subst P same (e.leaves, e.silent, e.reads, c.in-Ok.ensures.halts, c.stop.ensures.has) in
     let R : recovered.Recovered → Type 0 = λ result. Recovers port c.args.outstanding true result old new in
     subst R (sym c.unnamed-in-Ok.ensures)
-    (restarts c.laws_hold.ensures port c.args.outstanding true _ _ old _ r _ c.go_on-running.ensures.goes _ refl x.0 x.1 _ c.in-Ok.stopped (c.in-Ok.ensures.names ∙ same) x.3 x.2)
+    (restarts c.laws_hold.ensures port c.args.outstanding true _ _ old _ r _ c.go_on-running.ensures.goes _ refl x.0 x.1 _ c.in-Ok.stopped (c.in-Ok.ensures.names ∙ same) x.4 x.3 x.2)
 
 pub returns-in-Err-clause-recovers : goal.returns-in-Err-clause-recovers
 returns-in-Err-clause-recovers g c = λ old r.
