@@ -190,3 +190,32 @@ module _ (laws : Laws) (port : Port) where
       (λ (since : length old.tape ≤ (new.port port.0).notes.st_set_at). since)
       (cleared_among (length old.tape) stops.before rest stops.cleared old new on (subst (All (SparesRegister Ghc)) stops.here spares) (omega arith) stops.clears
       (subst (λ (list : List Access). DoesAll list old new) stops.here does))
+
+  -- what was noted of a write of PxSCTL stays where no other comes
+  noted_all : (least : ℕ) (accesses : List Access) (old new : Device) → IsOn old → All (SparesRegister Ghc) accesses → All (SparesRegister (Px port Sctl)) accesses → DoesAll accesses old new
+      → least ≤ (old.port port.0).notes.sctl_written_at → least ≤ (new.port port.0).notes.sctl_written_at
+  noted_all least [] old new on host spares same was = subst (λ (d : Device). least ≤ (d.port port.0).notes.sctl_written_at) (sym same) was
+  noted_all least (access ∷ accesses) old new on host spares (mid, does, rest) was =
+      let same = ((laws.controls port access old mid on.no_reset does).control (All-head (SparesRegister (Px port Sctl)) access accesses spares)).1 in
+      noted_all least accesses mid new (on_more access accesses old mid on host does) (All-tail (SparesRegister Ghc) access accesses host) (All-tail (SparesRegister (Px port Sctl)) access accesses spares) rest
+      (omega (arith, was, same))
+
+  -- where PxSCTL was written among the accesses, that was noted since they began
+  written_among : (least : ℕ) (before rest : List Access) (v : ℕ) (old new : Device) → IsOn old → All (SparesRegister Ghc) (before ++ Writing (Px port Sctl) v ∷ rest)
+      → All (SparesRegister (Px port Sctl)) rest → least ≤ length old.tape → DoesAll (before ++ Writing (Px port Sctl) v ∷ rest) old new → least ≤ (new.port port.0).notes.sctl_written_at
+  written_among least [] rest v old new on host spares long (mid, does, more) =
+      let set = (laws.control_set port v old mid does).1 in
+      let later = longer least (Writing (Px port Sctl) v) old mid long does in
+      noted_all least rest mid new (on_more (Writing (Px port Sctl) v) rest old mid on host does) (All-tail (SparesRegister Ghc) (Writing (Px port Sctl) v) rest host) spares more (omega (arith, set, later))
+  written_among least (access ∷ before) rest v old new on host spares long (mid, does, more) =
+      written_among least before rest v mid new (on_more access (before ++ Writing (Px port Sctl) v ∷ rest) old mid on host does) (All-tail (SparesRegister Ghc) access (before ++ Writing (Px port Sctl) v ∷ rest) host)
+      spares (longer least access old mid long does) more
+
+  pub reset_noted : (accesses : List Access) (old new : Device) → IsOn old → All (SparesRegister Ghc) accesses → DoesAll accesses old new → ResetsLink port accesses
+      → length old.tape ≤ (new.port port.0).notes.sctl_written_at
+  reset_noted accesses old new on host does resets =
+      let first : List Access = resets.before ++ Writing (Px port Sctl) resets.sending ∷ resets.between in
+      let here : accesses ≡ first ++ Writing (Px port Sctl) resets.ending ∷ resets.later =
+      resets.here ∙ sym (append_assoc resets.before (Writing (Px port Sctl) resets.sending ∷ resets.between) (Writing (Px port Sctl) resets.ending ∷ resets.later)) in
+      written_among (length old.tape) first resets.later resets.ending old new on (subst (All (SparesRegister Ghc)) here host) resets.left (omega arith)
+      (subst (λ (list : List Access). DoesAll list old new) here does)

@@ -124,3 +124,12 @@ pub fn a_port_that_was_stopped_was_set_since()
 {
     laws_hold();
 }
+
+/// Where accesses that leave the adapter on reset a port's link, that is noted: PxSCTL was written since they began. So where the tape has grown since PxSCTL
+/// was written, no service passes over a device that an absent port shows (`TriesDisk`).
+pub fn a_link_that_was_reset_is_noted()
+    ensures { (port : Port) (accesses : List Access) (old new : Device) → IsOn old → All (SparesRegister Ghc) accesses
+        → DoesAll accesses old new → ResetsLink port accesses → length old.tape ≤ (new.port port.0).notes.sctl_written_at }
+{
+    laws_hold();
+}

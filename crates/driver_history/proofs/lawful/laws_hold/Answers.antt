@@ -40,6 +40,7 @@ returns c = record {
   fatal_unless = c.fatal_errors_show_unless_clear.ensures;
   controls = c.controls_stay.ensures;
   command = c.controls_are_set.ensures.command;
+  control_set = c.controls_are_set.ensures.control;
   start = c.controls_are_set.ensures.start;
   calm_parts = c.calm_composes.ensures.parts;
   vacant = c.none_comes_in.ensures.vacant_access;
