@@ -85,6 +85,7 @@ class Function:
 # ---- the functions of a crate, by the layout of `rt fmt` ----
 
 HEAD = re.compile(r"^( *)(?:pub(?:\([a-z ]+\))? )?(?:const )?(?:unsafe )?fn (\w+)")
+TEXT = re.compile(r'"(?:[^"\\]|\\.)*"')
 BLOCK = re.compile(r"^( *)(?:pub(?:\([a-z ]+\))? )?(impl|trait|mod)\b(.*)\{$")
 
 
@@ -106,10 +107,11 @@ def body_at(lines, first, last):
 
 
 def body_of(lines, first, last, indent):
-    """The words of a function's body. Its clauses name definitions, and call nothing."""
+    """The words of a function's body. Its clauses name definitions, and call nothing. A text with braces may be filled in by any `fmt`."""
     begin = next((at for at in range(first, last + 1) if lines[at].rstrip() == indent + "{"), first)
     code = re.sub(r"//[^\n]*", "", "\n".join(lines[begin : last + 1]))
-    return {*re.findall(r"\w+", re.sub(r'"(?:[^"\\]|\\.)*"', '""', code))}
+    filled = any("{" in text.replace("{{", "") for text in TEXT.findall(code))
+    return {*re.findall(r"\w+", TEXT.sub('""', code)), *(["fmt"] if filled else [])}
 
 
 def without_parameters(text):
@@ -433,9 +435,10 @@ class Crate:
         return {name.partition("::")[2]: text for name, text in VERDICT.findall(said)}
 
     def errors(self, name, said):
-        """What is told of the files of a function's own proof."""
+        """What is told of the files of a function's own proof. A long error goes on in lines that begin with two spaces."""
         place = re.escape(name.replace("::", "/"))
-        return re.findall(rf"^(?:\./)?proofs/{place}/\S+ error: (.*)$", said, re.M)
+        found = re.findall(rf"^(?:\./)?proofs/{place}/\S+ error: (.*(?:\n  .*)*)$", said, re.M)
+        return [" ".join(it.split()) for it in found]
 
     def is_refused(self, edit, said):
         """Whether one of the edit's own functions isn't proved, for a reason of its own, and not only since its proof names what is gone."""
