@@ -198,7 +198,6 @@ module _ (laws : HistoryLaws) where
         },
       )
 
-
   all_confined : (wanted : List Wanted) (first : Instant Device) (past added : Calls) → IsHistory wanted first (added ++ past)
       → EachAfter (IsConfinedCall wanted first) past added
   all_confined wanted first past [] history = tt
@@ -216,6 +215,7 @@ module _ (laws : HistoryLaws) where
       added = [];
       clients = record {
         calls = record { asks = refl; says = refl };
+        wanted = refl;
         from = seen_at device s first past leads;
         to = seen_at device s first past leads;
         run = laws.run s.wanted first past leads.history;
@@ -245,8 +245,8 @@ module _ (laws : HistoryLaws) where
           )
 
     pub one_call : (old new : ServerView A) (event : Event) (one : Said) → AddsEvent (server_of device old) (server_of device new) (ask_of event) (said_of one)
-        → Simulates device old new (event ∷ []) (one ∷ [])
-    one_call old new event one adds first past leads =
+        → new.wanted ≡ old.wanted → Simulates device old new (event ∷ []) (one ∷ [])
+    one_call old new event one adds wanted first past leads =
         let x = adds first past leads in
         let h = x.0 in
         let here = x.3 in
@@ -255,6 +255,7 @@ module _ (laws : HistoryLaws) where
           added = h ∷ [];
           clients = record {
             calls = record { asks = ap (λ (a : Ask DeviceStep). a ∷ []) x.1; says = ap (λ (a : MachineSaid). a ∷ []) x.2 };
+            wanted = wanted;
             from = seen_at device old first past leads;
             to = seen_at device new first (h ∷ past) here;
             run = laws.run new.wanted first (h ∷ past) history;
@@ -264,10 +265,13 @@ module _ (laws : HistoryLaws) where
           };
           driver = record {
             leads = here;
-            serves = (tt, record {
-              seen = λ port slot id. laws.seen new.wanted first past h port slot id history;
-              served = λ port healthy. served_well new.wanted first past h port history healthy;
-            });
+            serves = (
+              tt,
+              record {
+                seen = λ port slot id. laws.seen new.wanted first past h port slot id history;
+                served = λ port healthy. served_well new.wanted first past h port history healthy;
+              },
+            );
             healthy = λ port ready stays spared.
                 let well = goes_well old new first past h leads here port ready stays spared.1 in
                 ((tt, well.0), well.1, well.2);
@@ -287,6 +291,7 @@ module _ (laws : HistoryLaws) where
           added = two ++ one;
           clients = record {
             calls = calls_joined one two events further said more a.clients.calls b.clients.calls;
+            wanted = b.clients.wanted ∙ a.clients.wanted;
             from = a.clients.from;
             to = subst (λ (l : Calls). IsSeenAt (visible_of device new) (now first l)) whole b.clients.to;
             run = subst (λ (l : Calls). IsRun first.moment (events_of l)) whole b.clients.run;

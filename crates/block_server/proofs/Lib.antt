@@ -2,6 +2,7 @@ pub mod Stepping
 pub mod Ruling
 pub mod Refusing
 pub mod Running
+pub mod Wanted
 pub mod Serving
 pub mod Turns
 pub mod Anew

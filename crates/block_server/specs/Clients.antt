@@ -86,10 +86,11 @@ pub record IsConfinedCall (wanted : List Wanted) (first : Instant Device) (past 
 -- What is promised to clients of calls that asked that and said this, after a history from where the server was made. With them the history is a run
 -- of the block machine, which leads to the server as it is seen after them; in it each read that was answered Ok has what was left, where the
 -- adapter's disks tell their sectors. And in each of the calls moves and clears keep to their places, and before and after it there holds what
--- holds between calls.
+-- holds between calls; the disks that are wanted stay so.
 pub record ServesClients (first : Instant Device) (past added : List (Happening Device DeviceStep)) (old new : Visible)
     (asked : List (Ask DeviceStep)) (said : List Said) : Type 0 where
   pub calls : AreCalls added asked said
+  pub wanted : new.wanted ≡ old.wanted
   pub from : IsSeenAt old (now first past)
   pub to : IsSeenAt new (now first (added ++ past))
   pub run : IsRun first.moment (events_of (added ++ past))

@@ -30,7 +30,7 @@ use host_boot::laws::what_was_taken_over_may_be_served;
 pub fn runs_keep_their_promise<A: Stepped>()
     ensures none { (s : ServerView A) → Simulates A.device s s [] [] }
     ensures one { (old new : ServerView A) (event : Event) (one : Said)
-        → AddsEvent (server_of A.device old) (server_of A.device new) (ask_of event) (said_of one)
+        → AddsEvent (server_of A.device old) (server_of A.device new) (ask_of event) (said_of one) → new.wanted ≡ old.wanted
         → Simulates A.device old new (event ∷ []) (one ∷ []) }
     ensures more { (old mid new : ServerView A) (events further : List Event) (said more : List Said)
         → Simulates A.device old mid events said → Simulates A.device mid new further more

@@ -27,7 +27,8 @@ impl<A: Adapter> Server<A> {
         offset: u32,
         count: u32,
     ) -> Result<ArrayVec<u8, 64>, MemFault>
-        ensures { AddsEvent (server_of A.device self.old) (server_of A.device self.new) (LoadAt client frame offset (min count 64)) (said_of (Said.Loaded result)) }
+        ensures adds { AddsEvent (server_of A.device self.old) (server_of A.device self.new) (LoadAt client frame offset (min count 64)) (said_of (Said.Loaded result)) }
+        ensures wanted { self.new.wanted ≡ self.old.wanted }
     {
         let mut buffer = [0; FEW];
         let part = &mut buffer[..(count as usize).min(FEW)];
@@ -46,7 +47,8 @@ impl<A: Stepped> Server<A> {
 
     /// Makes the call. What a service, a tick, or a reset that ends answered is all that `replies` has then; of what it has after another call nothing is told.
     fn answer(&mut self, event: &Event, replies: &mut Replies) -> Told
-        ensures { AddsEvent (server_of A.device self.old) (server_of A.device self.new) (ask_of event.now) (said_of (with_replies result replies.new.items)) }
+        ensures adds { AddsEvent (server_of A.device self.old) (server_of A.device self.new) (ask_of event.now) (said_of (with_replies result replies.new.items)) }
+        ensures wanted { self.new.wanted ≡ self.old.wanted }
     {
         match event {
             Event::Submit(request) => Told::Submitted(self.submit(request)),
