@@ -1,5 +1,5 @@
 -- Sectors that are made zero one by one are cleared.
-use Rattle.std.proofs.Common.{ℕ, Bool, true, false, ◌≡◌, ◌+◌, ◌&&◌, List, Option, None, Some, replicate, refl, sym, ◌∙◌, ap, inl, inr, arith}
+use Rattle.std.proofs.Common.{ℕ, true, ◌≡◌, ◌+◌, ◌&&◌, List, Option, None, Some, replicate, refl, sym, ◌∙◌, ap, inl, inr, arith}
 use Rattle.std.specs.Prelude.{if◌then◌else◌, is_some, nat_le, nat_lt, option_map}
 use Rattle.std.proofs.lemmas.Bool.{cases_lt, le-ltb, lt-ltb}
 use Rattle.std.proofs.lemmas.Bool.Decides.{eqb_tells, leb_tells}
@@ -13,10 +13,6 @@ zeros = replicate 512 0
 
 abbrev cleared : ℕ → ℕ → (ℕ → List ℕ) → ℕ → List ℕ
 cleared first count told = λ k. if nat_le first k && nat_lt k (first + count) then zeros else told k
-
-and_false : (b : Bool) → b && false ≡ false
-and_false true = refl
-and_false false = refl
 
 none_cleared : (first : ℕ) (told : ℕ → List ℕ) → cleared first 0 told ≡ told
 none_cleared first told =

@@ -327,9 +327,6 @@ module _ {S : Type 0} (size : S → ℕ) (told : S → Option (ℕ → List ℕ)
 
   -- ---- what the model does by itself
 
-  pub goes_so_same : (m : Model S) → GoesOnSo size m m
-  goes_so_same m = record { held = refl; says = λ _. refl; which = λ _. refl; pages = gains_none size m m refl; keeps = keeps_same m; starved_on = λ yes. yes }
-
   pub goes_so_on : (a b c : Model S) → GoesOnSo size a b → GoesOnSo size b c → GoesOnSo size a c
   goes_so_on a b c first then = record {
     held = then.held ∙ first.held;

@@ -8,7 +8,7 @@ use Rattle.adapter.specs.Says.{HasPrds, IsWhole, Says, pieces, cut}
 use Rattle.adapter.specs.declared.command.Operation.{Operation}
 use Rattle.adapter.specs.declared.command.Prd.{Prd}
 use Rattle.adapter.proofs.SaysLemmas.{cut_length, cut_index}
-use Rattle.device_model.specs.Fetched.{ArePrds, no_prd}
+use Rattle.device_model.specs.Fetched.{no_prd}
 use Rattle.device_model.specs.View.{operation_of}
 use Rattle.device_model.specs.declared.port.Transfer.{Transfer}
 
@@ -48,10 +48,6 @@ has_once memory at (x ∷ xs) (y ∷ ys) n s r =
     λ i. first i ∷ rest i
 
 -- ---- pieces
-
-pub pieces_append : (xs ys : List Prd) → pieces (xs ++ ys) ≡ pieces xs ++ pieces ys
-pieces_append [] ys = refl
-pieces_append (x ∷ xs) ys = rw (pieces_append xs ys) (sym (append_assoc (cut x.address (x.bytes / 512)) (pieces xs) (pieces ys)))
 
 -- the pieces of one more
 pieces_suc : (xs : List Prd) (i : ℕ) → i < length xs →
@@ -126,26 +122,6 @@ before_all xs i number left past b =
 pub only_one : (e : Prd) → IsWhole e → All IsWhole (e ∷ [])
 only_one e here zero d lt = here
 only_one e here (suc k) d lt = absurd (omega arith)
-
--- header, FIS and PRDs together
-pub says_command : (k : Transfer) (memory : ℕ → ℕ) (list slot table entries first count : ℕ) (xs : List Prd) →
-    SpellsHeader (bytes_at memory (list + 32 * slot) 32) (reads_memory (operation_of k)) entries table →
-    SpellsCommand (bytes_at memory table 20) (command_of (operation_of k) slot first count) →
-    IsMeaning (record { operation = operation_of k; first = first; count = count }) → entries ≤ 128 → ArePrds memory (table + 128) entries xs →
-    length (pieces xs) ≡ pieces_moved (operation_of k) count →
-    Says memory list slot (record { operation = operation_of k; first = first; count = count }) (pieces xs)
-says_command k memory list slot table entries first count xs header fis meaning few are all = record {
-  table = table;
-  prds = are.standing;
-  header = subst (λ n. SpellsHeader (bytes_at memory (list + 32 * slot) 32) (reads_memory (operation_of k)) n table) (sym are.number_is) header;
-  fis = fis;
-  meaning = meaning;
-  stand = are.stand;
-  few = omega (arith, are.number_is);
-  whole = are.whole;
-  in_order = are.same;
-  as_many = all;
-}
 
 -- ---- what a command of this kind says
 

@@ -15,6 +15,7 @@ pub mod Fetches
 pub mod SlotLemmas
 pub mod Blocks
 pub mod Stepping
+pub mod Exchanging
 pub mod NewModel
 pub mod Finishing
 pub mod Ready

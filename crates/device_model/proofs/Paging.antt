@@ -180,14 +180,6 @@ next_unranged h o d p s next r here small same is none = by (is_ranged (operatio
     by true e = absurd (none (next_moves h o d p s next r here small same is e))
     by false e = e
 
--- the hardware's next move is of it
-pub next_sends : (h : Hardware) (o : Outside) (d : Device) (port slot : ℕ) (next : NextMove) (r : TakenCommand) (t : Taken) → device_of h o ≡ d →
-    IsNext h port slot next r → (d.port port).taken slot ≡ Some t → sends_page t.meaning.operation ≡ true → sends_page (operation_of next.transfer) ≡ true
-next_sends h o d port slot next r t same is taken sends =
-    let here : ((device_of h o).port port).taken slot ≡ Some t = ap (λ (x : Device). (x.port port).taken slot) same ∙ taken in
-    let one : taken_of r ≡ t = some_one (sym (is.holds.works (o.media port)).taken ∙ here) in
-    ap (λ (k : Transfer). sends_page (operation_of k)) is.transfer_is ∙ (ap (λ (x : Taken). sends_page x.meaning.operation) one ∙ sends)
-
 -- ---- one that is taken, and no more
 
 plain_right : (a b : Bool) → b ≡ false → (a && b) ≡ false

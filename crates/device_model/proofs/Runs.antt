@@ -117,9 +117,6 @@ drop_twice (suc m) n (x ∷ xs) = let same : suc (m + n) ≡ suc m + n = omega a
 abbrev pub behind : List ℕ → ℕ → List ℕ
 behind block place = trim_sectors (drop (8 * place) block)
 
-pub all_behind : (block : List ℕ) → behind block 0 ≡ trim_sectors block
-all_behind block = refl
-
 pub behind_next : (block : List ℕ) (place : ℕ) → 8 * place + 8 ≤ length block →
     behind block place ≡ consecutive (little_from (8 * place) 6 block) (little_from (8 * place + 6) 2 block) ++ behind block (place + 1)
 behind_next block place small =
@@ -299,10 +296,6 @@ run_from_long next (x ∷ xs) =
 pub run_long : (xs : List ℕ) → run_of xs ≤ length xs
 run_long [] = omega arith
 run_long (x ∷ xs) = let rest = run_from_long (suc x) xs in omega (arith, rest)
-
-pub run_some : (xs : List ℕ) → 1 ≤ length xs → 1 ≤ run_of xs
-run_some [] some = absurd (omega (arith, some))
-run_some (x ∷ xs) some = omega arith
 
 run_from_runs : (next : ℕ) (xs : List ℕ) → runs_from next xs ≡ runs_of (drop (run_from next xs) xs)
 run_from_runs next [] = refl

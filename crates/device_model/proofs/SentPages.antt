@@ -21,9 +21,9 @@ use Rattle.device_model.specs.Whole.{HasDisks}
 use Rattle.device_model.specs.declared.disks.Which.{Which}
 use Rattle.device_model.specs.declared.model.Model.{Model}
 use Rattle.device_model.proofs.Absurd.{true-false}
-use Rattle.device_model.proofs.Doing.{did_it, finish_goes_so, goes_so_on, goes_so_same, left_it}
+use Rattle.device_model.proofs.Doing.{did_it, finish_goes_so, goes_so_on, left_it}
 use Rattle.device_model.proofs.GoingOn.{gone_settled}
-use Rattle.device_model.proofs.Own.{own_gone, own_none, own_on}
+use Rattle.device_model.proofs.Own.{own_gone, own_on}
 use Rattle.device_model.proofs.Paging.{IsPage, busy_bars, busy_stays, fewer_left, finish_keeps, gone_apart, has_only, is_page, page_completes, page_stays, total, total_less, weight}
 use Rattle.device_model.proofs.TwoDisks.{disks_kept}
 
@@ -76,19 +76,6 @@ module _ {S : Type 0} (size : S → ℕ) (told : S → Option (ℕ → List ℕ)
     pub loose : (q : ℕ) → IsPortLoose left_out q → IsPortLoose first.held q
     pub fed : lacks ≡ false → m.hardware.starved ≡ first.hardware.starved
     pub lacking : lacks ≡ true → (m.hardware.starved ≡ true) × Lacks left_out m
-
-  pub so_far_none : (m : Model S) → length m.held ≡ 4 → IsSoFar m m m.held false
-  so_far_none m long = record {
-    own = own_none (SendsPages m.held) (device_at size told m);
-    settled = λ _ s. s;
-    rest = goes_so_same size told failures m;
-    disks = λ _ _. refl;
-    long = long;
-    out = λ q held. inl held;
-    loose = λ q loose. loose;
-    fed = λ _. refl;
-    lacking = λ never. absurd (let no : false ≡ true = never in cc);
-  }
 
   -- what goes on on one port leaves another one waiting
   waits_on : (old new : Model S) (q : ℕ) → (device_at size told new).port q ≡ (device_at size told old).port q → (device_at size told new).size ≡ (device_at size told old).size →

@@ -2,7 +2,7 @@
 use Rattle.std.proofs.Common.{ℕ, zero, suc, ◌≡◌, [], ◌∷◌, ◌++◌, List, Some, All, refl, sym, ◌∙◌, ap, subst, arith, append-nil, append_assoc}
 use Rattle.std.proofs.lemmas.List.Elements.{All-append, All-nil}
 use Rattle.std.specs.Prelude.{option_map}
-use Rattle.adapter.specs.Access.{noted, written}
+use Rattle.adapter.specs.Access.{noted}
 use Rattle.adapter.specs.Asked.{Ends}
 use Rattle.adapter.specs.Device.{Device}
 use Rattle.adapter.specs.Steps.{done_entry}
@@ -33,16 +33,6 @@ noted_tape Pi v d = refl
 noted_tape Vs v d = refl
 noted_tape Cap2 v d = refl
 noted_tape Bohc v d = refl
-
-pub written_tape : (r : Reg) (v : ℕ) (d : Device) → (written r v d).tape ≡ d.tape
-written_tape (Px q r) v d = refl
-written_tape Cap v d = refl
-written_tape Ghc v d = refl
-written_tape Is v d = refl
-written_tape Pi v d = refl
-written_tape Vs v d = refl
-written_tape Cap2 v d = refl
-written_tape Bohc v d = refl
 
 all_one : {X : Type 0} (P : X → Type 0) (x : X) → P x → All P (x ∷ [])
 all_one P x here zero d small = here

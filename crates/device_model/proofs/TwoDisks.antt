@@ -139,17 +139,6 @@ module _ {S : Type 0} where
   set_none (b ∷ bays) zero x is = ap (λ (y : Option (Bay S)). y ∷ bays) (sym is)
   set_none (b ∷ bays) (suc port) x is = ap (λ (l : List (Option (Bay S))). b ∷ l) (set_none bays port x is)
 
-  -- nor past the last one
-  pub set_past : (bays : List (Option (Bay S))) (port : ℕ) → (port < length bays → ⊥) → (x : Option (Bay S)) → slice_set bays port x ≡ bays
-  set_past [] port past x = refl
-  set_past (b ∷ bays) zero past x = absurd (past (omega arith))
-  set_past (b ∷ bays) (suc port) past x = ap (λ (l : List (Option (Bay S))). b ∷ l) (set_past bays port (λ small. past (omega (arith, small))) x)
-
-  pub none_past : (bays : List (Option (Bay S))) (port : ℕ) → (port < length bays → ⊥) → slice_index_or bays port None ≡ None
-  none_past [] port past = refl
-  none_past (b ∷ bays) zero past = absurd (past (omega arith))
-  none_past (b ∷ bays) (suc port) past = none_past bays port (λ small. past (omega (arith, small)))
-
   -- all tell as before where what is put there does
   pub all_tell_set : (told : S → Option (ℕ → List ℕ)) (bays : List (Option (Bay S))) (port : ℕ) (new : Option (Bay S)) →
       tells told new ≡ tells told (slice_index_or bays port None) → all_tell told (slice_set bays port new) ≡ all_tell told bays
@@ -188,19 +177,6 @@ module _ {S : Type 0} where
       failures_of failures new port ≡ failures_of failures old port
   failures_kept failures old new port which each =
       in_both (λ (x : ModelDisk S). failures x.store) (λ (f : Option Failures). f) None (bay_of old port) (bay_of new port) which each (failing failures) refl (λ b. refl)
-
-  -- the disk that is in is as it was, and so is the other one
-  pub both_kept : (a b : Bay S) → b.which ≡ a.which → b.disk ≡ a.disk → ((w : Which) → w ≢ a.which → disk_in b w ≡ disk_in a w) → (w : Which) → disk_in b w ≡ disk_in a w
-  both_kept a b same here out w = by w a.which refl
-    where
-      inside : disk_in b a.which ≡ disk_in a a.which
-      inside = ap (disk_in b) (sym same) ∙ (in_is b ∙ (here ∙ sym (in_is a)))
-
-      by : (v u : Which) → a.which ≡ u → disk_in b v ≡ disk_in a v
-      by Disk0 Disk0 e = subst (λ x. disk_in b x ≡ disk_in a x) e inside
-      by Disk0 Disk1 e = out Disk0 (λ is. absurd (let no : Disk0 ≡ Disk1 = is ∙ e in cc))
-      by Disk1 Disk0 e = out Disk1 (λ is. absurd (let no : Disk1 ≡ Disk0 = is ∙ e in cc))
-      by Disk1 Disk1 e = subst (λ x. disk_in b x ≡ disk_in a x) e inside
 
   -- ---- another bay stands in a port
 

@@ -1,4 +1,5 @@
--- The disks of a model: two for each port that has some, of which one is in at a time, and how they stand (this project's own).
+-- The disks of a model: two for each port that has some, of which one is in at a time, and how they stand (this
+-- project's own).
 use Rattle.std.specs.Prelude.{ℕ, ◌≡◌, Bool, true, false, List, [], ◌∷◌, Option, None, Some, codes, if◌then◌else◌, option_map, slice_index_or, slice_set}
 use Rattle.adapter.specs.Device.{Disk}
 use Rattle.sector_store.specs.declared.store.Failures.{Failures}
@@ -89,4 +90,5 @@ failures_of failures m port = failing failures (bay_of m port)
 -- what the disks of this port say is another, if it has some, and nothing else
 abbrev pub SaysOnly : {S : Type 0} → (Description → Description) → ℕ → (old new : List (Option (Bay S))) → Type 0
 SaysOnly {S} says port old new =
-    new ≡ slice_set old port (option_map (λ (b : Bay S). record b { says = says b.says }) (slice_index_or old port None))
+    new ≡ slice_set old port (option_map (λ (b : Bay S). record b { says = says b.says })
+    (slice_index_or old port None))

@@ -1,5 +1,5 @@
--- What a model makes of a step that it is told: when the step is possible, what it changes where it is done, and what stays where it is left
--- (this project's own).
+-- What a model makes of a step that it is told: when the step is possible, what it changes where it is done, and what
+-- stays where it is left (this project's own).
 use Rattle.std.specs.Prelude.{ℕ, Bool, true, false, ◌≡◌, ◌≢◌, ◌+◌, ◌^◌, ◌<◌, ◌≤◌, ◌⊎◌, List, [], ◌∷◌, ◌++◌, Option, None, Some, if◌then◌else◌, nat_eq, option_map}
 use Rattle.std.specs.Vec.{vec_len, vec_capacity}
 use Rattle.adapter.specs.Asked.{DoesClear, DoneOf, GoesOn, fatal_bit}
@@ -35,11 +35,13 @@ use Rattle.device_model.specs.declared.model.Outcome.TheVariants.{Left}
 -- A command that is issued in the slot may be taken, or its bytes mean none, and it may fail for that, as a plain one.
 abbrev pub MayBeFetched : Device → (port slot : ℕ) → Type 0
 MayBeFetched d port slot =
-    ((meaning : Meaning) × (places : List ℕ) × Can (Fetch port slot meaning places) d) ⊎ Can (FetchFault port slot false 0) d
+    ((meaning : Meaning) × (places : List ℕ) × Can (Fetch port slot meaning places) d)
+    ⊎ Can (FetchFault port slot false 0) d
 
--- The step may be done now, memory to note it aside. There are ports 0 to 3 with slots 0 to 31; what is said of a page of a port without disks says nothing, and is done; a page has
--- 512 bytes; and disks 0 and 1 can be put into a port that has disks, where none is in. A Finish is possible where each of its moves and clears is. A sector may be past the disk: its
--- command fails then.
+-- The step may be done now, memory to note it aside. There are ports 0 to 3 with slots 0 to 31; what is said of a page
+-- of a port without disks says nothing, and is done; a page has 512 bytes; and disks 0 and 1 can be put into a port
+-- that has disks, where none is in. A Finish is possible where each of its moves and clears is. A sector may be past
+-- the disk: its command fails then.
 abbrev pub Possible : DeviceStep → Device → Type 0
 Possible (asked.Fetch p s) d = (p.0 < 4) × (s.0 < 32) × MayBeFetched d p.0 s.0
 Possible (asked.Move p s) d = (s.0 < 32) × (t : Taken) × HasMove d p.0 s.0 t
@@ -55,8 +57,9 @@ Possible (asked.Release p) d = p.0 < 4
 Possible (asked.Unplug p) d = (p.0 < 4) × Can (Unplug p.0) d
 Possible (asked.Plug p number) d = (p.0 < 4) × HasDisks d p.0 × (number.0 < 2) × ((d.port p.0).present ≡ false)
 
--- Without growing, the tape has no room for what the step notes there, or, for a Plug, the list of the disks that were put into the port has none. A Finish notes
--- each of its moves and clears, and the end; a Clear what it clears, and a fault; and a Fetch a fault alone. The other steps note nothing.
+-- Without growing, the tape has no room for what the step notes there, or, for a Plug, the list of the disks that were
+-- put into the port has none. A Finish notes each of its moves and clears, and the end; a Clear what it clears, and a
+-- fault; and a Fetch a fault alone. The other steps note nothing.
 abbrev pub LacksMemory : {S : Type 0} → DeviceStep → Device → Hardware → Option (Bay S) → Type 0
 LacksMemory (asked.Fetch p s) d h bay = Can (FetchFault p.0 s.0 false 0) d × (HasRoom h 1 → ⊥)
 LacksMemory (asked.Move p s) d h bay = HasRoom h 1 → ⊥
@@ -74,8 +77,9 @@ LacksMemory step d h bay = ⊥
 abbrev pub AsksFor : Operation → (left clears : ℕ) → Type 0
 AsksFor operation left clears = ((is_ranged operation ≡ true) × (1 ≤ left)) ⊎ (1 ≤ clears)
 
--- The step is possible and moves or clears a sector, so that it may ask the store of the disk that is in for one: a Move, or a Finish that has a move left, of a command that names sectors; a
--- Clear, or a Finish that has one left. No other step asks a store for anything.
+-- The step is possible and moves or clears a sector, so that it may ask the store of the disk that is in for one: a
+-- Move, or a Finish that has a move left, of a command that names sectors; a Clear, or a Finish that has one left. No
+-- other step asks a store for anything.
 abbrev pub AsksStore : DeviceStep → Device → Type 0
 AsksStore (asked.Move p s) d = (s.0 < 32) × (t : Taken) × HasMove d p.0 s.0 t × (is_ranged t.meaning.operation ≡ true)
 AsksStore (asked.Clear p s most) d = (s.0 < 32) × (t : Taken) × HasClear d p.0 s.0 most t
@@ -84,7 +88,8 @@ AsksStore (asked.Finish p s) d =
     × AsksFor may.t.meaning.operation left clears
 AsksStore step d = ⊥
 
--- Each place of the memory has an address of 32 bits, for a step to which that matters: a Move, or a Finish of a command that is taken already.
+-- Each place of the memory has an address of 32 bits, for a step to which that matters: a Move, or a Finish of a
+-- command that is taken already.
 abbrev pub NeedsAddresses : DeviceStep → Device → Type 0
 NeedsAddresses (asked.Move p s) d = d.size ≤ 2 ^ 32
 NeedsAddresses (asked.Finish p s) d = (t : Taken) → (d.port p.0).taken s.0 ≡ Some t → d.size ≤ 2 ^ 32
@@ -108,7 +113,8 @@ asked_port (asked.Release p) = p.0
 asked_port (asked.Unplug p) = p.0
 asked_port (asked.Plug p number) = p.0
 
--- what the disks of a port say of themselves once a command that is taken in a slot has failed with an error: the log names it, if it is queued
+-- what the disks of a port say of themselves once a command that is taken in a slot has failed with an error: the log
+-- names it, if it is queued
 abbrev pub says_failed : Option Taken → (slot error : ℕ) → Option Description → Option Description
 says_failed None slot error says = says
 says_failed (Some t) slot error says =
@@ -131,30 +137,37 @@ abbrev pub PutsIn : (port : ℕ) → Which → DeviceStep → Type 0
 PutsIn port which (asked.Plug p number) = (p.0 ≡ port) × (number.0 ≡ disk_number which)
 PutsIn port which step = ⊥
 
--- What no step changes: the disk of a port that isn't in, or wasn't last; of each disk its serial number and how many sectors it has; the queue; and the count of the accesses.
+-- What no step changes: the disk of a port that isn't in, or wasn't last; of each disk its serial number and how many
+-- sectors it has; the queue; and the count of the accesses.
 pub record StepKeeps {S : Type 0} (size : S → ℕ) (old new : Model S) : Type 0 where
-  pub out : (port : ℕ) (which : Which) → which_of old port ≢ Some which → disk_of new port which ≡ disk_of old port which
-  pub identities : (port : ℕ) (which : Which) → option_map (identity size) (disk_of new port which) ≡ option_map (identity size) (disk_of old port which)
+  pub out : (port : ℕ) (which : Which) → which_of old port ≢ Some which
+      → disk_of new port which ≡ disk_of old port which
+  pub identities : (port : ℕ) (which : Which) → option_map (identity size) (disk_of new port which)
+      ≡ option_map (identity size) (disk_of old port which)
   pub queue : new.queue ≡ old.queue
   pub accesses : new.accesses ≡ old.accesses
 
 -- ---- commands that fail
 
--- Why a command fails on a sector, with this error (ACS-3, 6.2): the sector is past the disk (10h, ID not found); or one more call on the store of the
--- disk has failed, that for this sector (40h, uncorrectable data).
+-- Why a command fails on a sector, with this error (ACS-3, 6.2): the sector is past the disk (10h, ID not found); or
+-- one more call on the store of the disk has failed, that for this sector (40h, uncorrectable data).
 abbrev pub IsCause : (writes : Bool) (sector size error : ℕ) → (was now : Option Failures) → Type 0
 IsCause writes sector size error was now =
-    ((size ≤ sector) × (error ≡ 0x10) × (now ≡ was)) ⊎ ((sector < size) × (error ≡ 0x40) × FailsOn writes sector was now)
+    ((size ≤ sector) × (error ≡ 0x10) × (now ≡ was))
+    ⊎ ((sector < size) × (error ≡ 0x40) × FailsOn writes sector was now)
 
--- What is issued in the slot fails as it is to be taken, since its bytes mean no command: with 04h, aborted. It is told as a plain one.
-pub record FailsToFetch (port slot : ℕ) (was now : Option Failures) (says after_it : Option Description) (old new : Device) : Type 0 where
+-- What is issued in the slot fails as it is to be taken, since its bytes mean no command: with 04h, aborted. It is told
+-- as a plain one.
+pub record FailsToFetch (port slot : ℕ) (was now : Option Failures) (says after_it : Option Description)
+    (old new : Device) : Type 0 where
   pub can : Can (FetchFault port slot false 0) old
   pub sends : SendsFault false port (after (FetchFault port slot false 0) old) new
   pub stores : now ≡ was
   pub log : after_it ≡ says
 
 -- the slot's command fails on the sector that it moves next;
-pub record FailsToMove (port slot : ℕ) (was now : Option Failures) (says after_it : Option Description) (old new : Device) : Type 0 where
+pub record FailsToMove (port slot : ℕ) (was now : Option Failures) (says after_it : Option Description)
+    (old new : Device) : Type 0 where
   pub t : Taken
   pub move : HasMove old port slot t
   pub ranged : is_ranged t.meaning.operation ≡ true
@@ -165,7 +178,8 @@ pub record FailsToMove (port slot : ℕ) (was now : Option Failures) (says after
   pub log : after_it ≡ says_failed (Some t) slot error says
 
 -- or on the one that it clears next
-pub record FailsToClear (port slot : ℕ) (was now : Option Failures) (says after_it : Option Description) (old new : Device) : Type 0 where
+pub record FailsToClear (port slot : ℕ) (was now : Option Failures) (says after_it : Option Description)
+    (old new : Device) : Type 0 where
   pub t : Taken
   pub clear : HasClear old port slot 1 t
   pub error : ℕ
@@ -182,32 +196,37 @@ After Part Fails old new = (mid : Device) × ((mid ≡ old) ⊎ Part old mid) ×
 abbrev pub ClearsFewer : (port slot most : ℕ) → Device → Device → Type 0
 ClearsFewer port slot most old new = (did : DoesClear port slot most old new) × (did.count < most)
 
--- The command of a step fails in its place, or on the way: a Fetch since it means none; and a Move, a Clear and a Finish as they come to a sector of those that they ask for on which it
--- fails, a Move as it begins, and the others once they have done what comes before it. What the disks say after it tells of a queued one.
-abbrev pub StepFails : DeviceStep → (was now : Option Failures) → (says after_it : Option Description) → Device → Device → Type 0
+-- The command of a step fails in its place, or on the way: a Fetch since it means none; and a Move, a Clear and a
+-- Finish as they come to a sector of those that they ask for on which it fails, a Move as it begins, and the others
+-- once they have done what comes before it. What the disks say after it tells of a queued one.
+abbrev pub StepFails : DeviceStep → (was now : Option Failures) → (says after_it : Option Description) → Device → Device
+    → Type 0
 StepFails (asked.Fetch p s) was now says after_it old new = FailsToFetch p.0 s.0 was now says after_it old new
 StepFails (asked.Move p s) was now says after_it old new = FailsToMove p.0 s.0 was now says after_it old new
 StepFails (asked.Clear p s most) was now says after_it old new =
     After (ClearsFewer p.0 s.0 most) (FailsToClear p.0 s.0 was now says after_it) old new
 StepFails (asked.Finish p s) was now says after_it old new =
-    After (GoesOn (SendsEnd s.0) p.0 s.0) (λ mid last. FailsToMove p.0 s.0 was now says after_it mid last ⊎ FailsToClear p.0 s.0 was now says after_it mid last) old new
+    After (GoesOn (SendsEnd s.0) p.0 s.0) (λ mid last. FailsToMove p.0 s.0 was now says after_it mid last
+    ⊎ FailsToClear p.0 s.0 was now says after_it mid last) old new
 StepFails step was now says after_it old new = ⊥
 
 -- no call has failed, on any store
 abbrev pub NoneFails : {S : Type 0} → (S → Option Failures) → Model S → Model S → Type 0
 NoneFails {S} failures old new =
-    (port : ℕ) (which : Which) → option_map (λ x. failures x.store) (disk_of new port which) ≡ option_map (λ x. failures x.store) (disk_of old port which)
+    (port : ℕ) (which : Which) → option_map (λ x. failures x.store) (disk_of new port which)
+    ≡ option_map (λ x. failures x.store) (disk_of old port which)
 
--- The slot's command has ended since this state, just now, as the tape tells last: it is taken no more, and its bit is clear, of PxSACT if it was
--- queued, and else of PxCI. A queued one has its bit of PxCI clear, too, if it was taken since then, or had it clear then: to set it again for a command
--- that is taken breaks the rules of the hardware.
+-- The slot's command has ended since this state, just now, as the tape tells last: it is taken no more, and its bit is
+-- clear, of PxSACT if it was queued, and else of PxCI. A queued one has its bit of PxCI clear, too, if it was taken
+-- since then, or had it clear then: to set it again for a command that is taken breaks the rules of the hardware.
 pub record HasEnded (since d : Device) (port slot : ℕ) : Type 0 where
   pub operation : Operation
   pub before : List Entry
   pub last : d.tape ≡ before ++ done_entry port slot operation ∷ []
   pub taken : (d.port port).taken slot ≡ None
   pub clear : (if is_queued operation then (d.port port).sact slot else (d.port port).ci slot) ≡ false
-  pub issued_no_more : is_queued operation ≡ true → ((since.port port).taken slot ≡ None) ⊎ ((since.port port).ci slot ≡ false) → (d.port port).ci slot ≡ false
+  pub issued_no_more : is_queued operation ≡ true → ((since.port port).taken slot ≡ None)
+      ⊎ ((since.port port).ci slot ≡ false) → (d.port port).ci slot ≡ false
 
 -- So many sectors of the slot's trim at the most were cleared: of the next ones all that follow one another.
 pub record HasCleared (old new : Device) (port slot most : ℕ) : Type 0 where
@@ -226,36 +245,45 @@ EndsIt (asked.Clear p s most) old new = HasCleared old new p.0 s.0 most
 EndsIt (asked.Finish p s) old new = HasEnded old new p.0 s.0
 EndsIt step old new = Unit {0}
 
--- A step is done whole: the device did what it was asked, and sent the FIS of a command that ended or failed. No call on a store has failed; a Clear did all that it
--- could at once, and a Finish ended its command, in a memory of at most 4 GiB; and the disks say of themselves what they say after it.
-pub record Completes {S : Type 0} (size : S → ℕ) (told : S → Option (ℕ → List ℕ)) (failures : S → Option Failures) (s : DeviceStep) (old new : Model S) : Type 0 where
+-- A step is done whole: the device did what it was asked, and sent the FIS of a command that ended or failed. No call
+-- on a store has failed; a Clear did all that it could at once, and a Finish ended its command, in a memory of at most
+-- 4 GiB; and the disks say of themselves what they say after it.
+pub record Completes {S : Type 0} (size : S → ℕ) (told : S → Option (ℕ → List ℕ)) (failures : S → Option Failures)
+    (s : DeviceStep) (old new : Model S) : Type 0 where
   pub asked : DoneOf (Sends s) s (device_at size told old) (device_at size told new)
   pub fine : NoneFails failures old new
   pub says : says_of new (asked_port s) ≡ says_after s (device_at size told old) (says_of old (asked_port s))
   pub ends : (device_at size told old).size ≤ 2 ^ 32 → EndsIt s (device_at size told old) (device_at size told new)
 
 -- its command fails
-abbrev pub HasFailed : {S : Type 0} → (S → ℕ) → (S → Option (ℕ → List ℕ)) → (S → Option Failures) → DeviceStep → Model S → Model S → Type 0
+abbrev pub HasFailed : {S : Type 0} → (S → ℕ) → (S → Option (ℕ → List ℕ)) → (S → Option Failures) → DeviceStep → Model S
+    → Model S → Type 0
 HasFailed size told failures s old new =
-    StepFails s (failures_of failures old (asked_port s)) (failures_of failures new (asked_port s)) (says_of old (asked_port s)) (says_of new (asked_port s))
+    StepFails s (failures_of failures old (asked_port s)) (failures_of failures new (asked_port s))
+    (says_of old (asked_port s)) (says_of new (asked_port s))
     (device_at size told old) (device_at size told new)
 
--- A step that is done: whole, or as far as its command has come that fails. The ports are held that are held after it; the disk is in its port, or was last, that is
--- after it, and each disk has the sectors that it had, but where a sector is moved or cleared; the disks of all other ports are as they were; each page that the tape has gained is as the
--- disk that was in said before, and the log; and that nothing was left out for want of memory is told as it was.
-pub record Did {S : Type 0} (size : S → ℕ) (told : S → Option (ℕ → List ℕ)) (failures : S → Option Failures) (s : DeviceStep) (old new : Model S) : Type 0 where
+-- A step that is done: whole, or as far as its command has come that fails. The ports are held that are held after it;
+-- the disk is in its port, or was last, that is after it, and each disk has the sectors that it had, but where a sector
+-- is moved or cleared; the disks of all other ports are as they were; each page that the tape has gained is as the disk
+-- that was in said before, and the log; and that nothing was left out for want of memory is told as it was.
+pub record Did {S : Type 0} (size : S → ℕ) (told : S → Option (ℕ → List ℕ)) (failures : S → Option Failures)
+    (s : DeviceStep) (old new : Model S) : Type 0 where
   pub came : Completes size told failures s old new ⊎ HasFailed size told failures s old new
   pub held : new.held ≡ held_after s old.held
   pub which : which_of new (asked_port s) ≡ which_after s (which_of old (asked_port s))
   pub others : (port : ℕ) → port ≢ asked_port s → bay_of new port ≡ bay_of old port
   pub pages : GainsPages size old new
-  pub disks : (AsksStore s (device_at size told old) → ⊥) → (which : Which) → disk_of new (asked_port s) which ≡ disk_of old (asked_port s) which
+  pub disks : (AsksStore s (device_at size told old) → ⊥) → (which : Which) → disk_of new (asked_port s) which
+      ≡ disk_of old (asked_port s) which
   pub keeps : StepKeeps size old new
   pub starved : new.hardware.starved ≡ old.hardware.starved
 
--- A step that is left: the device is as it was, each disk, and what the disks say. A step that is possible is left only where there was no room to note
--- it without growing, and that is told as want of memory. That is told where it was, and else only where the step was possible and there was no such room.
-pub record IsLeftOut {S : Type 0} (size : S → ℕ) (told : S → Option (ℕ → List ℕ)) (failures : S → Option Failures) (s : DeviceStep) (old new : Model S) : Type 0 where
+-- A step that is left: the device is as it was, each disk, and what the disks say. A step that is possible is left only
+-- where there was no room to note it without growing, and that is told as want of memory. That is told where it was,
+-- and else only where the step was possible and there was no such room.
+pub record IsLeftOut {S : Type 0} (size : S → ℕ) (told : S → Option (ℕ → List ℕ)) (failures : S → Option Failures)
+    (s : DeviceStep) (old new : Model S) : Type 0 where
   pub device : device_at size told new ≡ device_at size told old
   pub held : new.held ≡ old.held
   pub says : says_of new (asked_port s) ≡ says_of old (asked_port s)
@@ -267,15 +295,19 @@ pub record IsLeftOut {S : Type 0} (size : S → ℕ) (told : S → Option (ℕ �
   pub keeps : StepKeeps size old new
   pub starved_on : old.hardware.starved ≡ true → new.hardware.starved ≡ true
   pub starved_since : new.hardware.starved ≡ true → (old.hardware.starved ≡ true)
-      ⊎ (Possible s (device_at size told old) × LacksMemory s (device_at size told old) old.hardware (bay_of old (asked_port s)))
+      ⊎ (Possible s (device_at size told old) × LacksMemory s (device_at size told old) old.hardware
+      (bay_of old (asked_port s)))
 
--- what a model makes of a step that it is told: it answers `true` where it was possible and is done, and `false` where it is left
-abbrev pub AnswersStep : {S : Type 0} → (S → ℕ) → (S → Option (ℕ → List ℕ)) → (S → Option Failures) → DeviceStep → Bool → Model S → Model S → Type 0
+-- what a model makes of a step that it is told: it answers `true` where it was possible and is done, and `false` where
+-- it is left
+abbrev pub AnswersStep : {S : Type 0} → (S → ℕ) → (S → Option (ℕ → List ℕ)) → (S → Option Failures) → DeviceStep → Bool
+    → Model S → Model S → Type 0
 AnswersStep size told failures s true old new = Possible s (device_at size told old) × Did size told failures s old new
 AnswersStep size told failures s false old new = IsLeftOut size told failures s old new
 
--- What the model does by itself leaves: which ports are held, which disk is in each port, what the disks say of themselves, as each page tells that the tape
--- has gained, and what no step changes. What was told of want of memory stays told.
+-- What the model does by itself leaves: which ports are held, which disk is in each port, what the disks say of
+-- themselves, as each page tells that the tape has gained, and what no step changes. What was told of want of memory
+-- stays told.
 pub record GoesOnSo {S : Type 0} (size : S → ℕ) (old new : Model S) : Type 0 where
   pub held : new.held ≡ old.held
   pub says : (port : ℕ) → says_of new port ≡ says_of old port

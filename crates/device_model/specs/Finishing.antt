@@ -20,7 +20,8 @@ use Rattle.device_model.specs.declared.port.TakenCommand.{TakenCommand}
 abbrev pub HasRoom : Hardware → ℕ → Type 0
 HasRoom h n = vec_len h.tape + n ≤ vec_capacity h.tape
 
--- A step wasn't done: it isn't possible, and nothing is another; or it is, and the tape had no memory for its one entry, which is told.
+-- A step wasn't done: it isn't possible, and nothing is another; or it is, and the tape had no memory for its one
+-- entry, which is told.
 abbrev pub IsPassed : Hardware → Hardware → Type 0 → Type 0
 IsPassed old new possible = ((possible → ⊥) × (new ≡ old)) ⊎ (possible × (HasRoom old 1 → ⊥) × (new.starved ≡ true))
 
@@ -60,7 +61,8 @@ pub record MayFinish (d : Device) (port slot left clears : ℕ) : Type 0 where
   pub t : Taken
   pub covered : IsCovered t d.size left
   pub clearing : WillClear t.meaning.operation d.memory t clears
-  pub begins : WorksOn (d.port port) slot t t.meaning.operation ⊎ (Can (Fetch port slot t.meaning t.places) d × (t ≡ begun t.meaning t.places))
+  pub begins : WorksOn (d.port port) slot t t.meaning.operation
+      ⊎ (Can (Fetch port slot t.meaning t.places) d × (t ≡ begun t.meaning t.places))
 
 -- IDENTIFY DEVICE or READ LOG EXT, which send a page to the driver itself
 abbrev pub sends_page : Operation → Bool
@@ -68,7 +70,8 @@ sends_page Identify = true
 sends_page ReadLog = true
 sends_page _ = false
 
--- the port has such a command in this slot, taken or not, which can be done to its end; its pieces have addresses of 32 bits
+-- the port has such a command in this slot, taken or not, which can be done to its end; its pieces have addresses of 32
+-- bits
 pub record HasPage (d : Device) (port slot : ℕ) : Type 0 where
   pub left : ℕ
   pub ready : MayFinish d port slot left 0
@@ -82,8 +85,8 @@ pub record MayPage (d : Device) (port slot : ℕ) : Type 0 where
   pub sends : sends_page meaning.operation ≡ true
   pub can : Can (Fetch port slot meaning places) d
 
--- What a look at a slot of a port finds: a command that sends a page and can be done to its end; or one that may be taken, but can't be done to its end;
--- or neither.
+-- What a look at a slot of a port finds: a command that sends a page and can be done to its end; or one that may be
+-- taken, but can't be done to its end; or neither.
 abbrev pub FindsPage : Device → (port slot : ℕ) → Option Bool → Type 0
 FindsPage d port slot (Some true) = HasPage d port slot
 FindsPage d port slot (Some false) = MayPage d port slot × (HasPage d port slot → ⊥)
@@ -98,9 +101,11 @@ IsBusy d port = (slot : ℕ) × (t : Taken) × ((d.port port).taken slot ≡ Som
 -- so many moves, and then so many clears, are left of this command, all of them possible with this memory
 abbrev pub IsRest : TakenCommand → List ℕ → (left clears : ℕ) → Type 0
 IsRest t memory left clears =
-    IsCovered (taken_of t) (length memory) left × WillClear (operation_of t.transfer) (bytes_of memory) (taken_of t) clears
+    IsCovered (taken_of t) (length memory) left × WillClear (operation_of t.transfer) (bytes_of memory) (taken_of t)
+    clears
 
--- It is begun: so many moves and clears are left of it, each possible, and there is room for them and the end; it is taken now, or was.
+-- It is begun: so many moves and clears are left of it, each possible, and there is room for them and the end; it is
+-- taken now, or was.
 pub record IsBegun (port slot left clears : ℕ) (was_taken : Bool) (old new : Hardware) : Type 0 where
   pub ready : (o : Outside) → MayFinish (device_of old o) port slot left clears
   pub going : (o : Outside) → IsGoing (device_of new o) port slot left clears
@@ -124,4 +129,5 @@ pub record LacksRoom (port slot : ℕ) (old new : Hardware) : Type 0 where
 -- It isn't begun: there is none that can be done to its end, and nothing is another, or there is no room.
 abbrev pub IsUnbegun : (port slot : ℕ) → Hardware → Hardware → Type 0
 IsUnbegun port slot old new =
-    (((o : Outside) (left clears : ℕ) → MayFinish (device_of old o) port slot left clears → ⊥) × (new ≡ old)) ⊎ LacksRoom port slot old new
+    (((o : Outside) (left clears : ℕ) → MayFinish (device_of old o) port slot left clears → ⊥) × (new ≡ old))
+    ⊎ LacksRoom port slot old new

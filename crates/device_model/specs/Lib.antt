@@ -3,6 +3,7 @@ pub mod Block
 pub mod Disks
 pub mod View
 pub mod Whole
+pub mod Exchanged
 pub mod Fetched
 pub mod Slots
 pub mod Held

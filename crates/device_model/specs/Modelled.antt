@@ -18,8 +18,8 @@ use Rattle.device_model.specs.declared.disks.PortDisks.{PortDisks}
 use Rattle.device_model.specs.declared.disks.Which.TheVariants.{Disk0}
 use Rattle.device_model.specs.declared.model.Model.{Model}
 
--- What is behind a port: the disk that is in, or was last, as it is; and those that were put in, each as it was then, of which the first was in at
--- first.
+-- What is behind a port: the disk that is in, or was last, as it is; and those that were put in, each as it was then,
+-- of which the first was in at first.
 abbrev pub media_of : {S : Type 0} → (S → ℕ) → (S → Option (ℕ → List ℕ)) → Option (Bay S) → Media
 media_of size told None = no_media
 media_of size told (Some b) =
@@ -40,7 +40,8 @@ all_tell {S} told (bay ∷ bays) = tells told bay && all_tell told bays
 
 -- what is behind the ports, which have these disks
 abbrev pub outside_of : {S : Type 0} → (S → ℕ) → (S → Option (ℕ → List ℕ)) → List (Option (Bay S)) → Outside
-outside_of size told bays = record { telling = all_tell told bays; media = λ port. media_of size told (slice_index_or bays port None) }
+outside_of size told bays =
+    record { telling = all_tell told bays; media = λ port. media_of size told (slice_index_or bays port None) }
 
 abbrev pub outside_at : {S : Type 0} → (S → ℕ) → (S → Option (ℕ → List ℕ)) → Model S → Outside
 outside_at size told m = outside_of size told m.bays.items
@@ -52,10 +53,18 @@ device_at size told m = device_of m.hardware (outside_at size told m)
 abbrev pub cap_of : ℕ → ℕ → Bool → ℕ
 cap_of pi slots ncq = (count_ones pi - 1) + 256 * (slots - 1) + (if ncq then 2 ^ 30 else 0)
 
--- A port's registers as a reset of the adapter leaves them: no device is seen, no link is due to come up, no first FIS came,
--- no error and no cause is told (AHCI 1.3.1, 3.3 and 10.4.3); and neither a fault nor a fatal error has stopped it. Nothing was read or written yet, PxCLB and PxFB neither.
+-- A port's registers as a reset of the adapter leaves them: no device is seen, no link is due to come up, no first FIS
+-- came, no error and no cause is told (AHCI 1.3.1, 3.3 and 10.4.3); and neither a fault nor a fatal error has stopped
+-- it. Nothing was read or written yet, PxCLB and PxFB neither.
 pub record IsReset (p : PortState) : Type 0 where
-  pub addresses : p.bases ≡ record { clb = 0; fb = 0; clb_set = false; clbu_set = false; fb_set = false; fbu_set = false }
+  pub addresses : p.bases ≡ record {
+    clb = 0;
+    fb = 0;
+    clb_set = false;
+    clbu_set = false;
+    fb_set = false;
+    fbu_set = false;
+  }
   pub tfd : p.tfd ≡ 0x7f
   pub sig : p.sig ≡ 0xffffffff
   pub ssts_det : p.ssts_det ≡ 0
@@ -70,7 +79,8 @@ pub record IsReset (p : PortState) : Type 0 where
   pub whole : p.broken ≡ false
   pub notes : p.notes ≡ no_notes
 
--- what is behind a new port: the first one of the disks that are given for it, which was never out; without any there is no disk
+-- what is behind a new port: the first one of the disks that are given for it, which was never out; without any there
+-- is no disk
 abbrev pub IsNewMedia : {S : Type 0} → (S → ℕ) → (S → Option (ℕ → List ℕ)) → Option (PortDisks S) → Media → Type 0
 IsNewMedia size told None m = m ≡ no_media
 IsNewMedia size told (Some disks) m =
@@ -84,9 +94,10 @@ IsNewPort size told (Some disks) p =
     (p.present ≡ true) × (p.disk ≡ disk_over Disk0 (size disks.first.store) (told disks.first.store))
     × (p.plugged ≡ disk_over Disk0 (size disks.first.store) (told disks.first.store) ∷ [])
 
--- A new adapter has what its configuration says, its ports too, and in each port the disk that is given for it. It is switched off, its memory is zero, its ports are as after a reset,
--- and nothing runs.
-pub record IsNewAdapter {S : Type 0} (config : ModelConfig) (size : S → ℕ) (told : S → Option (ℕ → List ℕ)) (disks : Disks S) (d : Device) : Type 0 where
+-- A new adapter has what its configuration says, its ports too, and in each port the disk that is given for it. It is
+-- switched off, its memory is zero, its ports are as after a reset, and nothing runs.
+pub record IsNewAdapter {S : Type 0} (config : ModelConfig) (size : S → ℕ) (told : S → Option (ℕ → List ℕ))
+    (disks : Disks S) (d : Device) : Type 0 where
   pub memory : d.size ≡ FRAME_BYTES * config.frames
   pub cap : d.cap ≡ cap_of config.pi config.slots config.ncq
   pub pi : d.pi ≡ config.pi
@@ -98,16 +109,23 @@ pub record IsNewAdapter {S : Type 0} (config : ModelConfig) (size : S → ℕ) (
   pub ports : (port : ℕ) → port < 4 → IsReset (d.port port)
   pub idle : IsIdle d
 
--- what disks say of themselves at first: they have the abilities of the configuration, and tell no lies, and the log names no command
+-- what disks say of themselves at first: they have the abilities of the configuration, and tell no lies, and the log
+-- names no command
 abbrev pub new_says : ModelConfig → Description
 new_says config =
-    record { abilities = record { ncq = config.ncq; depth = config.depth; trim = config.trim }; log = None; lies = no_lies; log_lies = no_lies }
+    record {
+      abilities = record { ncq = config.ncq; depth = config.depth; trim = config.trim };
+      log = None;
+      lies = no_lies;
+      log_lies = no_lies;
+    }
 
 -- The disks of a port are new: disk 0 is in, and the other one is disk 1. A port for which none are given has none.
 abbrev pub IsNewBay : {S : Type 0} → ModelConfig → Option (PortDisks S) → Option (Bay S) → Type 0
 IsNewBay config None bay = bay ≡ None
 IsNewBay config (Some disks) None = ⊥
-IsNewBay config (Some disks) (Some b) = (b.which ≡ Disk0) × (b.disk ≡ disks.first) × (b.other ≡ disks.spare) × (b.says ≡ new_says config)
+IsNewBay config (Some disks) (Some b) = (b.which ≡ Disk0) × (b.disk ≡ disks.first) × (b.other ≡ disks.spare)
+    × (b.says ≡ new_says config)
 
 -- whether the stores of the disks that are given for a port tell their sectors
 abbrev pub given_tell : {S : Type 0} → (S → Option (ℕ → List ℕ)) → Option (PortDisks S) → Bool
@@ -115,11 +133,13 @@ given_tell told None = true
 given_tell told (Some disks) = is_some (told disks.first.store) && is_some (told disks.spare.store)
 
 abbrev pub all_given_tell : {S : Type 0} → (S → Option (ℕ → List ℕ)) → Disks S → Bool
-all_given_tell told d = given_tell told d.port0 && (given_tell told d.port1 && (given_tell told d.port2 && given_tell told d.port3))
+all_given_tell told d = given_tell told d.port0 &&
+    (given_tell told d.port1 && (given_tell told d.port2 && given_tell told d.port3))
 
--- A new model. Its adapter is new, with these disks. It tells its disks' sectors where all of their stores do. No port is held, no step queued, no access made, and nothing left out for want
--- of memory.
-pub record IsNewModel {S : Type 0} (size : S → ℕ) (told : S → Option (ℕ → List ℕ)) (config : ModelConfig) (disks : Disks S) (m : Model S) : Type 0 where
+-- A new model. Its adapter is new, with these disks. It tells its disks' sectors where all of their stores do. No port
+-- is held, no step queued, no access made, and nothing left out for want of memory.
+pub record IsNewModel {S : Type 0} (size : S → ℕ) (told : S → Option (ℕ → List ℕ)) (config : ModelConfig)
+    (disks : Disks S) (m : Model S) : Type 0 where
   pub adapter : IsNewAdapter config size told disks (device_at size told m)
   pub sane : IsSane (device_at size told m)
   pub telling : (device_at size told m).telling ≡ all_given_tell told disks

@@ -19,15 +19,18 @@ no_lies = replicate 512 0
 -- the page with these bits turned, byte by byte
 pub record IsTurned (page bits bytes : List ℕ) : Type 0 where
   pub long : length bytes ≡ 512
-  pub each : (offset : ℕ) → offset < 512 → slice_index bytes offset ≡ bit_xor (slice_index page offset) (slice_index bits offset)
+  pub each : (offset : ℕ) → offset < 512 → slice_index bytes offset ≡ bit_xor (slice_index page offset)
+      (slice_index bits offset)
 
--- the page of IDENTIFY DEVICE of a disk with this serial number and so many sectors, and these abilities, with the bits turned on which it lies
+-- the page of IDENTIFY DEVICE of a disk with this serial number and so many sectors, and these abilities, with the bits
+-- turned on which it lies
 pub record IsItsPage (disk : Identity) (says : Description) (bytes : List ℕ) : Type 0 where
   pub page : List ℕ
   pub true_page : IsPage disk.serial disk.size says.abilities page
   pub turned : IsTurned page says.lies bytes
 
--- the page of log 10h, which names the queued command that failed last, or none, with the bits turned on which the disks lie
+-- the page of log 10h, which names the queued command that failed last, or none, with the bits turned on which the
+-- disks lie
 pub record IsItsLog (says : Description) (bytes : List ℕ) : Type 0 where
   pub page : List ℕ
   pub true_page : IsLogPage says.log page
@@ -43,11 +46,13 @@ abbrev pub BringsOf : Option Identity → Option Description → Move → Type 0
 BringsOf (Some disk) (Some says) m = BringsIts disk says m
 BringsOf _ _ m = ⊥
 
--- The tape has gained entries, of which each page is that of the disk that was in its port, as it says of itself, or of its log.
+-- The tape has gained entries, of which each page is that of the disk that was in its port, as it says of itself, or of
+-- its log.
 pub record GainsPages {S : Type 0} (size : S → ℕ) (old new : Model S) : Type 0 where
   pub gained : List Entry
   pub tape : new.hardware.tape.items ≡ old.hardware.tape.items ++ gained
-  pub pages : All (λ e. (m : Move) → e ≡ entry.Move m → BringsOf (identity_of size old m.port.0) (says_of old m.port.0) m) gained
+  pub pages : All (λ e. (m : Move) → e ≡ entry.Move m → BringsOf (identity_of size old m.port.0) (says_of old m.port.0)
+      m) gained
 
 -- one more bit of a byte is turned, or one fewer
 abbrev pub turned : List ℕ → ℕ → ℕ → List ℕ

@@ -24,31 +24,38 @@ abbrev pub not_due : ℕ → List Queued → List Queued
 not_due access queue = filter (λ q. nat_lt access q.access) queue
 
 -- these steps one after another, each done where it is possible then, or left
-abbrev pub DoesEach : {S : Type 0} → (S → ℕ) → (S → Option (ℕ → List ℕ)) → (S → Option Failures) → List DeviceStep → Model S → Model S → Type 0
+abbrev pub DoesEach : {S : Type 0} → (S → ℕ) → (S → Option (ℕ → List ℕ)) → (S → Option Failures) → List DeviceStep
+    → Model S → Model S → Type 0
 DoesEach size told failures [] old new = new ≡ old
 DoesEach {S} size told failures (s ∷ steps) old new =
-    (answer : Bool) × (mid : Model S) × AnswersStep size told failures s answer old mid × DoesEach size told failures steps mid new
+    (answer : Bool) × (mid : Model S) × AnswersStep size told failures s answer old mid
+    × DoesEach size told failures steps mid new
 
--- What each access begins with: it is counted, the steps that were queued before it leave the queue, where the others wait on as they were, and
--- each of those is done, in their order, or left.
-pub record BeginsAccess {S : Type 0} (size : S → ℕ) (told : S → Option (ℕ → List ℕ)) (failures : S → Option Failures) (old new : Model S) : Type 0 where
+-- What each access begins with: it is counted, the steps that were queued before it leave the queue, where the others
+-- wait on as they were, and each of those is done, in their order, or left.
+pub record BeginsAccess {S : Type 0} (size : S → ℕ) (told : S → Option (ℕ → List ℕ)) (failures : S → Option Failures)
+    (old new : Model S) : Type 0 where
   pub counted : new.accesses ≡ min (old.accesses + 1) (2 ^ 64 - 1)
   pub waiting : new.queue.items ≡ not_due new.accesses old.queue.items
-  pub does : DoesEach size told failures (due new.accesses old.queue.items) (record old { accesses = new.accesses; queue = new.queue }) new
+  pub does : DoesEach size told failures (due new.accesses old.queue.items)
+      (record old { accesses = new.accesses; queue = new.queue }) new
 
--- An access that changes the hardware alone: it begins so, and then changes the device so. The rest of the model stays, and what is told of
--- want of memory.
-pub record DoesThen {S : Type 0} (size : S → ℕ) (told : S → Option (ℕ → List ℕ)) (failures : S → Option Failures) (effect : Device → Device) (old new : Model S) : Type 0 where
+-- An access that changes the hardware alone: it begins so, and then changes the device so. The rest of the model stays,
+-- and what is told of want of memory.
+pub record DoesThen {S : Type 0} (size : S → ℕ) (told : S → Option (ℕ → List ℕ)) (failures : S → Option Failures)
+    (effect : Device → Device) (old new : Model S) : Type 0 where
   pub mid : Model S
   pub begins : BeginsAccess size told failures old mid
   pub effect_is : device_at size told new ≡ effect (device_at size told mid)
   pub rest : new ≡ record mid { hardware = new.hardware }
   pub starved : new.hardware.starved ≡ mid.hardware.starved
 
--- A reading begins so, too. Then a pending reset may end, and the model's own steps are done; and the value is what the register shows then. Of the rest
--- of the model nothing is another, but which ports are held where a reset ended. Each page that the tape has gained is as the disk that is in its port says of
--- itself. Want of memory is told on where it was, and else only where an IDENTIFY DEVICE or a READ LOG EXT is left for it.
-pub record DoesRead {S : Type 0} (size : S → ℕ) (told : S → Option (ℕ → List ℕ)) (failures : S → Option Failures) (r : Reg) (value : ℕ) (old new : Model S) : Type 0 where
+-- A reading begins so, too. Then a pending reset may end, and the model's own steps are done; and the value is what the
+-- register shows then. Of the rest of the model nothing is another, but which ports are held where a reset ended. Each
+-- page that the tape has gained is as the disk that is in its port says of itself. Want of memory is told on where it
+-- was, and else only where an IDENTIFY DEVICE or a READ LOG EXT is left for it.
+pub record DoesRead {S : Type 0} (size : S → ℕ) (told : S → Option (ℕ → List ℕ)) (failures : S → Option Failures)
+    (r : Reg) (value : ℕ) (old new : Model S) : Type 0 where
   pub mid : Model S
   pub begins : BeginsAccess size told failures old mid
   pub reset : Device

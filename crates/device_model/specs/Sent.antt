@@ -17,7 +17,9 @@ use Rattle.fis.specs.declared.SetDeviceBits.{SetDeviceBits}
 
 -- ---- what is sent: status and error are those of PxTFD
 
--- the page of IDENTIFY DEVICE or READ LOG EXT, 512 bytes by PIO: DRQ was set beside the ending status; I asks for an interrupt
+-- The page of IDENTIFY DEVICE or READ LOG EXT, 512 bytes by PIO: DRQ was set beside the ending status; I asks for an
+-- interrupt. A disk sends it before the page's bytes: here it stands as the command ends, since nobody may look there
+-- meanwhile.
 abbrev pub page_setup : PortState → PioSetup
 page_setup p =
     record {
@@ -32,11 +34,13 @@ page_setup p =
       transfer_count = 512;
     }
 
--- a command ended, or a plain one failed: LBA, device and count, which are reserved where it ended (ACS-3), are zero
+-- A command ended, or a plain one failed: LBA, device and count, which are reserved where it ended (ACS-3), are zero. A
+-- disk may tell in LBA where a command failed: the model's tells 0.
 abbrev pub end_of : PortState → DeviceToHost
 end_of p = record { interrupt = true; status = p.tfd % 256; error = p.tfd / 256; lba = 0; device = 0; count = 0 }
 
--- the queued command of a slot ended without error: its tag, and the status without BSY and DRQ, which this FIS doesn't set
+-- the queued command of a slot ended without error: its tag, and the status without BSY and DRQ, which this FIS doesn't
+-- set
 abbrev pub tag_of : ℕ → PortState → SetDeviceBits
 tag_of slot p = record { interrupt = true; status = bit_and (p.tfd % 256) 0x77; error = p.tfd / 256; tags = 2 ^ slot }
 
@@ -44,7 +48,8 @@ tag_of slot p = record { interrupt = true; status = bit_and (p.tfd % 256) 0x77; 
 abbrev pub no_tag_of : PortState → SetDeviceBits
 no_tag_of p = record (tag_of 0 p) { tags = 0 }
 
--- the first FIS of an ATA disk: its signature has LBA 1 and count 1 (ACS-3), as PxSIG shows it; it asks for no interrupt
+-- the first FIS of an ATA disk: its signature has LBA 1 and count 1 (ACS-3), as PxSIG shows it; it asks for no
+-- interrupt
 abbrev pub signature_of : PortState → DeviceToHost
 signature_of p = record { interrupt = false; status = p.tfd % 256; error = p.tfd / 256; lba = 1; device = 0; count = 1 }
 
@@ -54,9 +59,11 @@ signature_of p = record { interrupt = false; status = p.tfd % 256; error = p.tfd
 abbrev pub is_received : PortState → ℕ → Bool
 is_received p size = p.fre && nat_le (p.bases.fb + RECEIVED_BYTES) size
 
--- The bytes stand at this place of the port's received FIS area, and nothing else is another; or they are lost, where the port doesn't receive them.
+-- The bytes stand at this place of the port's received FIS area, and nothing else is another; or they are lost, where
+-- the port doesn't receive them.
 pub record IsSent (port place : ℕ) (bytes : List ℕ) (old new : Device) : Type 0 where
-  pub posted : is_received (old.port port) old.size ≡ true → IsPosted port ((old.port port).bases.fb + place) bytes old new
+  pub posted : is_received (old.port port) old.size ≡ true → IsPosted port ((old.port port).bases.fb + place) bytes old
+      new
   pub lost : is_received (old.port port) old.size ≡ false → new ≡ old
 
 -- where a PIO Setup FIS, a Register FIS and a Set Device Bits FIS stand in the area (AHCI 1.3.1, 4.2.1)
@@ -71,8 +78,10 @@ SendsBits port fis old new = (bytes : List ℕ) × SpellsSetDeviceBits bytes fis
 
 -- ---- when it is sent
 
--- As a slot's command ends: of IDENTIFY DEVICE and READ LOG EXT a PIO Setup FIS, which PSS of PxIS tells; of a queued one a Set Device Bits FIS, which SDBS tells; and of
--- the others that the model takes a Register FIS, which DHRS tells (AHCI 1.3.1, 3.3.5).
+-- As a slot's command ends: of IDENTIFY DEVICE and READ LOG EXT a PIO Setup FIS, which PSS of PxIS tells; of a queued
+-- one a Set Device Bits FIS, which SDBS tells; and of the others that the model takes a Register FIS, which DHRS tells
+-- (AHCI 1.3.1, 3.3.5). A disk sends a Register FIS as it takes a queued command, and a DMA Setup FIS, too: nobody may
+-- look there meanwhile, and the last FIS covers them.
 abbrev pub SendsEnd : (slot port flag : ℕ) → Operation → Device → Device → Type 0
 SendsEnd slot port flag Identify old new = (flag ≡ 1) × SendsSetup port (page_setup (old.port port)) old new
 SendsEnd slot port flag ReadLog old new = (flag ≡ 1) × SendsSetup port (page_setup (old.port port)) old new
@@ -80,7 +89,8 @@ SendsEnd slot port flag ReadQueued old new = (flag ≡ 3) × SendsBits port (tag
 SendsEnd slot port flag WriteQueued old new = (flag ≡ 3) × SendsBits port (tag_of slot (old.port port)) old new
 SendsEnd slot port flag _ old new = (flag ≡ 0) × SendsRegisters port (end_of (old.port port)) old new
 
--- As a command fails, with TFES of PxIS: of a queued one a Set Device Bits FIS, and of another one, or of what means none, a Register FIS (AHCI 1.3.1, 6.2.2).
+-- As a command fails, with TFES of PxIS: of a queued one a Set Device Bits FIS, and of another one, or of what means
+-- none, a Register FIS (TFES: AHCI 1.3.1, 3.3.5).
 abbrev pub SendsFault : (queued : Bool) → (port : ℕ) → Device → Device → Type 0
 SendsFault true port old new = SendsBits port (no_tag_of (old.port port)) old new
 SendsFault false port old new = SendsRegisters port (end_of (old.port port)) old new

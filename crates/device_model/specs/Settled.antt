@@ -9,8 +9,8 @@ use Rattle.device_model.specs.Sent.{SendsAfter}
 use Rattle.device_model.specs.Whole.{HasDisks}
 use Rattle.device_model.specs.declared.hardware.Hardware.{Hardware}
 
--- A step that the model does by itself, while these ports are held. On the others CR and FR fall, the link comes up with the signature of an ATA disk,
--- N and X, and IDENTIFY DEVICE and READ LOG EXT are taken, moved and ended.
+-- A step that the model does by itself, while these ports are held. On the others CR and FR fall, the link comes up
+-- with the signature of an ATA disk, N and X, and IDENTIFY DEVICE and READ LOG EXT are taken, moved and ended.
 abbrev pub IsOwn : List Bool → Step → Type 0
 IsOwn held (Fall port) = IsPortLoose held port
 IsOwn held (FrFall port) = IsPortLoose held port
@@ -45,7 +45,8 @@ SendsPages held step = IsOwn held step × IsPaging step
 -- steps one after another, each with the FIS that is sent after it
 abbrev pub LeadsSending : List Step → Device → Device → Type 0
 LeadsSending [] old new = new ≡ old
-LeadsSending (step ∷ steps) old new = Can step old × (mid : Device) × SendsAfter step (after step old) mid × LeadsSending steps mid new
+LeadsSending (step ∷ steps) old new = Can step old × (mid : Device) × SendsAfter step (after step old) mid
+    × LeadsSending steps mid new
 
 -- such steps with their FISes, and no others, lead from the one state to the other
 pub record LeadsOwn (Own : Step → Type 0) (old new : Device) : Type 0 where
@@ -53,7 +54,8 @@ pub record LeadsOwn (Own : Step → Type 0) (old new : Device) : Type 0 where
   pub own : All Own steps
   pub lead : LeadsSending steps old new
 
--- What the model does by itself: first the ports settle, and then IDENTIFY DEVICE and READ LOG EXT go on. So no command is ended that falls with CR.
+-- What the model does by itself: first the ports settle, and then IDENTIFY DEVICE and READ LOG EXT go on. So no command
+-- is ended that falls with CR.
 pub record DoesOwn (held : List Bool) (old new : Device) : Type 0 where
   pub settled : Device
   pub settles : LeadsOwn (Settles held) old settled
@@ -62,11 +64,14 @@ pub record DoesOwn (held : List Bool) (old new : Device) : Type 0 where
 -- A pending reset ends, and ends all holds, unless all ports are held.
 abbrev pub EndsReset : List Bool → List Bool → Device → Device → Type 0
 EndsReset was held old new =
-    ((old.hr ≡ true → was ≡ all_held) × (held ≡ was) × (new ≡ old)) ⊎ ((old.hr ≡ true) × (was ≢ all_held) × (held ≡ none_held) × (new ≡ after ResetEnds old))
+    ((old.hr ≡ true → was ≡ all_held) × (held ≡ was) × (new ≡ old))
+    ⊎ ((old.hr ≡ true) × (was ≢ all_held) × (held ≡ none_held) × (new ≡ after ResetEnds old))
 
--- in each device, and on each port that isn't held, such steps lead from the one state of the port to the other, and change nothing else
+-- in each device, and on each port that isn't held, such steps lead from the one state of the port to the other, and
+-- change nothing else
 abbrev pub GoesTo : PortState → PortState → Type 0
-GoesTo old new = (held : List Bool) (d : Device) (port : ℕ) → IsPortLoose held port → d.port port ≡ old → LeadsOwn (Settles held) d (with_port d port new)
+GoesTo old new = (held : List Bool) (d : Device) (port : ℕ) → IsPortLoose held port → d.port port ≡ old
+    → LeadsOwn (Settles held) d (with_port d port new)
 
 -- CR and FR have fallen where ST and FRE are zero, and no link is left that may come up
 pub record IsSettledPort (p : PortState) : Type 0 where
@@ -74,20 +79,23 @@ pub record IsSettledPort (p : PortState) : Type 0 where
   pub area : p.fre ≡ false → p.cr ≡ false → p.fr ≡ true → ⊥
   pub link : (sig : ℕ) → MayLinkUp p sig → ⊥
 
--- A reset that may end is left only while all ports are held; a CR or an FR that may fall, and a link that may come up, only on a held
--- port.
+-- A reset that may end is left only while all ports are held; a CR or an FR that may fall, and a link that may come up,
+-- only on a held port.
 pub record IsSettled (held : List Bool) (d : Device) : Type 0 where
   pub reset : Can ResetEnds d → held ≡ all_held
   pub engines : (port : ℕ) → Can (Fall port) d → IsPortHeld held port
   pub areas : (port : ℕ) → Can (FrFall port) d → IsPortHeld held port
   pub links : (port sig : ℕ) (n : Bool) → Can (LinkUp port sig n) d → IsPortHeld held port
 
--- In none of the slots 0 to 31 of a port with disks an IDENTIFY DEVICE or a READ LOG EXT is left that may be taken, unless the port is held; nor one that can be done to its end,
--- unless the port is held, or it is told that something was left out for want of memory. To take one needs no memory.
+-- In none of the slots 0 to 31 of a port with disks an IDENTIFY DEVICE or a READ LOG EXT is left that may be taken,
+-- unless the port is held; nor one that can be done to its end, unless the port is held, or it is told that something
+-- was left out for want of memory. To take one needs no memory.
 pub record NoneIsLeft (held : List Bool) (starved : Bool) (d : Device) : Type 0 where
   pub taken : (port slot : ℕ) → port < 4 → slot < 32 → HasDisks d port → MayPage d port slot → IsPortHeld held port
-  pub done : (port slot : ℕ) → port < 4 → slot < 32 → HasDisks d port → HasPage d port slot → IsPortHeld held port ⊎ (starved ≡ true)
+  pub done : (port slot : ℕ) → port < 4 → slot < 32 → HasDisks d port → HasPage d port slot → IsPortHeld held port
+      ⊎ (starved ≡ true)
 
 -- one is left, for which the tape has no memory: each of its moves, and its end, would be noted there
 abbrev pub LeavesOne : Hardware → Device → Type 0
-LeavesOne h d = (port slot : ℕ) × (port < 4) × (slot < 32) × HasDisks d port × (has : HasPage d port slot) × (HasRoom h (has.left + 1) → ⊥)
+LeavesOne h d = (port slot : ℕ) × (port < 4) × (slot < 32) × HasDisks d port × (has : HasPage d port slot)
+    × (HasRoom h (has.left + 1) → ⊥)

@@ -19,10 +19,12 @@ pub record MayTake (p : PortState) (slot : ℕ) (operation : Operation) : Type 0
   pub working : IsWorking p operation
   pub alone : IsAlone p operation
 
--- the slot has a command that is issued and not taken, on a port that works: it may be taken, if its bytes say one that may be now
+-- the slot has a command that is issued and not taken, on a port that works: it may be taken, if its bytes say one that
+-- may be now
 abbrev pub HasUntaken : PortModel → ℕ → Type 0
 HasUntaken p slot =
-    (m : Media) (operation : Operation) → admits (halt_of p.halting) operation ≡ true → IsFetchable (port_of p m) slot × IsWorking (port_of p m) operation
+    (m : Media) (operation : Operation) → admits (halt_of p.halting) operation ≡ true → IsFetchable (port_of p m) slot
+    × IsWorking (port_of p m) operation
 
 -- such a command may be now: no fault keeps it waiting, and it goes beside those that are taken
 abbrev pub IsOpenTo : PortModel → Operation → Type 0
@@ -33,7 +35,8 @@ pub record HoldsAt (p : PortModel) (slot : ℕ) (t : TakenCommand) : Type 0 wher
   pub held : held_in p.taken slot ≡ Some t
   pub works : (m : Media) → WorksOn (port_of p m) slot (taken_of t) (operation_of t.transfer)
 
--- so many of the next sectors of this command can be cleared: a trim whose block was moved, and of which as many are left, one at least
+-- so many of the next sectors of this command can be cleared: a trim whose block was moved, and of which as many are
+-- left, one at least
 pub record CanClear (t : TakenCommand) (most : ℕ) : Type 0 where
   pub trim : t.transfer ≡ Trim
   pub moved : t.moved ≡ length (pieces t.prds)

@@ -14,7 +14,8 @@ module _ {S : Type 0} (size : S → ℕ) (told : S → Option (ℕ → List ℕ)
   bay_told None telling = ((λ k. []), refl)
   bay_told (Some b) telling = is_told (told b.disk.store) (told b.other.store) telling
 
-  pub each_tells : (bays : List (Option (Bay S))) → all_tell told bays ≡ true → (port : ℕ) → tells told (slice_index_or bays port None) ≡ true
+  pub each_tells : (bays : List (Option (Bay S))) → all_tell told bays ≡ true → (port : ℕ)
+      → tells told (slice_index_or bays port None) ≡ true
   each_tells [] telling port = refl
   each_tells (b ∷ rest) telling zero = by (tells told b) refl
     where
@@ -27,5 +28,6 @@ module _ {S : Type 0} (size : S → ℕ) (told : S → Option (ℕ → List ℕ)
       by true e = e
       by false e = absurd (let no : false ≡ true = e in cc)
 
-  pub disks_told : (bays : List (Option (Bay S))) → all_tell told bays ≡ true → (port : ℕ) → IsTold ((outside_of size told bays).media port).disk
+  pub disks_told : (bays : List (Option (Bay S))) → all_tell told bays ≡ true → (port : ℕ)
+      → IsTold ((outside_of size told bays).media port).disk
   disks_told bays telling port = bay_told (slice_index_or bays port None) (each_tells bays telling port)

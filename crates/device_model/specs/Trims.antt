@@ -1,4 +1,5 @@
--- The sectors of a trim that are left to clear, in the order of its block (ACS-3, 7.5), and how a model clears them (this project's own).
+-- The sectors of a trim that are left to clear, in the order of its block (ACS-3, 7.5), and how a model clears them
+-- (this project's own).
 use Rattle.std.specs.Prelude.{ℕ, suc, ◌≡◌, ◌-◌, ◌≤◌, List, [], ◌∷◌, length, drop, take, if◌then◌else◌, nat_eq, nat_lt, slice_index}
 use Rattle.adapter.specs.Device.{Taken, Device}
 use Rattle.adapter.specs.Memory.{bytes_at}
@@ -23,7 +24,8 @@ run_of (sector ∷ rest) = suc (run_from (suc sector) rest)
 -- in how many runs these are, each as long as can be: where a run before them ends at this one, which may go on
 abbrev pub runs_from : ℕ → List ℕ → ℕ
 runs_from next [] = 0
-runs_from next (sector ∷ rest) = if nat_eq sector next then runs_from (suc sector) rest else suc (runs_from (suc sector) rest)
+runs_from next (sector ∷ rest) = if nat_eq sector next then runs_from (suc sector) rest else suc
+    (runs_from (suc sector) rest)
 
 -- and where there is none before them
 abbrev pub runs_of : List ℕ → ℕ
@@ -39,11 +41,13 @@ uncleared t = drop t.cleared (trim_sectors t.block)
 abbrev pub next_uncleared : Taken → ℕ
 next_uncleared t = slice_index (uncleared t) 0
 
--- How many of the next so many sectors are cleared at once, where all are on the disk: those that follow one another, from the next one on.
+-- How many of the next so many sectors are cleared at once, where all are on the disk: those that follow one another,
+-- from the next one on.
 abbrev pub span : ℕ → Taken → ℕ
 span most t = run_of (take most (uncleared t))
 
--- The port, which has disks, works on this trim, whose block was moved, and so many sectors are left to clear, one at least.
+-- The port, which has disks, works on this trim, whose block was moved, and so many sectors are left to clear, one at
+-- least.
 pub record HasClear (d : Device) (port slot most : ℕ) (t : Taken) : Type 0 where
   pub has_disks : HasDisks d port
   pub works : WorksOn (d.port port) slot t Trim
@@ -56,7 +60,8 @@ pub record HasClear (d : Device) (port slot most : ℕ) (t : Taken) : Type 0 whe
 
 -- the block that it has, or the one that its last move is going to bring
 abbrev pub block_ahead : (ℕ → ℕ) → Taken → List ℕ
-block_ahead memory t = if nat_lt t.moved (length t.places) then bytes_at memory (slice_index t.places (length t.places - 1)) 512 else t.block
+block_ahead memory t = if nat_lt t.moved (length t.places) then bytes_at memory
+    (slice_index t.places (length t.places - 1)) 512 else t.block
 
 -- so many runs are left to clear of this block
 pub record HasRuns (block : List ℕ) (cleared clears : ℕ) : Type 0 where

@@ -58,7 +58,8 @@ operation_of transfer.Flush = Flush
 operation_of transfer.Trim = Trim
 operation_of transfer.ReadLog = ReadLog
 
--- the cause in PxIS that its end sets: PSS where its data go by PIO, SDBS where it was queued, and else DHRS (AHCI 1.3.1, 3.3.5)
+-- the cause in PxIS that its end sets: PSS where its data go by PIO, SDBS where it was queued, and else DHRS (AHCI
+-- 1.3.1, 3.3.5)
 abbrev pub cause_of : Transfer → ℕ
 cause_of transfer.Identify = 1
 cause_of transfer.ReadLog = 1

@@ -18,7 +18,8 @@ outside_after o port t bytes = record o { media = changed o.media port (media_af
 
 -- the same after sectors of this port's disk were cleared
 abbrev pub outside_cleared : Outside → (port first count : ℕ) → Outside
-outside_cleared o port first count = record o { media = changed o.media port (media_cleared (o.media port) first count) }
+outside_cleared o port first count =
+    record o { media = changed o.media port (media_cleared (o.media port) first count) }
 
 abbrev pub device_of : Hardware → Outside → Device
 device_of h o =
@@ -46,7 +47,8 @@ no_media = record { disk = record { name = 0; size = 0; sectors = Some (λ k. []
 
 -- the same after this disk was put into a port
 abbrev pub outside_plugged : Outside → ℕ → Disk → Outside
-outside_plugged o port disk = record o { media = changed o.media port (record { disk = disk; plugged = (o.media port).plugged ++ disk ∷ [] }) }
+outside_plugged o port disk =
+    record o { media = changed o.media port (record { disk = disk; plugged = (o.media port).plugged ++ disk ∷ [] }) }
 
 -- The port is one that has disks: one was put in, or was in at first.
 abbrev pub HasDisks : Device → ℕ → Type 0

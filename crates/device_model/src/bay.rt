@@ -3,13 +3,13 @@ ghost use Rattle.std.specs.Prelude.{◌≡◌, ◌<◌, ◌≤◌, ◌+◌, ◌+
 ghost use Rattle.std.specs.Vec.{vec_len, vec_capacity};
 ghost use Rattle.adapter.specs.Commands.{is_ranged, reads_memory};
 ghost use Rattle.adapter.specs.Device.{Disk, IsSector};
-ghost use Rattle.adapter.specs.Memory.{bytes_at};
 ghost use Rattle.adapter.specs.Steps.{disk_after, disk_cleared};
 ghost use Rattle.sector_store.specs.Stores.{FailsOn};
 ghost use Rattle.device_model.specs.Disks.{disk_in, disk_over, identity};
-ghost use Rattle.device_model.specs.Fetched.{bytes_of};
+ghost use Rattle.device_model.specs.Exchanged.{Exchanges, IsExchanged, piece_of};
 ghost use Rattle.device_model.specs.Paged.{IsItsLog, IsItsPage, IsTurned, lying, naming, no_lies, truthful};
 ghost use Rattle.device_model.specs.View.{operation_of};
+ghost use Rattle.device_model.specs.Whole.{Outside, device_of};
 
 use crate::clearing::Run;
 use crate::disks::{Inserted, ModelDisk, PortDisks, Which};
@@ -28,7 +28,8 @@ pub const PAGE_BYTES: usize = 512;
 /// A sector that was cleared.
 const ZEROS: [u8; 512] = [0; 512];
 
-/// What the disks of a port say of themselves by their pages of IDENTIFY DEVICE, beside their sizes and serial numbers, and by the page of log 10h.
+/// What the disks of a port say of themselves by their pages of IDENTIFY DEVICE, beside their sizes and serial numbers,
+/// and by the page of log 10h.
 #[derive(Clone, Copy, Debug)]
 pub struct Description {
     pub abilities: Abilities,
@@ -67,13 +68,14 @@ fn turn(page: &mut [u8; PAGE_BYTES], bits: &[u8; PAGE_BYTES])
     }
 }
 
-/// Makes these sectors of a disk zero, the first of them first, and tells how many: all of them, or those before the one at which the store failed. It is
-/// entered for clears alone, since its frame may have room for a sector.
+/// Makes these sectors of a disk zero, the first of them first, and tells how many: all of them, or those before the
+/// one at which the store failed. It is entered for clears alone, since its frame may have room for a sector.
 #[inline(never)]
 fn clear_sectors<S: SectorStore>(disk: &mut S, which: Which, run: Run) -> u32
     requires { run.first + run.count ≤ S.size disk.old }
     ensures few { result ≤ run.count }
-    ensures disk { disk_over which (S.size disk.new) (S.told disk.new) ≡ disk_cleared (disk_over which (S.size disk.old) (S.told disk.old)) run.first result }
+    ensures disk { disk_over which (S.size disk.new) (S.told disk.new)
+        ≡ disk_cleared (disk_over which (S.size disk.old) (S.told disk.old)) run.first result }
     ensures size { S.size disk.new ≡ S.size disk.old }
     ensures none { result ≡ 0 → S.told disk.new ≡ S.told disk.old }
     ensures fine { result ≡ run.count → S.failures disk.new ≡ S.failures disk.old }
@@ -113,8 +115,8 @@ impl<S: SectorStore> Bay<S> {
         }
     }
 
-    /// Gives the page of IDENTIFY DEVICE of the disk that is in, with the bits turned on which it lies. It is entered for this page alone, since its frame has
-    /// room for one, which is cleared at each entry.
+    /// Gives the page of IDENTIFY DEVICE of the disk that is in, with the bits turned on which it lies. It is entered
+    /// for this page alone, since its frame has room for one, which is cleared at each entry.
     #[inline(never)]
     fn give_identity(&self, bytes: &mut [u8; 512])
         ensures page { IsItsPage (identity S.size self.now.disk) self.now.says bytes.new }
@@ -124,7 +126,8 @@ impl<S: SectorStore> Bay<S> {
         turn(bytes, &self.says.lies);
     }
 
-    /// Gives the page of log 10h, with the bits turned on which the disks lie. It is entered for this page alone, as `give_identity`.
+    /// Gives the page of log 10h, with the bits turned on which the disks lie. It is entered for this page alone, as
+    /// `give_identity`.
     #[inline(never)]
     fn give_log(&self, bytes: &mut [u8; 512])
         ensures page { IsItsLog self.now.says bytes.new }
@@ -134,39 +137,39 @@ impl<S: SectorStore> Bay<S> {
         turn(bytes, &self.says.log_lies);
     }
 
-    /// Has the disk that is in give the sector of a read or its page, or take a write's sector from memory, or a trim's block; `false` says that the store
-    /// failed, and that it tells what it told.
+    /// Has the disk that is in give these bytes of memory, the sector of a read or its page, or take them as a write's
+    /// sector; a trim's block stands there already. `false` says that the store failed: it tells what it told, and the
+    /// bytes are as they were.
     #[inline(always)]
-    pub fn exchange(&mut self, hardware: &Hardware, next: NextMove, bytes: &mut [u8; 512]) -> bool
-        requires { next.address + 512 ≤ length hardware.now.memory.items }
-        ensures inside { result ≡ true → is_ranged (operation_of next.transfer) ≡ true → next.sector < S.size self.old.disk.store }
-        ensures sector { result ≡ true → IsSector bytes.new }
-        ensures gives { result ≡ true → is_ranged (operation_of next.transfer) ≡ true → reads_memory (operation_of next.transfer) ≡ false →
+    fn exchange_bytes(&mut self, next: NextMove, bytes: &mut [u8; 512]) -> bool
+        ensures inside { result ≡ true → is_ranged (operation_of next.transfer) ≡ true
+            → next.sector < S.size self.old.disk.store }
+        ensures sector { IsSector bytes.new }
+        ensures gives { result ≡ true → is_ranged (operation_of next.transfer) ≡ true
+            → reads_memory (operation_of next.transfer) ≡ false →
             IfSome (S.told self.old.disk.store) (λ told. bytes.new ≡ told next.sector) }
-        ensures takes { result ≡ true → reads_memory (operation_of next.transfer) ≡ true → bytes.new ≡ bytes_at (bytes_of hardware.now.memory.items) next.address 512 }
-        ensures same { is_ranged (operation_of next.transfer) ≡ false → self.new ≡ self.old }
-        ensures page { result ≡ true → next.transfer ≡ Transfer.Identify → IsItsPage (identity S.size self.old.disk) self.old.says bytes.new }
+        ensures takes { reads_memory (operation_of next.transfer) ≡ true → bytes.new ≡ bytes.old }
+        ensures left { result ≡ false → bytes.new ≡ bytes.old }
+        ensures page { result ≡ true → next.transfer ≡ Transfer.Identify
+            → IsItsPage (identity S.size self.old.disk) self.old.says bytes.new }
         ensures log { result ≡ true → next.transfer ≡ Transfer.ReadLog → IsItsLog self.old.says bytes.new }
-        ensures disk { result ≡ true → disk_over self.old.which (S.size self.new.disk.store) (S.told self.new.disk.store)
-            ≡ disk_after (operation_of next.transfer) (disk_over self.old.which (S.size self.old.disk.store) (S.told self.old.disk.store)) next.sector bytes.new }
+        ensures same { is_ranged (operation_of next.transfer) ≡ false → self.new ≡ self.old }
+        ensures disk { result ≡ true → disk_over self.old.which (S.size self.new.disk.store)
+            (S.told self.new.disk.store)
+            ≡ disk_after (operation_of next.transfer) (disk_over self.old.which (S.size self.old.disk.store)
+            (S.told self.old.disk.store)) next.sector bytes.new }
         ensures kept { result ≡ false → S.told self.new.disk.store ≡ S.told self.old.disk.store }
         ensures size { S.size self.new.disk.store ≡ S.size self.old.disk.store }
         ensures fine { result ≡ true → S.failures self.new.disk.store ≡ S.failures self.old.disk.store }
         ensures ranged { result ≡ false → is_ranged (operation_of next.transfer) ≡ true }
         ensures fails { result ≡ false → next.sector < S.size self.old.disk.store →
-            FailsOn (reads_memory (operation_of next.transfer)) next.sector (S.failures self.old.disk.store) (S.failures self.new.disk.store) }
+            FailsOn (reads_memory (operation_of next.transfer)) next.sector (S.failures self.old.disk.store)
+            (S.failures self.new.disk.store) }
         ensures rest { self.new ≡ record self.old { disk = record self.old.disk { store = self.new.disk.store } } }
     {
         match next.transfer {
             Transfer::Read | Transfer::ReadQueued => self.disk.store.read(next.sector, bytes),
-            Transfer::Write | Transfer::WriteQueued => {
-                hardware.load(next.address as usize, bytes);
-                self.disk.store.write(next.sector, bytes)
-            }
-            Transfer::Trim => {
-                hardware.load(next.address as usize, bytes);
-                true
-            }
+            Transfer::Write | Transfer::WriteQueued => self.disk.store.write(next.sector, bytes),
             Transfer::Identify => {
                 self.give_identity(bytes);
                 true
@@ -175,9 +178,34 @@ impl<S: SectorStore> Bay<S> {
                 self.give_log(bytes);
                 true
             }
-            // A flush has no piece that could bring anything.
-            Transfer::Flush => true,
+            // A trim's block is in memory. A flush has no piece that could bring anything.
+            Transfer::Trim | Transfer::Flush => true,
         }
+    }
+
+    /// The same with so many bytes of memory.
+    #[inline(always)]
+    fn exchange_piece(&mut self, next: NextMove, piece: &mut [u8]) -> bool
+        requires { length piece.old ≡ 512 }
+        ensures { Exchanges S.size S.told S.failures self.old self.new next piece.old piece.new result }
+    {
+        let Some(bytes) = piece.as_mut_array() else {
+            unreachable!()
+        };
+        self.exchange_bytes(next, bytes)
+    }
+
+    /// Has the disk that is in and the memory exchange the next piece of a command, where it stands.
+    #[inline(always)]
+    pub fn exchange(&mut self, hardware: &mut Hardware, next: NextMove) -> bool
+        requires { next.address + 512 ≤ length hardware.old.memory.items }
+        ensures exchanges { Exchanges S.size S.told S.failures self.old self.new next
+            (piece_of hardware.old next) (piece_of hardware.new next) result }
+        ensures memory { IsExchanged hardware.old hardware.new next }
+        ensures stays { result ≡ false → (o : Outside) → device_of hardware.new o ≡ device_of hardware.old o }
+    {
+        let at = next.address as usize;
+        self.exchange_piece(next, &mut hardware.memory[at..at + PAGE_BYTES])
     }
 
     /// Makes these sectors of the disk that is in zero, as `clear_sectors` does.
@@ -185,11 +213,13 @@ impl<S: SectorStore> Bay<S> {
         requires { run.first + run.count ≤ S.size self.old.disk.store }
         ensures few { result ≤ run.count }
         ensures disk { disk_over self.old.which (S.size self.new.disk.store) (S.told self.new.disk.store)
-            ≡ disk_cleared (disk_over self.old.which (S.size self.old.disk.store) (S.told self.old.disk.store)) run.first result }
+            ≡ disk_cleared (disk_over self.old.which (S.size self.old.disk.store) (S.told self.old.disk.store))
+            run.first result }
         ensures size { S.size self.new.disk.store ≡ S.size self.old.disk.store }
         ensures none { result ≡ 0 → S.told self.new.disk.store ≡ S.told self.old.disk.store }
         ensures fine { result ≡ run.count → S.failures self.new.disk.store ≡ S.failures self.old.disk.store }
-        ensures fails { result < run.count → FailsOn true (run.first + result) (S.failures self.old.disk.store) (S.failures self.new.disk.store) }
+        ensures fails { result < run.count → FailsOn true (run.first + result) (S.failures self.old.disk.store)
+            (S.failures self.new.disk.store) }
         ensures rest { self.new ≡ record self.old { disk = record self.old.disk { store = self.new.disk.store } } }
     {
         clear_sectors(&mut self.disk.store, self.which, run)
@@ -232,7 +262,8 @@ impl<S: SectorStore> Bay<S> {
     fn turn_to(&mut self, which: Which)
         ensures which { self.new.which ≡ which }
         ensures disks { (w : Which) → disk_in self.new w ≡ disk_in self.old w }
-        ensures rest { self.new ≡ record self.old { which = self.new.which; disk = self.new.disk; other = self.new.other } }
+        ensures rest { self.new ≡ record self.old
+            { which = self.new.which; disk = self.new.disk; other = self.new.other } }
     {
         if self.which != which {
             mem::swap(&mut self.disk, &mut self.other);
@@ -255,8 +286,10 @@ impl<S: SectorStore> Bay<S> {
         requires { vec_len self.old.later < vec_capacity self.old.later }
         ensures which { self.new.which ≡ which }
         ensures disks { (w : Which) → disk_in self.new w ≡ disk_in self.old w }
-        ensures later { (f : Which → S → Disk) → map (λ s. f s.which s.store.value) self.new.later.items ≡ map (λ s. f s.which s.store.value) self.old.later.items ++ f which self.new.disk.store ∷ [] }
-        ensures rest { self.new ≡ record self.old { which = self.new.which; disk = self.new.disk; other = self.new.other; later = self.new.later } }
+        ensures later { (f : Which → S → Disk) → map (λ s. f s.which s.store.value) self.new.later.items
+            ≡ map (λ s. f s.which s.store.value) self.old.later.items ++ f which self.new.disk.store ∷ [] }
+        ensures rest { self.new ≡ record self.old
+            { which = self.new.which; disk = self.new.disk; other = self.new.other; later = self.new.later } }
     {
         self.turn_to(which);
         let store = Snapshot::of(&self.disk.store);

@@ -84,7 +84,8 @@ pub fn next_run(block: &[u8], cleared: u32, most: u32) -> Run
     run
 }
 
-/// How many runs there are with the one that a sector is in, behind so many, of which the last, if there is one, ends at this next sector.
+/// How many runs there are with the one that a sector is in, behind so many, of which the last, if there is one, ends
+/// at this next sector.
 fn runs_with(runs: u32, next: u64, first: u64) -> u32
     requires { runs + 1 < 2 ^ 32 }
     ensures begins { (runs ≡ 0) ⊎ ((runs ≢ 0) × (first ≢ next)) → result ≡ runs + 1 }

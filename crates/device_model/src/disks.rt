@@ -80,7 +80,8 @@ impl<S: SectorStore> ModelDisk<S> {
 }
 
 impl<S> Disks<S> {
-    /// Disks for port 0 alone: `IMAGEDISK` over the first store, which is in at first, and `BLANKDISK` over the second one.
+    /// Disks for port 0 alone: `IMAGEDISK` over the first store, which is in at first, and `BLANKDISK` over the second
+    /// one.
     pub fn of_port_0(image: S, blank: S) -> Disks<S>
         ensures { result ≡ port_0_alone image blank }
     {

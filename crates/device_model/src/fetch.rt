@@ -50,7 +50,9 @@ struct Sectors {
     count: u32,
 }
 
-/// Copies bytes of memory, of which some are past its end.
+/// Copies bytes of memory, of which some are past its end. It stands for itself, since its callers would copy all bytes
+/// one by one else.
+#[inline(never)]
 fn copy_end(memory: &[u8], at: usize, out: &mut [u8])
     requires { at + length out.old < 2 ^ 64 }
     ensures { out.new ≡ bytes_at (bytes_of memory.now) at (length out.old) }
@@ -132,11 +134,12 @@ fn sectors_of(register: u16) -> u32
     }
 }
 
-/// Whether the bytes are a FIS with this code whose LBA is that of a sector: kind and C bit, code and device are right, and its last bytes zero.
+/// Whether the bytes are a FIS with this code whose LBA is that of a sector: kind and C bit, code and device are right,
+/// and its last bytes zero.
 fn is_ranged_fis(bytes: &[u8], code: u8) -> bool
     requires { length bytes.now ≡ 20 }
-    ensures { IsTrue result ↔ ((slice_index bytes.now 0 ≡ 0x27) × (slice_index bytes.now 1 ≡ 0x80) × (slice_index bytes.now 2 ≡ code)
-        × (slice_index bytes.now 7 ≡ 0x40) × AreZero bytes.now 14 20) }
+    ensures { IsTrue result ↔ ((slice_index bytes.now 0 ≡ 0x27) × (slice_index bytes.now 1 ≡ 0x80)
+        × (slice_index bytes.now 2 ≡ code) × (slice_index bytes.now 7 ≡ 0x40) × AreZero bytes.now 14 20) }
 {
     bytes[0] == 0x27
         && bytes[1] == 0x80
@@ -150,7 +153,8 @@ fn decode_range(bytes: &[u8], code: u8) -> Option<Sectors>
     requires { length bytes.now ≡ 20 }
     ensures found { IfSome result (λ s. SpellsCommand bytes.now (with_fields code 0 (s.count % 65536) s.first 0x40)) }
     ensures range { IfSome result (λ s. (1 ≤ s.count) × (s.count ≤ 65536) × (s.first < 2 ^ 48)) }
-    ensures only { (s : Sectors) → 1 ≤ s.count → s.count ≤ 65536 → SpellsCommand bytes.now (with_fields code 0 (s.count % 65536) s.first 0x40) → result ≡ Some s }
+    ensures only { (s : Sectors) → 1 ≤ s.count → s.count ≤ 65536
+        → SpellsCommand bytes.now (with_fields code 0 (s.count % 65536) s.first 0x40) → result ≡ Some s }
 {
     if !is_ranged_fis(bytes, code) || bytes[3] != 0 || bytes[11] != 0 {
         return None;
@@ -161,13 +165,16 @@ fn decode_range(bytes: &[u8], code: u8) -> Option<Sectors>
     })
 }
 
-/// The sectors that the bytes name, if they are the FIS of a queued command with this code and this tag: the features count its sectors.
+/// The sectors that the bytes name, if they are the FIS of a queued command with this code and this tag: the features
+/// count its sectors.
 fn decode_queued(bytes: &[u8], code: u8, tag: u8) -> Option<Sectors>
     requires size { length bytes.now ≡ 20 }
     requires tag { tag < 32 }
-    ensures found { IfSome result (λ s. SpellsCommand bytes.now (with_fields code (s.count % 65536) (8 * tag) s.first 0x40)) }
+    ensures found { IfSome result
+        (λ s. SpellsCommand bytes.now (with_fields code (s.count % 65536) (8 * tag) s.first 0x40)) }
     ensures range { IfSome result (λ s. (1 ≤ s.count) × (s.count ≤ 65536) × (s.first < 2 ^ 48)) }
-    ensures only { (s : Sectors) → 1 ≤ s.count → s.count ≤ 65536 → SpellsCommand bytes.now (with_fields code (s.count % 65536) (8 * tag) s.first 0x40) → result ≡ Some s }
+    ensures only { (s : Sectors) → 1 ≤ s.count → s.count ≤ 65536
+        → SpellsCommand bytes.now (with_fields code (s.count % 65536) (8 * tag) s.first 0x40) → result ≡ Some s }
 {
     if !is_ranged_fis(bytes, code) || bytes[12] != 8 * tag || bytes[13] != 0 {
         return None;
@@ -178,11 +185,14 @@ fn decode_queued(bytes: &[u8], code: u8, tag: u8) -> Option<Sectors>
     })
 }
 
-/// The sectors that the bytes name, none, if they are the FIS of a command with this code, and with this number as features and as count.
+/// The sectors that the bytes name, none, if they are the FIS of a command with this code, and with this number as
+/// features and as count.
 fn decode_bare(bytes: &[u8], code: u8, number: u8) -> Option<Sectors>
     requires { length bytes.now ≡ 20 }
-    ensures found { IfSome result (λ s. SpellsCommand bytes.now (with_fields code number number 0 0x00) × (s.first ≡ 0) × (s.count ≡ 0)) }
-    ensures only { (s : Sectors) → s.first ≡ 0 → s.count ≡ 0 → SpellsCommand bytes.now (with_fields code number number 0 0x00) → result ≡ Some s }
+    ensures found { IfSome result (λ s. SpellsCommand bytes.now (with_fields code number number 0 0x00) × (s.first ≡ 0)
+        × (s.count ≡ 0)) }
+    ensures only { (s : Sectors) → s.first ≡ 0 → s.count ≡ 0
+        → SpellsCommand bytes.now (with_fields code number number 0 0x00) → result ≡ Some s }
 {
     if bytes[0] == 0x27
         && bytes[1] == 0x80
@@ -201,8 +211,10 @@ fn decode_bare(bytes: &[u8], code: u8, number: u8) -> Option<Sectors>
 /// The sectors that the bytes name, none, if they are the FIS of READ LOG EXT of one page, the first of log 10h.
 fn decode_log(bytes: &[u8]) -> Option<Sectors>
     requires { length bytes.now ≡ 20 }
-    ensures found { IfSome result (λ s. SpellsCommand bytes.now (with_fields 0x2f 0 1 0x10 0x00) × (s.first ≡ 0) × (s.count ≡ 0)) }
-    ensures only { (s : Sectors) → s.first ≡ 0 → s.count ≡ 0 → SpellsCommand bytes.now (with_fields 0x2f 0 1 0x10 0x00) → result ≡ Some s }
+    ensures found { IfSome result (λ s. SpellsCommand bytes.now (with_fields 0x2f 0 1 0x10 0x00) × (s.first ≡ 0)
+        × (s.count ≡ 0)) }
+    ensures only { (s : Sectors) → s.first ≡ 0 → s.count ≡ 0 → SpellsCommand bytes.now (with_fields 0x2f 0 1 0x10 0x00)
+        → result ≡ Some s }
 {
     if bytes[0] == 0x27
         && bytes[1] == 0x80
@@ -223,9 +235,12 @@ fn decode_log(bytes: &[u8]) -> Option<Sectors>
 fn decode_sectors(bytes: &[u8], slot: u8, transfer: Transfer) -> Option<Sectors>
     requires size { length bytes.now ≡ 20 }
     requires slot { slot < 32 }
-    ensures found { IfSome result (λ s. SpellsCommand bytes.now (command_of (operation_of transfer) slot s.first s.count)) }
-    ensures meant { IfSome result (λ s. IsMeaning (record { operation = operation_of transfer; first = s.first; count = s.count })) }
-    ensures only { (s : Sectors) → IsMeaning (record { operation = operation_of transfer; first = s.first; count = s.count }) →
+    ensures found { IfSome result
+        (λ s. SpellsCommand bytes.now (command_of (operation_of transfer) slot s.first s.count)) }
+    ensures meant { IfSome result
+        (λ s. IsMeaning (record { operation = operation_of transfer; first = s.first; count = s.count })) }
+    ensures only { (s : Sectors)
+        → IsMeaning (record { operation = operation_of transfer; first = s.first; count = s.count }) →
         SpellsCommand bytes.now (command_of (operation_of transfer) slot s.first s.count) → result ≡ Some s }
 {
     match transfer {
@@ -300,7 +315,8 @@ fn read_prds(memory: &[u8], at: usize, number: usize, prds: &mut PrdTable) -> bo
     requires few { number ≤ 128 }
     requires empty { prds.old ≡ [] }
     ensures found { result ≡ true → ArePrds (bytes_of memory.now) at number prds.new }
-    ensures only { result ≡ false → (es : List Prd) → length es ≡ number → HasPrds (bytes_of memory.now) at es → All IsWhole es → ⊥ }
+    ensures only { result ≡ false → (es : List Prd) → length es ≡ number → HasPrds (bytes_of memory.now) at es
+        → All IsWhole es → ⊥ }
 {
     for i in 0..number {
         let Some(prd) = prd_at(memory, at + 16 * i) else {
@@ -326,7 +342,8 @@ pub fn count_pieces(prds: &[Prd]) -> u32
 /// The address of a piece, if PRDs have so many.
 pub fn piece_at(prds: &[Prd], number: u32) -> Option<u64>
     requires { length prds.now ≤ 128 }
-    ensures found { IfSome result (λ address. (number < length (pieces prds.now)) × (address ≡ slice_index (pieces prds.now) number)) }
+    ensures found { IfSome result (λ address. (number < length (pieces prds.now))
+        × (address ≡ slice_index (pieces prds.now) number)) }
     ensures room { IfSome result (λ _. number + 1 < 2 ^ 32) }
     ensures low { IfSome result (λ address. address < 2 ^ 33) }
     ensures none { result ≡ None → length (pieces prds.now) ≤ number }
@@ -342,8 +359,8 @@ pub fn piece_at(prds: &[Prd], number: u32) -> Option<u64>
     None
 }
 
-/// Reads the command that a slot says by these bytes of its header and its FIS, and by its PRDs; `false` says that it is none of such a transfer. It is
-/// read into its room, so that it isn't copied.
+/// Reads the command that a slot says by these bytes of its header and its FIS, and by its PRDs; `false` says that it
+/// is none of such a transfer. It is read into its room, so that it isn't copied.
 fn decode_command(
     memory: &[u8],
     header: &[u8; 32],
@@ -355,11 +372,14 @@ fn decode_command(
     requires slot { slot < 32 }
     requires fis { fis.now ≡ bytes_at (bytes_of memory.now) (little_from 8 4 header.now) 20 }
     requires empty { command.old.prds ≡ [] }
-    ensures found { result ≡ true → IsNew command.new × ((list : ℕ) → header.now ≡ bytes_at (bytes_of memory.now) (list + HEADER_BYTES * slot) HEADER_BYTES →
+    ensures found { result ≡ true → IsNew command.new
+        × ((list : ℕ) → header.now ≡ bytes_at (bytes_of memory.now) (list + HEADER_BYTES * slot) HEADER_BYTES →
         Says (bytes_of memory.now) list slot (taken_of command.new).meaning (taken_of command.new).places) }
     ensures kind { result ≡ true → command.new.transfer ≡ transfer }
-    ensures only { result ≡ false → (list : ℕ) → header.now ≡ bytes_at (bytes_of memory.now) (list + HEADER_BYTES * slot) HEADER_BYTES →
-        (m : Meaning) (places : List ℕ) → m.operation ≡ operation_of transfer → Says (bytes_of memory.now) list slot m places → ⊥ }
+    ensures only { result ≡ false → (list : ℕ)
+        → header.now ≡ bytes_at (bytes_of memory.now) (list + HEADER_BYTES * slot) HEADER_BYTES →
+        (m : Meaning) (places : List ℕ) → m.operation ≡ operation_of transfer
+        → Says (bytes_of memory.now) list slot m places → ⊥ }
 {
     let Some(header) = decode_header(header, transfer.reads_memory()) else {
         return false;
@@ -387,9 +407,11 @@ fn decode_command(
 /// The command that the bytes of a slot say, if it is one that sends a page: its code tells.
 pub fn read_page(memory: &[u8], list: u32, slot: u8) -> Option<TakenCommand>
     requires { slot < 32 }
-    ensures found { IfSome result (λ t. IsNew t × Says (bytes_of memory.now) list slot (taken_of t).meaning (taken_of t).places) }
+    ensures found { IfSome result (λ t. IsNew t × Says (bytes_of memory.now) list slot (taken_of t).meaning
+        (taken_of t).places) }
     ensures kind { IfSome result (λ t. sends_page (operation_of t.transfer) ≡ true) }
-    ensures only { result ≡ None → (m : Meaning) (places : List ℕ) → sends_page m.operation ≡ true → Says (bytes_of memory.now) list slot m places → ⊥ }
+    ensures only { result ≡ None → (m : Meaning) (places : List ℕ) → sends_page m.operation ≡ true
+        → Says (bytes_of memory.now) list slot m places → ⊥ }
 {
     let header = header_bytes(memory, header_place(list, slot));
     let fis = fis_bytes(memory, &header);
@@ -415,7 +437,8 @@ fn header_place(list: u32, slot: u8) -> usize
 
 /// The transfer whose command has this code (ACS-3, 7).
 fn transfer_coded(code: u8) -> Option<Transfer>
-    ensures { (transfer : Transfer) (slot first count : ℕ) → (command_of (operation_of transfer) slot first count).code ≡ code → result ≡ Some transfer }
+    ensures { (transfer : Transfer) (slot first count : ℕ) → (command_of (operation_of transfer) slot first count).code
+        ≡ code → result ≡ Some transfer }
 {
     match code {
         READ_DMA_EXT => Some(Transfer::Read),
@@ -430,13 +453,15 @@ fn transfer_coded(code: u8) -> Option<Transfer>
     }
 }
 
-/// Reads the command that the bytes of a slot say, into its room; `false` says that it is none that the model takes. Its code tells which, so that it is
-/// read once.
+/// Reads the command that the bytes of a slot say, into its room; `false` says that it is none that the model takes.
+/// Its code tells which, so that it is read once.
 pub fn read_into(memory: &[u8], list: u32, slot: u8, command: &mut TakenCommand) -> bool
     requires slot { slot < 32 }
     requires empty { command.old.prds ≡ [] }
-    ensures found { result ≡ true → IsNew command.new × Says (bytes_of memory.now) list slot (taken_of command.new).meaning (taken_of command.new).places }
-    ensures only { result ≡ false → (m : Meaning) (places : List ℕ) → Says (bytes_of memory.now) list slot m places → ⊥ }
+    ensures found { result ≡ true → IsNew command.new
+        × Says (bytes_of memory.now) list slot (taken_of command.new).meaning (taken_of command.new).places }
+    ensures only { result ≡ false → (m : Meaning) (places : List ℕ) → Says (bytes_of memory.now) list slot m places
+        → ⊥ }
 {
     let header = header_bytes(memory, header_place(list, slot));
     let fis = fis_bytes(memory, &header);
@@ -449,7 +474,8 @@ pub fn read_into(memory: &[u8], list: u32, slot: u8, command: &mut TakenCommand)
 /// The command that the bytes of a slot say, if it is one that the model takes.
 pub fn read_command(memory: &[u8], list: u32, slot: u8) -> Option<TakenCommand>
     requires { slot < 32 }
-    ensures found { IfSome result (λ t. IsNew t × Says (bytes_of memory.now) list slot (taken_of t).meaning (taken_of t).places) }
+    ensures found { IfSome result (λ t. IsNew t × Says (bytes_of memory.now) list slot (taken_of t).meaning
+        (taken_of t).places) }
     ensures only { result ≡ None → (m : Meaning) (places : List ℕ) → Says (bytes_of memory.now) list slot m places → ⊥ }
 {
     let mut command = TakenCommand::room();
@@ -464,7 +490,8 @@ pub fn read_command(memory: &[u8], list: u32, slot: u8) -> Option<TakenCommand>
 pub fn says_command(memory: &[u8], list: u32, slot: u8) -> bool
     requires { slot < 32 }
     ensures said { result ≡ true → (m : Meaning) × (places : List ℕ) × Says (bytes_of memory.now) list slot m places }
-    ensures none { result ≡ false → (m : Meaning) (places : List ℕ) → Says (bytes_of memory.now) list slot m places → ⊥ }
+    ensures none { result ≡ false → (m : Meaning) (places : List ℕ) → Says (bytes_of memory.now) list slot m places
+        → ⊥ }
 {
     let mut command = TakenCommand::room();
     read_into(memory, list, slot, &mut command)

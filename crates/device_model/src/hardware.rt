@@ -66,7 +66,8 @@ fn get(memory: &[u8], at: usize, out: &mut [u8])
 /// Bits of IS were written.
 fn unacknowledge(ports: &mut [PortModel; 4], value: u32)
     ensures { (m : Media) (port : ℕ) → port_of (slice_index_or ports.new port blank) m ≡
-        (if bit value port then unacknowledged (port_of (slice_index_or ports.old port blank) m) else port_of (slice_index_or ports.old port blank) m) }
+        (if bit value port then unacknowledged (port_of (slice_index_or ports.old port blank) m) else port_of
+        (slice_index_or ports.old port blank) m) }
 {
     for port in 0..4u32 {
         if is_set(value, port) {
@@ -78,7 +79,8 @@ fn unacknowledge(ports: &mut [PortModel; 4], value: u32)
 /// Each port, where a reset of the adapter has ended.
 fn reset_all(ports: &mut [PortModel; 4])
     ensures size { length ports.new ≡ length ports.old }
-    ensures each { (m : Media) (port : ℕ) → port_of (slice_index_or ports.new port blank) m ≡ with_reset (port_of (slice_index_or ports.old port blank) m) }
+    ensures each { (m : Media) (port : ℕ) → port_of (slice_index_or ports.new port blank) m
+        ≡ with_reset (port_of (slice_index_or ports.old port blank) m) }
 {
     for port in 0..4 {
         ports[port].reset();
@@ -152,7 +154,8 @@ impl Hardware {
     /// Puts bytes into memory.
     pub fn store(&mut self, at: usize, bytes: &[u8])
         requires { at + length bytes.now ≤ length self.old.memory.items }
-        ensures stored { (o : Outside) → device_of self.new o ≡ record (device_of self.old o) { memory = patched (device_of self.old o).memory at bytes.now } }
+        ensures stored { (o : Outside) → device_of self.new o ≡ record (device_of self.old o)
+            { memory = patched (device_of self.old o).memory at bytes.now } }
         ensures starved { self.new.starved ≡ self.old.starved }
     {
         put(&mut self.memory, at, bytes);
@@ -190,9 +193,11 @@ impl Hardware {
     /// What one port does by itself: CR and FR fall where they may, and the link comes up, with the disk's first FIS.
     fn settle_port(&mut self, port: usize)
         requires { port < 4 }
-        ensures own { (o : Outside) (held : List Bool) → IsPortLoose held port → LeadsOwn (Settles held) (device_of self.old o) (device_of self.new o) }
+        ensures own { (o : Outside) (held : List Bool) → IsPortLoose held port
+            → LeadsOwn (Settles held) (device_of self.old o) (device_of self.new o) }
         ensures settled { (o : Outside) → IsSettledPort ((device_of self.new o).port port) }
-        ensures others { (o : Outside) (q : ℕ) → q ≢ port → (device_of self.new o).port q ≡ (device_of self.old o).port q }
+        ensures others { (o : Outside) (q : ℕ) → q ≢ port → (device_of self.new o).port q ≡ (device_of self.old o).port
+            q }
         ensures number { length self.new.ports ≡ length self.old.ports }
         ensures reset { self.new.hr ≡ self.old.hr }
         ensures tape { self.new.tape ≡ self.old.tape }
@@ -204,10 +209,12 @@ impl Hardware {
         }
     }
 
-    /// What the adapter does by itself before a register is read: a pending reset ends unless all ports are held, and ends all holds;
-    /// then each port that isn't held does what it does by itself. Afterwards none of this is possible any more.
+    /// What the adapter does by itself before a register is read: a pending reset ends unless all ports are held, and
+    /// ends all holds; then each port that isn't held does what it does by itself. Afterwards none of this is possible
+    /// any more.
     pub fn settle(&mut self, held: &mut [bool; PORTS])
-        ensures own { (o : Outside) → (reset : Device) × EndsReset held.old held.new (device_of self.old o) reset × LeadsOwn (Settles held.new) reset (device_of self.new o) }
+        ensures own { (o : Outside) → (reset : Device) × EndsReset held.old held.new (device_of self.old o) reset
+            × LeadsOwn (Settles held.new) reset (device_of self.new o) }
         ensures settled { (o : Outside) → IsSettled held.new (device_of self.new o) }
         ensures tape { self.new.tape ≡ self.old.tape }
         ensures starved { self.new.starved ≡ self.old.starved }

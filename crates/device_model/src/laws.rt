@@ -25,49 +25,68 @@ use sector_store::SectorStore;
 /// theirs at all times, as those in memory do, each model is one that tells.
 pub fn disks_are_told<S: SectorStore>()
     ensures tells { (m : Model S) → TellsDisks (device_at S.size S.told m) }
-    ensures telling { ((store : S) → is_some (S.told store) ≡ true) → (m : Model S) → (device_at S.size S.told m).telling ≡ true }
+    ensures telling { ((store : S) → is_some (S.told store) ≡ true) → (m : Model S)
+        → (device_at S.size S.told m).telling ≡ true }
 {}
 
-/// A move that the device may make, on a port that has a disk, is possible for a model where its piece is in the memory.
+/// A move that the device may make, on a port that has a disk, is possible for a model where its piece is in the
+/// memory.
 pub fn moves_are_possible<S: SectorStore>()
-    ensures { (m : Model S) (p : Port) (slot : Slot) (t : Taken) (bytes : List ℕ) → slot.0 < 32 → HasDisk (device_at S.size S.told m) p.0 t.meaning.operation →
-        next_place t + 512 ≤ (device_at S.size S.told m).size → Can (Move p.0 slot.0 t bytes) (device_at S.size S.told m) → Possible (asked.Move p slot) (device_at S.size S.told m) }
+    ensures { (m : Model S) (p : Port) (slot : Slot) (t : Taken) (bytes : List ℕ) → slot.0 < 32
+        → HasDisk (device_at S.size S.told m) p.0 t.meaning.operation →
+        next_place t + 512 ≤ (device_at S.size S.told m).size
+        → Can (Move p.0 slot.0 t bytes) (device_at S.size S.told m)
+        → Possible (asked.Move p slot) (device_at S.size S.told m) }
 {}
 
 /// A clear that the device may make, of a sector at least, is possible for a model.
 pub fn clears_are_possible<S: SectorStore>()
     ensures { (m : Model S) (p : Port) (slot : Slot) (t : Taken) (first count : ℕ) → slot.0 < 32 → 1 ≤ count →
-        Can (Clear p.0 slot.0 t first count) (device_at S.size S.told m) → Possible (asked.Clear p slot count) (device_at S.size S.told m) }
+        Can (Clear p.0 slot.0 t first count) (device_at S.size S.told m)
+        → Possible (asked.Clear p slot count) (device_at S.size S.told m) }
 {}
 
-/// Whatever steps are done or left, one after another, that don't put a disk in which isn't in: it stays out, with the sectors that it had. So it has
-/// these where it is put in. That holds of the disk that wasn't in last, and of the one that was, where none is in.
+/// Whatever steps are done or left, one after another, that don't put a disk in which isn't in: it stays out, with the
+/// sectors that it had. So it has these where it is put in. That holds of the disk that wasn't in last, and of the one
+/// that was, where none is in.
 pub fn disks_that_are_out_stay<S: SectorStore>()
-    ensures other { (steps : List DeviceStep) (old new : Model S) (port : ℕ) (which : Which) → which_of old port ≢ Some which → All (λ s. PutsIn port which s → ⊥) steps →
-        DoesEach S.size S.told S.failures steps old new → (which_of new port ≢ Some which) × (disk_of new port which ≡ disk_of old port which) }
-    ensures last_in { (steps : List DeviceStep) (old new : Model S) (port : ℕ) (which : Which) → which_of old port ≡ Some which →
-        ((device_at S.size S.told old).port port).present ≡ false → All (λ s. PutsIn port which s → ⊥) steps → DoesEach S.size S.told S.failures steps old new →
-        (which_of new port ≡ Some which → ((device_at S.size S.told new).port port).present ≡ false) × (disk_of new port which ≡ disk_of old port which) }
+    ensures other { (steps : List DeviceStep) (old new : Model S) (port : ℕ) (which : Which)
+        → which_of old port ≢ Some which → All (λ s. PutsIn port which s → ⊥) steps →
+        DoesEach S.size S.told S.failures steps old new → (which_of new port ≢ Some which)
+        × (disk_of new port which ≡ disk_of old port which) }
+    ensures last_in { (steps : List DeviceStep) (old new : Model S) (port : ℕ) (which : Which)
+        → which_of old port ≡ Some which →
+        ((device_at S.size S.told old).port port).present ≡ false → All (λ s. PutsIn port which s → ⊥) steps
+        → DoesEach S.size S.told S.failures steps old new →
+        (which_of new port ≡ Some which → ((device_at S.size S.told new).port port).present ≡ false)
+        × (disk_of new port which ≡ disk_of old port which) }
 {}
 
 /// What a model does by itself leaves a held port as it is.
 pub fn held_ports_stay()
-    ensures { (held : List Bool) (old new : Device) (port : ℕ) → IsPortHeld held port → DoesOwn held old new → new.port port ≡ old.port port }
+    ensures { (held : List Bool) (old new : Device) (port : ℕ) → IsPortHeld held port → DoesOwn held old new
+        → new.port port ≡ old.port port }
 {}
 
-/// Queued commands go on side by side. One that may be taken beside those that are may be taken still, the same one, once another one was; and one
-/// of which nothing is left is taken still, and may end, once another one has ended, whichever of them does first.
+/// Queued commands go on side by side. One that may be taken beside those that are may be taken still, the same one,
+/// once another one was; and one of which nothing is left is taken still, and may end, once another one has ended,
+/// whichever of them does first.
 pub fn queued_commands_go_on_side_by_side<S: SectorStore>()
-    ensures taken { (old new : Model S) (p : Port) (slot other : Slot) (m n : Meaning) (xs ys : List ℕ) → slot.0 < 32 → other.0 < 32 → other.0 ≢ slot.0 →
+    ensures taken { (old new : Model S) (p : Port) (slot other : Slot) (m n : Meaning) (xs ys : List ℕ) → slot.0 < 32
+        → other.0 < 32 → other.0 ≢ slot.0 →
         p.0 < 4 → is_queued m.operation ≡ true → is_queued n.operation ≡ true →
-        Can (Fetch p.0 slot.0 m xs) (device_at S.size S.told old) → Can (Fetch p.0 other.0 n ys) (device_at S.size S.told old) →
+        Can (Fetch p.0 slot.0 m xs) (device_at S.size S.told old)
+        → Can (Fetch p.0 other.0 n ys) (device_at S.size S.told old) →
         Possible (asked.Fetch p slot) (device_at S.size S.told old)
-        × (Did S.size S.told S.failures (asked.Fetch p slot) old new → Can (Fetch p.0 other.0 n ys) (device_at S.size S.told new)
+        × (Did S.size S.told S.failures (asked.Fetch p slot) old new
+        → Can (Fetch p.0 other.0 n ys) (device_at S.size S.told new)
         × Possible (asked.Fetch p other) (device_at S.size S.told new)) }
-    ensures ended { (old new : Model S) (p : Port) (slot other : Slot) (t u : Taken) → slot.0 < 32 → other.0 < 32 → other.0 ≢ slot.0 → p.0 < 4 →
+    ensures ended { (old new : Model S) (p : Port) (slot other : Slot) (t u : Taken) → slot.0 < 32 → other.0 < 32
+        → other.0 ≢ slot.0 → p.0 < 4 →
         WorksOn ((device_at S.size S.told old).port p.0) slot.0 t t.meaning.operation →
         WorksOn ((device_at S.size S.told old).port p.0) other.0 u u.meaning.operation → IsFinished t → IsFinished u →
         Possible (asked.Done p slot) (device_at S.size S.told old)
-        × (Did S.size S.told S.failures (asked.Done p slot) old new → WorksOn ((device_at S.size S.told new).port p.0) other.0 u u.meaning.operation
+        × (Did S.size S.told S.failures (asked.Done p slot) old new → WorksOn ((device_at S.size S.told new).port p.0)
+        other.0 u u.meaning.operation
         × Possible (asked.Done p other) (device_at S.size S.told new)) }
 {}

@@ -1,7 +1,13 @@
-//! A modelled AHCI adapter: registers, memory, and two disks for each port that is given some, each over a store of sectors. Its device does what it is told,
-//! and by itself ends a reset, lets engines fall, brings the link up, and does IDENTIFY DEVICE and READ LOG EXT, but not on a port that is
-//! held. It takes READ DMA EXT, WRITE DMA EXT, READ FPDMA QUEUED, WRITE FPDMA QUEUED, FLUSH CACHE EXT, DATA SET MANAGEMENT with TRIM, IDENTIFY
-//! DEVICE and READ LOG EXT, and fails them when it is told.
+//! A modelled AHCI adapter with memory and disks, which meets the trait `Adapter`.
+//!
+//! Each of four ports has two disks, or none, for good: each disk over a store of sectors, and one
+//! in the port at most. The device does what it is told (`step`, or `queue_step` before a later
+//! access). By itself, before each register read, it ends a reset, lets CR and FR fall, brings
+//! links up, and does IDENTIFY DEVICE and READ LOG EXT, but not on a port that is held. It takes
+//! each command that the driver knows. A command fails when it is told, where its store fails,
+//! where its sector is past the disk, and where its bytes mean none; the port is halted then. A
+//! step that is possible is left for want of memory alone. `starved` tells so from then on, and
+//! whoever plays the model has to look at it. The server doesn't use this crate.
 #![tactic(auto)]
 
 mod bay;

@@ -72,9 +72,10 @@ struct Queued {
     step: DeviceStep,
 }
 
-/// A modelled adapter. Each of ports 0 to 3 for which disks are given has disk 0 of them at first, over its store; it can be taken out, and put in again, or disk 1 in its place, over the
-/// other store. The other ports have no device. It takes READ DMA EXT, WRITE DMA EXT, READ FPDMA
-/// QUEUED, WRITE FPDMA QUEUED, FLUSH CACHE EXT, DATA SET MANAGEMENT with TRIM, IDENTIFY DEVICE and READ LOG EXT.
+/// A modelled adapter. Each of ports 0 to 3 for which disks are given has disk 0 of them at first, over its store; it
+/// can be taken out, and put in again, or disk 1 in its place, over the other store. The other ports have no device. It
+/// takes READ DMA EXT, WRITE DMA EXT, READ FPDMA QUEUED, WRITE FPDMA QUEUED, FLUSH CACHE EXT, DATA SET MANAGEMENT with
+/// TRIM, IDENTIFY DEVICE and READ LOG EXT.
 #[derive(Drop)]
 pub struct Model<S> {
     hardware: Hardware,
@@ -124,7 +125,8 @@ fn bay_for<S: SectorStore>(
 fn seat<S: SectorStore>(bays: &mut Vec<Option<Bay<S>>>, bay: Option<Bay<S>>)
     requires { vec_len bays.old < vec_capacity bays.old }
     ensures items { bays.new.items ≡ bays.old.items ++ bay ∷ [] }
-    ensures left { (n : ℕ) → vec_len bays.old + (n + 1) ≤ vec_capacity bays.old → vec_len bays.new + n ≤ vec_capacity bays.new }
+    ensures left { (n : ℕ) → vec_len bays.old + (n + 1) ≤ vec_capacity bays.old
+        → vec_len bays.new + n ≤ vec_capacity bays.new }
 {
     let _pushed = bays.push(bay).is_ok();
 }
@@ -135,8 +137,10 @@ fn bays_for<S: SectorStore>(
     disks: Disks<S>,
     config: ModelConfig,
 ) -> Result<Vec<Option<Bay<S>>>, NoMemory>
-    ensures bays { IfOk result (λ bays. (port : ℕ) → IsNewBay config (given_for disks port) (slice_index_or bays.items port None)) }
-    ensures media { IfOk result (λ bays. (port : ℕ) → IsNewMedia S.size S.told (given_for disks port) (media_of S.size S.told (slice_index_or bays.items port None))) }
+    ensures bays { IfOk result (λ bays. (port : ℕ)
+        → IsNewBay config (given_for disks port) (slice_index_or bays.items port None)) }
+    ensures media { IfOk result (λ bays. (port : ℕ) → IsNewMedia S.size S.told (given_for disks port)
+        (media_of S.size S.told (slice_index_or bays.items port None))) }
     ensures tells { IfOk result (λ bays. all_tell S.told bays.items ≡ all_given_tell S.told disks) }
 {
     let mut bays = Vec::with_capacity(alloc, PORTS)?;
@@ -148,8 +152,8 @@ fn bays_for<S: SectorStore>(
 }
 
 impl<S: SectorStore> Model<S> {
-    /// An adapter as after its reset, with the ports that are asked for, memory of zeros, and two disks for port 0 alone: `IMAGEDISK` over the first store, which is in, and
-    /// `BLANKDISK` over the second one.
+    /// An adapter as after its reset, with the ports that are asked for, memory of zeros, and two disks for port 0
+    /// alone: `IMAGEDISK` over the first store, which is in, and `BLANKDISK` over the second one.
     pub fn new(alloc: Global, config: ModelConfig, image: S, blank: S) -> Result<Model<S>, NoMemory>
         requires frames { (FEWEST_FRAMES ≤ config.frames) × (config.frames ≤ MOST_FRAMES) }
         requires ports { (1 ≤ config.pi) × (config.pi ≤ 15) }
@@ -160,7 +164,8 @@ impl<S: SectorStore> Model<S> {
         Model::with_disks(alloc, config, Disks::of_port_0(image, blank))
     }
 
-    /// The same with these disks, of which those are in that are first in their ports. It tells its disks' sectors where all of their stores do.
+    /// The same with these disks, of which those are in that are first in their ports. It tells its disks' sectors
+    /// where all of their stores do.
     pub fn with_disks(
         alloc: Global,
         config: ModelConfig,
@@ -211,7 +216,8 @@ impl<S: SectorStore> Model<S> {
         self.hardware.memory.as_slice()
     }
 
-    /// What a register shows now, of the adapter or of one of its four ports. It is no access: the device does nothing first, and nothing is noted.
+    /// What a register shows now, of the adapter or of one of its four ports. It is no access: the device does nothing
+    /// first, and nothing is noted.
     pub fn shown(&self, r: Reg) -> u32
         requires { HasRegister r }
         ensures { Shows r result (device_at S.size S.told self.now) }
@@ -219,9 +225,9 @@ impl<S: SectorStore> Model<S> {
         self.hardware.shown(r)
     }
 
-    /// Whether a step of the device, one that was asked for, that was queued or that the model does by itself, was left out since memory to note
-    /// it was refused. (The contracts say that there was no room without growing.) From then on this is `true`, and what the model answers is
-    /// no longer what an adapter with memory would.
+    /// Whether a step of the device, one that was asked for, that was queued or that the model does by itself, was left
+    /// out since memory to note it was refused. (The contracts say that there was no room without growing.) From then
+    /// on this is `true`, and what the model answers is no longer what an adapter with memory would.
     pub fn starved(&self) -> bool
         ensures { result ≡ self.now.hardware.starved }
     {
@@ -232,7 +238,8 @@ impl<S: SectorStore> Model<S> {
     /// 0 is read as 1. Steps before one access are done in the order in which they were queued.
     pub fn queue_step(&mut self, n: u64, step: DeviceStep) -> Result<(), NoMemory>
         ensures same { self.new ≡ record self.old { queue = self.new.queue } }
-        ensures queued { OnOk result (self.new.queue.items ≡ self.old.queue.items ++ record { access = min (self.old.accesses + max n 1) (2 ^ 64 - 1); step = step } ∷ []) }
+        ensures queued { OnOk result (self.new.queue.items ≡ self.old.queue.items
+            ++ record { access = min (self.old.accesses + max n 1) (2 ^ 64 - 1); step = step } ∷ []) }
         ensures kept { OnErr result (self.new.queue.items ≡ self.old.queue.items) }
     {
         let access = self.accesses.saturating_add(n.max(1));
@@ -332,17 +339,24 @@ impl<S: SectorStore> Model<S> {
         true
     }
 
-    /// Moves the next piece of a slot's command, by this room for it, or fails it, if that is a sector on which the store fails, or one past the disk. The memory
-    /// is taken to end at 4 GiB. It is entered for each sector, so it stands in its callers' code, with what it calls for each.
+    /// Moves the next piece of a slot's command, or fails it, if that is a sector on which the store fails, or one past
+    /// the disk. The memory is taken to end at 4 GiB. It is entered for each sector, so it stands in its callers' code,
+    /// with what it calls for each.
     #[inline(always)]
-    fn move_piece(&mut self, port: Port, slot: Slot, bytes: &mut [u8; 512]) -> Outcome
+    fn move_piece(&mut self, port: Port, slot: Slot) -> Outcome
         requires { slot.0 < 32 }
-        ensures answers { AnswersStep S.size S.told S.failures (DeviceStep.Move port slot) (answer_of result) self.old self.new }
-        ensures whole { result ≡ Outcome.Done → Completes S.size S.told S.failures (DeviceStep.Move port slot) self.old self.new }
-        ensures failed { result ≡ Outcome.Failed → HasFailed S.size S.told S.failures (DeviceStep.Move port slot) self.old self.new }
-        ensures left { result ≡ Outcome.Done → (n : ℕ) → HasRoom self.old.hardware (n + 1) → HasRoom self.new.hardware n }
-        ensures page { (t : Taken) → ((device_at S.size S.told self.old).port port.0).taken slot.0 ≡ Some t → sends_page t.meaning.operation ≡ true →
-            result ≡ Outcome.Left → HasMove (device_at S.size S.told self.old) port.0 slot.0 t → next_place t < 2 ^ 32 → HasRoom self.old.hardware 1 → ⊥ }
+        ensures answers { AnswersStep S.size S.told S.failures (DeviceStep.Move port slot) (answer_of result) self.old
+            self.new }
+        ensures whole { result ≡ Outcome.Done → Completes S.size S.told S.failures (DeviceStep.Move port slot) self.old
+            self.new }
+        ensures failed { result ≡ Outcome.Failed → HasFailed S.size S.told S.failures (DeviceStep.Move port slot)
+            self.old self.new }
+        ensures left { result ≡ Outcome.Done → (n : ℕ) → HasRoom self.old.hardware (n + 1)
+            → HasRoom self.new.hardware n }
+        ensures page { (t : Taken) → ((device_at S.size S.told self.old).port port.0).taken slot.0 ≡ Some t
+            → sends_page t.meaning.operation ≡ true →
+            result ≡ Outcome.Left → HasMove (device_at S.size S.told self.old) port.0 slot.0 t → next_place t < 2 ^ 32
+            → HasRoom self.old.hardware 1 → ⊥ }
     {
         let place = usize::from(port.0);
         if place >= PORTS || !has_disks(self.bays.as_slice(), place) {
@@ -364,33 +378,36 @@ impl<S: SectorStore> Model<S> {
             let _failed = self.fail(port, slot, PAST_THE_DISK);
             return Outcome::Failed;
         }
-        if !bay.exchange(&self.hardware, next, bytes) {
+        if !bay.exchange(&mut self.hardware, next) {
             let _failed = self.fail(port, slot, STORE_FAILED);
             return Outcome::Failed;
         }
-        self.hardware.move_bytes(port.0, slot.0, next, bytes);
+        self.hardware.note_move(port.0, slot.0, next);
         Outcome::Done
     }
 
-    /// Moves the next piece alone; `false` says that nothing came of it. It is entered for such steps alone, since its frame has room for a piece.
+    /// Moves the next piece alone; `false` says that nothing came of it.
     #[inline(never)]
     fn move_one(&mut self, port: Port, slot: Slot) -> bool
         requires { slot.0 < 32 }
         ensures { AnswersStep S.size S.told S.failures (DeviceStep.Move port slot) result self.old self.new }
     {
-        let mut bytes = [0; 512];
-        self.move_piece(port, slot, &mut bytes).is_told()
+        self.move_piece(port, slot).is_told()
     }
 
-    /// Clears the next sectors of a slot's trim, so many at the most: those that follow one another. It fails on the first one past the disk, or on which the
-    /// store fails, once those before it are cleared.
+    /// Clears the next sectors of a slot's trim, so many at the most: those that follow one another. It fails on the
+    /// first one past the disk, or on which the store fails, once those before it are cleared.
     fn clear_run(&mut self, port: Port, slot: Slot, most: u32) -> Outcome
         requires { slot.0 < 32 }
-        ensures answers { AnswersStep S.size S.told S.failures (DeviceStep.Clear port slot most) (answer_of result) self.old self.new }
-        ensures whole { result ≡ Outcome.Done → HasCleared (device_at S.size S.told self.old) (device_at S.size S.told self.new) port.0 slot.0 most
+        ensures answers { AnswersStep S.size S.told S.failures (DeviceStep.Clear port slot most) (answer_of result)
+            self.old self.new }
+        ensures whole { result ≡ Outcome.Done
+            → HasCleared (device_at S.size S.told self.old) (device_at S.size S.told self.new) port.0 slot.0 most
             × Completes S.size S.told S.failures (DeviceStep.Clear port slot most) self.old self.new }
-        ensures failed { result ≡ Outcome.Failed → HasFailed S.size S.told S.failures (DeviceStep.Clear port slot most) self.old self.new }
-        ensures left { result ≡ Outcome.Done → (n : ℕ) → HasRoom self.old.hardware (n + 1) → HasRoom self.new.hardware n }
+        ensures failed { result ≡ Outcome.Failed → HasFailed S.size S.told S.failures (DeviceStep.Clear port slot most)
+            self.old self.new }
+        ensures left { result ≡ Outcome.Done → (n : ℕ) → HasRoom self.old.hardware (n + 1)
+            → HasRoom self.new.hardware n }
     {
         let place = usize::from(port.0);
         if place >= PORTS || !has_disks(self.bays.as_slice(), place) {
@@ -424,13 +441,14 @@ impl<S: SectorStore> Model<S> {
         Outcome::Failed
     }
 
-    /// Takes a slot's command if it isn't taken, moves and clears all that is left of it, and ends it. The tape's memory is found first. A sector on which
-    /// the store fails, or that is past the disk, fails it.
+    /// Takes a slot's command if it isn't taken, moves and clears all that is left of it, and ends it. The tape's
+    /// memory is found first. A sector on which the store fails, or that is past the disk, fails it.
     #[inline(never)]
     fn finish(&mut self, port: Port, slot: Slot) -> bool
         requires { slot.0 < 32 }
         ensures answers { AnswersStep S.size S.told S.failures (DeviceStep.Finish port slot) result self.old self.new }
-        ensures sends { HasDisks (device_at S.size S.told self.old) port.0 → (has : HasPage (device_at S.size S.told self.old) port.0 slot.0) →
+        ensures sends { HasDisks (device_at S.size S.told self.old) port.0
+            → (has : HasPage (device_at S.size S.told self.old) port.0 slot.0) →
             (result ≡ true → IsFreeSlot ((device_at S.size S.told self.new).port port.0) slot.0)
             × (result ≡ false → (self.new.hardware.starved ≡ true) × (HasRoom self.new.hardware (has.left + 1) → ⊥)) }
     {
@@ -441,9 +459,8 @@ impl<S: SectorStore> Model<S> {
             return false;
         };
         let mut did = was_taken;
-        let mut bytes = [0; 512];
         for _piece in 0..rest.left {
-            match self.move_piece(port, slot, &mut bytes) {
+            match self.move_piece(port, slot) {
                 Outcome::Left => return did,
                 Outcome::Failed => return true,
                 Outcome::Done => did = true,
@@ -460,19 +477,25 @@ impl<S: SectorStore> Model<S> {
         self.hardware.done(port.0, slot.0) || did
     }
 
-    /// Takes the IDENTIFY DEVICE or READ LOG EXT of a slot, unless it is taken. No other one of its port may be taken then.
+    /// Takes the IDENTIFY DEVICE or READ LOG EXT of a slot, unless it is taken. No other one of its port may be taken
+    /// then.
     fn take_page(&mut self, port: u8, slot: u8)
         requires port { port < 4 }
         requires small { slot < 32 }
-        requires there { MayPage (device_at S.size S.told self.old) port slot ⊎ HasPage (device_at S.size S.told self.old) port slot }
-        ensures own { (held : List Bool) → IsPortLoose held port → LeadsOwn (SendsPages held) (device_at S.size S.told self.old) (device_at S.size S.told self.new) }
-        ensures settled { (held : List Bool) → IsSettled held (device_at S.size S.told self.old) → IsSettled held (device_at S.size S.told self.new) }
+        requires there { MayPage (device_at S.size S.told self.old) port slot
+            ⊎ HasPage (device_at S.size S.told self.old) port slot }
+        ensures own { (held : List Bool) → IsPortLoose held port
+            → LeadsOwn (SendsPages held) (device_at S.size S.told self.old) (device_at S.size S.told self.new) }
+        ensures settled { (held : List Bool) → IsSettled held (device_at S.size S.told self.old)
+            → IsSettled held (device_at S.size S.told self.new) }
         ensures taken { IsBusy (device_at S.size S.told self.new) port }
-        ensures stuck { MayPage (device_at S.size S.told self.old) port slot → (other : ℕ) → HasPage (device_at S.size S.told self.new) port other →
+        ensures stuck { MayPage (device_at S.size S.told self.old) port slot → (other : ℕ)
+            → HasPage (device_at S.size S.told self.new) port other →
             HasPage (device_at S.size S.told self.old) port slot }
         ensures left { (has : HasPage (device_at S.size S.told self.old) port slot) →
             (now : HasPage (device_at S.size S.told self.new) port slot) × (now.left ≡ has.left) }
-        ensures others { (q : ℕ) → q ≢ port → (device_at S.size S.told self.new).port q ≡ (device_at S.size S.told self.old).port q }
+        ensures others { (q : ℕ) → q ≢ port → (device_at S.size S.told self.new).port q
+            ≡ (device_at S.size S.told self.old).port q }
         ensures size { (device_at S.size S.told self.new).size ≡ (device_at S.size S.told self.old).size }
         ensures rest { GoesOnSo S.size self.old self.new }
         ensures room { (n : ℕ) → HasRoom self.new.hardware n → HasRoom self.old.hardware n }
@@ -482,12 +505,16 @@ impl<S: SectorStore> Model<S> {
         let _taken = self.hardware.fetch(port, slot);
     }
 
-    /// The first slot with an IDENTIFY DEVICE or READ LOG EXT that may be taken, or can be done to its end, of a port that has disks and isn't left out.
+    /// The first slot with an IDENTIFY DEVICE or READ LOG EXT that may be taken, or can be done to its end, of a port
+    /// that has disks and isn't left out.
     fn next_page(&self, left_out: &[bool; PORTS]) -> Option<FoundPage>
-        ensures port { IfSome result (λ found. (found.port < 4) × IsPortLoose left_out.now found.port × HasDisks (device_at S.size S.told self.now) found.port) }
+        ensures port { IfSome result (λ found. (found.port < 4) × IsPortLoose left_out.now found.port
+            × HasDisks (device_at S.size S.told self.now) found.port) }
         ensures small { IfSome result (λ found. found.slot < 32) }
-        ensures found { IfSome result (λ found. FindsPage (device_at S.size S.told self.now) found.port found.slot (Some found.ends)) }
-        ensures none { result ≡ None → (port slot : ℕ) → port < 4 → IsPortLoose left_out.now port → HasDisks (device_at S.size S.told self.now) port → slot < 32 →
+        ensures found { IfSome result (λ found. FindsPage (device_at S.size S.told self.now) found.port found.slot
+            (Some found.ends)) }
+        ensures none { result ≡ None → (port slot : ℕ) → port < 4 → IsPortLoose left_out.now port
+            → HasDisks (device_at S.size S.told self.now) port → slot < 32 →
             FindsPage (device_at S.size S.told self.now) port slot None }
     {
         for port in 0..4u8 {
@@ -501,15 +528,20 @@ impl<S: SectorStore> Model<S> {
         None
     }
 
-    /// Does each IDENTIFY DEVICE and READ LOG EXT that can be done to its end, of each port that isn't held: the lowest port's first, and of these the lowest slot's. The page that one sends
-    /// may stand where another's bytes are, also another port's, so they are looked for anew after each. One that may be taken, and can't be done to its end, or for which the tape has no
-    /// memory, is taken, and no more; the others of its port wait for it. Once the tape had no memory, none is done to its end. Beside another command none is taken.
+    /// Does each IDENTIFY DEVICE and READ LOG EXT that can be done to its end, of each port that isn't held: the lowest
+    /// port's first, and of these the lowest slot's. The page that one sends may stand where another's bytes are, also
+    /// another port's, so they are looked for anew after each. One that may be taken, and can't be done to its end, or
+    /// for which the tape has no memory, is taken, and no more; the others of its port wait for it. Once the tape had
+    /// no memory, none is done to its end. Beside another command none is taken.
     fn send_pages(&mut self)
-        ensures own { LeadsOwn (SendsPages self.old.held) (device_at S.size S.told self.old) (device_at S.size S.told self.new) }
-        ensures settled { (held : List Bool) → IsSettled held (device_at S.size S.told self.old) → IsSettled held (device_at S.size S.told self.new) }
+        ensures own { LeadsOwn (SendsPages self.old.held) (device_at S.size S.told self.old)
+            (device_at S.size S.told self.new) }
+        ensures settled { (held : List Bool) → IsSettled held (device_at S.size S.told self.old)
+            → IsSettled held (device_at S.size S.told self.new) }
         ensures left { NoneIsLeft self.new.held self.new.hardware.starved (device_at S.size S.told self.new) }
         ensures rest { GoesOnSo S.size self.old self.new }
-        ensures told { self.new.hardware.starved ≡ true → (self.old.hardware.starved ≡ true) ⊎ LeavesOne self.new.hardware (device_at S.size S.told self.new) }
+        ensures told { self.new.hardware.starved ≡ true → (self.old.hardware.starved ≡ true)
+            ⊎ LeavesOne self.new.hardware (device_at S.size S.told self.new) }
         ensures disks { (port : ℕ) (which : Which) → disk_of self.new port which ≡ disk_of self.old port which }
     {
         let mut left_out = self.held;
@@ -548,8 +580,10 @@ impl<S: SectorStore> Model<S> {
 
     /// Holds a port, or releases it, if it is one of ports 0 to 3.
     fn hold(&mut self, port: Port, held: bool) -> bool
-        ensures holds { held ≡ true → AnswersStep S.size S.told S.failures (DeviceStep.Hold port) result self.old self.new }
-        ensures releases { held ≡ false → AnswersStep S.size S.told S.failures (DeviceStep.Release port) result self.old self.new }
+        ensures holds { held ≡ true → AnswersStep S.size S.told S.failures (DeviceStep.Hold port) result self.old
+            self.new }
+        ensures releases { held ≡ false → AnswersStep S.size S.told S.failures (DeviceStep.Release port) result self.old
+            self.new }
     {
         let place = usize::from(port.0);
         if place >= PORTS {
@@ -583,8 +617,8 @@ impl<S: SectorStore> Model<S> {
         }
     }
 
-    /// Before an access, the steps that are queued before it, in their order; each leaves the queue, whether it was possible
-    /// or not.
+    /// Before an access, the steps that are queued before it, in their order; each leaves the queue, whether it was
+    /// possible or not.
     #[inline(always)]
     fn do_queued(&mut self)
         ensures { BeginsAccess S.size S.told S.failures self.old self.new }
@@ -655,10 +689,10 @@ fn capabilities(pi: u8, slots: u8, ncq: bool) -> u32
 impl<S: SectorStore> Adapter for Model<S> {
     ghost device = { λ m. device_at S.size S.told m };
 
-    /// Before the value is read, a pending reset ends unless all four ports are held, and ends all holds; and on each port that isn't
-    /// held, CR and FR fall if they may, and the link comes up if it may. Then each IDENTIFY DEVICE and READ LOG EXT of such a port is done that can be done to
-    /// its end, and one that can't, but may be taken, is taken. A held port does nothing by itself until a reset
-    /// ends.
+    /// Before the value is read, a pending reset ends unless all four ports are held, and ends all holds; and on each
+    /// port that isn't held, CR and FR fall if they may, and the link comes up if it may. Then each IDENTIFY DEVICE and
+    /// READ LOG EXT of such a port is done that can be done to its end, and one that can't, but may be taken, is taken.
+    /// A held port does nothing by itself until a reset ends.
     fn read(&mut self, r: Reg) -> u32
         requires { MayRead r (device_at S.size S.told self.old) }
         ensures reads { Reads r result (device_at S.size S.told self.old) (device_at S.size S.told self.new) }
@@ -695,7 +729,8 @@ impl<S: SectorStore> Adapter for Model<S> {
     fn store(&mut self, addr: u32, bytes: &[u8])
         requires { Stays (IsFree addr (length bytes.now)) (device_at S.size S.told self.old) }
         ensures stores { Stores addr bytes.now (device_at S.size S.told self.old) (device_at S.size S.told self.new) }
-        ensures alone { DoesThen S.size S.told S.failures (λ d. record d { memory = patched d.memory addr bytes.now }) self.old self.new }
+        ensures alone { DoesThen S.size S.told S.failures (λ d. record d { memory = patched d.memory addr bytes.now })
+            self.old self.new }
     {
         self.do_queued();
         self.hardware.store(addr as usize, bytes);
@@ -705,12 +740,14 @@ impl<S: SectorStore> Adapter for Model<S> {
 }
 
 impl<S: SectorStore> Stepped for Model<S> {
-    /// Beside what every such adapter says: it is done if it is possible, no call on a store fails, and there is memory to note it; and
-    /// nothing but what it asks is another. Disks 0 and 1 alone are put in, and only into a port that has disks.
+    /// Beside what every such adapter says: it is done if it is possible, no call on a store fails, and there is memory
+    /// to note it; and nothing but what it asks is another. Disks 0 and 1 alone are put in, and only into a port that
+    /// has disks.
     fn step(&mut self, s: &DeviceStep) -> bool
         ensures steps { Steps (device_at S.size S.told self.old) (device_at S.size S.told self.new) }
         ensures refused { result ≡ false → device_at S.size S.told self.new ≡ device_at S.size S.told self.old }
-        ensures asked { result ≡ true → Asked s.now (device_at S.size S.told self.old) (device_at S.size S.told self.new) }
+        ensures asked { result ≡ true → Asked s.now (device_at S.size S.told self.old)
+            (device_at S.size S.told self.new) }
         ensures answers { AnswersStep S.size S.told S.failures s.now result self.old self.new }
     {
         self.do_step(s)

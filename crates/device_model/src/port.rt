@@ -42,8 +42,8 @@ pub struct Readings {
     pub acknowledged: bool,
 }
 
-/// The commands that the model takes: sectors that go between disk and memory, the pages of IDENTIFY DEVICE and READ LOG EXT, the block of a
-/// trim, and FLUSH CACHE EXT, which moves nothing.
+/// The commands that the model takes: sectors that go between disk and memory, the pages of IDENTIFY DEVICE and READ
+/// LOG EXT, the block of a trim, and FLUSH CACHE EXT, which moves nothing.
 #[derive(Clone, Copy, Debug)]
 pub enum Transfer {
     /// READ DMA EXT.
@@ -64,8 +64,8 @@ pub enum Transfer {
     ReadLog,
 }
 
-/// The bits of PxIS that the end of a command sets (AHCI 1.3.1, 3.3.5): DHRS for a Register FIS, PSS for a PIO Setup FIS, SDBS for a Set Device Bits
-/// FIS.
+/// The bits of PxIS that the end of a command sets (AHCI 1.3.1, 3.3.5): DHRS for a Register FIS, PSS for a PIO Setup
+/// FIS, SDBS for a Set Device Bits FIS.
 const DHRS: u32 = 0;
 
 const PSS: u32 = 1;
@@ -129,7 +129,8 @@ impl Transfer {
         }
     }
 
-    /// The bit of PxIS that its end sets: PSS where its data go by PIO, SDBS where it was queued, and else DHRS (AHCI 1.3.1, 3.3.5).
+    /// The bit of PxIS that its end sets: PSS where its data go by PIO, SDBS where it was queued, and else DHRS (AHCI
+    /// 1.3.1, 3.3.5).
     pub fn cause(self) -> u32
         ensures { result ≡ cause_of self }
     {

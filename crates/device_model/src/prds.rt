@@ -12,8 +12,8 @@ const NO_PRD: Prd = Prd {
     bytes: 0,
 };
 
-/// The PRDs of a command, in their order (AHCI 1.3.1, 4.2.3.3): there is room for 128, and those that there are stand first. So what goes over
-/// them has no more to do than there are.
+/// The PRDs of a command, in their order (AHCI 1.3.1, 4.2.3.3): there is room for 128, and those that there are stand
+/// first. So what goes over them has no more to do than there are.
 #[derive(Debug, Drop)]
 pub struct PrdTable {
     room: [Prd; MOST_PRDS],

@@ -63,7 +63,8 @@ impl PortModel {
 
     /// Notes what a register showed.
     pub fn note(&mut self, r: PortReg, value: u32)
-        ensures { (m : Media) → port_of self.new m ≡ record (port_of self.old m) { notes = note r value (port_of self.old m) } }
+        ensures { (m : Media) → port_of self.new m ≡ record (port_of self.old m)
+            { notes = note r value (port_of self.old m) } }
     {
         let no_comreset = self.sctl_det % 16 == 0;
         match r {
@@ -142,7 +143,8 @@ impl PortModel {
 
     /// Bits of PxSERR are cleared.
     fn clear_errors(&mut self, value: u32)
-        ensures { (m : Media) (tape : ℕ) → port_of self.new m ≡ port_written PortReg.Serr value tape (port_of self.old m) }
+        ensures { (m : Media) (tape : ℕ) → port_of self.new m ≡ port_written PortReg.Serr value tape
+            (port_of self.old m) }
     {
         self.serr_n = self.serr_n && !is_set(value, 16);
         self.serr_x = self.serr_x && !is_set(value, 26);
@@ -150,7 +152,8 @@ impl PortModel {
 
     /// Bits of PxIS are cleared.
     fn acknowledge(&mut self, value: u32)
-        ensures { (m : Media) (tape : ℕ) → port_of self.new m ≡ port_written PortReg.Is value tape (port_of self.old m) }
+        ensures { (m : Media) (tape : ℕ) → port_of self.new m ≡ port_written PortReg.Is value tape
+            (port_of self.old m) }
     {
         self.is = without_ones(self.is, value);
         self.readings.acknowledged = true;
@@ -191,7 +194,8 @@ impl PortModel {
 
     /// A fatal error stops the port, and PxIS tells of it (AHCI 1.3.1, 6.2.2).
     pub fn break_down(&mut self, error: FatalError)
-        ensures { (m : Media) → port_of self.new m ≡ record (port_of self.old m) { is = changed (port_of self.old m).is (fatal_bit error) true; broken = true } }
+        ensures { (m : Media) → port_of self.new m ≡ record (port_of self.old m)
+            { is = changed (port_of self.old m).is (fatal_bit error) true; broken = true } }
     {
         self.is = with_bit_as(self.is, cause_of(error), true);
         self.broken = true;
@@ -199,7 +203,8 @@ impl PortModel {
 
     /// The disk is taken out (AHCI 1.3.1, 3.3.10 and 3.3.12).
     pub fn unplug(&mut self)
-        ensures { (m : Media) → port_of self.new m ≡ record (port_of self.old m) { ssts_det = 0; present = false; fresh = false; serr_n = true } }
+        ensures { (m : Media) → port_of self.new m ≡ record (port_of self.old m)
+            { ssts_det = 0; present = false; fresh = false; serr_n = true } }
     {
         self.detected = false;
         self.present = false;
@@ -209,7 +214,8 @@ impl PortModel {
 
     /// A disk is put in, and its link is up (AHCI 1.3.1, 3.3.10 and 3.3.12).
     pub fn plug(&mut self)
-        ensures { (m : Media) → port_of self.new m ≡ record (port_of self.old m) { ssts_det = 3; present = true; fresh = false; serr_n = true; serr_x = true } }
+        ensures { (m : Media) → port_of self.new m ≡ record (port_of self.old m)
+            { ssts_det = 3; present = true; fresh = false; serr_n = true; serr_x = true } }
     {
         self.detected = true;
         self.present = true;

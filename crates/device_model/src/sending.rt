@@ -30,7 +30,8 @@ const DATA_REQUEST: u8 = 0x08;
 impl PortModel {
     /// The status, and the error, that PxTFD shows.
     fn status_and_error(&self) -> (u8, u8)
-        ensures { (m : Media) → (result.0 ≡ (port_of self.now m).tfd % 256) × (result.1 ≡ (port_of self.now m).tfd / 256) }
+        ensures { (m : Media) → (result.0 ≡ (port_of self.now m).tfd % 256)
+            × (result.1 ≡ (port_of self.now m).tfd / 256) }
     {
         let task_file = self.task_file();
         ((task_file % 256) as u8, (task_file / 256) as u8)
@@ -113,7 +114,8 @@ impl PortModel {
 }
 
 impl Hardware {
-    /// Puts a FIS into the received FIS area of a port, at a place there, if the port receives FISes and its area is in the memory.
+    /// Puts a FIS into the received FIS area of a port, at a place there, if the port receives FISes and its area is in
+    /// the memory.
     fn send(&mut self, port: usize, place: usize, fis: &[u8])
         requires port { port < 4 }
         requires place { place + length fis.now ≤ RECEIVED_BYTES }
@@ -126,12 +128,13 @@ impl Hardware {
         }
     }
 
-    /// Sends the FIS of a slot's command that has ended: of IDENTIFY DEVICE and READ LOG EXT, whose pages go by PIO, a PIO Setup FIS; of a queued one a Set Device Bits
-    /// FIS; and of the others a Register FIS.
+    /// Sends the FIS of a slot's command that has ended: of IDENTIFY DEVICE and READ LOG EXT, whose pages go by PIO, a
+    /// PIO Setup FIS; of a queued one a Set Device Bits FIS; and of the others a Register FIS.
     pub fn send_end(&mut self, port: usize, slot: u8, transfer: Transfer)
         requires port { port < 4 }
         requires slot { slot < 32 }
-        ensures sent { (o : Outside) → SendsEnd slot port (cause_of transfer) (operation_of transfer) (device_of self.old o) (device_of self.new o) }
+        ensures sent { (o : Outside) → SendsEnd slot port (cause_of transfer) (operation_of transfer)
+            (device_of self.old o) (device_of self.new o) }
         ensures rest { self.new ≡ record self.old { memory = self.new.memory } }
     {
         match transfer {
@@ -168,7 +171,8 @@ impl Hardware {
     /// Sends the first FIS of a disk, whose link has come up.
     pub fn send_signature(&mut self, port: usize)
         requires { port < 4 }
-        ensures sent { (o : Outside) → SendsRegisters port (signature_of ((device_of self.old o).port port)) (device_of self.old o) (device_of self.new o) }
+        ensures sent { (o : Outside) → SendsRegisters port (signature_of ((device_of self.old o).port port))
+            (device_of self.old o) (device_of self.new o) }
         ensures rest { self.new ≡ record self.old { memory = self.new.memory } }
     {
         let fis = encode_d2h(&self.ports[port].signature());

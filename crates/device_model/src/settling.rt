@@ -32,7 +32,8 @@ impl PortModel {
 
     /// Whether the link may come up.
     fn may_link(&self) -> bool
-        ensures { IsTrue result ↔ ((self.now.present ≡ true) × (self.now.sctl_det % 16 ≡ 0) × (self.now.link_due ≡ true)) }
+        ensures { IsTrue result ↔ ((self.now.present ≡ true) × (self.now.sctl_det % 16 ≡ 0)
+            × (self.now.link_due ≡ true)) }
     {
         self.present && self.sctl_det % 16 == 0 && self.link_due
     }
@@ -56,9 +57,11 @@ impl PortModel {
 
     /// The link comes up, if it may; `true` says that it did.
     pub fn link(&mut self) -> bool
-        ensures up { result ≡ true → (m : Media) → MayLinkUp (port_of self.old m) 0x101 × (port_of self.new m ≡ with_link (port_of self.old m) 0x101 true) }
+        ensures up { result ≡ true → (m : Media) → MayLinkUp (port_of self.old m) 0x101
+            × (port_of self.new m ≡ with_link (port_of self.old m) 0x101 true) }
         ensures same { result ≡ false → self.new ≡ self.old }
-        ensures linked { (self.new.present ≡ true) → (self.new.sctl_det % 16 ≡ 0) → (self.new.link_due ≡ true) → false ≡ true }
+        ensures linked { (self.new.present ≡ true) → (self.new.sctl_det % 16 ≡ 0) → (self.new.link_due ≡ true)
+            → false ≡ true }
         ensures engine { (self.new.st ≡ self.old.st) × (self.new.cr ≡ self.old.cr) }
         ensures area { (self.new.fre ≡ self.old.fre) × (self.new.fr ≡ self.old.fr) }
     {

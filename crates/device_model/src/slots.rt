@@ -25,7 +25,8 @@ impl PortModel {
         requires slot { slot < 32 }
         requires new { IsNew command }
         requires alone { (m : Media) → IsAlone (port_of self.old m) (operation_of command.transfer) }
-        ensures { (m : Media) → port_of self.new m ≡ with_fetch (port_of self.old m) slot (taken_of command).meaning (taken_of command).places }
+        ensures { (m : Media) → port_of self.new m ≡ with_fetch (port_of self.old m) slot (taken_of command).meaning
+            (taken_of command).places }
     {
         let queued = command.transfer.is_queued();
         self.taken.put(slot, command);
@@ -40,9 +41,11 @@ impl PortModel {
     #[inline(always)]
     pub fn advance(&mut self, slot: u8, transfer: Transfer, bytes: &[u8; 512])
         requires slot { slot < 32 }
-        requires held { (t : TakenCommand) × (held_in self.old.taken slot ≡ Some t) × (t.transfer ≡ transfer) × (t.moved + 1 < 2 ^ 32) }
+        requires held { (t : TakenCommand) × (held_in self.old.taken slot ≡ Some t) × (t.transfer ≡ transfer)
+            × (t.moved + 1 < 2 ^ 32) }
         ensures { (m : Media) (t : TakenCommand) → held_in self.old.taken slot ≡ Some t →
-            port_of self.new (media_after m (taken_of t) bytes.now) ≡ with_move (port_of self.old m) slot (taken_of t) bytes.now }
+            port_of self.new (media_after m (taken_of t) bytes.now) ≡ with_move (port_of self.old m) slot (taken_of t)
+            bytes.now }
     {
         if transfer.is_trim() {
             self.taken.add_block(slot, bytes);
@@ -56,7 +59,8 @@ impl PortModel {
         requires slot { slot < 32 }
         requires room { IfSome (held_in self.old.taken slot) (λ t. t.cleared + run.count < 2 ^ 32) }
         ensures { (m : Media) (t : TakenCommand) → held_in self.old.taken slot ≡ Some t →
-            port_of self.new (media_cleared m run.first run.count) ≡ with_clear (port_of self.old m) slot (taken_of t) run.first run.count }
+            port_of self.new (media_cleared m run.first run.count) ≡ with_clear (port_of self.old m) slot (taken_of t)
+            run.first run.count }
     {
         self.taken.add_cleared(slot, run.count);
     }
@@ -64,7 +68,8 @@ impl PortModel {
     /// The command of a slot ends without error: a queued one leaves PxSACT, and a plain one PxCI.
     pub fn end(&mut self, slot: u8, transfer: Transfer)
         requires { slot < 32 }
-        ensures { (m : Media) → port_of self.new m ≡ with_done (port_of self.old m) slot (cause_of transfer) (operation_of transfer) }
+        ensures { (m : Media) → port_of self.new m ≡ with_done (port_of self.old m) slot (cause_of transfer)
+            (operation_of transfer) }
     {
         self.taken.remove(slot);
         self.is = with_bit_as(self.is, transfer.cause(), true);
@@ -77,8 +82,8 @@ impl PortModel {
         }
     }
 
-    /// A command failed with this error, a queued one or a plain one (AHCI 1.3.1, 6.2.2): PxTFD shows ERR and DRDY and the error, TFES is set, and
-    /// the port is halted. The bits of its slot stay.
+    /// A command failed with this error, a queued one or a plain one (AHCI 1.3.1, 6.2.2): PxTFD shows ERR and DRDY and
+    /// the error, TFES is set, and the port is halted. The bits of its slot stay.
     pub fn fail(&mut self, queued: bool, error: u8)
         ensures { (m : Media) → port_of self.new m ≡ with_fault (port_of self.old m) queued error 0 }
     {
@@ -95,15 +100,18 @@ impl PortModel {
         self.cr && self.present && self.fresh && !self.broken && self.halting.admits(transfer)
     }
 
-    /// Whether such a command may be taken now, if the port works: no fault keeps it waiting, and it goes beside those that are taken.
+    /// Whether such a command may be taken now, if the port works: no fault keeps it waiting, and it goes beside those
+    /// that are taken.
     pub fn is_open_to(&self, transfer: Transfer) -> bool
         ensures open { result ≡ true → IsOpenTo self.now (operation_of transfer) }
-        ensures only { result ≡ false → (m : Media) → admits (halt_of self.now.halting) (operation_of transfer) ≡ true → IsAlone (port_of self.now m) (operation_of transfer) → ⊥ }
+        ensures only { result ≡ false → (m : Media) → admits (halt_of self.now.halting) (operation_of transfer) ≡ true
+            → IsAlone (port_of self.now m) (operation_of transfer) → ⊥ }
     {
         self.halting.admits(transfer) && self.is_alone(transfer)
     }
 
-    /// Whether such a command may be taken beside those that are: a queued one beside queued ones, and a plain one alone.
+    /// Whether such a command may be taken beside those that are: a queued one beside queued ones, and a plain one
+    /// alone.
     fn is_alone(&self, transfer: Transfer) -> bool
         ensures alone { result ≡ true → (m : Media) → IsAlone (port_of self.now m) (operation_of transfer) }
         ensures only { result ≡ false → (m : Media) → IsAlone (port_of self.now m) (operation_of transfer) → ⊥ }
@@ -116,14 +124,16 @@ impl PortModel {
     }
 }
 
-/// Whether a slot has a command that is issued and not taken, on a port that works: it may be taken, if its bytes say one that may be beside those
-/// that are.
+/// Whether a slot has a command that is issued and not taken, on a port that works: it may be taken, if its bytes say
+/// one that may be beside those that are.
 pub fn has_untaken(ports: &[PortModel; 4], port: usize, slot: u8) -> bool
     requires port { port < 4 }
     requires slot { slot < 32 }
     ensures may { result ≡ true → HasUntaken (slice_index_or ports.now port blank) slot }
-    ensures only { result ≡ false → (m : Media) (operation : Operation) → MayTake (port_of (slice_index_or ports.now port blank) m) slot operation → ⊥ }
-    ensures none { result ≡ false → (m : Media) (operation : Operation) → IsFetchable (port_of (slice_index_or ports.now port blank) m) slot →
+    ensures only { result ≡ false → (m : Media) (operation : Operation)
+        → MayTake (port_of (slice_index_or ports.now port blank) m) slot operation → ⊥ }
+    ensures none { result ≡ false → (m : Media) (operation : Operation)
+        → IsFetchable (port_of (slice_index_or ports.now port blank) m) slot →
         IsWorking (port_of (slice_index_or ports.now port blank) m) operation → ⊥ }
 {
     ports[port].st

@@ -3,12 +3,13 @@ ghost use Rattle.std.specs.Prelude.{◌≡◌, ◌↔◌, IsTrue, ◌<◌, ◌�
 ghost use Rattle.std.specs.Vec.{vec_len, vec_capacity};
 ghost use Rattle.adapter.specs.Commands.{Meaning, is_queued, is_ranged, reads_memory};
 ghost use Rattle.adapter.specs.Device.{Disk, Taken};
-ghost use Rattle.adapter.specs.Memory.{patched};
+ghost use Rattle.adapter.specs.Memory.{bytes_at};
 ghost use Rattle.adapter.specs.Says.{pieces};
 ghost use Rattle.adapter.specs.Steps.{Can, IsFinished, after, next_sector};
 ghost use Rattle.adapter.specs.Steps.Step.{Fetch as FetchStep, FetchFault as FetchFaultStep, Move as MoveStep, Done as DoneStep, Fault as FaultStep, Fatal as FatalStep, Unplug as UnplugStep, Plug as PlugStep};
 ghost use Rattle.adapter.specs.Asked.{DoesFatal, DoesFault, DoesFetch, Ends, fatal_bit};
 ghost use Rattle.device_model.specs.Block.{brought};
+ghost use Rattle.device_model.specs.Exchanged.{IsExchanged, piece_of};
 ghost use Rattle.device_model.specs.Fetched.{bytes_of};
 ghost use Rattle.device_model.specs.Finishing.{HasRoom, FindsPage, IsInside, AreInside, IsBegun, IsCovered, IsPassed, IsRest, IsUnbegun};
 ghost use Rattle.device_model.specs.Sent.{SendsEnd};
@@ -18,7 +19,7 @@ ghost use Rattle.device_model.specs.Whole.{Outside, device_of, outside_after, ou
 ghost use Rattle.device_model.specs.declared.port.TakenCommand.{TakenCommand};
 
 use crate::fetch::{count_pieces, piece_at, read_command, read_into, read_page, says_command};
-use crate::hardware::{Hardware, put};
+use crate::hardware::Hardware;
 use crate::port::{TakenCommand, Transfer};
 use crate::slots::{FAILED_STATUS, has_untaken, working_on};
 use crate::trims::{clears_of, is_finished};
@@ -76,7 +77,8 @@ pub fn record(tape: &mut Vec<Entry>, starved: &mut bool, entry: Entry) -> bool
     ensures added { result ≡ true → tape.new.items ≡ tape.old.items ++ entry ∷ [] }
     ensures kept { result ≡ false → tape.new.items ≡ tape.old.items }
     ensures room { vec_len tape.old < vec_capacity tape.old → result ≡ true }
-    ensures left { (n : ℕ) → vec_len tape.old + (n + 1) ≤ vec_capacity tape.old → vec_len tape.new + n ≤ vec_capacity tape.new }
+    ensures left { (n : ℕ) → vec_len tape.old + (n + 1) ≤ vec_capacity tape.old
+        → vec_len tape.new + n ≤ vec_capacity tape.new }
     ensures starved { result ≡ false → starved.new ≡ true }
     ensures fed { result ≡ true → starved.new ≡ starved.old }
 {
@@ -126,7 +128,8 @@ fn rest_of(command: &TakenCommand, block: &[u8], memory: &[u8]) -> Option<Rest>
     requires block { block.now ≡ brought command.now.block }
     requires few { length block.now ≤ 512 }
     ensures rest { IfSome result (λ rest. IsRest command.now memory.now rest.left rest.clears) }
-    ensures only { (left clears : ℕ) → IsRest command.now memory.now left clears → result ≡ Some (record { left = left; clears = clears }) }
+    ensures only { (left clears : ℕ) → IsRest command.now memory.now left clears
+        → result ≡ Some (record { left = left; clears = clears }) }
 {
     Some(Rest {
         left: left_of(command, memory.len())?,
@@ -141,11 +144,13 @@ fn entries_of(rest: Rest) -> usize
     rest.left as usize + rest.clears as usize + 1
 }
 
-/// Whether a command that sends a page can be done to its end: whether each of its pieces has a place in a memory of this size, and
-/// an address of 32 bits.
+/// Whether a command that sends a page can be done to its end: whether each of its pieces has a place in a memory of
+/// this size, and an address of 32 bits.
 fn can_end(command: &TakenCommand, size: usize) -> bool
-    ensures ends { result ≡ true → (left : ℕ) × IsCovered (taken_of command.now) size left × AreInside (2 ^ 32) (pieces command.now.prds) }
-    ensures only { result ≡ false → (left : ℕ) → IsCovered (taken_of command.now) size left → AreInside (2 ^ 32) (pieces command.now.prds) → ⊥ }
+    ensures ends { result ≡ true → (left : ℕ) × IsCovered (taken_of command.now) size left
+        × AreInside (2 ^ 32) (pieces command.now.prds) }
+    ensures only { result ≡ false → (left : ℕ) → IsCovered (taken_of command.now) size left
+        → AreInside (2 ^ 32) (pieces command.now.prds) → ⊥ }
 {
     match left_of(command, size) {
         Some(_left) => are_inside(command.prds.as_slice(), 1 << 32),
@@ -165,16 +170,17 @@ fn sector_of(command: &TakenCommand) -> u64
     }
 }
 
-/// Puts the bytes of a move into memory, unless it takes them from there.
+/// The bytes of memory that a command moves next.
 #[inline(always)]
-fn put_piece(memory: &mut [u8], next: NextMove, bytes: &[u8; 512])
-    requires { next.address + 512 ≤ length memory.old }
-    ensures size { length memory.new ≡ length memory.old }
-    ensures put { bytes_of memory.new ≡ (if reads_memory (operation_of next.transfer) then bytes_of memory.old else patched (bytes_of memory.old) next.address bytes.now) }
+fn piece_in(memory: &[u8], next: NextMove) -> &[u8; 512]
+    requires { next.address + 512 ≤ length memory.now }
+    ensures { result.now ≡ bytes_at (bytes_of memory.now) next.address 512 }
 {
-    if !next.transfer.reads_memory() {
-        put(memory, next.address as usize, bytes);
-    }
+    let at = next.address as usize;
+    let Some(bytes) = memory[at..at + 512].as_array() else {
+        unreachable!()
+    };
+    bytes
 }
 
 impl Hardware {
@@ -182,25 +188,29 @@ impl Hardware {
     pub fn fetch(&mut self, port: u8, slot: u8) -> bool
         requires port { port < 4 }
         requires slot { slot < 32 }
-        ensures did { result ≡ true → (o : Outside) → DoesFetch port slot (device_of self.old o) (device_of self.new o) }
+        ensures did { result ≡ true → (o : Outside)
+            → DoesFetch port slot (device_of self.old o) (device_of self.new o) }
         ensures refused { result ≡ false → self.new ≡ self.old }
-        ensures only { result ≡ false → (o : Outside) (m : Meaning) (places : List ℕ) → Can (FetchStep port slot m places) (device_of self.old o) → ⊥ }
+        ensures only { result ≡ false → (o : Outside) (m : Meaning) (places : List ℕ)
+            → Can (FetchStep port slot m places) (device_of self.old o) → ⊥ }
         ensures tape { self.new.tape ≡ self.old.tape }
         ensures starved { self.new.starved ≡ self.old.starved }
     {
         has_untaken(&self.ports, usize::from(port), slot) && self.fetch_said(port, slot)
     }
 
-    /// Takes the command that the bytes of a slot say, which may be taken; `false` says that they say none that the model takes. It is entered
-    /// only then, since its frame has room for a command.
+    /// Takes the command that the bytes of a slot say, which may be taken; `false` says that they say none that the
+    /// model takes. It is entered only then, since its frame has room for a command.
     #[inline(never)]
     fn fetch_said(&mut self, port: u8, slot: u8) -> bool
         requires port { port < 4 }
         requires slot { slot < 32 }
         requires may { HasUntaken (slice_index_or self.old.ports port blank) slot }
-        ensures did { result ≡ true → (o : Outside) → DoesFetch port slot (device_of self.old o) (device_of self.new o) }
+        ensures did { result ≡ true → (o : Outside)
+            → DoesFetch port slot (device_of self.old o) (device_of self.new o) }
         ensures refused { result ≡ false → self.new ≡ self.old }
-        ensures only { result ≡ false → (o : Outside) (m : Meaning) (places : List ℕ) → Can (FetchStep port slot m places) (device_of self.old o) → ⊥ }
+        ensures only { result ≡ false → (o : Outside) (m : Meaning) (places : List ℕ)
+            → Can (FetchStep port slot m places) (device_of self.old o) → ⊥ }
         ensures tape { self.new.tape ≡ self.old.tape }
         ensures starved { self.new.starved ≡ self.old.starved }
     {
@@ -216,8 +226,8 @@ impl Hardware {
         true
     }
 
-    /// Whether the IDENTIFY DEVICE or READ LOG EXT that the bytes of a slot say, which may be taken, can be done to its end; `None` where they say
-    /// none, or a fault or another command keeps it waiting.
+    /// Whether the IDENTIFY DEVICE or READ LOG EXT that the bytes of a slot say, which may be taken, can be done to its
+    /// end; `None` where they say none, or a fault or another command keeps it waiting.
     #[inline(never)]
     fn says_page(&self, port: usize, slot: u8) -> Option<bool>
         requires port { port < 4 }
@@ -234,8 +244,8 @@ impl Hardware {
         }
     }
 
-    /// Whether the IDENTIFY DEVICE or READ LOG EXT of a slot can be done to its end; `None` where the slot has none that may be taken, and none that is taken
-    /// and worked on and can be done to its end.
+    /// Whether the IDENTIFY DEVICE or READ LOG EXT of a slot can be done to its end; `None` where the slot has none
+    /// that may be taken, and none that is taken and worked on and can be done to its end.
     fn has_page(&self, port: usize, slot: u8) -> Option<bool>
         requires port { port < 4 }
         requires slot { slot < 32 }
@@ -255,13 +265,16 @@ impl Hardware {
         }
     }
 
-    /// The first slot of a port with an IDENTIFY DEVICE or READ LOG EXT that may be taken, or can be done to its end. There is none where no command is issued or taken.
+    /// The first slot of a port with an IDENTIFY DEVICE or READ LOG EXT that may be taken, or can be done to its end.
+    /// There is none where no command is issued or taken.
     pub fn next_page(&self, port: u8) -> Option<FoundPage>
         requires { port < 4 }
         ensures port { IfSome result (λ found. found.port ≡ port) }
         ensures small { IfSome result (λ found. found.slot < 32) }
-        ensures found { IfSome result (λ found. (o : Outside) → FindsPage (device_of self.now o) port found.slot (Some found.ends)) }
-        ensures none { result ≡ None → (o : Outside) (slot : ℕ) → slot < 32 → FindsPage (device_of self.now o) port slot None }
+        ensures found { IfSome result (λ found. (o : Outside) → FindsPage (device_of self.now o) port found.slot
+            (Some found.ends)) }
+        ensures none { result ≡ None → (o : Outside) (slot : ℕ) → slot < 32
+            → FindsPage (device_of self.now o) port slot None }
     {
         let place = usize::from(port);
         if self.ports[place].ci == 0 && self.ports[place].taken.is_empty() {
@@ -280,8 +293,10 @@ impl Hardware {
         requires port { port < 4 }
         requires slot { slot < 32 }
         ensures found { IfSome result (λ n. (t : TakenCommand) × IsNext self.now port slot n t) }
-        ensures none { result ≡ None → (t : TakenCommand) → HoldsAt (slice_index_or self.now.ports port blank) slot t → t.moved < length (pieces t.prds) →
-            slice_index (pieces t.prds) t.moved < 2 ^ 32 → slice_index (pieces t.prds) t.moved + 512 ≤ length self.now.memory.items → ⊥ }
+        ensures none { result ≡ None → (t : TakenCommand) → HoldsAt (slice_index_or self.now.ports port blank) slot t
+            → t.moved < length (pieces t.prds) →
+            slice_index (pieces t.prds) t.moved < 2 ^ 32 → slice_index (pieces t.prds) t.moved + 512
+            ≤ length self.now.memory.items → ⊥ }
     {
         let command = working_on(&self.ports, usize::from(port), slot)?;
         let address = piece_at(command.prds.as_slice(), command.moved)?;
@@ -296,16 +311,18 @@ impl Hardware {
         })
     }
 
-    /// Moves these bytes, which the disk has given or taken, as the next piece of a command: it puts those of a read
-    /// into memory, and notes the move on the tape.
+    /// Notes that the next piece of a command was moved, which the disk and the memory have exchanged: on the tape, and
+    /// of the command.
     #[inline(always)]
-    pub fn move_bytes(&mut self, port: u8, slot: u8, next: NextMove, bytes: &[u8; 512])
+    pub fn note_move(&mut self, port: u8, slot: u8, next: NextMove)
         requires port { port < 4 }
         requires slot { slot < 32 }
         requires next { (t : TakenCommand) × IsNext self.old port slot next t }
         requires room { HasRoom self.old 1 }
-        ensures moved { (o : Outside) → (t : TakenCommand) × IsNext self.old port slot next t
-            × (device_of self.new (outside_after o port (taken_of t) bytes.now) ≡ after (MoveStep port slot (taken_of t) bytes.now) (device_of self.old o)) }
+        ensures moved { (old : Hardware) (o : Outside) (t : TakenCommand) → IsExchanged old self.old next →
+            IsNext old port slot next t →
+            device_of self.new (outside_after o port (taken_of t) (piece_of self.old next))
+            ≡ after (MoveStep port slot (taken_of t) (piece_of self.old next)) (device_of old o) }
         ensures left { (n : ℕ) → HasRoom self.old (n + 1) → HasRoom self.new n }
         ensures starved { self.new.starved ≡ self.old.starved }
     {
@@ -316,20 +333,22 @@ impl Hardware {
             sector: next.sector,
             address: next.address,
             direction: next.transfer.direction(),
-            bytes: Snapshot::of(bytes),
+            bytes: Snapshot::of(piece_in(&self.memory, next)),
         });
         let _recorded = record(&mut self.tape, &mut self.starved, entry);
-        put_piece(&mut self.memory, next, bytes);
-        self.ports[usize::from(port)].advance(slot, next.transfer, bytes);
+        let model = &mut self.ports[usize::from(port)];
+        model.advance(slot, next.transfer, piece_in(&self.memory, next));
     }
 
     /// What the slot's command is, where nothing is left of it to move or to clear.
     fn finished_at(&self, port: u8, slot: u8) -> Option<Transfer>
         requires port { port < 4 }
         requires slot { slot < 32 }
-        ensures found { IfSome result (λ transfer. (t : TakenCommand) × HoldsAt (slice_index_or self.now.ports port blank) slot t × IsFinished (taken_of t)
+        ensures found { IfSome result (λ transfer. (t : TakenCommand)
+            × HoldsAt (slice_index_or self.now.ports port blank) slot t × IsFinished (taken_of t)
             × (transfer ≡ t.transfer)) }
-        ensures none { result ≡ None → (t : TakenCommand) → HoldsAt (slice_index_or self.now.ports port blank) slot t → IsFinished (taken_of t) → ⊥ }
+        ensures none { result ≡ None → (t : TakenCommand) → HoldsAt (slice_index_or self.now.ports port blank) slot t
+            → IsFinished (taken_of t) → ⊥ }
     {
         let command = working_on(&self.ports, usize::from(port), slot)?;
         if is_finished(command, self.ports[usize::from(port)].taken.block(slot)) {
@@ -343,9 +362,11 @@ impl Hardware {
     fn rest_at(&self, port: u8, slot: u8) -> Option<Rest>
         requires port { port < 4 }
         requires slot { slot < 32 }
-        ensures found { IfSome result (λ rest. (t : TakenCommand) × HoldsAt (slice_index_or self.now.ports port blank) slot t
+        ensures found { IfSome result (λ rest. (t : TakenCommand) × HoldsAt (slice_index_or self.now.ports port blank)
+            slot t
             × IsRest t self.now.memory.items rest.left rest.clears) }
-        ensures only { (t : TakenCommand) (left clears : ℕ) → HoldsAt (slice_index_or self.now.ports port blank) slot t →
+        ensures only { (t : TakenCommand) (left clears : ℕ) → HoldsAt (slice_index_or self.now.ports port blank) slot t
+            →
             IsRest t self.now.memory.items left clears → result ≡ Some (record { left = left; clears = clears }) }
     {
         let command = working_on(&self.ports, usize::from(port), slot)?;
@@ -353,13 +374,16 @@ impl Hardware {
         rest_of(command, block, &self.memory)
     }
 
-    /// Ends a slot's command, of which nothing is left to move or to clear, and sends its FIS; `false` says that there is none, or that the tape found no memory.
+    /// Ends a slot's command, of which nothing is left to move or to clear, and sends its FIS; `false` says that there
+    /// is none, or that the tape found no memory.
     pub fn done(&mut self, port: u8, slot: u8) -> bool
         requires port { port < 4 }
         requires slot { slot < 32 }
-        ensures did { result ≡ true → (o : Outside) → Ends (SendsEnd slot) port slot (device_of self.old o) (device_of self.new o) }
+        ensures did { result ≡ true → (o : Outside) → Ends (SendsEnd slot) port slot (device_of self.old o)
+            (device_of self.new o) }
         ensures refused { result ≡ false → (o : Outside) → device_of self.new o ≡ device_of self.old o }
-        ensures left { result ≡ false → (o : Outside) → IsPassed self.old self.new ((flag : ℕ) × (t : Taken) × Can (DoneStep port slot flag t) (device_of self.old o)) }
+        ensures left { result ≡ false → (o : Outside) → IsPassed self.old self.new ((flag : ℕ) × (t : Taken)
+            × Can (DoneStep port slot flag t) (device_of self.old o)) }
         ensures fed { result ≡ true → self.new.starved ≡ self.old.starved }
     {
         let Some(transfer) = self.finished_at(port, slot) else {
@@ -383,9 +407,11 @@ impl Hardware {
     fn running_at(&self, port: u8, slot: u8) -> Option<bool>
         requires port { port < 4 }
         requires slot { slot < 32 }
-        ensures found { IfSome result (λ queued. (t : TakenCommand) × (held_in (slice_index_or self.now.ports port blank).taken slot ≡ Some t)
+        ensures found { IfSome result (λ queued. (t : TakenCommand)
+            × (held_in (slice_index_or self.now.ports port blank).taken slot ≡ Some t)
             × ((slice_index_or self.now.ports port blank).cr ≡ true) × (queued ≡ is_queued (operation_of t.transfer))) }
-        ensures none { result ≡ None → (t : TakenCommand) → held_in (slice_index_or self.now.ports port blank).taken slot ≡ Some t →
+        ensures none { result ≡ None → (t : TakenCommand) → held_in (slice_index_or self.now.ports port blank).taken
+            slot ≡ Some t →
             (slice_index_or self.now.ports port blank).cr ≡ true → ⊥ }
     {
         let command = self.ports[usize::from(port)].taken.get(slot)?;
@@ -396,15 +422,17 @@ impl Hardware {
         }
     }
 
-    /// Fails a slot's command, which is taken, with an error, and tells whether it is queued; `None` says that there is none, that the engine has fallen, or
-    /// that the tape found no memory.
+    /// Fails a slot's command, which is taken, with an error, and tells whether it is queued; `None` says that there is
+    /// none, that the engine has fallen, or that the tape found no memory.
     pub fn fail(&mut self, port: u8, slot: u8, error: u8) -> Option<bool>
         requires port { port < 4 }
         requires slot { slot < 32 }
-        ensures did { IfSome result (λ queued. (o : Outside) → (f : DoesFault port slot error (device_of self.old o) (device_of self.new o))
+        ensures did { IfSome result (λ queued. (o : Outside)
+            → (f : DoesFault port slot error (device_of self.old o) (device_of self.new o))
             × (queued ≡ is_queued f.t.meaning.operation)) }
         ensures refused { result ≡ None → (o : Outside) → device_of self.new o ≡ device_of self.old o }
-        ensures left { result ≡ None → (o : Outside) → IsPassed self.old self.new ((t : Taken) × Can (FaultStep port slot error 0 t) (device_of self.old o)) }
+        ensures left { result ≡ None → (o : Outside)
+            → IsPassed self.old self.new ((t : Taken) × Can (FaultStep port slot error 0 t) (device_of self.old o)) }
         ensures fed { IfSome result (λ _. self.new.starved ≡ self.old.starved) }
     {
         let queued = self.running_at(port, slot)?;
@@ -421,8 +449,8 @@ impl Hardware {
         Some(queued)
     }
 
-    /// Fails what is issued in a slot, and may be taken, if its bytes mean no command that there is (AHCI 1.3.1, 6.2.2; ACS-3, 6.2): with ABRT. `false` says that
-    /// they mean one, that there is none, or that the tape found no memory.
+    /// Fails what is issued in a slot, and may be taken, if its bytes mean no command that there is (AHCI 1.3.1, 6.2.2;
+    /// ACS-3, 6.2): with ABRT. `false` says that they mean one, that there is none, or that the tape found no memory.
     #[inline(never)]
     pub fn fail_senseless(&mut self, port: u8, slot: u8) -> bool
         requires port { port < 4 }
@@ -430,7 +458,8 @@ impl Hardware {
         ensures did { result ≡ true → (o : Outside) → Can (FetchFaultStep port slot false 0) (device_of self.old o)
             × (device_of self.new o ≡ after (FetchFaultStep port slot false 0) (device_of self.old o)) }
         ensures refused { result ≡ false → (o : Outside) → device_of self.new o ≡ device_of self.old o }
-        ensures left { result ≡ false → (o : Outside) → IsPassed self.old self.new (Can (FetchFaultStep port slot false 0) (device_of self.old o)) }
+        ensures left { result ≡ false → (o : Outside)
+            → IsPassed self.old self.new (Can (FetchFaultStep port slot false 0) (device_of self.old o)) }
         ensures fed { result ≡ true → self.new.starved ≡ self.old.starved }
     {
         let place = usize::from(port);
@@ -457,8 +486,8 @@ impl Hardware {
         true
     }
 
-    /// Takes the command that the bytes of a slot say, which may be taken, where each of its moves and clears is possible and the tape finds memory for
-    /// them and the end. Want of memory is told.
+    /// Takes the command that the bytes of a slot say, which may be taken, where each of its moves and clears is
+    /// possible and the tape finds memory for them and the end. Want of memory is told.
     #[inline(never)]
     fn begin_said(&mut self, port: u8, slot: u8) -> Option<Begun>
         requires port { port < 4 }
@@ -488,8 +517,8 @@ impl Hardware {
         })
     }
 
-    /// Begins to do a slot's command to its end, where each move and each clear that it has left is possible: the tape finds memory for them and the end,
-    /// and the command is taken, unless it is already. Want of memory is told.
+    /// Begins to do a slot's command to its end, where each move and each clear that it has left is possible: the tape
+    /// finds memory for them and the end, and the command is taken, unless it is already. Want of memory is told.
     pub fn begin(&mut self, port: u8, slot: u8) -> Option<Begun>
         requires port { port < 4 }
         requires slot { slot < 32 }
@@ -514,9 +543,11 @@ impl Hardware {
     /// A port meets a fatal error; `false` says that its engine has fallen, or that the tape found no memory.
     pub fn meet(&mut self, port: u8, error: FatalError) -> bool
         requires { port < 4 }
-        ensures did { result ≡ true → (o : Outside) → DoesFatal port error (device_of self.old o) (device_of self.new o) }
+        ensures did { result ≡ true → (o : Outside)
+            → DoesFatal port error (device_of self.old o) (device_of self.new o) }
         ensures refused { result ≡ false → (o : Outside) → device_of self.new o ≡ device_of self.old o }
-        ensures left { result ≡ false → (o : Outside) → IsPassed self.old self.new (Can (FatalStep port (fatal_bit error)) (device_of self.old o)) }
+        ensures left { result ≡ false → (o : Outside)
+            → IsPassed self.old self.new (Can (FatalStep port (fatal_bit error)) (device_of self.old o)) }
         ensures fed { result ≡ true → self.new.starved ≡ self.old.starved }
     {
         let place = usize::from(port);
@@ -533,9 +564,11 @@ impl Hardware {
     /// The disk is taken out of a port; `false` says that there was none, or that the tape found no memory.
     pub fn unplug(&mut self, port: u8) -> bool
         requires { port < 4 }
-        ensures did { result ≡ true → (o : Outside) → Can (UnplugStep port) (device_of self.old o) × (device_of self.new o ≡ after (UnplugStep port) (device_of self.old o)) }
+        ensures did { result ≡ true → (o : Outside) → Can (UnplugStep port) (device_of self.old o)
+            × (device_of self.new o ≡ after (UnplugStep port) (device_of self.old o)) }
         ensures refused { result ≡ false → (o : Outside) → device_of self.new o ≡ device_of self.old o }
-        ensures left { result ≡ false → (o : Outside) → IsPassed self.old self.new (Can (UnplugStep port) (device_of self.old o)) }
+        ensures left { result ≡ false → (o : Outside)
+            → IsPassed self.old self.new (Can (UnplugStep port) (device_of self.old o)) }
         ensures fed { result ≡ true → self.new.starved ≡ self.old.starved }
     {
         let place = usize::from(port);
@@ -556,7 +589,8 @@ impl Hardware {
         ensures did { result ≡ true → (o : Outside) (disk : Disk) → disk.name ≡ number →
             device_of self.new (outside_plugged o port disk) ≡ after (PlugStep port disk) (device_of self.old o) }
         ensures refused { result ≡ false → (o : Outside) → device_of self.new o ≡ device_of self.old o }
-        ensures left { result ≡ false → (o : Outside) → IsPassed self.old self.new (((device_of self.old o).port port).present ≡ false) }
+        ensures left { result ≡ false → (o : Outside)
+            → IsPassed self.old self.new (((device_of self.old o).port port).present ≡ false) }
         ensures fed { result ≡ true → self.new.starved ≡ self.old.starved }
     {
         let place = usize::from(port);
@@ -571,7 +605,8 @@ impl Hardware {
         true
     }
 
-    /// Finds memory for more entries of the tape; `false` says that there was none. That something was left out for that is not told yet.
+    /// Finds memory for more entries of the tape; `false` says that there was none. That something was left out for
+    /// that is not told yet.
     pub fn reserve(&mut self, entries: usize) -> bool
         ensures same { (o : Outside) → device_of self.new o ≡ device_of self.old o }
         ensures room { result ≡ true → HasRoom self.new entries }

@@ -36,7 +36,8 @@ impl Model for TakenCommands {
 
     ghost view = { λ s. s.slots.items };
 
-    ghost invariant = { λ s. (length s.slots.items ≡ 32) × (bits_of s.filled ≡ (λ slot. is_some (slice_index_or s.slots.items slot None)))
+    ghost invariant = { λ s. (length s.slots.items ≡ 32)
+        × (bits_of s.filled ≡ (λ slot. is_some (slice_index_or s.slots.items slot None)))
         × HasBlock s.slots.items s.block };
 }
 
@@ -83,7 +84,8 @@ impl TakenCommands {
     pub fn add_moved(&mut self, slot: u8)
         requires slot { slot < 32 }
         requires room { IfSome (held_in self.old slot) (λ t. t.moved + 1 < 2 ^ 32) }
-        ensures { (t : TakenCommand) → held_in self.old slot ≡ Some t → held_in self.new ≡ changed (held_in self.old) slot (Some (record t { moved = t.moved + 1 })) }
+        ensures { (t : TakenCommand) → held_in self.old slot ≡ Some t
+            → held_in self.new ≡ changed (held_in self.old) slot (Some (record t { moved = t.moved + 1 })) }
     {
         count_move(&mut self.slots[usize::from(slot)]);
     }
@@ -91,9 +93,11 @@ impl TakenCommands {
     /// The block of a slot's trim was moved.
     pub fn add_block(&mut self, slot: u8, bytes: &[u8; 512])
         requires slot { slot < 32 }
-        requires trim { (t : TakenCommand) × (held_in self.old slot ≡ Some t) × (t.transfer ≡ Transfer.Trim) × (t.moved + 1 < 2 ^ 32) }
+        requires trim { (t : TakenCommand) × (held_in self.old slot ≡ Some t) × (t.transfer ≡ Transfer.Trim)
+            × (t.moved + 1 < 2 ^ 32) }
         ensures { (t : TakenCommand) → held_in self.old slot ≡ Some t →
-            held_in self.new ≡ changed (held_in self.old) slot (Some (record t { moved = t.moved + 1; block = Some (noted_bytes bytes.now) })) }
+            held_in self.new ≡ changed (held_in self.old) slot
+            (Some (record t { moved = t.moved + 1; block = Some (noted_bytes bytes.now) })) }
     {
         self.block = *bytes;
         bring_block(&mut self.slots[usize::from(slot)], bytes);
@@ -103,7 +107,8 @@ impl TakenCommands {
     pub fn add_cleared(&mut self, slot: u8, count: u32)
         requires slot { slot < 32 }
         requires room { IfSome (held_in self.old slot) (λ t. t.cleared + count < 2 ^ 32) }
-        ensures { (t : TakenCommand) → held_in self.old slot ≡ Some t → held_in self.new ≡ changed (held_in self.old) slot (Some (record t { cleared = t.cleared + count })) }
+        ensures { (t : TakenCommand) → held_in self.old slot ≡ Some t
+            → held_in self.new ≡ changed (held_in self.old) slot (Some (record t { cleared = t.cleared + count })) }
     {
         count_clear(&mut self.slots[usize::from(slot)], count);
     }
@@ -120,7 +125,8 @@ impl TakenCommands {
         }
     }
 
-    /// A slot's command is taken no more. A function of its own, since its caller's frame would have room for a command else; `clear` too.
+    /// A slot's command is taken no more. A function of its own, since its caller's frame would have room for a command
+    /// else; `clear` too.
     #[inline(never)]
     pub fn remove(&mut self, slot: u8)
         requires { slot < 32 }
@@ -150,9 +156,10 @@ impl TakenCommands {
 
     /// Whether each that is taken is queued.
     pub fn are_queued(&self) -> bool
-        ensures { IsTrue result ↔ ((slot : ℕ) (t : TakenCommand) → held_in self.now slot ≡ Some t → is_queued (operation_of t.transfer) ≡ true) }
+        ensures { IsTrue result ↔ ((slot : ℕ) (t : TakenCommand) → held_in self.now slot ≡ Some t
+            → is_queued (operation_of t.transfer) ≡ true) }
     {
-        hold_queued(&self.slots)
+        self.is_empty() || hold_queued(&self.slots)
     }
 }
 
@@ -170,7 +177,8 @@ fn count_move(taken: &mut Option<TakenCommand>)
 /// The block of a trim was moved.
 fn bring_block(taken: &mut Option<TakenCommand>, bytes: &[u8; 512])
     requires { IfSome taken.old (λ t. t.moved + 1 < 2 ^ 32) }
-    ensures counted { (t : TakenCommand) → taken.old ≡ Some t → taken.new ≡ Some (record t { moved = t.moved + 1; block = Some (noted_bytes bytes.now) }) }
+    ensures counted { (t : TakenCommand) → taken.old ≡ Some t
+        → taken.new ≡ Some (record t { moved = t.moved + 1; block = Some (noted_bytes bytes.now) }) }
     ensures stays { is_some taken.new ≡ is_some taken.old }
 {
     if let Some(command) = taken {
@@ -182,7 +190,8 @@ fn bring_block(taken: &mut Option<TakenCommand>, bytes: &[u8; 512])
 /// So many more sectors of a trim were cleared.
 fn count_clear(taken: &mut Option<TakenCommand>, count: u32)
     requires { IfSome taken.old (λ t. t.cleared + count < 2 ^ 32) }
-    ensures counted { (t : TakenCommand) → taken.old ≡ Some t → taken.new ≡ Some (record t { cleared = t.cleared + count }) }
+    ensures counted { (t : TakenCommand) → taken.old ≡ Some t
+        → taken.new ≡ Some (record t { cleared = t.cleared + count }) }
     ensures stays { is_some taken.new ≡ is_some taken.old }
 {
     if let Some(command) = taken {
@@ -192,7 +201,8 @@ fn count_clear(taken: &mut Option<TakenCommand>, count: u32)
 
 /// Whether each command in these slots is queued.
 fn hold_queued(slots: &[Option<TakenCommand>]) -> bool
-    ensures { IsTrue result ↔ ((slot : ℕ) (t : TakenCommand) → held_in slots.now slot ≡ Some t → is_queued (operation_of t.transfer) ≡ true) }
+    ensures { IsTrue result ↔ ((slot : ℕ) (t : TakenCommand) → held_in slots.now slot ≡ Some t
+        → is_queued (operation_of t.transfer) ≡ true) }
 {
     for slot in slots {
         if let Some(command) = slot

@@ -52,14 +52,16 @@ fn clears_of_block(block: &[u8], cleared: u32) -> Option<u32>
     Some(count_runs(block, cleared))
 }
 
-/// How many clears a trim is going to make, as `clears_of` says. The block that it is going to move is looked at where it is. It is entered for trims alone, since its
-/// frame has room for a block.
+/// How many clears a trim is going to make, as `clears_of` says. The block that it is going to move is looked at where
+/// it is. It is entered for trims alone, since its frame has room for a block.
 #[inline(never)]
 fn clears_of_trim(command: &TakenCommand, block: &[u8], memory: &[u8]) -> Option<u32>
     requires block { block.now ≡ brought command.now.block }
     requires few { length block.now ≤ 512 }
-    ensures found { IfSome result (λ clears. HasRuns (block_ahead (bytes_of memory.now) (taken_of command.now)) command.now.cleared clears) }
-    ensures only { (clears : ℕ) → HasRuns (block_ahead (bytes_of memory.now) (taken_of command.now)) command.now.cleared clears → result ≡ Some clears }
+    ensures found { IfSome result (λ clears. HasRuns (block_ahead (bytes_of memory.now) (taken_of command.now))
+        command.now.cleared clears) }
+    ensures only { (clears : ℕ) → HasRuns (block_ahead (bytes_of memory.now) (taken_of command.now)) command.now.cleared
+        clears → result ≡ Some clears }
 {
     let prds = command.prds.as_slice();
     let pieces = count_pieces(prds);
@@ -76,8 +78,10 @@ fn clears_of_trim(command: &TakenCommand, block: &[u8], memory: &[u8]) -> Option
 pub fn clears_of(command: &TakenCommand, block: &[u8], memory: &[u8]) -> Option<u32>
     requires block { block.now ≡ brought command.now.block }
     requires few { length block.now ≤ 512 }
-    ensures found { IfSome result (λ clears. WillClear (operation_of command.now.transfer) (bytes_of memory.now) (taken_of command.now) clears) }
-    ensures only { (clears : ℕ) → WillClear (operation_of command.now.transfer) (bytes_of memory.now) (taken_of command.now) clears → result ≡ Some clears }
+    ensures found { IfSome result (λ clears. WillClear (operation_of command.now.transfer) (bytes_of memory.now)
+        (taken_of command.now) clears) }
+    ensures only { (clears : ℕ) → WillClear (operation_of command.now.transfer) (bytes_of memory.now)
+        (taken_of command.now) clears → result ≡ Some clears }
 {
     if command.transfer.is_trim() {
         clears_of_trim(command, block, memory)
@@ -86,8 +90,8 @@ pub fn clears_of(command: &TakenCommand, block: &[u8], memory: &[u8]) -> Option<
     }
 }
 
-/// The sectors of a trim, whose block is this, that are cleared at once: of its next so many those that follow one another. `None` where there is none, and
-/// where fewer than so many are left.
+/// The sectors of a trim, whose block is this, that are cleared at once: of its next so many those that follow one
+/// another. `None` where there is none, and where fewer than so many are left.
 fn run_of_trim(command: &TakenCommand, block: &[u8], most: u32) -> Option<Run>
     requires block { block.now ≡ brought command.now.block }
     requires few { length block.now ≤ 512 }
@@ -116,7 +120,8 @@ impl Hardware {
     pub fn count_uncleared(&self, port: u8, slot: u8) -> u32
         requires port { port < 4 }
         requires slot { slot < 32 }
-        ensures { (t : TakenCommand) → HoldsAt (slice_index_or self.now.ports port blank) slot t → result ≡ length (uncleared (taken_of t)) }
+        ensures { (t : TakenCommand) → HoldsAt (slice_index_or self.now.ports port blank) slot t
+            → result ≡ length (uncleared (taken_of t)) }
     {
         match working_on(&self.ports, usize::from(port), slot) {
             Some(command) => {
@@ -131,7 +136,8 @@ impl Hardware {
         requires port { port < 4 }
         requires slot { slot < 32 }
         ensures found { IfSome result (λ run. (t : TakenCommand) × IsNextRun self.now port slot most run t) }
-        ensures none { result ≡ None → (t : TakenCommand) → HoldsAt (slice_index_or self.now.ports port blank) slot t → CanClear t most → ⊥ }
+        ensures none { result ≡ None → (t : TakenCommand) → HoldsAt (slice_index_or self.now.ports port blank) slot t
+            → CanClear t most → ⊥ }
     {
         let command = working_on(&self.ports, usize::from(port), slot)?;
         let block = self.ports[usize::from(port)].taken.block(slot);
@@ -142,11 +148,14 @@ impl Hardware {
     pub fn clear(&mut self, port: u8, slot: u8, run: Run)
         requires port { port < 4 }
         requires slot { slot < 32 }
-        requires held { (t : TakenCommand) × HoldsAt (slice_index_or self.old.ports port blank) slot t × (t.cleared + run.count < 2 ^ 32) }
+        requires held { (t : TakenCommand) × HoldsAt (slice_index_or self.old.ports port blank) slot t
+            × (t.cleared + run.count < 2 ^ 32) }
         requires room { HasRoom self.old 1 }
         ensures none { run.count ≡ 0 → self.new ≡ self.old }
-        ensures cleared { 1 ≤ run.count → (o : Outside) (t : TakenCommand) → HoldsAt (slice_index_or self.old.ports port blank) slot t →
-            device_of self.new (outside_cleared o port run.first run.count) ≡ after (ClearStep port slot (taken_of t) run.first run.count) (device_of self.old o) }
+        ensures cleared { 1 ≤ run.count → (o : Outside) (t : TakenCommand)
+            → HoldsAt (slice_index_or self.old.ports port blank) slot t →
+            device_of self.new (outside_cleared o port run.first run.count)
+            ≡ after (ClearStep port slot (taken_of t) run.first run.count) (device_of self.old o) }
         ensures left { (n : ℕ) → HasRoom self.old (n + 1) → HasRoom self.new n }
         ensures starved { self.new.starved ≡ self.old.starved }
     {

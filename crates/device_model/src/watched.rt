@@ -25,7 +25,8 @@ pub trait Watched: Stepped {
 
 /// An adapter whose registers can be looked at without an access.
 pub trait Shown: Watched {
-    /// What a register shows now, of the adapter or of one of its ports 0 to 3. Nothing is done first, and nothing is noted.
+    /// What a register shows now, of the adapter or of one of its ports 0 to 3. Nothing is done first, and nothing is
+    /// noted.
     fn shown(&self, r: Reg) -> u32
         requires { HasRegister r }
         ensures { Shows r result (Self.device self.now) };

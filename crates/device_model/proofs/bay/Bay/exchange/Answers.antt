@@ -1,30 +1,34 @@
-use Rattle.std.proofs.Common.{ℕ, true, ◌∙◌, ap, inl, inr}
-use Rattle.adapter.specs.Memory.{bytes_at}
-use Rattle.device_model.specs.Fetched.{bytes_of}
-use Rattle.device_model.specs.Disks.{disk_over}
-use Rattle.device_model.specs.Whole.{Outside, no_media}
-use Rattle.device_model.proofs.Transfers.{replaced_is}
+use Rattle.std.proofs.Common.{ℕ, ◌+◌, ◌-◌, List, drop, sym, subst, take, arith}
+use Rattle.device_model.specs.Exchanged.{Exchanges, piece_of}
+use Rattle.device_model.specs.declared.hardware.Hardware.{Hardware}
+use Rattle.device_model.proofs.Exchanging.{exchanged, piece_is, piece_stays, piece_was, with_piece}
 use Rattle.device_model.proofs.bay.Bay.exchange.Goals as goal
 
-pub returns-in-Write-clause-sector : goal.returns-in-Write-clause-sector
-returns-in-Write-clause-sector g c = λ _. (c.write.array_long, c.load.ensures.bytes)
+pub returns-clause-exchanges : goal.returns-clause-exchanges
+returns-clause-exchanges g c =
+    let h = c.args.hardware.now in
+    let next = c.args.next in
+    let k : ℕ = next.address + 512 - next.address in
+    let d = c.deref_mut.result.now in
+    let b = c.exchange_piece.new.piece in
+    let there : Hardware = with_piece h next.address k d b in
+    let E : List ℕ → List ℕ → Type 0 = λ before after. Exchanges g.S.SectorStore.size g.S.SectorStore.told
+    g.S.SectorStore.failures c.args.self.now
+    c.exchange_piece.new.self next before after c.exchange_piece.result in
+    let was = piece_was h next k d c.deref_mut.ensures.value (omega arith) c.requires in
+    let is = piece_is h next k d b c.deref_mut.ensures.value (omega arith) c.requires c.exchange_piece.ensures.sector.0
+    in
+    subst (λ before. E before (piece_of there next)) (sym was) (subst (λ after. E (take k (drop next.address d)) after)
+    (sym is) c.exchange_piece.ensures)
 
-pub returns-in-Write-clause-takes : goal.returns-in-Write-clause-takes
-returns-in-Write-clause-takes g c = λ _ _.
-    let memory : ℕ → ℕ = bytes_of c.args.hardware.now.memory.items in
-    let nothing : Outside = record { telling = true; media = λ _. no_media } in
-    c.load.ensures.shows nothing ∙ ap (λ n. bytes_at memory c.args.next.address n) c.write.array_long
+pub returns-clause-memory : goal.returns-clause-memory
+returns-clause-memory g c =
+    exchanged c.args.hardware.now c.args.next (c.args.next.address + 512 - c.args.next.address) c.deref_mut.result.now
+    c.exchange_piece.new.piece
+    c.deref_mut.ensures.value (omega arith) c.requires c.exchange_piece.ensures.sector.0 c.exchange_piece.ensures.takes
 
-pub returns-in-Write-clause-disk : goal.returns-in-Write-clause-disk
-returns-in-Write-clause-disk g c = λ done.
-    let told = c.write.ensures.puts done ∙ replaced_is (g.S.SectorStore.told c.args.self.now.disk.store) c.args.next.sector c.load.new.out in
-    elim c.in-Write.is [
-      | inl plain ↦ rw plain (λ i. disk_over c.args.self.now.which (c.write.ensures.size i) (told i))
-      | inr queued ↦ rw queued (λ i. disk_over c.args.self.now.which (c.write.ensures.size i) (told i))
-    ]
-
-pub returns-in-Trim-clause-takes : goal.returns-in-Trim-clause-takes
-returns-in-Trim-clause-takes g c = λ _ _.
-    let memory : ℕ → ℕ = bytes_of c.args.hardware.now.memory.items in
-    let nothing : Outside = record { telling = true; media = λ _. no_media } in
-    c.load-in-Trim.ensures.shows nothing ∙ ap (λ n. bytes_at memory c.args.next.address n) c.load-in-Trim.array_long
+pub returns-clause-stays : goal.returns-clause-stays
+returns-clause-stays g c = λ failed o.
+    piece_stays c.args.hardware.now o c.args.next (c.args.next.address + 512 - c.args.next.address)
+    c.deref_mut.result.now c.exchange_piece.new.piece
+    c.deref_mut.ensures.value (omega arith) c.requires (c.exchange_piece.ensures.left failed)

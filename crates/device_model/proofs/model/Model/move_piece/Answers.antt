@@ -15,6 +15,7 @@ use Rattle.sector_store.specs.declared.store.Failures.{Failures}
 use Rattle.adapter.specs.declared.access.DeviceStep.TheVariants as asked
 use Rattle.device_model.specs.Disks.{bay_of, disk_in, failing, failures_of}
 use Rattle.device_model.specs.Does.{Completes, HasFailed}
+use Rattle.device_model.specs.Exchanged.{piece_of}
 use Rattle.device_model.specs.Finishing.{HasMove, HasRoom}
 use Rattle.device_model.specs.Modelled.{device_at, media_of, outside_at}
 use Rattle.device_model.specs.Slots.{IsNext}
@@ -26,6 +27,7 @@ use Rattle.device_model.specs.declared.model.Model.{Model}
 use Rattle.device_model.specs.declared.port.TakenCommand.{TakenCommand}
 use Rattle.device_model.proofs.TwoDisks.{found_bay, has_disks, outside_kept, outside_moved, seat_is, seated_here, seated_others, seated_same, store_fine, store_keeps, store_says, store_whichs}
 use Rattle.device_model.proofs.Doing.{IsFailed, is_failed}
+use Rattle.device_model.proofs.Exchanging.{next_over, room_over, starved_over}
 use Rattle.device_model.proofs.Faults.{did_fail, fails_to_move}
 use Rattle.device_model.proofs.Finishing.{move_fits, next_has_move}
 use Rattle.device_model.proofs.Paging.{next_unranged}
@@ -82,20 +84,20 @@ returns-then-not-room-clause-answers g c =
 
 -- ---- the bay of the port, as the piece is moved
 
-was : (g : Over) (c : goal.After-move_bytes g) → bay_of c.args.self.now c.args.port.0 ≡ Some c.in-Some-index_mut.bay
+was : (g : Over) (c : goal.After-note_move g) → bay_of c.args.self.now c.args.port.0 ≡ Some c.in-Some-index_mut.bay
 was g c =
     seat_is c.args.self.now c.from-place.result c.args.port.0 c.index_mut.result.now c.in-Some-index_mut.bay c.from-place.ensures
     (let there = c.has_disks.ensures.there c.if-not-has_disks.false in let long = ap length c.as_slice.ensures.value in omega (arith, there, long))
     c.index_mut.ensures.value c.in-Some-index_mut.is
 
 -- the model afterwards
-abbrev moved_model : (g : Over) (c : goal.After-move_bytes g) → Model g.row.S.Denot
-moved_model g c = record c.args.self.now { hardware = c.move_bytes.new.self; bays = with_item c.args.self.now.bays c.from-place.result (Some c.exchange.new.self) }
+abbrev moved_model : (g : Over) (c : goal.After-note_move g) → Model g.row.S.Denot
+moved_model g c = record c.args.self.now { hardware = c.note_move.new.self; bays = with_item c.args.self.now.bays c.from-place.result (Some c.exchange.new.self) }
 
-items : (g : Over) (c : goal.After-move_bytes g) → (moved_model g c).bays.items ≡ slice_set c.args.self.now.bays.items c.args.port.0 (Some c.exchange.new.self)
+items : (g : Over) (c : goal.After-note_move g) → (moved_model g c).bays.items ≡ slice_set c.args.self.now.bays.items c.args.port.0 (Some c.exchange.new.self)
 items g c = ap (λ k. slice_set c.args.self.now.bays.items k (Some c.exchange.new.self)) c.from-place.ensures
 
-fits : (g : Over) (c : goal.After-move_bytes g) →
+fits : (g : Over) (c : goal.After-note_move g) →
     HasMove (device_at g.S.SectorStore.size g.S.SectorStore.told c.args.self.now) c.args.port.0 c.args.slot.0 (taken_of c.in-Some.ensures.found.0)
 fits g c =
     let m = c.args.self.now in
@@ -103,7 +105,7 @@ fits g c =
     next_has_move c.reserve-room.new.self o _ c.args.port.0 c.args.slot.0 c.in-Some.next c.in-Some.ensures.found.0
     (has_disks g.S.SectorStore.size g.S.SectorStore.told m c.args.port.0 c.in-Some-index_mut.bay (was g c)) (c.reserve-room.ensures.same o) c.in-Some.ensures.found.1
 
-moved : (g : Over) (c : goal.After-move_bytes g) →
+moved : (g : Over) (c : goal.After-note_move g) →
     DoesMove c.args.port.0 c.args.slot.0 (device_at g.S.SectorStore.size g.S.SectorStore.told c.args.self.now)
     (device_at g.S.SectorStore.size g.S.SectorStore.told (moved_model g c))
 moved g c =
@@ -111,40 +113,45 @@ moved g c =
     let a = c.in-Some-index_mut.bay in
     let o : Outside = outside_at g.S.SectorStore.size g.S.SectorStore.told m in
     let h = c.reserve-room.new.self in
-    let bytes = c.exchange.new.bytes in
+    let bytes = piece_of c.exchange.new.hardware c.in-Some.next in
     let did = c.if-not-exchange.false in
-    let moved = c.move_bytes.ensures.moved o in
-    let r : TakenCommand = moved.0 in
-    let is : IsNext h c.args.port.0 c.args.slot.0 c.in-Some.next r = moved.1 in
+    let r : TakenCommand = c.in-Some.ensures.found.0 in
+    let is : IsNext h c.args.port.0 c.args.slot.0 c.in-Some.next r = c.in-Some.ensures.found.1 in
     let here : Media = media_of g.S.SectorStore.size g.S.SectorStore.told (Some a) in
     let at : here ≡ o.media c.args.port.0 = sym (ap (media_of g.S.SectorStore.size g.S.SectorStore.told) (was g c)) in
     let behind : outside_at g.S.SectorStore.size g.S.SectorStore.told (moved_model g c) ≡ outside_after o c.args.port.0 (taken_of r) bytes =
-    outside_moved m (moved_model g c) c.args.port.0 a c.exchange.new.self (was g c) (items g c) c.exchange.ensures.rest g.S.SectorStore.size g.S.SectorStore.told
-    c.in-Some.next r bytes is.transfer_is is.sector_is (c.exchange.ensures.disk did) in
+    outside_moved m (moved_model g c) c.args.port.0 a c.exchange.new.self (was g c) (items g c)
+    c.exchange.ensures.exchanges.rest g.S.SectorStore.size g.S.SectorStore.told
+    c.in-Some.next r bytes is.transfer_is is.sector_is (c.exchange.ensures.exchanges.disk did) in
     let R : Device → Type 0 = λ d. Can (Move c.args.port.0 c.args.slot.0 (taken_of r) bytes) d in
     record {
       t = taken_of r;
       bytes = bytes;
       can = subst R (c.reserve-room.ensures.same o)
-          (may_move h o c.args.port.0 c.args.slot.0 c.in-Some.next r bytes is (c.exchange.ensures.sector did)
-          (subst (λ (x : Media). is_ranged (operation_of c.in-Some.next.transfer) ≡ true → c.in-Some.next.sector < x.disk.size) at (c.exchange.ensures.inside did))
+          (may_move h o c.args.port.0 c.args.slot.0 c.in-Some.next r bytes is c.exchange.ensures.exchanges.sector
+          (subst (λ (x : Media). is_ranged (operation_of c.in-Some.next.transfer) ≡ true →
+          c.in-Some.next.sector < x.disk.size) at (c.exchange.ensures.exchanges.inside did))
           (subst (λ (x : Media). is_ranged (operation_of c.in-Some.next.transfer) ≡ true → reads_memory (operation_of c.in-Some.next.transfer) ≡ false →
-          IfSome x.disk.sectors (λ f. bytes ≡ f c.in-Some.next.sector)) at (c.exchange.ensures.gives did))
-          (c.exchange.ensures.takes did));
-      effect = ap (λ (x : Outside). device_of c.move_bytes.new.self x) behind
-          ∙ (moved.2 ∙ ap (λ (d : Device). after (Move c.args.port.0 c.args.slot.0 (taken_of r) bytes) d) (c.reserve-room.ensures.same o));
+          IfSome x.disk.sectors (λ f. bytes ≡ f c.in-Some.next.sector)) at (c.exchange.ensures.exchanges.gives did))
+          c.exchange.ensures.exchanges.takes);
+      effect = ap (λ (x : Outside). device_of c.note_move.new.self x) behind
+          ∙ (c.note_move.ensures.moved h o r c.exchange.ensures.memory is
+          ∙ ap (λ (d : Device). after (Move c.args.port.0 c.args.slot.0 (taken_of r) bytes) d)
+          (c.reserve-room.ensures.same o));
     }
 
-whole : (g : Over) (c : goal.After-move_bytes g) →
+whole : (g : Over) (c : goal.After-note_move g) →
     Completes g.S.SectorStore.size g.S.SectorStore.told g.S.SectorStore.failures (asked.Move c.args.port c.args.slot) c.args.self.now (moved_model g c)
 whole g c =
     let m = c.args.self.now in
     let a = c.in-Some-index_mut.bay in
     record {
       asked = moved g c;
-      fine = store_fine m (moved_model g c) c.args.port.0 a c.exchange.new.self (was g c) (items g c) c.exchange.ensures.rest g.S.SectorStore.failures
-          (c.exchange.ensures.fine c.if-not-exchange.false);
-      says = store_says m (moved_model g c) c.args.port.0 a c.exchange.new.self (was g c) (items g c) c.exchange.ensures.rest c.args.port.0;
+      fine = store_fine m (moved_model g c) c.args.port.0 a c.exchange.new.self (was g c) (items g c)
+          c.exchange.ensures.exchanges.rest g.S.SectorStore.failures
+          (c.exchange.ensures.exchanges.fine c.if-not-exchange.false);
+      says = store_says m (moved_model g c) c.args.port.0 a c.exchange.new.self (was g c) (items g c)
+          c.exchange.ensures.exchanges.rest c.args.port.0;
       ends = λ _. tt;
     }
 
@@ -157,27 +164,34 @@ returns-clause-answers g c =
     let a = c.in-Some-index_mut.bay in
     let b = c.exchange.new.self in
     let o : Outside = outside_at g.S.SectorStore.size g.S.SectorStore.told m in
-    let noted = c.move_bytes.ensures.moved o in
-    let entry : Entry = entry.Move (move_of c.args.port.0 c.args.slot.0 (taken_of noted.0) c.exchange.new.bytes) in
+    let found = c.in-Some.ensures.found in
+    let bytes = piece_of c.exchange.new.hardware c.in-Some.next in
+    let noted = c.note_move.ensures.moved c.reserve-room.new.self o found.0 c.exchange.ensures.memory found.1 in
+    let entry : Entry = entry.Move (move_of c.args.port.0 c.args.slot.0 (taken_of found.0) bytes) in
     let disks = has_disks g.S.SectorStore.size g.S.SectorStore.told m c.args.port.0 a (was g c) in (
       (c.requires, taken_of c.in-Some.ensures.found.0, fits g c),
       record {
         came = inl (whole g c);
         held = refl;
-        which = store_whichs m (moved_model g c) c.args.port.0 a b (was g c) (items g c) c.exchange.ensures.rest c.args.port.0;
+        which = store_whichs m (moved_model g c) c.args.port.0 a b (was g c) (items g c)
+            c.exchange.ensures.exchanges.rest c.args.port.0;
         others = seated_others m (moved_model g c) c.args.port.0 a b (was g c) (items g c);
-        pages = gains_moved g.S.SectorStore.size m _ a noted.0.transfer (move_of c.args.port.0 c.args.slot.0 (taken_of noted.0) c.exchange.new.bytes) (was g c)
-            (ap (λ (d : Device). d.tape) noted.2 ∙ ap (λ (d : Device). d.tape ++ entry ∷ []) (c.reserve-room.ensures.same o)) refl
-            (λ identify. c.exchange.ensures.page c.if-not-exchange.false (noted.1.transfer_is ∙ identify))
-            (λ log. c.exchange.ensures.log c.if-not-exchange.false (noted.1.transfer_is ∙ log));
+        pages = gains_moved g.S.SectorStore.size m _ a found.0.transfer
+            (move_of c.args.port.0 c.args.slot.0 (taken_of found.0) bytes) (was g c)
+            (ap (λ (d : Device). d.tape) noted ∙ ap (λ (d : Device). d.tape ++ entry ∷ [])
+            (c.reserve-room.ensures.same o)) refl
+            (λ identify. c.exchange.ensures.exchanges.page c.if-not-exchange.false (found.1.transfer_is ∙ identify))
+            (λ log. c.exchange.ensures.exchanges.log c.if-not-exchange.false (found.1.transfer_is ∙ log));
         disks = λ none w.
             seated_same m (moved_model g c) c.args.port.0 a b (was g c) (items g c) (option_map (λ (x : Bay g.row.S.Denot). disk_in x w))
             (ap (λ (x : Bay g.row.S.Denot). Some (disk_in x w))
-            (c.exchange.ensures.same
+            (c.exchange.ensures.exchanges.same
             (next_unranged c.reserve-room.new.self o _ c.args.port c.args.slot c.in-Some.next c.in-Some.ensures.found.0 disks c.requires
             (c.reserve-room.ensures.same o) c.in-Some.ensures.found.1 none))) c.args.port.0;
-        keeps = store_keeps m (moved_model g c) c.args.port.0 a b (was g c) (items g c) c.exchange.ensures.rest g.S.SectorStore.size c.exchange.ensures.size refl refl;
-        starved = c.move_bytes.ensures.starved ∙ c.reserve-room.ensures.starved;
+        keeps = store_keeps m (moved_model g c) c.args.port.0 a b (was g c) (items g c)
+            c.exchange.ensures.exchanges.rest g.S.SectorStore.size c.exchange.ensures.exchanges.sized refl refl;
+        starved = c.note_move.ensures.starved ∙ (starved_over c.exchange.ensures.memory
+            ∙ c.reserve-room.ensures.starved);
       },
     )
 
@@ -295,7 +309,11 @@ was_store g c =
     c.index_mut.ensures.value c.in-Some-index_mut.is
 
 abbrev store_model : (g : Over) (c : goal.After-fail-failed-then-not-exchange g) → Model g.row.S.Denot
-store_model g c = record c.args.self.now { hardware = c.reserve-room.new.self; bays = with_item c.args.self.now.bays c.from-place.result (Some c.exchange.new.self) }
+store_model g c = record c.args.self.now {
+  hardware = c.exchange.new.hardware;
+  bays = with_item c.args.self.now.bays
+      c.from-place.result (Some c.exchange.new.self);
+}
 
 store_items : (g : Over) (c : goal.After-fail-failed-then-not-exchange g) →
     (store_model g c).bays.items ≡ slice_set c.args.self.now.bays.items c.args.port.0 (Some c.exchange.new.self)
@@ -316,22 +334,27 @@ store g c =
     let mid = store_model g c in
     let o : Outside = outside_at g.S.SectorStore.size g.S.SectorStore.told mid in
     let found = c.in-Some.ensures.found in
-    let works = found.1.holds.works (o.media c.args.port.0) in
+    let works = (next_over c.args.port.0 c.args.slot.0 c.exchange.ensures.memory found.1).holds.works
+    (o.media c.args.port.0) in
     let small = c.if-place-ge-PORTS.false in
     let at = c.from-place.ensures in
     is_failed g.S.SectorStore.size g.S.SectorStore.told g.S.SectorStore.failures c.args.port c.args.slot 0x40 (taken_of found.0) c.fail-failed-then-not-exchange.result
     mid c.fail-failed-then-not-exchange.new.self c.fail-failed-then-not-exchange.ensures (omega (arith, small, at)) c.requires
-    (record { taken = works.taken; running = works.working.running; is_byte = omega arith; kept = refl }) (c.reserve-room.ensures.room c.if-not-room.false)
+    (record { taken = works.taken; running = works.working.running; is_byte = omega arith; kept = refl })
+    (room_over 1 c.exchange.ensures.memory (c.reserve-room.ensures.room c.if-not-room.false))
 
 -- it is as it was, but for the store
 store_same : (g : Over) (c : goal.After-fail-failed-then-not-exchange g) →
     device_at g.S.SectorStore.size g.S.SectorStore.told (store_model g c) ≡ device_at g.S.SectorStore.size g.S.SectorStore.told c.args.self.now
 store_same g c =
     let m = c.args.self.now in
-    ap (λ (x : Outside). device_of c.reserve-room.new.self x)
-    (outside_kept m (store_model g c) c.args.port.0 c.in-Some-index_mut.bay c.exchange.new.self (was_store g c) (store_items g c) c.exchange.ensures.rest
-    g.S.SectorStore.size g.S.SectorStore.told c.exchange.ensures.size (c.exchange.ensures.kept c.if-not-exchange.true))
-    ∙ c.reserve-room.ensures.same (outside_at g.S.SectorStore.size g.S.SectorStore.told m)
+    ap (λ (x : Outside). device_of c.exchange.new.hardware x)
+    (outside_kept m (store_model g c) c.args.port.0 c.in-Some-index_mut.bay c.exchange.new.self (was_store g c)
+    (store_items g c) c.exchange.ensures.exchanges.rest
+    g.S.SectorStore.size g.S.SectorStore.told c.exchange.ensures.exchanges.sized
+    (c.exchange.ensures.exchanges.kept c.if-not-exchange.true))
+    ∙ (c.exchange.ensures.stays c.if-not-exchange.true (outside_at g.S.SectorStore.size g.S.SectorStore.told m)
+    ∙ c.reserve-room.ensures.same (outside_at g.S.SectorStore.size g.S.SectorStore.told m))
 
 store_failed : (g : Over) (c : goal.After-fail-failed-then-not-exchange g) →
     HasFailed g.S.SectorStore.size g.S.SectorStore.told g.S.SectorStore.failures (asked.Move c.args.port c.args.slot) c.args.self.now c.fail-failed-then-not-exchange.new.self
@@ -340,10 +363,10 @@ store_failed g c =
     let a = c.in-Some-index_mut.bay in
     let b = c.exchange.new.self in
     let next = c.in-Some.ensures.found in
-    let ranged = c.exchange.ensures.ranged c.if-not-exchange.true in
+    let ranged = c.exchange.ensures.exchanges.ranged c.if-not-exchange.true in
     let here = c.is_on.ensures.0 c.if-not-is_on.false ranged in
     let listed = c.sectors.ensures in
-    let failed = c.exchange.ensures.fails c.if-not-exchange.true (omega (arith, here, listed)) in
+    let failed = c.exchange.ensures.exchanges.fails c.if-not-exchange.true (omega (arith, here, listed)) in
     let Q : Bool → ℕ → Type 0 = λ is_write sector. FailsOn is_write sector (g.S.SectorStore.failures a.disk.store) (g.S.SectorStore.failures b.disk.store) in
     let writes = ap (λ (k : Transfer). reads_memory (operation_of k)) next.1.transfer_is in
     let size : ((device_at g.S.SectorStore.size g.S.SectorStore.told m).port c.args.port.0).disk.size ≡ g.S.SectorStore.size a.disk.store =
@@ -356,7 +379,8 @@ store_failed g c =
     let called = subst (λ w. Q w (next_sector (taken_of next.0))) writes (subst (Q (reads_memory (operation_of c.in-Some.next.transfer))) next.1.sector_is failed) in
     fails_to_move g.S.SectorStore.size g.S.SectorStore.told g.S.SectorStore.failures c.args.port c.args.slot 0x40 (taken_of next.0) m
     (store_model g c) c.fail-failed-then-not-exchange.new.self (store g c) (store_same g c)
-    (store_says m (store_model g c) c.args.port.0 a b (was_store g c) (store_items g c) c.exchange.ensures.rest c.args.port.0) (store_fits g c)
+    (store_says m (store_model g c) c.args.port.0 a b (was_store g c) (store_items g c)
+    c.exchange.ensures.exchanges.rest c.args.port.0) (store_fits g c)
     (ap (λ (k : Transfer). is_ranged (operation_of k)) (sym next.1.transfer_is) ∙ ranged)
     (inr (
       omega (arith, here, listed, size, sector),
@@ -373,22 +397,28 @@ returns-then-not-exchange-clause-answers g c =
     let a = c.in-Some-index_mut.bay in
     let b = c.exchange.new.self in
     let next = c.in-Some.ensures.found in
-    let ranged = ap (λ (k : Transfer). is_ranged (operation_of k)) (sym next.1.transfer_is) ∙ c.exchange.ensures.ranged c.if-not-exchange.true in (
+    let ranged = ap (λ (k : Transfer). is_ranged (operation_of k)) (sym next.1.transfer_is)
+    ∙ c.exchange.ensures.exchanges.ranged c.if-not-exchange.true in (
       (c.requires, taken_of next.0, store_fits g c),
       did_fail g.S.SectorStore.size g.S.SectorStore.told g.S.SectorStore.failures c.args.port c.args.slot 0x40 (taken_of next.0) m
           (store_model g c) c.fail-failed-then-not-exchange.new.self (store g c) (asked.Move c.args.port c.args.slot) refl (store_failed g c) refl refl refl
-          (store_says m (store_model g c) c.args.port.0 a b (was_store g c) (store_items g c) c.exchange.ensures.rest c.args.port.0)
-          (store_whichs m (store_model g c) c.args.port.0 a b (was_store g c) (store_items g c) c.exchange.ensures.rest c.args.port.0)
+          (store_says m (store_model g c) c.args.port.0 a b (was_store g c) (store_items g c)
+          c.exchange.ensures.exchanges.rest c.args.port.0)
+          (store_whichs m (store_model g c) c.args.port.0 a b (was_store g c) (store_items g c)
+          c.exchange.ensures.exchanges.rest c.args.port.0)
           (seated_others m (store_model g c) c.args.port.0 a b (was_store g c) (store_items g c))
           (gains_none g.S.SectorStore.size m _ (ap (λ (d : Device). d.tape) (store_same g c)))
-          (store_keeps m (store_model g c) c.args.port.0 a b (was_store g c) (store_items g c) c.exchange.ensures.rest g.S.SectorStore.size c.exchange.ensures.size refl refl)
-          c.reserve-room.ensures.starved (c.requires, taken_of next.0, store_fits g c, ranged),
+          (store_keeps m (store_model g c) c.args.port.0 a b (was_store g c) (store_items g c)
+          c.exchange.ensures.exchanges.rest g.S.SectorStore.size c.exchange.ensures.exchanges.sized refl refl)
+          (starved_over c.exchange.ensures.memory ∙ c.reserve-room.ensures.starved)
+          (c.requires, taken_of next.0, store_fits g c, ranged),
     )
 
 -- ---- memory that is left
 
 pub returns-clause-left : goal.returns-clause-left
-returns-clause-left g c = λ _ n room. c.move_bytes.ensures.left n (c.reserve-room.ensures.kept (n + 1) room)
+returns-clause-left g c = λ _ n room. c.note_move.ensures.left n
+    (room_over (n + 1) c.exchange.ensures.memory (c.reserve-room.ensures.kept (n + 1) room))
 
 -- ---- a page, for which no store is asked
 

@@ -1,0 +1,182 @@
+-- What a disk and the memory exchange, where it stands in memory.
+use Rattle.std.proofs.Common.{ℕ, ◌≡◌, ◌<◌, ◌≤◌, ◌+◌, Bool, true, false, List, [], ◌∷◌, ◌++◌, length, take, drop, sym}
+use Rattle.std.proofs.Common.{◌∙◌, ap, subst, arith, length-take, length-drop}
+use Rattle.std.specs.Prelude.{if◌then◌else◌, slice_index_or, slice_set}
+use Rattle.std.specs.Global.{Vec}
+use Rattle.std.specs.Vec.{with_items}
+use Rattle.std.proofs.Math.Seq.{drop-append_seam, take-append_seam}
+use Rattle.std.proofs.lemmas.List.{drop-drop, take-append-drop, with_items_is}
+use Rattle.adapter.specs.Commands.{direction_of, reads_memory}
+use Rattle.adapter.specs.Device.{Device}
+use Rattle.adapter.specs.Memory.{patched}
+use Rattle.adapter.specs.Steps.{after, with_move}
+use Rattle.adapter.specs.Steps.Step.{Move}
+use Rattle.adapter.specs.declared.command.Direction.{Direction}
+use Rattle.adapter.specs.declared.command.Operation.{Operation}
+use Rattle.adapter.specs.declared.tape.Entry.{Entry}
+use Rattle.adapter.specs.declared.tape.Entry.TheVariants as entry
+use Rattle.device_model.specs.Exchanged.{IsExchanged, piece_of}
+use Rattle.device_model.specs.Fetched.{bytes_of}
+use Rattle.device_model.specs.Finishing.{HasRoom}
+use Rattle.device_model.specs.Slots.{HoldsAt, IsNext}
+use Rattle.device_model.specs.View.{blank, media_after, operation_of, port_of, taken_of}
+use Rattle.device_model.specs.Whole.{Outside, device_of, outside_after}
+use Rattle.device_model.specs.declared.hardware.Hardware.{Hardware}
+use Rattle.device_model.specs.declared.port.PortModel.{PortModel}
+use Rattle.device_model.specs.declared.port.TakenCommand.{TakenCommand}
+use Rattle.device_model.specs.declared.steps.NextMove.{NextMove}
+use Rattle.device_model.proofs.Absurd.{fun_ext}
+use Rattle.device_model.proofs.Bytes.{bytes_at-list, put_length, put_reads}
+use Rattle.device_model.proofs.Stepping.{moved_by, port_moves}
+
+-- a list with these bytes in the place of so many
+abbrev pub over : (at k : ℕ) (d b : List ℕ) → List ℕ
+over at k d b = take at d ++ (b ++ drop k (drop at d))
+
+over_put : (at k : ℕ) (d b : List ℕ) → length b ≡ k → over at k d b ≡ take at d ++ (b ++ drop (at + length b) d)
+over_put at k d b size =
+    ap (λ (l : List ℕ). take at d ++ (b ++ l)) (drop-drop k at d ∙ ap (λ (n : ℕ). drop (at + n) d) (sym size))
+
+over_same : (at k : ℕ) (d : List ℕ) → over at k d (take k (drop at d)) ≡ d
+over_same at k d = ap (λ (l : List ℕ). take at d ++ l) (take-append-drop k (drop at d)) ∙ take-append-drop at d
+
+over_there : (at k : ℕ) (d b : List ℕ) → at + k ≤ length d → length b ≡ k → take k (drop at (over at k d b)) ≡ b
+over_there at k d b small size =
+    let e : length (take at d) ≡ at = simp length-take (omega arith) in
+    let rest : List ℕ = drop k (drop at d) in
+    let past : drop at (over at k d b) ≡ b ++ rest =
+    ap (λ (n : ℕ). drop n (take at d ++ (b ++ rest))) (sym e) ∙ drop-append_seam (take at d) (b ++ rest) in
+    ap (λ (l : List ℕ). take k l) past ∙ (ap (λ (n : ℕ). take n (b ++ rest)) (sym size) ∙ take-append_seam b rest)
+
+-- the hardware, where these bytes stand
+abbrev pub with_piece : (h : Hardware) (at k : ℕ) (d b : List ℕ) → Hardware
+with_piece h at k d b = record h { memory = with_items h.memory (over at k d b) }
+
+with_piece_is : (h : Hardware) (at k : ℕ) (d b : List ℕ) → d ≡ h.memory.items → at + k ≤ length d → length b ≡ k →
+    (with_piece h at k d b).memory.items ≡ over at k d b
+with_piece_is h at k d b is small size =
+    let ok = h.memory.ok.0 in
+    let long : length (over at k d b) ≡ length d =
+    ap length (over_put at k d b size) ∙ put_length d b at (omega (arith, small, size)) in
+    let all : length d ≡ length h.memory.items = ap length is in
+    with_items_is h.memory (over at k d b) (omega (arith, long, all, ok))
+
+-- the piece that stood there
+pub piece_was : (h : Hardware) (next : NextMove) (k : ℕ) (d : List ℕ) → d ≡ h.memory.items → k ≡ 512 →
+    next.address + 512 ≤ length h.memory.items → piece_of h next ≡ take k (drop next.address d)
+piece_was h next k d is whole small =
+    bytes_at-list h.memory.items next.address 512 small ∙ (λ i. take (sym whole i) (drop next.address (sym is i)))
+
+-- and the one that stands there now
+pub piece_is : (h : Hardware) (next : NextMove) (k : ℕ) (d b : List ℕ) → d ≡ h.memory.items → k ≡ 512 →
+    next.address + 512 ≤ length h.memory.items → length b ≡ 512 → piece_of (with_piece h next.address k d b) next ≡ b
+piece_is h next k d b is whole small size =
+    let all : length d ≡ length h.memory.items = ap length is in
+    let items = with_piece_is h next.address k d b is (omega (arith, all, whole, small)) (omega (arith, size, whole)) in
+    let long : length (over next.address k d b) ≡ length d =
+    ap length (over_put next.address k d b (omega (arith, size, whole)))
+    ∙ put_length d b next.address (omega (arith, all, size, small)) in
+    let room : next.address + 512 ≤ length (with_piece h next.address k d b).memory.items =
+    let e = ap length items in omega (arith, e, long, all, small) in
+    bytes_at-list (with_piece h next.address k d b).memory.items next.address 512 room
+    ∙ ((λ i. take (sym whole i) (drop next.address (items i)))
+    ∙ over_there next.address k d b (omega (arith, all, whole, small)) (omega (arith, size, whole)))
+
+pub exchanged : (h : Hardware) (next : NextMove) (k : ℕ) (d b : List ℕ) → d ≡ h.memory.items → k ≡ 512 →
+    next.address + 512 ≤ length h.memory.items → length b ≡ 512 →
+    (reads_memory (operation_of next.transfer) ≡ true → b ≡ take k (drop next.address d)) →
+    IsExchanged h (with_piece h next.address k d b) next
+exchanged h next k d b is whole small size takes =
+    record {
+      rest = λ _. with_piece h next.address k d b;
+      size = ap length items ∙ (long ∙ all);
+      put = by (reads_memory (operation_of next.transfer)) takes;
+    }
+  where
+    all : length d ≡ length h.memory.items
+    all = ap length is
+
+    sized : length b ≡ k
+    sized = omega (arith, size, whole)
+
+    items : (with_piece h next.address k d b).memory.items ≡ over next.address k d b
+    items = with_piece_is h next.address k d b is (let e = all in omega (arith, e, whole, small)) sized
+
+    long : length (over next.address k d b) ≡ length d
+    long =
+        ap length (over_put next.address k d b sized)
+        ∙ put_length d b next.address (let e = all in omega (arith, e, size, small))
+
+    by : (reads : Bool) → (reads ≡ true → b ≡ take k (drop next.address d)) →
+        bytes_of (with_piece h next.address k d b).memory.items
+        ≡ (if reads then bytes_of h.memory.items
+        else patched (bytes_of h.memory.items) next.address (piece_of (with_piece h next.address k d b) next))
+    by true same =
+        ap (λ (l : List ℕ). bytes_of l)
+        (items ∙ (ap (over next.address k d) (same (λ _. true)) ∙ (over_same next.address k d ∙ is)))
+    by false same =
+        let put : bytes_of (over next.address k d b) ≡ patched (bytes_of d) next.address b =
+        fun_ext (λ a. ap (λ (l : List ℕ). bytes_of l a) (over_put next.address k d b sized)
+        ∙ put_reads d b next.address a (let e = all in omega (arith, e, size, small))) in
+        ap (λ (l : List ℕ). bytes_of l) items
+        ∙ (put ∙ (λ i. patched (bytes_of (is i)) next.address (sym (piece_is h next k d b is whole small size) i)))
+
+-- where it is what stood there, nothing is another
+pub piece_stays : (h : Hardware) (o : Outside) (next : NextMove) (k : ℕ) (d b : List ℕ) → d ≡ h.memory.items → k ≡ 512 →
+    next.address + 512 ≤ length h.memory.items → b ≡ take k (drop next.address d) →
+    device_of (with_piece h next.address k d b) o ≡ device_of h o
+piece_stays h o next k d b is whole small same =
+    let all : length d ≡ length h.memory.items = ap length is in
+    let sized : length b ≡ k = ap length same ∙ simp (length-take, length-drop) (omega (arith, all, whole, small)) in
+    let items =
+    with_piece_is h next.address k d b is (omega (arith, all, whole, small)) sized
+    ∙ (ap (over next.address k d) same ∙ (over_same next.address k d ∙ is)) in
+    λ i. record (device_of h o) { size = length (items i); memory = bytes_of (items i) }
+
+-- the next piece of a command is noted, where it was exchanged
+pub port_moves_over : (old h : Hardware) (o : Outside) (p port slot : ℕ) (next : NextMove) (new : PortModel)
+    (t : TakenCommand) (tape : Vec Entry) (operation : Operation) (direction : Direction) →
+    IsExchanged old h next → p ≡ port → p < length h.ports → IsNext old port slot next t →
+    port_of new (media_after (o.media p) (taken_of t) (piece_of h next))
+    ≡ with_move (port_of (slice_index_or h.ports p blank) (o.media p)) slot (taken_of t) (piece_of h next) →
+    operation ≡ operation_of next.transfer → direction ≡ direction_of (operation_of next.transfer) →
+    tape.items
+    ≡ h.tape.items
+    ++ entry.Move (moved_by port slot operation next.sector next.address direction (piece_of h next)) ∷ [] →
+    device_of (record h { ports = slice_set h.ports p new; tape = tape })
+    (outside_after o port (taken_of t) (piece_of h next))
+    ≡ after (Move port slot (taken_of t) (piece_of h next)) (device_of old o)
+port_moves_over old h o p port slot next new t tape operation direction is e small at moves named way more =
+    let noted : Vec Entry = tape in
+    let bytes : List ℕ = piece_of h next in
+    let effect : Device = after (Move port slot (taken_of t) bytes) (device_of old o) in
+    let moved = port_moves old o p port slot next new t tape h.memory bytes operation direction e
+    (subst (λ (x : Hardware). p < length x.ports) is.rest small) at
+    (subst (λ (x : Hardware). port_of new (media_after (o.media p) (taken_of t) bytes)
+    ≡ with_move (port_of (slice_index_or x.ports p blank) (o.media p)) slot (taken_of t) bytes) is.rest moves)
+    named way
+    (subst (λ (x : Hardware). noted.items ≡ x.tape.items ++ entry.Move
+    (moved_by port slot operation next.sector next.address direction bytes) ∷ []) is.rest more)
+    is.size is.put in
+    subst (λ (x : Hardware). device_of (record x { ports = slice_set x.ports p new; tape = noted })
+    (outside_after o port (taken_of t) bytes) ≡ effect) (sym is.rest) moved
+
+-- it is the next one still
+pub next_over : {old h : Hardware} {next : NextMove} {t : TakenCommand} → (port slot : ℕ) → IsExchanged old h next →
+    IsNext old port slot next t → IsNext h port slot next t
+next_over {old} {h} {next} {t} port slot is at = record {
+  holds = subst (λ (x : Hardware). HoldsAt (slice_index_or x.ports port blank) slot t) (sym is.rest) at.holds;
+  left = at.left;
+  room = at.room;
+  transfer_is = at.transfer_is;
+  sector_is = at.sector_is;
+  address_is = at.address_is;
+  inside = let size = is.size in let inside = at.inside in omega (arith, size, inside);
+}
+
+-- the tape has the memory that it had
+pub room_over : {old h : Hardware} {next : NextMove} → (n : ℕ) → IsExchanged old h next → HasRoom old n → HasRoom h n
+room_over {old} {h} {next} n is room = subst (λ (x : Hardware). HasRoom x n) (sym is.rest) room
+
+pub starved_over : {old h : Hardware} {next : NextMove} → IsExchanged old h next → h.starved ≡ old.starved
+starved_over is = ap (λ (x : Hardware). x.starved) is.rest

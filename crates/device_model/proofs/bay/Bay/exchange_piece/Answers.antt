@@ -1,0 +1,28 @@
+use Rattle.std.proofs.Common.{ℕ, List, subst}
+use Rattle.device_model.specs.Exchanged.{Exchanges}
+use Rattle.device_model.proofs.bay.Bay.exchange_piece.Goals as goal
+
+pub returns : goal.returns
+returns g c =
+    let is = c.exchange_bytes.ensures in
+    let E : List ℕ → Type 0 = λ before. Exchanges g.S.SectorStore.size g.S.SectorStore.told g.S.SectorStore.failures
+    c.args.self.now
+    c.exchange_bytes.new.self c.args.next before c.exchange_bytes.new.bytes c.exchange_bytes.result in
+    subst E c.in-Some.ensures.cases.same
+    (record {
+      inside = is.inside;
+      sector = is.sector;
+      gives = is.gives;
+      takes = is.takes;
+      left = is.left;
+      page = is.page;
+      log = is.log;
+      same = is.same;
+      disk = is.disk;
+      kept = is.kept;
+      sized = is.size;
+      fine = is.fine;
+      ranged = is.ranged;
+      fails = is.fails;
+      rest = is.rest;
+    })

@@ -1,0 +1,55 @@
+-- A disk and the memory exchange the next piece of a command.
+use Rattle.std.specs.Prelude.{ℕ, ◌≡◌, ◌<◌, Bool, true, false, List, Option, IfSome, length, if◌then◌else◌}
+use Rattle.adapter.specs.Commands.{is_ranged, reads_memory}
+use Rattle.adapter.specs.Device.{IsSector}
+use Rattle.adapter.specs.Memory.{bytes_at, patched}
+use Rattle.adapter.specs.Steps.{disk_after}
+use Rattle.sector_store.specs.Stores.{FailsOn}
+use Rattle.sector_store.specs.declared.store.Failures.{Failures}
+use Rattle.device_model.specs.Disks.{disk_over, identity}
+use Rattle.device_model.specs.Fetched.{bytes_of}
+use Rattle.device_model.specs.Paged.{IsItsLog, IsItsPage}
+use Rattle.device_model.specs.View.{operation_of}
+use Rattle.device_model.specs.declared.bay.Bay.{Bay}
+use Rattle.device_model.specs.declared.hardware.Hardware.{Hardware}
+use Rattle.device_model.specs.declared.port.Transfer.TheVariants.{Identify, ReadLog}
+use Rattle.device_model.specs.declared.steps.NextMove.{NextMove}
+
+-- the bytes of memory that it moves
+abbrev pub piece_of : Hardware → NextMove → List ℕ
+piece_of h next = bytes_at (bytes_of h.memory.items) next.address 512
+
+-- it was exchanged: it stands in memory, where nothing else is another; what the device reads there is as it was
+pub record IsExchanged (old new : Hardware) (next : NextMove) : Type 0 where
+  pub rest : new ≡ record old { memory = new.memory }
+  pub size : length new.memory.items ≡ length old.memory.items
+  pub put : bytes_of new.memory.items
+      ≡ (if reads_memory (operation_of next.transfer) then bytes_of old.memory.items
+      else patched (bytes_of old.memory.items) next.address (piece_of new next))
+
+-- Bytes of memory, as they were and as they are now. The disk that is in has given them: the sector of a read, or its
+-- page. Or it has taken them as a write's sector, or they are a trim's block. Or the store has failed: it tells what it
+-- told, and the bytes are as they were.
+pub record Exchanges {S : Type 0} (size : S → ℕ) (told : S → Option (ℕ → List ℕ)) (failures : S → Option Failures)
+    (old new : Bay S) (next : NextMove) (before after : List ℕ) (done : Bool) : Type 0 where
+  pub inside : done ≡ true → is_ranged (operation_of next.transfer) ≡ true → next.sector < size old.disk.store
+  pub sector : IsSector after
+  pub gives : done ≡ true → is_ranged (operation_of next.transfer) ≡ true →
+      reads_memory (operation_of next.transfer) ≡ false →
+      IfSome (told old.disk.store) (λ told. after ≡ told next.sector)
+  pub takes : reads_memory (operation_of next.transfer) ≡ true → after ≡ before
+  pub left : done ≡ false → after ≡ before
+  pub page : done ≡ true → next.transfer ≡ Identify → IsItsPage (identity size old.disk) old.says after
+  pub log : done ≡ true → next.transfer ≡ ReadLog → IsItsLog old.says after
+  pub same : is_ranged (operation_of next.transfer) ≡ false → new ≡ old
+  pub disk : done ≡ true → disk_over old.which (size new.disk.store) (told new.disk.store)
+      ≡ disk_after (operation_of next.transfer) (disk_over old.which (size old.disk.store) (told old.disk.store))
+      next.sector after
+  pub kept : done ≡ false → told new.disk.store ≡ told old.disk.store
+  pub sized : size new.disk.store ≡ size old.disk.store
+  pub fine : done ≡ true → failures new.disk.store ≡ failures old.disk.store
+  pub ranged : done ≡ false → is_ranged (operation_of next.transfer) ≡ true
+  pub fails : done ≡ false → next.sector < size old.disk.store →
+      FailsOn (reads_memory (operation_of next.transfer)) next.sector (failures old.disk.store)
+      (failures new.disk.store)
+  pub rest : new ≡ record old { disk = record old.disk { store = new.disk.store } }
