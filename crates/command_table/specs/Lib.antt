@@ -1,3 +1,4 @@
 pub mod Places
+pub mod Runs
 pub mod Bytes
 pub mod Written

@@ -13,8 +13,8 @@ use Rattle.agreement.specs.Places.{list_of, scratch_of, table_of}
 use Rattle.agreement.specs.Slots.{Free, Uses}
 use Rattle.command_table.specs.Bytes.{part}
 
--- A command table (AHCI 1.3.1, 4.2.3) with room for 32 PRDs: the FIS at 00h, the PRDs from 80h on, and zeros between them, where ACMD
--- stands at 40h, and behind them.
+-- A command table (AHCI 1.3.1, 4.2.3) with room for 32 PRDs: the FIS at 00h, the PRDs from 80h on, and zeros between
+-- them, where ACMD stands at 40h, and behind them.
 pub record IsTable (bytes : List ℕ) (command : Command) (prds : List Prd) : Type 0 where
   pub size : length bytes ≡ 640
   pub fis : SpellsCommand (part bytes 0 20) command
@@ -22,8 +22,8 @@ pub record IsTable (bytes : List ℕ) (command : Command) (prds : List Prd) : Ty
   pub entries : (i : ℕ) (d : Prd) → i < length prds → SpellsPrd (part bytes (128 + 16 * i) 16) (slice_index_or prds i d)
   pub behind : AreZero bytes (128 + 16 * length prds) 640
 
--- Command and PRDs are those of this meaning in the slot: the command has its fields, and the PRDs cut into its places, as many as it
--- moves pieces.
+-- Command and PRDs are those of this meaning in the slot: the command has its fields, and the PRDs cut into its places,
+-- as many as it moves pieces.
 pub record IsTableFor (slot : ℕ) (command : Command) (prds : List Prd) (m : Meaning) (places : List ℕ) : Type 0 where
   pub meaning : IsMeaning m
   pub fields : command ≡ command_of m.operation slot m.first m.count
@@ -31,9 +31,11 @@ pub record IsTableFor (slot : ℕ) (command : Command) (prds : List Prd) (m : Me
   pub in_order : places ≡ pieces prds
   pub as_many : length places ≡ pieces_moved m.operation m.count
 
--- The bytes stand in the place of the slot's header, as many as it has; of them PRDBC, 4 to 7, is zero: nothing was moved for the command yet.
+-- The bytes stand in the place of the slot's header, as many as it has; of them PRDBC, 4 to 7, is zero: nothing was
+-- moved for the command yet.
 abbrev pub IsHeader : ℕ → ℕ → ℕ → List ℕ → Type 0
-IsHeader port slot at bytes = (at ≡ list_of port + HEADER_BYTES * slot) × (length bytes ≡ HEADER_BYTES) × (little_from 4 4 bytes ≡ 0)
+IsHeader port slot at bytes = (at ≡ list_of port + HEADER_BYTES * slot) × (length bytes ≡ HEADER_BYTES)
+    × (little_from 4 4 bytes ≡ 0)
 
 -- the bytes are of the slot's table
 abbrev pub IsInTable : ℕ → ℕ → ℕ → List ℕ → Type 0
@@ -44,7 +46,8 @@ abbrev pub IsTableStore : ℕ → ℕ → Access → Type 0
 IsTableStore port slot (Storing at bytes) = IsHeader port slot at bytes ⊎ IsInTable port slot at bytes
 IsTableStore port slot access = ⊥
 
--- A block of 512 bytes is stored at the head of the port's scratch frame, for the command of slot 0: no other slot has one.
+-- A block of 512 bytes is stored at the head of the port's scratch frame, for the command of slot 0: no other slot has
+-- one.
 abbrev pub IsBlockStore : ℕ → ℕ → Access → Type 0
 IsBlockStore port slot (Storing at bytes) = (slot ≡ 0) × (at ≡ scratch_of port) × (length bytes ≡ 512)
 IsBlockStore port slot access = ⊥

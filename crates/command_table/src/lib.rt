@@ -1,7 +1,11 @@
-//! What the device reads to do a command: a header of the command list, and a command table (AHCI 1.3.1, 4.2.2 and 4.2.3).
+//! Makes command headers and tables, and writes them into a slot of a port.
+//!
+//! (AHCI 1.3.1, 4.2.2 and 4.2.3.) What stands there is said as the device reads it (`Told`).
+//! Callers use that clause, and that nothing else is stored; what the bytes are is for tests. The
+//! slot has to be unused in a machine that agrees with the device in all slots (`AgreesWith`).
 #![tactic(auto)]
 
-ghost use Rattle.std.specs.Prelude.{◌≡◌, ℕ, List, [], ◌∷◌, ◌+◌, ◌*◌, ◌/◌, ◌%◌, ◌^◌, ◌<◌, ◌≤◌, length, take, drop, slice_index_or, All};
+ghost use Rattle.std.specs.Prelude.{◌≡◌, ℕ, List, [], ◌∷◌, ◌+◌, ◌*◌, ◌/◌, ◌%◌, ◌^◌, ◌<◌, ◌≤◌, length, take, drop, All};
 ghost use Rattle.byteorder.specs.Endian.{little_from};
 ghost use Rattle.adapter.specs.Says.{pieces, IsWhole};
 ghost use Rattle.adapter.specs.Spelling.{AreZero, SpellsCommand, SpellsHeader, SpellsPrd, IsAllowed};
@@ -14,7 +18,8 @@ ghost use Rattle.agreement.specs.Driven.{AgreesWith, IsFollowed};
 ghost use Rattle.agreement.specs.Places.{list_of, scratch_of};
 ghost use Rattle.agreement.specs.Slots.{Told};
 ghost use Rattle.command_table.specs.Written.{IsStoreWithBlock, IsTable, IsTableFor, IsTableStore, IsUnused};
-ghost use Rattle.command_table.specs.Places.{IsPrdOf, places_of};
+ghost use Rattle.command_table.specs.Places.{places_of};
+ghost use Rattle.command_table.specs.Runs.{AreJoined, IsLongestRun};
 ghost use Rattle.command_table.specs.Bytes.{Stores, part};
 
 pub mod laws;
@@ -34,7 +39,8 @@ const WRITE_BIT: u32 = 1 << 6;
 
 const BLOCK_BYTES: u32 = 512;
 
-/// The commands by which the device reads memory: DATA SET MANAGEMENT, WRITE DMA EXT and WRITE FPDMA QUEUED (ACS-3; Serial ATA).
+/// The commands by which the device reads memory: DATA SET MANAGEMENT, WRITE DMA EXT and WRITE FPDMA QUEUED (ACS-3;
+/// Serial ATA).
 const DATA_SET_MANAGEMENT: u8 = 0x06;
 
 const WRITE_DMA_EXT: u8 = 0x35;
@@ -79,33 +85,51 @@ fn prd_bytes(prd: &Prd) -> [u8; 16]
     ]
 }
 
-/// The PRDs that cover the first bytes of the frames, in order: one a frame, each but the last of `FRAME_BYTES` bytes.
+/// The PRDs that cover the first bytes of the frames, in order: one for each longest run of frames whose numbers rise
+/// by one, so of 128 KiB at most (AHCI 1.3.1, 4.2.3.3, allows 4 MiB). The last one covers the rest of the bytes.
 pub fn prds(frames: &[Frame], bytes: u32) -> ArrayVec<Prd, 32>
     requires room { length frames.now ≤ 32 }
     requires even { bytes % 2 ≡ 0 }
     requires within { bytes ≤ FRAME_BYTES * length frames.now }
     requires last { FRAME_BYTES * length frames.now < bytes + FRAME_BYTES }
+    ensures joined { AreJoined frames.now bytes result.items }
+    ensures number { length result.items ≤ length frames.now }
     ensures allowed { All IsAllowed result.items }
     ensures whole { bytes % 512 ≡ 0 → All IsWhole result.items }
     ensures places { bytes % 512 ≡ 0 → pieces result.items ≡ places_of frames.now (bytes / 512) }
-    ensures number { length result.items ≡ length frames.now }
-    ensures entries { (i : ℕ) (d : Prd) → i < length frames.now → IsPrdOf frames.now bytes i (slice_index_or result.items i d) }
 {
     let mut entries = ArrayVec::new();
+    let mut covered = 0;
     let mut left = bytes;
-    for frame in frames {
-        let bytes = left.min(FRAME_BYTES);
+    while covered < frames.len() {
+        let count = run_length(frames, covered);
+        let bytes = left.min(FRAME_BYTES * count as u32);
         entries.push(Prd {
-            address: FRAME_BYTES * u32::from(frame.0),
+            address: FRAME_BYTES * u32::from(frames[covered].0),
             bytes,
         });
         left -= bytes;
+        covered += count;
     }
     entries
 }
 
-/// Turns zeros into a command table: the FIS at its head, the PRDs from byte 128 on, and zeros between and behind them. It is made where the caller
-/// has it, since 640 bytes would be copied else.
+/// How many frames from this place on have numbers that rise by one: as many as can be.
+fn run_length(frames: &[Frame], from: usize) -> usize
+    requires { from < length frames.now }
+    ensures { IsLongestRun (drop from frames.now) result }
+{
+    let first = frames[from].0 as usize;
+    for count in 1..frames.len() - from {
+        if frames[from + count].0 as usize != first + count {
+            return count;
+        }
+    }
+    frames.len() - from
+}
+
+/// Turns zeros into a command table: the FIS at its head, the PRDs from byte 128 on, and zeros between and behind them.
+/// It is made where the caller has it, since 640 bytes would be copied else.
 fn fill_table(bytes: &mut [u8; 640], command: &Command, prds: &[Prd])
     requires zeros { AreZero bytes.old 0 640 }
     requires lba { command.now.lba < 2 ^ 48 }
@@ -121,7 +145,8 @@ fn fill_table(bytes: &mut [u8; 640], command: &Command, prds: &[Prd])
 
 /// Whether the device reads memory to do a command, of those that the driver knows.
 fn is_write(command: &Command) -> bool
-    ensures { (o : Operation) (slot first count : ℕ) → command.now ≡ command_of o slot first count → result ≡ reads_memory o }
+    ensures { (o : Operation) (slot first count : ℕ) → command.now ≡ command_of o slot first count
+        → result ≡ reads_memory o }
 {
     matches!(
         command.code,
@@ -129,9 +154,9 @@ fn is_write(command: &Command) -> bool
     )
 }
 
-/// Writes the table and then the header of an unused slot, so that they say the command that is meant, with its PRDs, and PRDBC
-/// tells that nothing was moved yet; no other byte is stored. The slot's places are this project's own: list and tables stand in the
-/// ten frames of the port.
+/// Writes the table and then the header of an unused slot, so that they say the command that is meant, with its PRDs,
+/// and PRDBC tells that nothing was moved yet; no other byte is stored. The slot's places are this project's own: list
+/// and tables stand in the ten frames of the port.
 pub fn write_table<A: Adapter>(
     adapter: &mut A,
     port: Port,
@@ -148,8 +173,10 @@ pub fn write_table<A: Adapter>(
     requires few { length prds.now ≤ 32 }
     requires allowed { All IsAllowed prds.now }
     ensures on { IsOn (A.device adapter.new) }
-    ensures followed { IsFollowed (IsTableStore port.0 slot.0) (IsUnused port.0 slot.0) (A.device adapter.old) (A.device adapter.new) }
-    ensures none_moved { little_from 4 4 (bytes_at (A.device adapter.new).memory (list_of port.0 + HEADER_BYTES * slot.0) HEADER_BYTES) ≡ 0 }
+    ensures followed { IsFollowed (IsTableStore port.0 slot.0) (IsUnused port.0 slot.0) (A.device adapter.old)
+        (A.device adapter.new) }
+    ensures none_moved { little_from 4 4
+        (bytes_at (A.device adapter.new).memory (list_of port.0 + HEADER_BYTES * slot.0) HEADER_BYTES) ≡ 0 }
     ensures says { (m : Meaning) (places : List ℕ) → IsTableFor slot.0 command.now prds.now m places
         → Told (A.device adapter.new).memory (list_of port.0) port.0 slot.0 m places }
 {
@@ -162,8 +189,9 @@ pub fn write_table<A: Adapter>(
     adapter.store(list + HEADER_BYTES * u32::from(slot.0), &head);
 }
 
-/// Writes table and header of slot 0 of a port, which is unused, for a command that takes one block from memory; and then the block, at the
-/// head of the port's scratch frame, where the table says it is. The slot's places are as `write_table` has them.
+/// Writes table and header of slot 0 of a port, which is unused, for a command that takes one block from memory; and
+/// then the block, at the head of the port's scratch frame, where the table says it is. The slot's places are as
+/// `write_table` has them.
 pub fn write_table_with_block<A: Adapter>(
     adapter: &mut A,
     port: Port,
@@ -176,9 +204,11 @@ pub fn write_table_with_block<A: Adapter>(
     requires port { port.0 < 4 }
     requires lba { command.now.lba < 2 ^ 48 }
     ensures on { IsOn (A.device adapter.new) }
-    ensures followed { IsFollowed (IsStoreWithBlock port.0 0) (IsUnused port.0 0) (A.device adapter.old) (A.device adapter.new) }
-    ensures says { (m : Meaning) → IsMeaning m → command.now ≡ command_of m.operation 0 m.first m.count → pieces_moved m.operation m.count ≡ 1
-        → Told (A.device adapter.new).memory (list_of port.0) port.0 0 m (scratch_of port.0 ∷ []) }
+    ensures followed { IsFollowed (IsStoreWithBlock port.0 0) (IsUnused port.0 0) (A.device adapter.old)
+        (A.device adapter.new) }
+    ensures says { (m : Meaning) → IsMeaning m → command.now ≡ command_of m.operation 0 m.first m.count
+        → pieces_moved m.operation m.count ≡ 1 → Told (A.device adapter.new).memory (list_of port.0) port.0 0 m
+        (scratch_of port.0 ∷ []) }
     ensures block { bytes_at (A.device adapter.new).memory (scratch_of port.0) 512 ≡ block.now }
 {
     other_ports_are_left();

@@ -18,7 +18,8 @@ use std::alloc::Global;
 use std::process::Abort;
 use std::test::Fail;
 
-/// A configuration with this adapter and this disk: client 1 owns frames 40 to 79, and may do all with sectors 100 to 355.
+/// A configuration with this adapter and this disk: client 1 owns frames 40 to 79, and may do all with sectors 100 to
+/// 355.
 macro_rules! text_with {
     ($model:literal) => {
         concat!(
@@ -102,7 +103,8 @@ fn piece<const N: usize>(memory: &[u8], place: usize) -> [u8; N] {
     piece
 }
 
-/// An adapter once a server was made over it, has issued the requests, and has served, which answers nobody; and how many accesses there were before that.
+/// An adapter once a server was made over it, has issued the requests, and has served, which answers nobody; and how
+/// many accesses there were before that.
 fn served(
     rt: &(impl Abort + AllocGlobal),
     text: &str,
@@ -125,7 +127,8 @@ fn served(
     Ok((watched, before))
 }
 
-/// Compares what stands in memory for a slot once a server is made, and has issued the requests; and the accesses of a service then.
+/// Compares what stands in memory for a slot once a server is made, and has issued the requests; and the accesses of a
+/// service then.
 fn check(
     rt: &(impl Abort + AllocGlobal),
     text: &str,
@@ -146,8 +149,9 @@ fn check(
 
 const NO_ENTRY: [u8; 16] = [0; 16];
 
-// Headers have the number of entries in bytes 2 and 3, and the place of the table, 1000h, from byte 8 on (AHCI 1.3.1, 4.2.2). An entry
-// has the place of a frame, and the number of its bytes less one (4.2.3). The page comes to the port's scratch frame, frame 9.
+// Headers have the number of entries in bytes 2 and 3, and the place of the table, 1000h, from byte 8 on (AHCI 1.3.1,
+// 4.2.2). An entry has the place of a frame, and the number of its bytes less one (4.2.3). The page comes to the port's
+// scratch frame, frame 9.
 const IDENTIFY: Slot = (
     [5, 0, 1, 0, 0, 0, 0, 0, 0, 0x10, 0, 0, 0, 0, 0, 0],
     [
@@ -162,12 +166,10 @@ const READ_HEADER: [u8; 16] = [5, 0, 1, 0, 0, 0, 0, 0, 0, 0x10, 0, 0, 0, 0, 0, 0
 
 const WRITE_HEADER: [u8; 16] = [0x45, 0, 1, 0, 0, 0, 0, 0, 0, 0x10, 0, 0, 0, 0, 0, 0];
 
-/// All of frames 40, 45 and 76, and three sectors of frame 41.
+/// All of frame 40, all of the 32 frames from 45 on, and three sectors of frame 41.
 const FRAME_40: [u8; 16] = [0, 0x80, 2, 0, 0, 0, 0, 0, 0, 0, 0, 0, 0xff, 0x0f, 0, 0];
 
-const FRAME_45: [u8; 16] = [0, 0xd0, 2, 0, 0, 0, 0, 0, 0, 0, 0, 0, 0xff, 0x0f, 0, 0];
-
-const FRAME_76: [u8; 16] = [0, 0xc0, 4, 0, 0, 0, 0, 0, 0, 0, 0, 0, 0xff, 0x0f, 0, 0];
+const FRAMES_FROM_45: [u8; 16] = [0, 0xd0, 2, 0, 0, 0, 0, 0, 0, 0, 0, 0, 0xff, 0xff, 1, 0];
 
 const FRAME_41: [u8; 16] = [0, 0x90, 2, 0, 0, 0, 0, 0, 0, 0, 0, 0, 0xff, 0x05, 0, 0];
 
@@ -181,14 +183,14 @@ const SHORT_READ: Slot = (
     NO_ENTRY,
 );
 
-/// A read of 256 sectors from 100 on into frames 45 to 76, by READ DMA EXT.
+/// A read of 256 sectors from 100 on into frames 45 to 76, by READ DMA EXT: one entry has them all.
 const LONG_READ: Slot = (
-    [5, 0, 0x20, 0, 0, 0, 0, 0, 0, 0x10, 0, 0, 0, 0, 0, 0],
+    [5, 0, 1, 0, 0, 0, 0, 0, 0, 0x10, 0, 0, 0, 0, 0, 0],
     [
         0x27, 0x80, 0x25, 0, 0x64, 0, 0, 0x40, 0, 0, 0, 0, 0, 1, 0, 0, 0, 0, 0, 0,
     ],
-    FRAME_45,
-    FRAME_76,
+    FRAMES_FROM_45,
+    NO_ENTRY,
 );
 
 /// A write of three sectors from 100 on from frame 41, by WRITE DMA EXT.
@@ -201,7 +203,8 @@ const WRITE: Slot = (
     NO_ENTRY,
 );
 
-/// The short read by READ FPDMA QUEUED, in slot 0: the sectors stand in the features field, and the tag in bits 7:3 of the count field (ACS-3).
+/// The short read by READ FPDMA QUEUED, in slot 0: the sectors stand in the features field, and the tag in bits 7:3 of
+/// the count field (ACS-3).
 const QUEUED_SHORT_READ: Slot = (
     READ_HEADER,
     [
@@ -213,12 +216,12 @@ const QUEUED_SHORT_READ: Slot = (
 
 /// The long read by READ FPDMA QUEUED, in slot 5, whose table stands at 2400h.
 const QUEUED_LONG_READ: Slot = (
-    [5, 0, 0x20, 0, 0, 0, 0, 0, 0, 0x24, 0, 0, 0, 0, 0, 0],
+    [5, 0, 1, 0, 0, 0, 0, 0, 0, 0x24, 0, 0, 0, 0, 0, 0],
     [
         0x27, 0x80, 0x60, 0, 0x64, 0, 0, 0x40, 0, 0, 0, 1, 0x28, 0, 0, 0, 0, 0, 0, 0,
     ],
-    FRAME_45,
-    FRAME_76,
+    FRAMES_FROM_45,
+    NO_ENTRY,
 );
 
 /// The write by WRITE FPDMA QUEUED, in slot 0.
@@ -251,8 +254,9 @@ const FLUSH: Slot = (
     NO_ENTRY,
 );
 
-// The boot's IDENTIFY DEVICE ended with a PIO Setup FIS, which PSS of PxIS tells (AHCI 1.3.1, 3.3.5). A service writes back what it read
-// there, and then the port's bit of IS alone (3.1.3), and reads PxSSTS; and then PxCI and PxSACT, where there is a request.
+// The boot's IDENTIFY DEVICE ended with a PIO Setup FIS, which PSS of PxIS tells (AHCI 1.3.1, 3.3.5). A service writes
+// back what it read there, and then the port's bit of IS alone (3.1.3), and reads PxSSTS; and then PxCI and PxSACT,
+// where there is a request.
 const SERVICE: [Access; 6] = [
     Access::Read(Reg::Px(Port(0), PortReg::Is)),
     Access::Write(Reg::Px(Port(0), PortReg::Is), 2),
@@ -304,7 +308,8 @@ fn trims_and_flushes_stand_in_memory(rt: HostRuntime) -> Result<(), Fail> {
     Ok(())
 }
 
-/// How often PxSACT and PxCI of port 0 are written for two reads, which are asked for one after the other, where the disk lies so of its page.
+/// How often PxSACT and PxCI of port 0 are written for two reads, which are asked for one after the other, where the
+/// disk lies so of its page.
 fn issues(alloc: Global, text: &str, lies: [Lie; 2]) -> Result<(usize, usize), Fail> {
     let config = config(alloc, text)?;
     let mut model = model_of(alloc, &config, 356)?;
@@ -353,8 +358,9 @@ fn commands_are_queued_where_both_can(rt: HostRuntime) -> Result<(), Fail> {
     Ok(())
 }
 
-// FISes of a disk (Serial ATA). The status is 7Fh without BSY and DRQ, which PxTFD shows here from the first FIS on, but for DRQ of a PIO
-// Setup FIS, whose ending status has it no more; it tells of 200h bytes. All but the signature asks for an interrupt.
+// FISes of a disk (Serial ATA). The status is 7Fh without BSY and DRQ, which PxTFD shows here from the first FIS on,
+// but for DRQ of a PIO Setup FIS, whose ending status has it no more; it tells of 200h bytes. All but the signature
+// asks for an interrupt.
 const SETUP: [u8; 20] = [
     0x5f, 0x60, 0x7f, 0, 0, 0, 0, 0, 0, 0, 0, 0, 0, 0, 0, 0x77, 0, 2, 0, 0,
 ];
@@ -367,7 +373,8 @@ const END: [u8; 20] = [
     0x34, 0x40, 0x77, 0, 0, 0, 0, 0, 0, 0, 0, 0, 0, 0, 0, 0, 0, 0, 0, 0,
 ];
 
-/// A received FIS area: a PIO Setup FIS stands at 20h, a Register FIS at 40h (AHCI 1.3.1, 4.2.1), and elsewhere there are zeros.
+/// A received FIS area: a PIO Setup FIS stands at 20h, a Register FIS at 40h (AHCI 1.3.1, 4.2.1), and elsewhere there
+/// are zeros.
 fn received(registers: [u8; 20]) -> [u8; 256] {
     let mut area = [0; 256];
     area[0x20..0x34].copy_from_slice(&SETUP);

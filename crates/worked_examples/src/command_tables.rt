@@ -1,6 +1,8 @@
-// Bytes worked out by hand from AHCI 1.3.1, 4.2.2, ACS-3 and Serial ATA. What a server stores, whole tables among it, its own tests show.
-use adapter::Command;
-use command_table::header;
+// Bytes worked out by hand from AHCI 1.3.1, 4.2.2, ACS-3 and Serial ATA. What a server stores, whole tables among it,
+// its own tests show.
+use adapter::{Command, Prd};
+use ata_types::Frame;
+use command_table::{header, prds};
 use fis::encode_h2d;
 
 /// The FIS of a command.
@@ -78,7 +80,8 @@ fn commands_are_spelled(rt: HostRuntime) {
     }
 }
 
-/// Name, whether the device reads memory, the entries, the place of the table, and the first bytes and byte 9 of the header.
+/// Name, whether the device reads memory, the entries, the place of the table, and the first bytes and byte 9 of the
+/// header.
 const HEADERS: &[(&str, bool, u16, u32, [u8; 4], u8)] = &[
     (
         "a trim of one block",
@@ -95,6 +98,14 @@ const HEADERS: &[(&str, bool, u16, u32, [u8; 4], u8)] = &[
         0x2400,
         [5, 0, 0x20, 0],
         0x24,
+    ),
+    (
+        "a read into two runs of frames",
+        false,
+        2,
+        0x1000,
+        [5, 0, 2, 0],
+        0x10,
     ),
     ("a flush", false, 0, 0x1000, [5, 0, 0, 0], 0x10),
 ];
@@ -114,4 +125,22 @@ fn headers_are_spelled(rt: HostRuntime) {
             assert!(rt; false, "{name}");
         }
     }
+}
+
+/// An entry of so many bytes from a place on.
+fn entry(address: u32, bytes: u32) -> Prd {
+    Prd { address, bytes }
+}
+
+// Frames share an entry where each follows the one before it. Frame 40 begins at 28000h.
+#[test]
+fn neighbouring_frames_share_an_entry(rt: HostRuntime) {
+    let three = prds(&[Frame(40), Frame(41), Frame(42)], 17 * 512);
+    assert_eq!(rt; three.as_slice(), [entry(0x2_8000, 0x2200)].as_slice());
+    let parted = prds(&[Frame(40), Frame(41), Frame(43)], 24 * 512);
+    let wanted = [entry(0x2_8000, 0x2000), entry(0x2_b000, 0x1000)];
+    assert_eq!(rt; parted.as_slice(), wanted.as_slice());
+    let falling = prds(&[Frame(41), Frame(40)], 16 * 512);
+    let wanted = [entry(0x2_9000, 0x1000), entry(0x2_8000, 0x1000)];
+    assert_eq!(rt; falling.as_slice(), wanted.as_slice());
 }

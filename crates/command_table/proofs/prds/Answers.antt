@@ -1,8 +1,61 @@
-use Rattle.std.proofs.Common.{arith}
-use Rattle.command_table.proofs.Cover.{prds_cover}
+use Rattle.std.proofs.Common.{ℕ, ◌≡◌, ◌<◌, ◌≤◌, ◌+◌, ◌-◌, ◌*◌, ◌++◌, ◌∷◌, List, [], length, drop, sym, ap, ◌∙◌, subst, arith, append_assoc}
+use Rattle.std.proofs.lemmas.List.{append-nil, length-append, length-drop, drop_all}
+use Rattle.ata_types.specs.declared.request.Frame.{Frame}
+use Rattle.adapter.specs.declared.command.Prd.{Prd}
+use Rattle.command_table.specs.Runs.{AreJoined}
+use Rattle.command_table.proofs.Cover.{Fits, joined_more, joined_cover, all_whole, all_allowed}
 use Rattle.command_table.proofs.prds.Goals as goal
 
-pub returns-clause-places : goal.returns-clause-places
-returns-clause-places c = λ whole.
-    prds_cover c.args.frames.now c.args.bytes c.loop-frame.entries.items (omega arith) c.requires.within
-    (λ k d lt. c.loop-frame.invariant.entries k d (omega arith)) whole
+pub loop-covered-init : goal.loop-covered-init
+loop-covered-init c = record {
+  number = let e = ap length c.new-entries.ensures in omega (arith, e);
+  room = omega arith;
+  within = let w = c.requires.within in omega (arith, w);
+  last = let l = c.requires.last in omega (arith, l);
+  joined = λ es j. subst (λ (xs : List Prd). AreJoined c.args.frames.now c.args.bytes (xs ++ es)) (sym c.new-entries.ensures) j;
+}
+
+pub loop-covered-preserved : goal.loop-covered-preserved
+loop-covered-preserved c =
+    let v = c.loop-covered.invariant in
+    let frames = c.args.frames.now in
+    let covered = c.loop-covered.covered in
+    let count = c.run_length-count.result in
+    let run = c.run_length-count.ensures in
+    let d = length-drop covered frames in
+    let w = run.within in
+    let some = run.some in
+    let room = v.room in
+    let size = c.min-bytes.ensures in
+    let last = v.last in
+    let within = v.within in
+    let number = v.number in
+    record {
+      number = let e = ap length c.push.ensures.items in omega (arith, e, length-append {A = Prd}, number, some);
+      room = omega (arith, d, w, room);
+      within = omega (arith, d, w, size, within, last);
+      last = omega (arith, d, w, size, within, last);
+      joined = λ es j.
+          let e : Prd = record { address = 4096 * c.from.result; bytes = c.min-bytes.result } in
+          let more = v.joined (e ∷ es) (joined_more frames covered c.loop-covered.left count e es c.loop-covered-test.true v.last run (ap (λ (x : ℕ). 4096 * x) c.from.ensures) size j) in
+          subst (AreJoined frames c.args.bytes) (sym (append_assoc c.loop-covered.entries.items (e ∷ []) es) ∙ ap (λ (xs : List Prd). xs ++ es) (sym c.push.ensures.items)) more;
+    }
+
+pub returns : goal.returns
+returns c =
+    let v = c.loop-covered.invariant in
+    let frames = c.args.frames.now in
+    let within = v.within in
+    let number = v.number in
+    let room = v.room in
+    let over = c.loop-covered-test.false in
+    let fits : Fits frames c.args.bytes = record { within = c.requires.within; last = c.requires.last } in
+    let j : AreJoined frames c.args.bytes c.loop-covered.entries.items =
+    subst (AreJoined frames c.args.bytes) (append-nil c.loop-covered.entries.items) (v.joined [] (drop_all c.loop-covered.covered frames over, omega (arith, within, over))) in
+    record {
+      joined = j;
+      number = omega (arith, number, room);
+      allowed = all_allowed c.loop-covered.entries.items frames c.args.bytes fits c.requires.even (let few = c.requires.room in omega (arith, few)) j;
+      whole = λ whole. all_whole c.loop-covered.entries.items frames c.args.bytes whole j;
+      places = λ whole. joined_cover frames c.args.bytes c.loop-covered.entries.items fits j whole;
+    }

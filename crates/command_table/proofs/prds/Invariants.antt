@@ -1,11 +1,17 @@
-use Rattle.std.proofs.Common.{◌≡◌, ℕ, ◌-◌, ◌*◌, ◌<◌, length, slice_index_or}
+use Rattle.std.proofs.Common.{ℕ, ◌≡◌, ◌+◌, ◌-◌, ◌*◌, ◌%◌, ◌<◌, ◌≤◌, List, ◌++◌, length, drop}
 use Rattle.adapter.specs.declared.command.Prd.{Prd}
-use Rattle.command_table.specs.Places.{IsPrdOf}
+use Rattle.command_table.specs.Runs.{AreJoined}
 use Rattle.command_table.proofs.prds.Given as goal
 
-abbrev pub invariant-loop-frame : goal.invariant-loop-frame
-invariant-loop-frame l = record {
-  number : length l.entries.items ≡ l.frame-index;
-  rest : l.left ≡ l.bytes - 4096 * l.frame-index;
-  entries : (i : ℕ) (d : Prd) → i < l.frame-index → IsPrdOf l.frames l.bytes i (slice_index_or l.entries.items i d);
+abbrev pub invariant-loop-covered : goal.invariant-loop-covered
+invariant-loop-covered l = record {
+  number : length l.entries.items ≤ l.covered;
+  room : l.covered ≤ length l.frames;
+  within : l.left ≤ 4096 * (length l.frames - l.covered);
+  last : 4096 * (length l.frames - l.covered) < l.left + 4096;
+  -- with PRDs of what is left behind those that there are, all is covered
+  joined : (es : List Prd) → AreJoined (drop l.covered l.frames) l.left es → AreJoined l.frames l.bytes (l.entries.items ++ es);
 }
+
+abbrev pub decreases-loop-covered : goal.decreases-loop-covered
+decreases-loop-covered l = length l.frames - l.covered

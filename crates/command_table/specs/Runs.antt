@@ -1,0 +1,31 @@
+-- Runs of neighbouring frames, and the PRDs that cover them.
+use Rattle.std.specs.Prelude.{◌≡◌, ◌≢◌, ℕ, ◌+◌, ◌-◌, ◌*◌, ◌/◌, ◌<◌, ◌≤◌, min, List, [], ◌∷◌, length, drop}
+use Rattle.ata_types.specs.declared.memory.TheConstants.{FRAME_BYTES}
+use Rattle.ata_types.specs.declared.request.Frame.{Frame}
+use Rattle.adapter.specs.declared.command.Prd.{Prd}
+use Rattle.command_table.specs.Places.{frame_number}
+
+-- The first n frames, at least one, are the longest run from the first on: their numbers rise by one, and the next
+-- frame, if there is one, doesn't go on so.
+pub record IsLongestRun (frames : List Frame) (n : ℕ) : Type 0 where
+  pub some : 0 < n
+  pub within : n ≤ length frames
+  pub rising : (k : ℕ) → k < n → frame_number frames k ≡ frame_number frames 0 + k
+  pub ends : n < length frames → frame_number frames n ≢ frame_number frames 0 + n
+
+-- How many frames the PRD covers, the last of them perhaps in part. (A request has 32 frames at most, so a PRD has 128
+-- KiB at most: AHCI allows 4 MiB.)
+abbrev pub frames_in : Prd → ℕ
+frames_in e = (e.bytes + (FRAME_BYTES - 1)) / FRAME_BYTES
+
+-- The PRD covers the longest run of the first frames: all of it, or what is left of so many bytes.
+pub record CoversRun (frames : List Frame) (bytes : ℕ) (e : Prd) : Type 0 where
+  pub run : IsLongestRun frames (frames_in e)
+  pub address : e.address ≡ FRAME_BYTES * frame_number frames 0
+  pub size : e.bytes ≡ min bytes (FRAME_BYTES * frames_in e)
+
+-- The PRDs cover so many bytes of the frames, in order: each the longest run of those that are left. There is one such
+-- list.
+abbrev pub AreJoined : List Frame → ℕ → List Prd → Type 0
+AreJoined frames bytes [] = (frames ≡ []) × (bytes ≡ 0)
+AreJoined frames bytes (e ∷ es) = CoversRun frames bytes e × AreJoined (drop (frames_in e) frames) (bytes - e.bytes) es
