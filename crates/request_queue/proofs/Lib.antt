@@ -10,3 +10,6 @@ pub mod Working
 pub mod Listing
 pub mod Finding
 pub mod Lending
+pub mod PermutedPairs
+pub mod Indexing
+pub mod InTheWay

@@ -57,7 +57,8 @@ issue r = record r { issued = true; issues = suc r.issues; age = 0 }
 abbrev pub requeued : Entry → Entry
 requeued r = record r { issued = false }
 
--- The request a tick older, if it is issued on one of these ports. An age counts to three: what it would be beyond nobody asks.
+-- The request a tick older, if it is issued on one of these ports. An age counts to three: what it would be beyond
+-- nobody asks.
 abbrev pub older : (Port → Bool) → Entry → Entry
 older ports r = if r.issued && ports r.port then record r { age = min (suc r.age) 3 } else r
 
@@ -95,7 +96,8 @@ IsWaiting id entries = (e : Held) × Contains entries e × (e.entry.id ≡ id) �
 
 -- and it may go again: it is issued, and was fewer than four times
 abbrev pub MayGoAgain : RequestId → List Held → Type 0
-MayGoAgain id entries = (e : Held) × Contains entries e × (e.entry.id ≡ id) × (e.entry.issued ≡ true) × (e.entry.issues < 4)
+MayGoAgain id entries = (e : Held) × Contains entries e × (e.entry.id ≡ id) × (e.entry.issued ≡ true)
+    × (e.entry.issues < 4)
 
 -- it was just accepted
 abbrev pub IsFresh : Entry → Type 0
@@ -117,22 +119,22 @@ IsOverdue port entries = (e : Held) × Contains entries e × IsOverdueOn port e.
 abbrev pub HasIssuesLeft : Entry → Type 0
 HasIssuesLeft r = (r.issues ≤ 4) × (r.issued ≡ false → r.issues < 4)
 
--- Requests as a book holds them: their ids rise, each is of a client 1 to 8, no client has more than 16, and each has issues left.
--- So there are 128 at most.
+-- Requests as a book holds them: their ids rise, each is of a client 1 to 8, no client has more than 16, and each has
+-- issues left. So there are 128 at most.
 pub record IsInOrder (entries : List Held) : Type 0 where
   pub ordered : AllPairs IsEarlier entries
   pub clients : All (λ e. (1 ≤ e.entry.client.0) × (e.entry.client.0 ≤ 8)) entries
   pub few : (client : ℕ) → unanswered_of entries client ≤ 16
   pub issues : All (λ e. HasIssuesLeft e.entry) entries
 
--- The request is of its client's grant of this number, which is for its port, and lets the client do what it asks, with its sectors.
--- (A flush has none.)
+-- The request is of its client's grant of this number, which is for its port, and lets the client do what it asks, with
+-- its sectors. (A flush has none.)
 abbrev pub IsCovered : List GrantRow → Entry → Type 0
-IsCovered rows e = (row : GrantRow) × Contains rows row × (row.client ≡ e.client) × (row.number ≡ e.grant) × (row.port ≡ e.port)
-    × Allows row.rights e.op × (e.op ≢ Flush → Covers row e.range.first.0 e.range.count)
+IsCovered rows e = (row : GrantRow) × Contains rows row × (row.client ≡ e.client) × (row.number ≡ e.grant)
+    × (row.port ≡ e.port) × Allows row.rights e.op × (e.op ≢ Flush → Covers row e.range.first.0 e.range.count)
 
--- An accepted request: of a client 1 to 8, of as many sectors as its operation may have, below 2^48 and within its grant, with as many
--- frames as it needs, each another one, all of them the client's own and lent to it.
+-- An accepted request: of a client 1 to 8, of as many sectors as its operation may have, below 2^48 and within its
+-- grant, with as many frames as it needs, each another one, all of them the client's own and lent to it.
 pub record IsAccepted (rows : List GrantRow) (table : Table) (held : Held) : Type 0 where
   pub client_from : 1 ≤ held.entry.client.0
   pub client_to : held.entry.client.0 ≤ 8

@@ -15,7 +15,8 @@ use Rattle.request_queue.specs.declared.fate.Prospect.TheVariants.{SameDisk, Dis
 
 -- ---- the rule
 
--- one that didn't fail goes again on the disk that it had, if it was issued fewer than four times; else it is told what its port is
+-- one that didn't fail goes again on the disk that it had, if it was issued fewer than four times; else it is told what
+-- its port is
 abbrev pub fate_on : Prospect → Entry → Fate
 fate_on SameDisk e = if e.issued then (if e.issues == 4 then Ends Aborted else GoesAgain) else Waits
 fate_on DiskLost e = Ends Unplugged
@@ -24,7 +25,8 @@ fate_on Dead e = Ends PortDead
 -- and the one that failed is told so
 abbrev pub fate_of : Option Failed → Prospect → Entry → Fate
 fate_of None prospect e = fate_on prospect e
-fate_of (Some failed) prospect e = if failed.id.0 == e.id.0 then Ends (DeviceError failed.status failed.error) else fate_on prospect e
+fate_of (Some failed) prospect e = if failed.id.0 == e.id.0 then Ends (DeviceError failed.status failed.error)
+    else fate_on prospect e
 
 -- its frames stay lent: it was issued, and its port is dead
 abbrev pub keeps_loan : Outcome → Entry → Bool
@@ -45,18 +47,22 @@ reply_to request outcome = record { id = request.entry.id; client = request.entr
 
 -- its loan is kept, or its frames are given back, and no other changed hands
 abbrev pub EndsLoan : Bool → Held → Holdings → Holdings → Type 0
-EndsLoan true request old new = (new.kept ≡ old.kept ++ record { frames = request.frames; request = request.entry.id } ∷ []) × (new.table ≡ old.table)
+EndsLoan true request old new = (new.kept ≡ old.kept ++ record { frames = request.frames; request = request.entry.id }
+    ∷ []) × (new.table ≡ old.table)
 EndsLoan false request old new = (new.kept ≡ old.kept) × LendsOnly old.table new.table request.frames None
 
 -- The request met its fate: it waits as it did, it waits again, or it was answered and has left the book.
 abbrev pub MeetsFate : Held → Fate → List Reply → Holdings → Holdings → Type 0
 MeetsFate request Waits replies old new = (replies ≡ []) × (new ≡ old)
-MeetsFate request GoesAgain replies old new = (replies ≡ []) × (new ≡ record old { book = map (at request.entry.id requeued) old.book })
+MeetsFate request GoesAgain replies old new = (replies ≡ [])
+    × (new ≡ record old { book = map (at request.entry.id requeued) old.book })
 MeetsFate request (Ends outcome) replies old new =
-    (replies ≡ reply_to request outcome ∷ []) × (new.book ≡ without request.entry.id old.book) × EndsLoan (keeps_loan outcome request.entry) request old new
+    (replies ≡ reply_to request outcome ∷ []) × (new.book ≡ without request.entry.id old.book)
+    × EndsLoan (keeps_loan outcome request.entry) request old new
 
 -- so did these requests, one after another
 abbrev pub MeetFates : (Entry → Fate) → List Held → List Reply → Holdings → Holdings → Type 0
 MeetFates fate [] replies old new = (replies ≡ []) × (new ≡ old)
 MeetFates fate (request ∷ requests) replies old new =
-    (mid : Holdings) × (its later : List Reply) × (replies ≡ its ++ later) × MeetsFate request (fate request.entry) its old mid × MeetFates fate requests later mid new
+    (mid : Holdings) × (its later : List Reply) × (replies ≡ its ++ later)
+    × MeetsFate request (fate request.entry) its old mid × MeetFates fate requests later mid new

@@ -5,11 +5,13 @@ ghost use Rattle.request_queue.specs.Entries.{Held, GivesBack, IsEarlier, IsFres
 
 use crate::Entry;
 use crate::due::due;
-use crate::store::Store;
+use crate::sectors::{LISTS, add_sectors, list_of, no_sectors, take_sectors};
+use crate::store::{Store, asks_of};
 use arrayvec::ArrayVec;
 use ata_types::{ClientId, Port, RequestId};
 use block_machine::Mode;
 use dma_frames::{FrameTable, Loan};
+use range_index::Ranges;
 use std::alloc::Global;
 use std::marker::Model;
 
@@ -20,20 +22,24 @@ const OVERDUE: u8 = 3;
 #[derive(Clone, Copy, Debug, PartialEq, Eq)]
 pub struct NoMemory;
 
-/// Unanswered requests of all ports, in order of acceptance. It can't be dropped, as it holds loans: `give_all_back` ends it.
+/// Unanswered requests of all ports, in order of acceptance. It can't be dropped, as it holds loans: `give_all_back`
+/// ends it.
 pub struct Book {
     store: Store,
+    /// The sectors of the requests, port by port, which tell what conflicts.
+    sectors: [Ranges; LISTS],
 }
 
 impl Model for Book {
     ghost use Rattle.std.specs.Prelude.{List};
-    ghost use Rattle.request_queue.specs.Entries.{Held, IsInOrder};
+    ghost use Rattle.request_queue.specs.Entries.{Held, IsInOrder, asks_of};
+    ghost use Rattle.request_queue.specs.Sectors.{AreIndexed};
 
     ghost Value = { List Held };
 
     ghost view = { λ b. b.store };
 
-    ghost invariant = { λ b. IsInOrder b.store };
+    ghost invariant = { λ b. IsInOrder b.store × AreIndexed (asks_of b.store) b.sectors };
 }
 
 impl Book {
@@ -42,8 +48,11 @@ impl Book {
     pub fn new(alloc: Global) -> Result<Self, NoMemory>
         ensures { IfOk result (λ book. book ≡ []) }
     {
+        let Ok(sectors) = no_sectors(alloc) else {
+            return Err(NoMemory);
+        };
         match Store::new(alloc) {
-            Ok(store) => Ok(Book { store }),
+            Ok(store) => Ok(Book { store, sectors }),
             Err(_) => Err(NoMemory),
         }
     }
@@ -70,6 +79,7 @@ impl Book {
         requires id { loan.request ≡ request.id }
         ensures { self.new ≡ self.old ++ record { entry = request; frames = loan.frames } ∷ [] }
     {
+        add_sectors(&mut self.sectors, &self.store, &asks_of(request));
         self.store.push(request, loan);
     }
 
@@ -78,7 +88,7 @@ impl Book {
         requires { mode.usable ≤ 32 }
         ensures { result.items ≡ due_ids mode port (asks_of self.now) }
     {
-        due(&self.store, mode, port)
+        due(&self.store, &self.sectors[list_of(port)], mode, port)
     }
 
     /// An unanswered request, and how far it is.
@@ -105,8 +115,8 @@ impl Book {
         ids_of(&self.store, port)
     }
 
-    /// The ids of the requests that wait, and were accepted under this grant of the client: those that are to be answered once the grant is
-    /// taken back, which no call does yet.
+    /// The ids of the requests that wait, and were accepted under this grant of the client: those that are to be
+    /// answered once the grant is taken back, which no call does yet.
     pub fn waiting_of(&self, client: ClientId, grant: u8) -> ArrayVec<RequestId, 128>
         ensures { result.items ≡ ids_where (waits_under client grant) self.now }
     {
@@ -147,7 +157,8 @@ impl Book {
         );
     }
 
-    /// Notes a tick: the issued requests of these ports, by number, are a tick older. An age counts to three and no further.
+    /// Notes a tick: the issued requests of these ports, by number, are a tick older. An age counts to three and no
+    /// further.
     pub fn tick(&mut self, ports: &[bool])
         ensures { self.new ≡ aged (is_among ports.now) self.old }
     {
@@ -174,6 +185,7 @@ impl Book {
         ensures rest { self.new ≡ without id self.old }
     {
         let place = place_of(&self.store, id);
+        take_sectors(&mut self.sectors, &self.store, place);
         self.store.remove(place)
     }
 
@@ -182,7 +194,7 @@ impl Book {
         requires { All (Stands table.old) self }
         ensures { GivesBack table.old table.new self }
     {
-        let Book { store } = self;
+        let Book { store, sectors: _ } = self;
         give_back(store, table);
     }
 }

@@ -41,9 +41,9 @@ pub enum Fate {
 }
 
 impl Entry {
-    /// What becomes of the request, when its port was stopped: the one that failed is told so. On the disk that it had, one that was issued goes
-    /// again, unless it was issued four times, and one that waits goes on waiting. Where the disk is another, or there is none, or the port is dead,
-    /// each is told that.
+    /// What becomes of the request, when its port was stopped: the one that failed is told so. On the disk that it had,
+    /// one that was issued goes again, unless it was issued four times, and one that waits goes on waiting. Where the
+    /// disk is another, or there is none, or the port is dead, each is told that.
     pub fn fate(&self, failed: &Option<Failed>, prospect: Prospect) -> Fate
         ensures { result ≡ fate_of failed.now prospect self.now }
     {
@@ -64,7 +64,8 @@ impl Entry {
         }
     }
 
-    /// Whether the request's frames stay lent when it is answered so: its command may still move where it was issued and the port is dead.
+    /// Whether the request's frames stay lent when it is answered so: its command may still move where it was issued
+    /// and the port is dead.
     pub fn keeps_loan(&self, outcome: Outcome) -> bool
         ensures { result ≡ keeps_loan outcome self.now }
     {

@@ -27,7 +27,8 @@ pub fn the_machines_due()
         → IsBook entries pending → Contains (due_ids mode port (asks_of entries)) id
         → (p : machine.Pending) × Contains pending p × (p.request.id ≡ id) × (p.request.port ≡ port)
         × IsDue mode (map unanswered pending) (unanswered p) }
-    ensures complete { (mode : Mode) (port : Port) (entries : List Held) (pending : List machine.Pending) (p : machine.Pending)
+    ensures complete { (mode : Mode) (port : Port) (entries : List Held) (pending : List machine.Pending)
+        (p : machine.Pending)
         → IsBook entries pending → p.request.port ≡ port → IsDue mode (map unanswered pending) (unanswered p)
         → Contains (due_ids mode port (asks_of entries)) p.request.id }
 {
@@ -43,12 +44,13 @@ pub fn steps_change_the_book()
         → IsBook (map (at p.request.id issue) entries) (steps.after_step m (steps.Issue mode p)).book }
     ensures again { (entries : List Held) (m : Machine) (p : machine.Pending) → IsBook entries m.book
         → IsBook (map (at p.request.id requeued) entries) (steps.after_step m (steps.Again p)).book }
-    ensures answer { (entries : List Held) (m : Machine) (p : machine.Pending) (outcome : Outcome) → IsBook entries m.book
+    ensures answer { (entries : List Held) (m : Machine) (p : machine.Pending) (outcome : Outcome)
+        → IsBook entries m.book
         → IsBook (without p.request.id entries) (steps.after_step m (steps.Answer p outcome)).book }
     ensures age { (entries : List Held) (m : Machine) (ports : Port → Bool) → IsBook entries m.book
         → IsBook (aged ports entries) (steps.after_step m (steps.Age ports)).book }
-    ensures touch { (entries : List Held) (m : Machine) (p : machine.Pending) (i : ℕ) (block : machine.Block) → IsBook entries m.book
-        → IsBook entries (steps.after_step m (steps.Touch p i block)).book }
+    ensures touch { (entries : List Held) (m : Machine) (p : machine.Pending) (i : ℕ) (block : machine.Block)
+        → IsBook entries m.book → IsBook entries (steps.after_step m (steps.Touch p i block)).book }
     ensures end { (entries : List Held) (m : Machine) (p : machine.Pending) → IsBook entries m.book
         → IsBook entries (steps.after_step m (steps.End p)).book }
 {}
@@ -59,16 +61,22 @@ pub fn clients_have_as_many()
         → steps.unanswered_of pending client ≡ unanswered_of entries client.0 }
 {}
 
-/// A due request of the book waits, so that it may be issued; and what the book's operations leave of what says which are due.
+/// A due request of the book waits, so that it may be issued; and what the book's operations leave of what says which
+/// are due.
 pub fn operations_change_what_is_due()
-    ensures waits { (mode : Mode) (entries : List Held) (r : Unanswered) → IsDue mode (asks_of entries) r → IsWaiting r.id entries }
-    ensures issue { (entries : List Held) (id : RequestId) → asks_of (map (at id issue) entries) ≡ with_issued id (asks_of entries) }
-    ensures requeue { (entries : List Held) (id : RequestId) → asks_of (map (at id requeued) entries) ≡ with_waiting id (asks_of entries) }
-    ensures answer { (entries : List Held) (id : RequestId) → asks_of (without id entries) ≡ with_none id (asks_of entries) }
+    ensures waits { (mode : Mode) (entries : List Held) (r : Unanswered) → IsDue mode (asks_of entries) r
+        → IsWaiting r.id entries }
+    ensures issue { (entries : List Held) (id : RequestId) → asks_of (map (at id issue) entries)
+        ≡ with_issued id (asks_of entries) }
+    ensures requeue { (entries : List Held) (id : RequestId) → asks_of (map (at id requeued) entries) ≡ with_waiting id
+        (asks_of entries) }
+    ensures answer { (entries : List Held) (id : RequestId)
+        → asks_of (without id entries) ≡ with_none id (asks_of entries) }
     ensures tick { (entries : List Held) (ports : Port → Bool) → asks_of (aged ports entries) ≡ asks_of entries }
 {}
 
-/// The due requests of a port may be issued one after the other: each of them waits when its turn comes; and then none is due.
+/// The due requests of a port may be issued one after the other: each of them waits when its turn comes; and then none
+/// is due.
 pub fn due_requests_go_in_turn()
     ensures first { (mode : Mode) (port : Port) (entries : List Held) → IsInOrder entries
         → AreDueInTurn mode port (due_ids mode port (asks_of entries)) (asks_of entries) }
@@ -81,17 +89,18 @@ pub fn due_requests_go_in_turn()
 
 /// Each request of the one book stands in the other.
 pub fn books_have_the_same_requests()
-    ensures held { (entries : List Held) (pending : List machine.Pending) (e : Held) → IsBook entries pending → Contains entries e
-        → (p : machine.Pending) × Contains pending p × IsEntry e p }
-    ensures pending { (entries : List Held) (pending : List machine.Pending) (p : machine.Pending) → IsBook entries pending → Contains pending p
-        → (e : Held) × Contains entries e × IsEntry e p }
+    ensures held { (entries : List Held) (pending : List machine.Pending) (e : Held) → IsBook entries pending
+        → Contains entries e → (p : machine.Pending) × Contains pending p × IsEntry e p }
+    ensures pending { (entries : List Held) (pending : List machine.Pending) (p : machine.Pending)
+        → IsBook entries pending → Contains pending p → (e : Held) × Contains entries e × IsEntry e p }
 {}
 
 /// In a book in order an id is one request's, and the request is found by it.
 pub fn an_id_is_one_request()
     ensures one { (entries : List Held) (a b : Held) → IsInOrder entries → Contains entries a → Contains entries b
         → a.entry.id ≡ b.entry.id → a ≡ b }
-    ensures found { (entries : List Held) (e : Held) → IsInOrder entries → Contains entries e → held_of e.entry.id entries ≡ Some e }
+    ensures found { (entries : List Held) (e : Held) → IsInOrder entries → Contains entries e
+        → held_of e.entry.id entries ≡ Some e }
     ensures some { (entries : List Held) (id : RequestId) (e : Held) → held_of id entries ≡ Some e
         → Contains entries e × (e.entry.id ≡ id) }
     ensures none { (entries : List Held) (id : RequestId) → held_of id entries ≡ None → IsUnanswered id entries → ⊥ }
@@ -99,21 +108,23 @@ pub fn an_id_is_one_request()
 
 /// What a change of the request with an id leaves of the requests, and what its answer does.
 pub fn operations_change_one_request()
-    ensures changed { (entries : List Held) (id : RequestId) (change : Entry → Entry) (e : Held) → Contains entries e → e.entry.id ≡ id
-        → Contains (map (at id change) entries) (record e { entry = change e.entry }) }
-    ensures others { (entries : List Held) (id : RequestId) (change : Entry → Entry) (e : Held) → Contains entries e → e.entry.id ≢ id
-        → Contains (map (at id change) entries) e }
-    ensures only { (entries : List Held) (id : RequestId) (change : Entry → Entry) (e : Held) → Contains (map (at id change) entries) e
-        → (old : Held) × Contains entries old × (e ≡ at id change old) }
+    ensures changed { (entries : List Held) (id : RequestId) (change : Entry → Entry) (e : Held) → Contains entries e
+        → e.entry.id ≡ id → Contains (map (at id change) entries) (record e { entry = change e.entry }) }
+    ensures others { (entries : List Held) (id : RequestId) (change : Entry → Entry) (e : Held) → Contains entries e
+        → e.entry.id ≢ id → Contains (map (at id change) entries) e }
+    ensures only { (entries : List Held) (id : RequestId) (change : Entry → Entry) (e : Held)
+        → Contains (map (at id change) entries) e → (old : Held) × Contains entries old × (e ≡ at id change old) }
     ensures answered { (entries : List Held) (id : RequestId) (e : Held)
         → Contains (without id entries) e ↔ (Contains entries e × (e.entry.id ≢ id)) }
 {}
 
 /// A book stays in order as requests are accepted, issued, wait again, get older and are answered. It has 128 at most.
 pub fn the_book_stays_in_order()
-    ensures accepted { (entries : List Held) (e : Held) → IsInOrder entries → All (λ x. IsEarlier x e) entries → IsFresh e.entry
-        → 1 ≤ e.entry.client.0 → e.entry.client.0 ≤ 8 → unanswered_of entries e.entry.client.0 < 16 → IsInOrder (entries ++ e ∷ []) }
-    ensures issued { (entries : List Held) (id : RequestId) → IsInOrder entries → IsWaiting id entries → IsInOrder (map (at id issue) entries) }
+    ensures accepted { (entries : List Held) (e : Held) → IsInOrder entries → All (λ x. IsEarlier x e) entries
+        → IsFresh e.entry → 1 ≤ e.entry.client.0 → e.entry.client.0 ≤ 8 → unanswered_of entries e.entry.client.0 < 16
+        → IsInOrder (entries ++ e ∷ []) }
+    ensures issued { (entries : List Held) (id : RequestId) → IsInOrder entries → IsWaiting id entries
+        → IsInOrder (map (at id issue) entries) }
     ensures requeued { (entries : List Held) (id : RequestId) → IsInOrder entries → MayGoAgain id entries
         → IsInOrder (map (at id requeued) entries) }
     ensures older { (entries : List Held) (ports : Port → Bool) → IsInOrder entries → IsInOrder (aged ports entries) }
@@ -122,25 +133,28 @@ pub fn the_book_stays_in_order()
     ensures asks { (entries : List Held) → IsInOrder entries → machine_in_order (asks_of entries) }
 {}
 
-/// Accepted requests stay so while frames of none of their own change hands: as another request's frames are lent to it or given
-/// back. No frame is lent to two of them.
+/// Accepted requests stay so while frames of none of their own change hands: as another request's frames are lent to it
+/// or given back. No frame is lent to two of them.
 pub fn accepted_requests_stay()
-    ensures apart { (rows : List GrantRow) (table : Table) (a b : Held) → a.entry.id ≢ b.entry.id → IsAccepted rows table a
-        → IsAccepted rows table b → (f : Frame) → Contains a.frames f → Contains b.frames f → ⊥ }
+    ensures apart { (rows : List GrantRow) (table : Table) (a b : Held) → a.entry.id ≢ b.entry.id
+        → IsAccepted rows table a → IsAccepted rows table b → (f : Frame) → Contains a.frames f → Contains b.frames f
+        → ⊥ }
     ensures one { (rows : List GrantRow) (old new : Table) (frames : List Frame) (to : Option RequestId) (e : Held)
-        → LendsOnly old new frames to → IsAccepted rows old e → ((f : Frame) → Contains e.frames f → Contains frames f → ⊥)
-        → IsAccepted rows new e }
-    ensures lent { (rows : List GrantRow) (old new : Table) (entries : List Held) (frames : List Frame) (to : Option RequestId)
+        → LendsOnly old new frames to → IsAccepted rows old e → ((f : Frame) → Contains e.frames f → Contains frames f
+        → ⊥) → IsAccepted rows new e }
+    ensures lent { (rows : List GrantRow) (old new : Table) (entries : List Held) (frames : List Frame)
+        (to : Option RequestId)
         → LendsOnly old new frames to → All (λ f. lent_to old f ≡ None) frames → All (IsAccepted rows old) entries
         → All (IsAccepted rows new) entries }
     ensures answered { (rows : List GrantRow) (old new : Table) (entries : List Held) (e : Held) → Contains entries e
-        → LendsOnly old new e.frames None → All (IsAccepted rows old) entries → All (IsAccepted rows new) (without e.entry.id entries) }
-    ensures issued { (rows : List GrantRow) (table : Table) (entries : List Held) (id : RequestId) → All (IsAccepted rows table) entries
-        → All (IsAccepted rows table) (map (at id issue) entries) }
-    ensures requeued { (rows : List GrantRow) (table : Table) (entries : List Held) (id : RequestId) → All (IsAccepted rows table) entries
-        → All (IsAccepted rows table) (map (at id requeued) entries) }
-    ensures older { (rows : List GrantRow) (table : Table) (entries : List Held) (ports : Port → Bool) → All (IsAccepted rows table) entries
-        → All (IsAccepted rows table) (aged ports entries) }
+        → LendsOnly old new e.frames None → All (IsAccepted rows old) entries
+        → All (IsAccepted rows new) (without e.entry.id entries) }
+    ensures issued { (rows : List GrantRow) (table : Table) (entries : List Held) (id : RequestId)
+        → All (IsAccepted rows table) entries → All (IsAccepted rows table) (map (at id issue) entries) }
+    ensures requeued { (rows : List GrantRow) (table : Table) (entries : List Held) (id : RequestId)
+        → All (IsAccepted rows table) entries → All (IsAccepted rows table) (map (at id requeued) entries) }
+    ensures older { (rows : List GrantRow) (table : Table) (entries : List Held) (ports : Port → Bool)
+        → All (IsAccepted rows table) entries → All (IsAccepted rows table) (aged ports entries) }
     ensures stand { (rows : List GrantRow) (table : Table) (entries : List Held) → All (IsAccepted rows table) entries
         → All (Stands table) entries }
 {}

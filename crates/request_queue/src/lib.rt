@@ -1,10 +1,16 @@
-//! The book of a server: the unanswered requests of all ports in order of acceptance, and which of them are due.
+//! The book of unanswered requests of all ports, in order of acceptance, with their loans.
+//!
+//! Each call names a request by its id, and `new` alone takes memory. `issuable` gives the due
+//! requests of a port, which may be issued one after the other. `fate` says what becomes of a
+//! request once its port was stopped. Laws tie the book to the block machine's, step by step. It
+//! knows no register and no slot. It holds loans, so `give_all_back` alone ends it.
 #![tactic(auto)]
 
 mod book;
 mod due;
 mod fate;
 pub mod laws;
+mod sectors;
 mod store;
 
 use ata_types::{ClientId, Op, Port, Range, RequestId};

@@ -1,6 +1,6 @@
 // Where the requests stand: in a slab, their loans beside it at their keys, and the keys in order of acceptance.
 ghost use Rattle.std.specs.Prelude.{◌≡◌, ◌<◌, ◌≤◌, ◌++◌, ◌∷◌, [], length, map, replicate, remove, slice_get, slice_set, IfOk, IfSome, None, Some};
-ghost use Rattle.request_queue.specs.Entries.{Held, asks_of};
+ghost use Rattle.request_queue.specs.Entries.{Held, asks, asks_of};
 
 use crate::Entry;
 use block_machine::Unanswered;
@@ -107,7 +107,8 @@ impl Store {
     pub fn replace(&mut self, place: usize, request: Entry)
         requires within { place < length self.old }
         requires same_id { IfSome (slice_get self.old place) (λ old. request.id ≡ old.entry.id) }
-        ensures { (e : Held) × (slice_get self.old place ≡ Some e) × (self.new ≡ slice_set self.old place (record e { entry = request })) }
+        ensures { (e : Held) × (slice_get self.old place ≡ Some e)
+            × (self.new ≡ slice_set self.old place (record e { entry = request })) }
     {
         let key = self.order[place];
         self.requests[key] = request;
@@ -118,14 +119,7 @@ impl Store {
         requires { place < length self.now }
         ensures { slice_get (asks_of self.now) place ≡ Some result }
     {
-        let entry = self.request(place);
-        Unanswered {
-            id: entry.id,
-            port: entry.port,
-            op: entry.op,
-            range: entry.range,
-            issued: entry.issued,
-        }
+        asks_of(self.request(place))
     }
 
     /// Ends the store, once it has no requests.
@@ -145,6 +139,19 @@ impl Store {
             }
         }
         loans.destroy_empty();
+    }
+}
+
+/// What of a request says whether it is due.
+pub fn asks_of(entry: Entry) -> Unanswered
+    ensures { result ≡ asks entry }
+{
+    Unanswered {
+        id: entry.id,
+        port: entry.port,
+        op: entry.op,
+        range: entry.range,
+        issued: entry.issued,
     }
 }
 

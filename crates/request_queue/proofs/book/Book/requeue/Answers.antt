@@ -1,6 +1,8 @@
 use Rattle.std.proofs.Common.{◌≡◌, ◌∙◌, List, sym, ap, subst, map, set}
 use Rattle.std.proofs.lemmas.Option.{same_Some}
-use Rattle.request_queue.specs.Entries.{Held, at, requeued, IsInOrder, MayGoAgain}
+use Rattle.request_queue.specs.Sectors.{AreIndexed}
+use Rattle.request_queue.proofs.Indexing.{requeued_indexed}
+use Rattle.request_queue.specs.Entries.{Held, asks_of, at, requeued, IsInOrder, MayGoAgain}
 use Rattle.request_queue.specs.declared.Entry.{Entry}
 use Rattle.request_queue.proofs.Changing.{changed_at, request_at, waiting_in_order}
 use Rattle.request_queue.proofs.book.Book.requeue.Goals as goal
@@ -13,9 +15,11 @@ invariant_of-self c =
     let named = subst (λ (x : Held). x.entry.id ≡ c.args.id) (same_Some found.0 e.0 (sym found.1 ∙ e.1)) found.2 in
     let same = request_at store c.place_of-place.result c.request-old.result e.0 c.request-old.ensures e.1 in
     let changed = e.2 ∙ (ap (λ (r : Entry). set store c.place_of-place.result (record (e.0) { entry = requeued r })) (sym same)
-    ∙ changed_at store c.place_of-place.result e.0 c.args.id requeued c.self.invariant.ordered e.1 named) in
-    let waits = subst (λ (es : List Held). MayGoAgain c.args.id es) (sym c.self.view_is) c.requires in
-    subst (λ (es : List Held). IsInOrder es) (sym changed) (waiting_in_order store c.args.id waits.0 c.self.invariant waits.1 waits.2 waits.4)
+    ∙ changed_at store c.place_of-place.result e.0 c.args.id requeued c.self.invariant.0.ordered e.1 named) in
+    let waits = subst (λ (es : List Held). MayGoAgain c.args.id es) (sym c.self.view_is) c.requires in (
+      subst (λ (es : List Held). IsInOrder es) (sym changed) (waiting_in_order store c.args.id waits.0 c.self.invariant.0 waits.1 waits.2 waits.4),
+      subst (λ (es : List Held). AreIndexed (asks_of es) c.self.inside.sectors) (sym changed) (requeued_indexed store c.args.id c.self.inside.sectors c.self.invariant.1),
+    )
 
 pub returns : goal.returns
 returns c =
@@ -25,5 +29,5 @@ returns c =
     let named = subst (λ (x : Held). x.entry.id ≡ c.args.id) (same_Some found.0 e.0 (sym found.1 ∙ e.1)) found.2 in
     let same = request_at store c.place_of-place.result c.request-old.result e.0 c.request-old.ensures e.1 in
     e.2 ∙ (ap (λ (r : Entry). set store c.place_of-place.result (record (e.0) { entry = requeued r })) (sym same)
-    ∙ (changed_at store c.place_of-place.result e.0 c.args.id requeued c.self.invariant.ordered e.1 named
+    ∙ (changed_at store c.place_of-place.result e.0 c.args.id requeued c.self.invariant.0.ordered e.1 named
     ∙ ap (λ (es : List Held). map (at c.args.id requeued) es) c.self.view_is))

@@ -1,0 +1,3 @@
+mod Editing
+mod Ends
+mod Sorting

@@ -1,0 +1,36 @@
+use Rattle.std.proofs.Common.{ℕ, ◌≡◌, ◌<◌, List, length, get_or, set, subst, sym, ap, ◌∙◌, arith, inl, inr}
+use Rattle.std.proofs.lemmas.Bool.{cases_eq}
+use Rattle.std.proofs.lemmas.List.{length-set, get_or-set_same, get_or-set_other}
+use Rattle.range_index.specs.declared.Item.{Item}
+use Rattle.range_index.specs.declared.Entry.{Entry}
+use Rattle.range_index.specs.Items.{IsGreatestEnd}
+use Rattle.range_index.specs.Index.{items_of}
+use Rattle.range_index.proofs.Editing.{items_set}
+use Rattle.range_index.proofs.note_ends.Goals as goal
+
+pub loop-place-preserved : goal.loop-place-preserved
+loop-place-preserved c =
+    let v = c.loop-place.invariant in
+    let es = c.loop-place.entries.items in
+    let place = c.loop-place.place in
+    let all = c.args.entries.now.items in
+    let new : Entry = record { item = c.index_mut.result.now.item; greatest_end = c.greatest_end_at-greatest_end.result } in
+    let long = v.long in
+    let n = c.len-place-end.ensures in
+    let len = c.as_slice.ensures.len in
+    let same = ap length c.as_slice.ensures.value in
+    let going = c.loop-place-test.true in
+    let lt : place < length es = omega (arith, long, n, len, same, going) in
+    let slice : items_of c.as_slice.result.now ≡ items_of all = ap items_of c.as_slice.ensures.value ∙ v.items in
+    record {
+      long = v.long;
+      many = length-set es place new ∙ v.many;
+      room = v.room;
+      items = items_set es place c.index_mut.result.now c.greatest_end_at-greatest_end.result lt c.index_mut.ensures.value ∙ v.items;
+      ends = λ k d h. elim (cases_eq k place) [
+        | inl e ↦ subst (λ (i : ℕ). IsGreatestEnd (items_of all) i (get_or (set es place new) i d).greatest_end) (sym e)
+            (subst (λ (r : ℕ). IsGreatestEnd (items_of all) place r) (sym (ap (λ (x : Entry). x.greatest_end) (get_or-set_same es place new d lt)))
+            (subst (λ (xs : List Item). IsGreatestEnd xs place c.greatest_end_at-greatest_end.result) slice c.greatest_end_at-greatest_end.ensures))
+        | inr ne ↦ subst (λ (r : ℕ). IsGreatestEnd (items_of all) k r) (sym (ap (λ (x : Entry). x.greatest_end) (get_or-set_other es place k new d ne))) (v.ends k d (omega (arith, h, ne)))
+      ];
+    }

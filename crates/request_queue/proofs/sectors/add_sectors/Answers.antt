@@ -1,0 +1,48 @@
+use Rattle.std.proofs.Common.{◌≡◌, ◌≢◌, ◌<◌, ◌++◌, ◌∷◌, [], List, Bool, not, true, false, get_or, length, subst, sym, ap, ◌∙◌, arith, refl}
+use Rattle.std.proofs.lemmas.Bool.{not-true}
+use Rattle.std.proofs.lemmas.List.{length-map}
+use Rattle.std.specs.List.{All, insert}
+use Rattle.range_index.specs.declared.Item.{Item}
+use Rattle.request_queue.specs.Entries.{Held, asks, asks_of}
+use Rattle.request_queue.specs.Sectors.{item_of, list_of}
+use Rattle.request_queue.proofs.Indexing.{flush_accepted, accepted, room_left, items_fresh, put_back, by_default, in_four}
+use Rattle.request_queue.proofs.sectors.add_sectors.Goals as goal
+
+not_false : (b : Bool) → false ≡ not b → b ≡ true
+not_false true e = refl
+not_false false e = e
+
+pub returns-then-not-has_sectors : goal.returns-then-not-has_sectors
+returns-then-not-has_sectors c = flush_accepted (asks_of c.args.store.now) c.args.sectors.now c.requires.indexed c.args.request.now (not_false _ c.if-not-has_sectors.ensures)
+
+pub insert-requires-clause-room : goal.insert-requires-clause-room
+insert-requires-clause-room c =
+    let r = c.args.request.now in
+    let lists = c.args.sectors.now in
+    let four = c.requires.indexed.four in
+    let few = c.requires.room in
+    let n = length-map c.args.store.now (λ (e : Held). asks e.entry) in
+    let e = by_default lists c.list_of.result (list_of r.port) c.index-sectors-list_of.result c.list_of.ensures (omega (arith, four, in_four r.port)) in
+    subst (λ (xs : List Item). length xs < 128) (sym e) (room_left (asks_of c.args.store.now) lists c.requires.indexed r (omega (arith, n, few)))
+
+pub insert-requires-clause-fresh : goal.insert-requires-clause-fresh
+insert-requires-clause-fresh c =
+    let r = c.args.request.now in
+    let lists = c.args.sectors.now in
+    let four = c.requires.indexed.four in
+    let e = by_default lists c.list_of.result (list_of r.port) c.index-sectors-list_of.result c.list_of.ensures (omega (arith, four, in_four r.port)) in
+    subst (λ (xs : List Item). All (λ (x : Item). x.id ≢ c.item_of.result.id) xs) (sym e)
+    (subst (λ (i : Item). All (λ (x : Item). x.id ≢ i.id) (get_or lists (list_of r.port) [])) (sym c.item_of.ensures) (items_fresh (asks_of c.args.store.now) lists c.requires.indexed r c.requires.newest))
+
+pub returns : goal.returns
+returns c =
+    let r = c.args.request.now in
+    let lists = c.args.sectors.now in
+    let four = c.requires.indexed.four in
+    let within = c.insert.ensures.1 in
+    let e = by_default lists c.list_of.result (list_of r.port) c.index-sectors-list_of.result c.list_of.ensures (omega (arith, four, in_four r.port)) in
+    let len = ap length e in
+    let place = c.insert.ensures.0 in
+    put_back (asks_of c.args.store.now ++ r ∷ []) lists c.list_of.result (list_of r.port) _ (insert (get_or lists (list_of r.port) []) place (item_of r)) c.list_of.ensures
+    (c.insert.ensures.2 ∙ (ap (λ (xs : List Item). insert xs place c.item_of.result) e ∙ ap (insert (get_or lists (list_of r.port) []) place) c.item_of.ensures))
+    (accepted (asks_of c.args.store.now) lists c.requires.indexed r (not-true _ (sym c.if-not-has_sectors.ensures)) c.requires.newest place (omega (arith, within, len)))

@@ -1,0 +1,84 @@
+// The sectors of the unanswered requests, indexed: what conflicts with a request is found without a walk over all.
+ghost use Rattle.std.specs.Prelude.{◌≡◌, ◌<◌, ◌++◌, ◌∷◌, [], length, not, remove, All, IfOk};
+ghost use Rattle.block_machine.specs.Due as machine;
+ghost use Rattle.request_queue.specs.Entries.{asks_of};
+ghost use Rattle.request_queue.specs.Sectors.{AreIndexed, item_of, list_of};
+
+use crate::store::Store;
+use ata_types::{Op, Port};
+use block_machine::{Unanswered, is_writer};
+use range_index::{Item, Ranges};
+use std::alloc::{AllocError, Global};
+
+/// How many lists there are: each of the four ports has its own.
+pub const LISTS: usize = 4;
+
+/// Lists of no sectors. No other call takes memory.
+pub fn no_sectors(alloc: Global) -> Result<[Ranges; LISTS], AllocError>
+    ensures { IfOk result (λ lists. AreIndexed [] lists) }
+{
+    Ok([
+        Ranges::new(alloc)?,
+        Ranges::new(alloc)?,
+        Ranges::new(alloc)?,
+        Ranges::new(alloc)?,
+    ])
+}
+
+/// Puts the sectors of a request into its port's list, before the request is put into the store.
+pub fn add_sectors(sectors: &mut [Ranges; LISTS], store: &Store, request: &Unanswered)
+    requires indexed { AreIndexed (asks_of store.now) sectors.old }
+    requires room { length store.now < 128 }
+    requires newest { All (λ r. r.id.0 < request.now.id.0) (asks_of store.now) }
+    ensures { AreIndexed (asks_of store.now ++ request.now ∷ []) sectors.new }
+{
+    if !has_sectors(request.op) {
+        return;
+    }
+    let list = &mut sectors[list_of(request.port)];
+    list.insert(item_of(request));
+}
+
+/// Takes the sectors of the request at a place out of its port's list, before the request is taken out of the store.
+pub fn take_sectors(sectors: &mut [Ranges; LISTS], store: &Store, place: usize)
+    requires indexed { AreIndexed (asks_of store.now) sectors.old }
+    requires ordered { machine.IsInOrder (asks_of store.now) }
+    requires place { place < length store.now }
+    ensures { AreIndexed (remove (asks_of store.now) place) sectors.new }
+{
+    let request = store.asks(place);
+    if !has_sectors(request.op) {
+        return;
+    }
+    let own_list = &mut sectors[list_of(request.port)];
+    own_list.remove(&item_of(&request));
+}
+
+/// Which list the requests of a port are in.
+pub fn list_of(port: Port) -> usize
+    ensures { result ≡ list_of port }
+{
+    port.0 as usize % LISTS
+}
+
+/// The request as it is indexed.
+pub fn item_of(request: &Unanswered) -> Item
+    ensures { result ≡ item_of request.now }
+{
+    Item {
+        id: request.id,
+        port: request.port,
+        range: request.range,
+        writes: is_writer(request.op),
+    }
+}
+
+/// Whether the operation is one on sectors. A flush isn't: it is plain, so no search has to find it.
+fn has_sectors(op: Op) -> bool
+    ensures { result ≡ not (machine.is_flush op) }
+{
+    match op {
+        Op::Read | Op::Write | Op::Trim => true,
+        Op::Flush => false,
+    }
+}
