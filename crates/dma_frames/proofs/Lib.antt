@@ -1,2 +1,6 @@
 mod FaultLemmas
+mod FourBits
+mod FrameBits
 mod OwnerLemmas
+mod OwnerWords
+mod Seen

@@ -7,8 +7,7 @@ use Rattle.std.proofs.lemmas.List.{get_or_default, get_or_past}
 use Rattle.ata_types.specs.declared.request.ClientId.{ClientId}
 use Rattle.ata_types.specs.declared.request.Frame.{Frame}
 use Rattle.ata_types.specs.declared.request.RequestId.{RequestId}
-use Rattle.ata_types.specs.declared.refusal.FrameFault.TheVariants.{FrameForeign}
-use Rattle.block_machine.specs.Rules.{HasNoFault}
+use Rattle.block_machine.specs.Rules.{IsForeignAt}
 use Rattle.dma_frames.specs.Table.{Run, HasFrame, AreApart, owner_of, lent_to, Table}
 
 -- the frames of the first i runs are their owners'
@@ -46,7 +45,7 @@ module _ (runs : List Run) (old new : List (Option ClientId)) (i : ℕ) (z : Run
     | inr none ↦ let w = only f client (sym (others f none) ∙ e) in (w.0, omega (arith, w.1), w.2)
   ]
 
-none_is : {A : Type 0} {o : Option A} {x : A} → o ≡ None → o ≡ Some x → ⊥
+pub none_is : {A : Type 0} {o : Option A} {x : A} → o ≡ None → o ≡ Some x → ⊥
 none_is p q = let r = sym p ∙ q in cc
 
 -- a frame that is lent is in the memory
@@ -58,11 +57,11 @@ lent_within t request frames lent k d h = elim (cases_lt (get_or frames k d).0 (
 ]
 
 -- a frame that the client owns is in the memory
-pub owned_within : (t : Table) (lent : Frame → Option RequestId) (client : ClientId) (frames : List Frame)
-    → HasNoFault (owner_of t) lent client frames → All (λ f. f.0 < length t.owners) frames
-owned_within t lent client frames clear k d h = elim (cases_lt (get_or frames k d).0 (length t.owners)) [
+pub owned_within : (t : Table) (client : ClientId) (frames : List Frame)
+    → ((k : ℕ) → k < length frames → IsForeignAt (owner_of t) client frames k → ⊥) → All (λ f. f.0 < length t.owners) frames
+owned_within t client frames own k d h = elim (cases_lt (get_or frames k d).0 (length t.owners)) [
   | inl low ↦ low
-  | inr past ↦ absurd (clear (FrameForeign k)
+  | inr past ↦ absurd (own k h
       (get_or frames k d, slice_get-get_or frames k d h, λ e. none_is (get_or_past t.owners (get_or frames k d).0 None past) e))
 ]
 
@@ -71,3 +70,12 @@ pub get_or-copies : {A : Type 0} (n k : ℕ) (x : A) → get_or (replicate n x) 
 get_or-copies zero k x = refl
 get_or-copies (suc n) zero x = refl
 get_or-copies (suc n) (suc k) x = get_or-copies n k x
+
+-- a frame of one more run is nobody's yet
+pub nobody_yet : (runs : List Run) (owners : List (Option ClientId)) (i : ℕ) (z : Run) → i < length runs → AllPairs AreApart runs → Only runs owners i
+    → (f : Frame) → HasFrame (get_or runs i z) f → get_or owners f.0 None ≡ None
+nobody_yet runs owners i z within apart only f has = by (get_or owners f.0 None) refl
+  where
+    by : (o : Option ClientId) → get_or owners f.0 None ≡ o → get_or owners f.0 None ≡ None
+    by None e = e
+    by (Some client) e = let w = only f client e in absurd (apart w.0 i z w.1 within f (w.2 z).0 has)

@@ -43,5 +43,6 @@ AreApart a b = (f : Frame) → HasFrame a f → HasFrame b f → ⊥
 -- Each frame of a run is its owner's, a frame of no run is nobody's, and nothing is lent.
 pub record IsTableOf (runs : List Run) (t : Table) : Type 0 where
   pub owned : (run : Run) (f : Frame) → Contains runs run → HasFrame run f → owner_of t f ≡ Some run.0
-  pub only : (f : Frame) (client : ClientId) → owner_of t f ≡ Some client → (run : Run) × Contains runs run × HasFrame run f × (run.0 ≡ client)
+  pub only : (f : Frame) (client : ClientId) → owner_of t f ≡ Some client → (run : Run) × Contains runs run
+      × HasFrame run f × (run.0 ≡ client)
   pub free : (f : Frame) → lent_to t f ≡ None

@@ -1,15 +1,23 @@
-//! The frames of memory: who owns each, and which request each is lent to (this project's own).
+//! Which client owns each frame of memory, and which request it is lent to.
+//!
+//! (This project's own.) A `Loan` is a linear value: it can't be dropped, copied or used twice, and
+//! `give_back` alone takes it apart. So a frame that is lent stays lent until it is given back.
+//! What holds loans, as a book or a server, can't be dropped either.
 #![tactic(auto)]
 
-ghost use Rattle.std.specs.Prelude.{◌≡◌, ℕ, ◌<◌, ◌≤◌, length, All, AllPairs, Contains, None, Some, IsTrue, ◌↔◌, OnOk, IfOk, IfErr, slice_index_or};
+ghost use Rattle.std.specs.Prelude.{◌≡◌, ℕ, ◌<◌, ◌≤◌, length, All, AllPairs, Contains, None, Some, IsSome, IsTrue, ◌↔◌, OnOk, IfOk, IfErr, slice_index_or};
 ghost use Rattle.block_machine.specs.Rules.{IsForeignAt, IsTwiceAt, IsLentAt, HasNoFault, IsFirstFault};
 ghost use Rattle.dma_frames.specs.Places.{IsLeastPlace};
 ghost use Rattle.dma_frames.specs.Table.{Run, owner_of, lent_to, LendsOnly, HasFrame, IsRun, IsTableOf, AreApart};
+ghost use Rattle.dma_frames.specs.Words.{AreMarked};
+
+mod words;
 
 use arrayvec::ArrayVec;
 use ata_types::{ClientId, Frame, FrameFault, MOST_FRAMES, RequestId};
 use std::alloc::{AllocError, Global};
 use std::marker::Model;
+use words::{BIT_WORDS, OWNER_WORDS};
 
 /// The number of frames of the largest memory.
 pub const FRAMES: usize = MOST_FRAMES as usize;
@@ -49,23 +57,26 @@ impl Loan {
     }
 }
 
-/// The owner of each frame, and the request that it is lent to.
+/// The owner of each frame, and the request that it is lent to. `check` reads the words alone: 640 bytes.
 #[derive(Drop)]
 pub struct FrameTable {
-    owners: [Option<ClientId>; FRAMES],
-    lent: [Option<RequestId>; FRAMES],
+    /// Four bits for each frame, sixteen frames in a word: its owner's number, or 0 where nobody owns it.
+    owners: [u64; OWNER_WORDS],
+    /// One bit for each frame: set where it is lent.
+    lent: [u64; BIT_WORDS],
+    /// The request that each frame is lent to.
+    ids: [Option<RequestId>; FRAMES],
 }
 
 impl Model for FrameTable {
-    ghost use Rattle.std.specs.Prelude.{◌≡◌, length};
     ghost use Rattle.dma_frames.specs.Table.{Table};
-    ghost use Rattle.dma_frames.specs.declared.TheConstants.{FRAMES};
+    ghost use Rattle.dma_frames.specs.Words.{AgreeWith, owners_of};
 
     ghost Value = { Table };
 
-    ghost view = { λ t. record { owners = t.owners; lent = t.lent } };
+    ghost view = { λ t. record { owners = owners_of t.owners; lent = t.ids } };
 
-    ghost invariant = { λ t. (length t.owners ≡ FRAMES) × (length t.lent ≡ FRAMES) };
+    ghost invariant = { λ t. AgreeWith t.owners t.lent t.ids };
 }
 
 impl FrameTable {
@@ -85,7 +96,7 @@ impl FrameTable {
         table
     }
 
-    /// The table that `new` gives, on the heap. It is made there, so that its 18 KiB needn't stand on the stack.
+    /// The table that `new` gives, on the heap. It is made there, so that its 17 KiB needn't stand on the stack.
     pub fn boxed(
         alloc: Global,
         runs: &[(ClientId, Frame, u16)],
@@ -105,8 +116,9 @@ impl FrameTable {
         ensures free { (f : Frame) → lent_to result f ≡ None }
     {
         FrameTable {
-            owners: [None; FRAMES],
-            lent: [None; FRAMES],
+            owners: [0; OWNER_WORDS],
+            lent: [0; BIT_WORDS],
+            ids: [None; FRAMES],
         }
     }
 
@@ -119,7 +131,7 @@ impl FrameTable {
         ensures { IsTableOf runs.now self.new }
     {
         for run in runs {
-            mark(&mut self.owners, run);
+            words::mark(&mut self.owners, run);
         }
     }
 
@@ -154,7 +166,7 @@ impl FrameTable {
         for frame in frames {
             taken.push(*frame);
         }
-        set_lent(&mut self.lent, frames, Some(request));
+        set_lent(&mut self.lent, &mut self.ids, frames, Some(request));
         Loan {
             frames: taken,
             request,
@@ -167,35 +179,40 @@ impl FrameTable {
         ensures { LendsOnly self.old self.new loan.frames None }
     {
         let Loan { frames, request: _ } = loan;
-        set_lent(&mut self.lent, frames.as_slice(), None);
+        set_lent(&mut self.lent, &mut self.ids, frames.as_slice(), None);
     }
 
     /// The client that owns a frame; nobody owns one past the memory.
     pub fn owner(&self, frame: Frame) -> Option<ClientId>
         ensures { result ≡ owner_of self.now frame }
     {
-        match self.owners.get(frame.0 as usize) {
-            Some(owner) => *owner,
-            None => None,
-        }
+        words::owner_in(&self.owners, frame)
     }
 
     /// The request that a frame is lent to.
     pub fn lent_to(&self, frame: Frame) -> Option<RequestId>
         ensures { result ≡ lent_to self.now frame }
     {
-        match self.lent.get(frame.0 as usize) {
+        match self.ids.get(frame.0 as usize) {
             Some(request) => *request,
             None => None,
         }
     }
 
-    /// The first place whose frame the client doesn't own.
+    /// Whether a frame is lent.
+    fn is_lent(&self, frame: Frame) -> bool
+        ensures { IsTrue result ↔ IsSome (lent_to self.now frame) }
+    {
+        words::is_set(&self.lent, frame)
+    }
+
+    /// The first place whose frame the client doesn't own. Where there is none, all frames are in the memory.
     fn first_foreign(&self, client: ClientId, frames: &[Frame]) -> Option<usize>
-        ensures { IsLeastPlace (IsForeignAt (owner_of self.now) client frames.now) result }
+        ensures place { IsLeastPlace (IsForeignAt (owner_of self.now) client frames.now) result }
+        ensures within { result ≡ None → All (λ f. f.0 < FRAMES) frames.now }
     {
         for (place, frame) in frames.iter().enumerate() {
-            if self.owner(*frame) != Some(client) {
+            if words::owner_in(&self.owners, *frame) != Some(client) {
                 return Some(place);
             }
         }
@@ -207,7 +224,7 @@ impl FrameTable {
         ensures { IsLeastPlace (IsLentAt (lent_to self.now) frames.now) result }
     {
         for (place, frame) in frames.iter().enumerate() {
-            if self.lent_to(*frame).is_some() {
+            if self.is_lent(*frame) {
                 return Some(place);
             }
         }
@@ -215,41 +232,39 @@ impl FrameTable {
     }
 }
 
-/// The first place whose frame stands at an earlier place too.
+/// The first place whose frame stands at an earlier place too. Each frame that was seen has its bit set.
 fn first_twice(frames: &[Frame]) -> Option<usize>
+    requires { All (λ f. f.0 < FRAMES) frames.now }
     ensures { IsLeastPlace (IsTwiceAt frames.now) result }
 {
+    let mut seen = [0; BIT_WORDS];
     for (place, frame) in frames.iter().enumerate() {
-        if frames[..place].contains(frame) {
+        if words::is_set(&seen, *frame) {
             return Some(place);
         }
+        words::set_bit(&mut seen, *frame, true);
     }
     None
 }
 
-/// Notes the owner of the run's frames.
-fn mark(owners: &mut [Option<ClientId>], run: &(ClientId, Frame, u16))
-    requires run { IsRun run.now }
-    requires memory { length owners.old ≡ FRAMES }
-    ensures these { (f : Frame) → HasFrame run.now f → slice_index_or owners.new f.0 None ≡ Some run.now.0 }
-    ensures others { (f : Frame) → (HasFrame run.now f → ⊥)
-        → slice_index_or owners.new f.0 None ≡ slice_index_or owners.old f.0 None }
-{
-    let (client, first, count) = *run;
-    let first = first.0 as usize;
-    for place in first..first + count as usize {
-        owners[place] = Some(client);
-    }
-}
-
-/// Notes for each of the frames what it is lent to.
-fn set_lent(lent: &mut [Option<RequestId>], frames: &[Frame], to: Option<RequestId>)
-    requires { All (λ f. f.0 < length lent.old) frames.now }
-    ensures these { All (λ f. slice_index_or lent.new f.0 None ≡ to) frames.now }
+/// Notes for each of the frames what it is lent to, and sets or clears its bit.
+fn set_lent(
+    lent: &mut [u64],
+    ids: &mut [Option<RequestId>],
+    frames: &[Frame],
+    to: Option<RequestId>,
+)
+    requires words { length lent.old ≡ BIT_WORDS }
+    requires memory { length ids.old ≡ FRAMES }
+    requires marked { AreMarked lent.old ids.old }
+    requires within { All (λ f. f.0 < FRAMES) frames.now }
+    ensures marked { AreMarked lent.new ids.new }
+    ensures these { All (λ f. slice_index_or ids.new f.0 None ≡ to) frames.now }
     ensures others { (f : Frame) → (Contains frames.now f → ⊥)
-        → slice_index_or lent.new f.0 None ≡ slice_index_or lent.old f.0 None }
+        → slice_index_or ids.new f.0 None ≡ slice_index_or ids.old f.0 None }
 {
     for frame in frames {
-        lent[frame.0 as usize] = to;
+        words::set_bit(lent, *frame, to.is_some());
+        ids[frame.0 as usize] = to;
     }
 }

@@ -1,2 +1,4 @@
+mod Halving
+mod PermutedPairs
 mod RowLemmas
 mod RuleLemmas

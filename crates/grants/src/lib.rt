@@ -1,35 +1,46 @@
-//! Which requests the grants and the frames allow (this project's own).
+//! Keeps the grants, and decides whether a request breaks a rule (this project's own).
+//!
+//! `decide` tells the first of the eight rules that a request breaks. What is refused for its port
+//! or disk, or for a full book, is the server's.
 #![tactic(auto)]
 
-ghost use Rattle.std.specs.Prelude.{◌≡◌, ◌≢◌, ◌≤◌, ◌↔◌, length, AllPairs, Contains, Some, IsTrue, OnOk, IfErr, IfOk};
+ghost use Rattle.std.specs.Prelude.{◌≡◌, ◌≢◌, ◌≤◌, ◌<◌, ◌+◌, ◌*◌, ◌^◌, ◌↔◌, length, map, All, AllPairs, Contains, Some, IsTrue, OnOk, IfErr, IfOk};
 ghost use Rattle.ata_types.specs.Grant.{Covers};
 ghost use Rattle.ata_types.specs.declared.grant.GrantRow.{GrantRow};
 ghost use Rattle.ata_types.specs.declared.request.Op.TheVariants.{Flush};
 ghost use Rattle.block_machine.specs.Rules.{Names, DifferInName, IsCount, frames_for, BreaksNone, IsFirstBroken};
 ghost use Rattle.dma_frames.specs.Table.{owner_of, lent_to};
+ghost use Rattle.grants.specs.Names.{AreInOrder, IsPlaceOf, IsRowAt, name_of};
 ghost use Rattle.grants.specs.Rows.{SameRows};
+
+mod key;
 
 use ata_types::{ClientId, GrantRow, Op, Request, Rule};
 use dma_frames::FrameTable;
+pub use key::Compared;
+use key::Key;
 use std::alloc::{AllocError, Global};
+use std::cmp::Ordering;
 use std::marker::Model;
 
-/// Grant rows, no two of them under one client and number.
+/// Grant rows, no two of them under one client and number. They are sorted by client, then by number, so that a binary
+/// search finds one.
 #[derive(Drop)]
 pub struct Grants {
+    keys: Vec<Key>,
     rows: Vec<GrantRow>,
 }
 
 impl Model for Grants {
-    ghost use Rattle.std.specs.Prelude.{List, AllPairs};
+    ghost use Rattle.std.specs.Prelude.{List};
     ghost use Rattle.ata_types.specs.declared.grant.GrantRow.{GrantRow as Row};
-    ghost use Rattle.block_machine.specs.Rules.{DifferInName};
+    ghost use Rattle.grants.specs.Names.{IsIndexed};
 
     ghost Value = { List Row };
 
     ghost view = { λ g. g.rows.items };
 
-    ghost invariant = { λ g. AllPairs DifferInName g.rows.items };
+    ghost invariant = { λ g. IsIndexed g.keys.items g.rows.items };
 }
 
 impl Grants {
@@ -41,21 +52,74 @@ impl Grants {
         ensures names { IfOk result (AllPairs DifferInName) }
         ensures few { IfOk result (λ kept. length kept ≤ 64) }
     {
-        let rows = Vec::from_slice(alloc, rows)?;
-        Ok(Grants { rows })
+        let mut rows = Vec::from_slice(alloc, rows)?;
+        rows.sort_unstable_by_key(|row| name_rank(row.client.0, row.number));
+        let keys = keys_of(alloc, rows.as_slice())?;
+        Ok(Grants { keys, rows })
+    }
+
+    /// The place of the client's row under this number, if there is one. At most 7 keys are compared.
+    pub fn find(&self, client: ClientId, number: u8, compared: &mut Compared) -> Option<usize>
+        requires room { compared.old + 7 < 2 ^ 32 }
+        ensures place { IsRowAt client number self.now result }
+        ensures counts { compared.old ≤ compared.new }
+        ensures few { compared.new ≤ compared.old + 7 }
+    {
+        find_key(self.keys.as_slice(), client, number, compared)
     }
 
     /// The client's row under this number, if there is one.
     pub fn row(&self, client: ClientId, number: u8) -> Option<GrantRow>
         ensures { (row : GrantRow) → (result ≡ Some row) ↔ (Contains self.now row × Names client number row) }
     {
-        for row in &self.rows {
-            if row.client == client && row.number == number {
-                return Some(*row);
-            }
+        let mut compared = Compared::none();
+        match self.find(client, number, &mut compared) {
+            Some(place) => Some(self.rows[place]),
+            None => None,
         }
-        None
     }
+}
+
+/// By what rows are sorted.
+fn name_rank(client: u8, number: u8) -> u32
+    ensures { result ≡ 256 * client + number }
+{
+    256 * u32::from(client) + u32::from(number)
+}
+
+/// The rows' keys.
+fn keys_of(alloc: Global, rows: &[GrantRow]) -> Result<Vec<Key>, AllocError>
+    ensures keys { IfOk result (λ keys. keys.items ≡ map name_of rows.now) }
+    ensures bytes { IfOk result (λ keys. All (λ name. name.1 < 256) keys.items) }
+{
+    let mut keys = Vec::with_capacity(alloc, rows.len())?;
+    for row in rows {
+        keys.push_reserved(Key::new(row.client, row.number));
+    }
+    Ok(keys)
+}
+
+/// The place of the key of this name, if there is one. Each comparison leaves at most half of the keys that were left,
+/// so 64 keys take at most 7.
+fn find_key(keys: &[Key], client: ClientId, number: u8, compared: &mut Compared) -> Option<usize>
+    requires few { length keys.now ≤ 64 }
+    requires order { AreInOrder keys.now }
+    requires room { compared.old + 7 < 2 ^ 32 }
+    ensures place { IsPlaceOf (client, number) keys.now result }
+    ensures counts { compared.old ≤ compared.new }
+    ensures few { compared.new ≤ compared.old + 7 }
+{
+    let mut low = 0;
+    let mut high = keys.len();
+    while low < high {
+        let middle = low + (high - low) / 2;
+        match keys[middle].order(client, number, compared) {
+            Ordering::Less => low = middle + 1,
+            Ordering::Greater => high = middle,
+            Ordering::Equal => return Some(middle),
+        }
+    }
+    None
 }
 
 /// Says whether the request breaks no rule, and else the first rule that it breaks, in the order of `Rule`'s variants
@@ -64,9 +128,11 @@ pub fn decide(request: &Request, grants: &Grants, table: &FrameTable) -> Result<
     ensures ok { OnOk result (BreaksNone grants.now (owner_of table.now) (lent_to table.now) request.now) }
     ensures err { IfErr result (IsFirstBroken grants.now (owner_of table.now) (lent_to table.now) request.now) }
 {
-    let Some(row) = grants.row(request.client, request.grant) else {
+    let mut compared = Compared::none();
+    let Some(place) = grants.find(request.client, request.grant, &mut compared) else {
         return Err(Rule::NoGrant);
     };
+    let row = grants.rows[place];
     if !row.rights.allows(request.op) {
         return Err(Rule::NoRight);
     }

@@ -1,12 +1,8 @@
-use Rattle.std.proofs.Common.{rules, sym, subst, ◌∙◌}
-use Rattle.std.specs.List.{AllPairs}
-use Rattle.block_machine.specs.Rules.{DifferInName}
 use Rattle.grants.proofs.RowLemmas.{found_row}
 use Rattle.grants.proofs.Grants.row.Goals as goal
 
-pub returns-then-row-number : goal.returns-then-row-number
-returns-then-row-number c =
-    let value = c.deref-row-items.ensures.value in
-    let differ : AllPairs DifferInName c.deref-row-items.result.now = subst (AllPairs DifferInName) (sym value) c.self.invariant in
-    let e = value ∙ c.self.view_is in
-    rw (← c.self.view_is, ← value) (found_row _ differ c.args.client c.args.number c.loop-row.row-index _ c.loop-row-test.true (search rules))
+pub returns-in-Some : goal.returns-in-Some
+returns-in-Some c = found_row _ _ c.self.view_is c.self.invariant.differ c.args.client c.args.number c.in-Some.place _ _ c.index.ensures c.in-Some.ensures.place
+
+pub returns-in-None : goal.returns-in-None
+returns-in-None c = λ row. (λ e. absurd (cc), λ w. absurd (c.in-None.ensures.place row w.0 w.1))
