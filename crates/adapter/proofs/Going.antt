@@ -96,8 +96,3 @@ failed_steps (asked.Plug p number) old new f = absurd f
 pub asked_steps : (s : DeviceStep) (old new : Device) → Asked s old new → Steps old new
 asked_steps s old new (inl did) = done_steps s old new did
 asked_steps s old new (inr failed) = failed_steps s old new failed
-
--- what was asked was done, or nothing
-pub step_steps : (result : Bool) (s : DeviceStep) (old new : Device) → (result ≡ true → Asked s old new) → (result ≡ false → new ≡ old) → Steps old new
-step_steps true s old new did refused = asked_steps s old new (did refl)
-step_steps false s old new did refused = let P : Device → Type 0 = λ d. Steps old d in subst P (sym (refused refl)) (Steps-refl old)

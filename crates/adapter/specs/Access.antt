@@ -1,5 +1,5 @@
--- The calls of an adapter: what a register shows, what a reading notes beside the state, and what a write does. A call is
--- any steps of the device, and then its one effect.
+-- The calls of an adapter: what a register shows, what a reading notes beside the state, and what a write does. A call
+-- is any steps of the device, and then its one effect.
 use Rattle.std.specs.Prelude.{ℕ, Bool, true, false, ◌≡◌, ◌+◌, ◌*◌, ◌/◌, ◌%◌, ◌<◌, ◌&&◌, ◌||◌, not, min, List, [], ◌∷◌, length, if◌then◌else◌, nat_eq, nat_le}
 use Rattle.hba_regs.specs.Bits.{bit}
 use Rattle.hba_regs.specs.declared.reg.Reg.{Reg}
@@ -13,10 +13,12 @@ use Rattle.adapter.specs.Steps.{Steps, with_port, restarted}
 
 -- ---- what a reading shows (AHCI 1.3.1, 3.1 and 3.3). Bits and registers that are not named here may have any value.
 
--- The causes in PxIS that steps raise, and HBDS: DHRS, PSS, SDBS, PCS, PRCS, IFS, HBDS, HBFS and TFES. The others may show
--- anything.
+-- The causes in PxIS that steps raise, and HBDS: DHRS, PSS, SDBS, PCS, PRCS, IFS, HBDS, HBFS and TFES. The others may
+-- show anything. DHRS, PSS and SDBS are set just as a command ends. A real adapter may set DHRS as a command fails,
+-- too: no call of this driver looks at them.
 abbrev pub is_cause : ℕ → Bool
-is_cause place = nat_eq place 0 || nat_eq place 1 || nat_eq place 3 || nat_eq place 6 || nat_eq place 22 || nat_le 27 place && nat_le place 30
+is_cause place = nat_eq place 0 || nat_eq place 1 || nat_eq place 3 || nat_eq place 6 || nat_eq place 22 || nat_le 27
+    place && nat_le place 30
 
 -- PxIS: PCS shows X and PRCS shows N
 abbrev pub shown_interrupt : PortState → ℕ → Bool
@@ -65,11 +67,23 @@ note Cmd v p =
       engine_count = counted (not p.st && bit v 15 || not p.fre && bit v 14) p.notes.engine_count;
     }
 note Ssts v p =
-    record p.notes { last_ssts = v; link_count = while_no_comreset p (link_counted (v % 16) p.notes.link_count) p.notes.link_count }
+    record p.notes {
+      last_ssts = v;
+      link_count = while_no_comreset p (link_counted (v % 16) p.notes.link_count)
+          p.notes.link_count;
+    }
 note Tfd v p =
-    record p.notes { last_tfd = v; busy_count = while_no_comreset p (counted (bit v 7 || bit v 3) p.notes.busy_count) p.notes.busy_count }
+    record p.notes {
+      last_tfd = v;
+      busy_count = while_no_comreset p (counted (bit v 7 || bit v 3) p.notes.busy_count)
+          p.notes.busy_count;
+    }
 note Ci v p =
-    record p.notes { last_ci = v; command_count = while_no_comreset p (counted (bit v 0) p.notes.command_count) p.notes.command_count }
+    record p.notes {
+      last_ci = v;
+      command_count = while_no_comreset p (counted (bit v 0) p.notes.command_count)
+          p.notes.command_count;
+    }
 note Sig v p = record p.notes { last_sig = v }
 note Sact v p = record p.notes { last_sact = v }
 -- the causes that were read have to be written back before the port's bit of IS is written

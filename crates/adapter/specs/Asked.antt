@@ -1,5 +1,5 @@
--- What was asked of the device, and done; or a command that failed as it was to be done. A command that ends or fails may do so with a FIS in the
--- received FIS area of its port.
+-- What was asked of the device, and done; or a command that failed as it was to be done. A command that ends or fails
+-- may do so with a FIS in the received FIS area of its port.
 use Rattle.std.specs.Prelude.{ℕ, Bool, zero, suc, ◌≡◌, ◌+◌, ◌<◌, ◌≤◌, ◌⊎◌, true, List, length, All}
 use Rattle.ata_types.specs.declared.memory.TheConstants.{RECEIVED_BYTES}
 use Rattle.adapter.specs.Commands.{Meaning}
@@ -44,7 +44,8 @@ pub record DoesDone (port slot : ℕ) (old new : Device) : Type 0 where
   pub can : Can (Done port slot flag t) old
   pub effect : new ≡ after (Done port slot flag t) old
 
--- These bytes were put into the port's received FIS area, at this address, while the port receives FISes (AHCI 1.3.1, 3.3.7 and 4.2.1).
+-- These bytes were put into the port's received FIS area, at this address, while the port receives FISes (AHCI 1.3.1,
+-- 3.3.7 and 4.2.1).
 pub record IsPosted (port at : ℕ) (bytes : List ℕ) (old new : Device) : Type 0 where
   pub receives : (old.port port).fre ≡ true
   pub from : (old.port port).bases.fb ≤ at
@@ -52,7 +53,8 @@ pub record IsPosted (port at : ℕ) (bytes : List ℕ) (old new : Device) : Type
   pub are_bytes : All (λ byte. byte < 256) bytes
   pub effect : new ≡ record old { memory = patched old.memory at bytes }
 
--- What an adapter may post as a command of this operation ends or fails, with this cause in PxIS: any bytes in the port's area, or nothing.
+-- What an adapter may post as a command of this operation ends or fails, with this cause in PxIS: any bytes in the
+-- port's area, or nothing.
 abbrev pub MayPost : (port flag : ℕ) → Operation → Device → Device → Type 0
 MayPost port flag operation old new = (new ≡ old) ⊎ ((at : ℕ) × (bytes : List ℕ) × IsPosted port at bytes old new)
 
@@ -61,7 +63,8 @@ abbrev pub PostsNone : (port flag : ℕ) → Operation → Device → Device →
 PostsNone port flag operation old new = new ≡ old
 
 -- the slot's command ended, and then this was posted
-pub record Ends (Posts : (port flag : ℕ) → Operation → Device → Device → Type 0) (port slot : ℕ) (old new : Device) : Type 0 where
+pub record Ends (Posts : (port flag : ℕ) → Operation → Device → Device → Type 0) (port slot : ℕ)
+    (old new : Device) : Type 0 where
   pub mid : Device
   pub done : DoesDone port slot old mid
   pub posts : Posts port done.flag done.t.meaning.operation mid new
@@ -69,12 +72,14 @@ pub record Ends (Posts : (port flag : ℕ) → Operation → Device → Device �
 -- a step of this slot's command
 abbrev pub DoesOne : ((port flag : ℕ) → Operation → Device → Device → Type 0) → ℕ → ℕ → Device → Device → Type 0
 DoesOne Posts port slot old new =
-    DoesFetch port slot old new ⊎ DoesMove port slot old new ⊎ Ends Posts port slot old new ⊎ ((most : ℕ) × DoesClear port slot most old new)
+    DoesFetch port slot old new ⊎ DoesMove port slot old new ⊎ Ends Posts port slot old new
+    ⊎ ((most : ℕ) × DoesClear port slot most old new)
 
 -- so many steps of the slot's command, one after another, and nothing else
 abbrev pub DoesSome : ((port flag : ℕ) → Operation → Device → Device → Type 0) → ℕ → ℕ → ℕ → Device → Device → Type 0
 DoesSome Posts zero port slot old new = new ≡ old
-DoesSome Posts (suc n) port slot old new = (mid : Device) × DoesSome Posts n port slot old mid × DoesOne Posts port slot mid new
+DoesSome Posts (suc n) port slot old new = (mid : Device) × DoesSome Posts n port slot old mid
+    × DoesOne Posts port slot mid new
 
 -- the slot's command went on by one step or more
 abbrev pub GoesOn : ((port flag : ℕ) → Operation → Device → Device → Type 0) → ℕ → ℕ → Device → Device → Type 0
@@ -92,20 +97,24 @@ pub record DoesFetchFault (port slot : ℕ) (old new : Device) : Type 0 where
   pub can : Can (FetchFault port slot queued 0) old
   pub effect : new ≡ after (FetchFault port slot queued 0) old
 
--- The slot's command failed, and then this was posted, with TFES of PxIS (AHCI 1.3.1, 6.2.2).
-pub record Fails (Posts : (port flag : ℕ) → Operation → Device → Device → Type 0) (port slot error : ℕ) (old new : Device) : Type 0 where
+-- The slot's command failed, and then this was posted, with TFES of PxIS (AHCI 1.3.1, 3.3.5).
+pub record Fails (Posts : (port flag : ℕ) → Operation → Device → Device → Type 0) (port slot error : ℕ)
+    (old new : Device) : Type 0 where
   pub mid : Device
   pub fault : DoesFault port slot error old mid
   pub posts : Posts port 30 fault.t.meaning.operation mid new
 
--- or what is issued in the slot failed, since its bytes mean no command, and then this was posted, as for any operation
-pub record FailsToMean (Posts : (port flag : ℕ) → Operation → Device → Device → Type 0) (port slot : ℕ) (old new : Device) : Type 0 where
+-- Or what is issued in the slot failed, since its bytes mean no command. Then that was posted which is posted for each
+-- operation alike: a model whose FIS differs by the operation can't do this step.
+pub record FailsToMean (Posts : (port flag : ℕ) → Operation → Device → Device → Type 0) (port slot : ℕ)
+    (old new : Device) : Type 0 where
   pub mid : Device
   pub fault : DoesFetchFault port slot old mid
   pub posts : (operation : Operation) → Posts port 30 operation mid new
 
 -- so much was done, or nothing, and then the slot's command failed
-pub record FailsAfter (Posts : (port flag : ℕ) → Operation → Device → Device → Type 0) (Some : Device → Device → Type 0) (port slot : ℕ) (old new : Device) : Type 0 where
+pub record FailsAfter (Posts : (port flag : ℕ) → Operation → Device → Device → Type 0) (Some : Device → Device → Type 0)
+    (port slot : ℕ) (old new : Device) : Type 0 where
   pub mid : Device
   pub before : (mid ≡ old) ⊎ Some old mid
   pub error : ℕ
@@ -133,8 +142,8 @@ pub record DoesPlug (port number : ℕ) (old new : Device) : Type 0 where
   pub can : Can (Plug port disk) old
   pub effect : new ≡ after (Plug port disk) old
 
--- What was asked of the device, and nothing else, where this is posted as commands end or fail. What its disks will say of themselves, and on which ports it
--- does nothing by itself, is no part of its state.
+-- What was asked of the device, and nothing else, where this is posted as commands end or fail. What its disks will say
+-- of themselves, and on which ports it does nothing by itself, is no part of its state.
 abbrev pub DoneOf : ((port flag : ℕ) → Operation → Device → Device → Type 0) → DeviceStep → Device → Device → Type 0
 DoneOf Posts (asked.Fetch p s) old new = DoesFetch p.0 s.0 old new
 DoneOf Posts (asked.Move p s) old new = DoesMove p.0 s.0 old new
@@ -150,7 +159,8 @@ DoneOf Posts (asked.Release p) old new = new ≡ old
 DoneOf Posts (asked.Unplug p) old new = DoesUnplug p.0 old new
 DoneOf Posts (asked.Plug p number) old new = DoesPlug p.0 number.0 old new
 
--- Or the command failed in its place: as it was taken, as its next piece was to be moved, or after some of what was asked, or none.
+-- Or the command failed in its place: as it was taken, as its next piece was to be moved, or after some of what was
+-- asked, or none.
 abbrev pub FailsOf : ((port flag : ℕ) → Operation → Device → Device → Type 0) → DeviceStep → Device → Device → Type 0
 FailsOf Posts (asked.Fetch p s) old new = FailsToMean Posts p.0 s.0 old new
 FailsOf Posts (asked.Move p s) old new = (error : ℕ) × Fails Posts p.0 s.0 error old new

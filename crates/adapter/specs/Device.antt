@@ -47,9 +47,9 @@ pub record Bases : Type 0 where
   pub fbu_set : Bool
 
 -- What stands beside a port's state: how long the tape was when ST was last set and when SCTL was last written; the
--- values last read; four counts of readings in a row, each at most 64 (engine: of CR or FR awaited; link: of SSTS without
--- a device, and 64 once one was seen; busy: of TFD with BSY or DRQ; command: of CI with bit 0 set); and whether PxIS was
--- written, with any value, since it was last read, and since the port's bit of IS was written.
+-- values last read; four counts of readings in a row, each at most 64 (engine: of CR or FR awaited; link: of SSTS
+-- without a device, and 64 once one was seen; busy: of TFD with BSY or DRQ; command: of CI with bit 0 set); and whether
+-- PxIS was written, with any value, since it was last read, and since the port's bit of IS was written.
 pub record Notes : Type 0 where
   pub st_set_at : ℕ
   pub sctl_written_at : ℕ
@@ -100,8 +100,8 @@ pub record PortState : Type 0 where
   pub taken : ℕ → Option Taken
   pub notes : Notes
 
--- The adapter: its memory, by address; CAP and PI; GHC.HR, AE and IE; its ports; and the tape of what the device did, the
--- oldest entry first. `telling` says whether every disk tells its sectors.
+-- The adapter: its memory, by address; CAP and PI; GHC.HR, AE and IE; its ports; and the tape of what the device did,
+-- the oldest entry first. `telling` says whether every disk tells its sectors.
 pub record Device : Type 0 where
   pub telling : Bool
   pub size : ℕ

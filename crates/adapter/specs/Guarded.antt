@@ -18,7 +18,8 @@ Spares Set from to = (at : ℕ) → from ≤ at → at < to → Set at → ⊥
 abbrev pub Avoids : (ℕ → Type 0) → List ℕ → Type 0
 Avoids Set places = (at : ℕ) → Set at → InPlaces places at → ⊥
 
--- A slot says a command. Its header (but for PRDBC) and its table are table bytes; its PRDBC and its pieces aren't kept.
+-- A slot says a command. Its header (but for PRDBC) and its table are table bytes; its PRDBC and its pieces aren't
+-- kept.
 pub record IsGuardedSlot (Tables Kept : ℕ → Type 0) (memory : ℕ → ℕ) (list slot : ℕ) : Type 0 where
   pub meaning : Meaning
   pub places : List ℕ
@@ -35,7 +36,8 @@ pub record IsGuardedPort (Tables Kept : ℕ → Type 0) (memory : ℕ → ℕ) (
   pub taken : (slot : ℕ) (t : Taken) → p.taken slot ≡ Some t → Avoids Kept t.places
   pub received : p.fre ≡ true → Spares Kept p.bases.fb (p.bases.fb + RECEIVED_BYTES)
 
--- Two sets of bytes: tables, and what is kept, the tables among them.
+-- Two sets of bytes: tables, and what is kept, the tables among them. It asks of slots in use alone, and of their
+-- PRDBC: the place of the 128th header would be a table.
 pub record IsGuarded (Tables Kept : ℕ → Type 0) (d : Device) : Type 0 where
   pub within : (at : ℕ) → Tables at → Kept at
   pub port : (port : ℕ) → IsGuardedPort Tables Kept d.memory (d.port port)
@@ -46,7 +48,8 @@ pub record IsApart (Tables Kept : ℕ → Type 0) (at n : ℕ) (d : Device) : Ty
   pub kept : Holds Kept at (at + n)
   pub no_table : Spares Tables at (at + n)
   pub no_header : (port slot a : ℕ) → InUse (d.port port) slot → at ≤ a → a < at + n →
-      (d.port port).bases.clb + HEADER_BYTES * slot ≤ a → a < (d.port port).bases.clb + HEADER_BYTES * slot + HEADER_BYTES → ⊥
+      (d.port port).bases.clb + HEADER_BYTES * slot ≤ a → a < (d.port port).bases.clb + HEADER_BYTES * slot
+      + HEADER_BYTES → ⊥
 
 -- the bytes that pass a test, as a set
 abbrev pub Passing : (ℕ → Bool) → ℕ → Type 0

@@ -7,7 +7,8 @@ use Rattle.adapter.specs.Idle.{IsIdlePort}
 use Rattle.adapter.specs.Rules.{InUse}
 use Rattle.adapter.specs.Says.{Says}
 
--- Where a command stands in memory: its header, its table of so many PRDs, its pieces, and its port's received FIS area.
+-- Where a command stands in memory: its header, its table of so many PRDs, its pieces, and its port's received FIS
+-- area.
 pub record Standing : Type 0 where
   pub header : ℕ
   pub table : ℕ
@@ -57,14 +58,15 @@ standing d port slot c =
       received = (d.port port).bases.fb;
     }
 
--- One slot of one port has a command that is issued or taken, and its bytes say it; if it is taken, then with the places
--- that they say. No byte that the device only reads for it is one that it writes. All other slots are free, and all other
--- ports idle.
+-- One slot of one port has a command that is issued or taken, and its bytes say it; if it is taken, then with the
+-- places that they say. No byte that the device only reads for it is one that it writes. All other slots are free, and
+-- all other ports idle.
 pub record HasOneCommand (d : Device) (port slot : ℕ) : Type 0 where
   pub used : InUse (d.port port) slot
   pub command : SaysCommand d port slot
   pub taken : (t : Taken) → (d.port port).taken slot ≡ Some t → t.places ≡ command.places
-  pub apart : (at : ℕ) → is_read_alone (standing d port slot command) at ≡ true → is_unwritten (standing d port slot command) at ≡ true
+  pub apart : (at : ℕ) → is_read_alone (standing d port slot command) at ≡ true
+      → is_unwritten (standing d port slot command) at ≡ true
   pub other_slots : (k : ℕ) → k ≢ slot → IsFreeSlot (d.port port) k
   pub other_ports : (q : ℕ) → q ≢ port → IsIdlePort (d.port q)
 

@@ -65,13 +65,16 @@ pub record MayCommand (p : PortState) (v : ℕ) : Type 0 where
   pub stop_receiving : bit v 4 ≡ false → (p.fre ≡ false) ⊎ (MayStopReceiving p × (bit v 0 ≡ false))
   pub others : (place : ℕ) → place < 32 → place ≢ 0 → place ≢ 4 → bit v place ≡ bit p.notes.last_cmd place
 
--- Each slot whose bit is set is one of the adapter's and has no command; its bytes say one, and if that is a queued command,
--- its SACT bit is set already.
+-- Each slot whose bit is set is one of the adapter's and has no command; its bytes say one, and if that is a queued
+-- command, its SACT bit is set already. How many queued commands are out isn't held against the depth that a disk
+-- tells: to keep to that is the driver's. Nor is a plain command forbidden beside queued ones: `IsAlone` keeps it from
+-- being taken.
 pub record MayIssue (d : Device) (p : PortState) (v : ℕ) : Type 0 where
   pub running : p.st ≡ true
   pub usable : (slot : ℕ) → bit v slot ≡ true → slot ≤ d.cap / 256 % 32
   pub free : (slot : ℕ) → bit v slot ≡ true → (p.ci slot ≡ false) × (p.taken slot ≡ None)
-  pub says : (slot : ℕ) → bit v slot ≡ true → (meaning : Meaning) × (places : List ℕ) × Says d.memory p.bases.clb slot meaning places
+  pub says : (slot : ℕ) → bit v slot ≡ true → (meaning : Meaning) × (places : List ℕ)
+      × Says d.memory p.bases.clb slot meaning places
   pub queued : (slot : ℕ) (meaning : Meaning) (places : List ℕ) → bit v slot ≡ true →
       Says d.memory p.bases.clb slot meaning places → is_queued meaning.operation ≡ true → p.sact slot ≡ true
 
@@ -89,8 +92,9 @@ MayWritePort Is v d p = Unit {0}
 MayWritePort Ie v d p = Unit {0}
 MayWritePort _ v d p = ⊥
 
--- A port's bit of IS is cleared only after its PxIS: that was written since it was last read, and since the bit was written
--- (AHCI 1.3.1, 5.5.3 and 10.7.2.1).
+-- A port's bit of IS is cleared only after its PxIS was (AHCI 1.3.1, 5.5.3 and 10.7.2.1). That PxIS was written since
+-- it was last read, and since the bit of IS was written, is this project's own way to say so: what a reading showed may
+-- be stale by then.
 abbrev pub AreAcknowledged : Device → ℕ → Type 0
 AreAcknowledged d v = (port : ℕ) → port < 32 → bit v port ≡ true → (d.port port).notes.acknowledged ≡ true
 
@@ -119,11 +123,13 @@ InCommand d p slot at =
     (meaning : Meaning) × (places : List ℕ) × (s : Says d.memory p.bases.clb slot meaning places)
     × (((s.table ≤ at) × (at < s.table + 128 + 16 * length s.prds)) ⊎ InPlaces places at)
 
--- The device may use the byte: it is of the header, the table or the places of a command in use, of the places of a taken
--- one, or of the received FIS area.
+-- The device may use the byte: it is of the header, the table or the places of a command in use, of the places of a
+-- taken one, or of the received FIS area.
 abbrev pub Uses : Device → PortState → ℕ → ℕ → Type 0
 Uses d p slot at =
-    (InUse p slot × (((p.bases.clb + HEADER_BYTES * slot ≤ at) × (at < p.bases.clb + HEADER_BYTES * slot + HEADER_BYTES)) ⊎ InCommand d p slot at))
+    (InUse p slot
+    × (((p.bases.clb + HEADER_BYTES * slot ≤ at) × (at < p.bases.clb + HEADER_BYTES * slot + HEADER_BYTES))
+    ⊎ InCommand d p slot at))
     ⊎ ((t : Taken) × (p.taken slot ≡ Some t) × InPlaces t.places at)
     ⊎ ((p.fre ≡ true) × (p.bases.fb ≤ at) × (at < p.bases.fb + RECEIVED_BYTES))
 

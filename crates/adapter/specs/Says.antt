@@ -30,7 +30,8 @@ IsWhole e = e.bytes % 512 ≡ 0
 pub record Says (memory : ℕ → ℕ) (list slot : ℕ) (m : Meaning) (places : List ℕ) : Type 0 where
   pub table : ℕ
   pub prds : List Prd
-  pub header : SpellsHeader (bytes_at memory (list + HEADER_BYTES * slot) HEADER_BYTES) (reads_memory m.operation) (length prds) table
+  pub header : SpellsHeader (bytes_at memory (list + HEADER_BYTES * slot) HEADER_BYTES) (reads_memory m.operation)
+      (length prds) table
   pub fis : SpellsCommand (bytes_at memory table 20) (command_of m.operation slot m.first m.count)
   pub meaning : IsMeaning m
   pub stand : HasPrds memory (table + 128) prds

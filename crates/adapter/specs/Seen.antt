@@ -21,7 +21,8 @@ pub record SeenAt (port : ℕ) (r : PortReg) (v : ℕ) (old new : Device) : Type
   pub notes : (new.port port).notes ≡ note r v (record (new.port port) { notes = (old.port port).notes })
   pub others : (q : ℕ) → q ≢ port → (new.port q).notes ≡ (old.port q).notes
 
--- A register of a port was written: the port has it, after what the device did first, and the others have what that left.
+-- A register of a port was written: the port has it, after what the device did first, and the others have what that
+-- left.
 pub record PutAt (port : ℕ) (r : PortReg) (v : ℕ) (old new : Device) : Type 0 where
   pub mid : Device
   pub steps : Steps old mid

@@ -93,7 +93,8 @@ pub record MayFetch (d : Device) (port slot : ℕ) (meaning : Meaning) (places :
 pub record MayFetchFault (d : Device) (port slot kept_bits : ℕ) : Type 0 where
   pub fetchable : IsFetchable (d.port port) slot
   pub working : IsWorking (d.port port) Identify
-  pub says_nothing : (meaning : Meaning) (places : List ℕ) → Says d.memory (d.port port).bases.clb slot meaning places → ⊥
+  pub says_nothing : (meaning : Meaning) (places : List ℕ) → Says d.memory (d.port port).bases.clb slot meaning places
+      → ⊥
   pub kept : AreKeptBits kept_bits
 
 abbrev pub begun : Meaning → List ℕ → Taken
@@ -124,13 +125,16 @@ next_sector t = if is_ranged t.meaning.operation then t.meaning.first + t.moved 
 -- The bytes that a move may bring: the disk's, where it tells them; memory's, for a command that reads memory; or any
 -- page, for IDENTIFY DEVICE and READ LOG EXT.
 abbrev pub Brings : Disk → (ℕ → ℕ) → Taken → Operation → List ℕ → Type 0
-Brings disk memory t Read bytes = (next_sector t < disk.size) × IfSome disk.sectors (λ told. bytes ≡ told (next_sector t))
-Brings disk memory t ReadQueued bytes = (next_sector t < disk.size) × IfSome disk.sectors (λ told. bytes ≡ told (next_sector t))
+Brings disk memory t Read bytes = (next_sector t < disk.size)
+    × IfSome disk.sectors (λ told. bytes ≡ told (next_sector t))
+Brings disk memory t ReadQueued bytes = (next_sector t < disk.size)
+    × IfSome disk.sectors (λ told. bytes ≡ told (next_sector t))
 Brings disk memory t Write bytes = (next_sector t < disk.size) × (bytes ≡ bytes_at memory (next_place t) 512)
 Brings disk memory t WriteQueued bytes = (next_sector t < disk.size) × (bytes ≡ bytes_at memory (next_place t) 512)
 Brings disk memory t Trim bytes = bytes ≡ bytes_at memory (next_place t) 512
 Brings disk memory t _ bytes = Unit {0}
 
+-- A sector moves in one step: which of its bytes come first isn't modelled.
 pub record MayMove (d : Device) (port slot : ℕ) (t : Taken) (bytes : List ℕ) : Type 0 where
   pub works : WorksOn (d.port port) slot t t.meaning.operation
   pub left : t.moved < length t.places
@@ -154,7 +158,8 @@ block_after _ bytes old = old
 abbrev pub with_move : PortState → ℕ → Taken → List ℕ → PortState
 with_move p slot t bytes =
     record p {
-      taken = changed p.taken slot (Some (record t { moved = t.moved + 1; block = block_after t.meaning.operation bytes t.block }));
+      taken = changed p.taken slot
+          (Some (record t { moved = t.moved + 1; block = block_after t.meaning.operation bytes t.block }));
       disk = disk_after t.meaning.operation p.disk (next_sector t) bytes;
     }
 
@@ -163,7 +168,8 @@ memory_after memory t bytes = if reads_memory t.meaning.operation then memory el
 
 -- ---- Clear
 
--- The next sectors of the block, from `first` on, become zero, with a sector left to clear; none of them is past the disk.
+-- The next sectors of the block, from `first` on, become zero, with a sector left to clear; none of them is past the
+-- disk.
 pub record MayClear (d : Device) (port slot : ℕ) (t : Taken) (first count : ℕ) : Type 0 where
   pub works : WorksOn (d.port port) slot t Trim
   pub trim : t.meaning.operation ≡ Trim
@@ -175,7 +181,8 @@ pub record MayClear (d : Device) (port slot : ℕ) (t : Taken) (first count : �
 abbrev pub disk_cleared : Disk → ℕ → ℕ → Disk
 disk_cleared disk first count =
     record disk {
-      sectors = option_map (λ told k. if nat_le first k && nat_lt k (first + count) then replicate 512 0 else told k) disk.sectors;
+      sectors = option_map (λ told k. if nat_le first k && nat_lt k (first + count) then replicate 512 0 else told k)
+          disk.sectors;
     }
 
 abbrev pub with_clear : PortState → ℕ → Taken → ℕ → ℕ → PortState
@@ -225,7 +232,8 @@ pub record MayLinkUp (p : PortState) (sig : ℕ) : Type 0 where
   pub due : p.link_due ≡ true
   pub fits : sig < 2 ^ 32
 
--- DET 3, and the disk's first FIS: its signature; BSY and DRQ clear
+-- DET 3, and the disk's first FIS: its signature; BSY and DRQ clear. No step shows DET 1: the driver takes each value
+-- but 3 as no link.
 abbrev pub with_link : PortState → ℕ → Bool → PortState
 with_link p sig n =
     record p {
@@ -334,7 +342,13 @@ done_entry port slot operation =
 
 abbrev pub fault_entry : ℕ → ℕ → ℕ → ℕ → Entry
 fault_entry port slot error kept_bits =
-    entry.Fault (record { port = record { 0 = port }; slot = record { 0 = slot }; status = 0x41 + kept_bits; error = error })
+    entry.Fault (record {
+      port = record { 0 = port };
+      slot = record { 0 = slot };
+      status = 0x41
+          + kept_bits;
+      error = error;
+    })
 
 abbrev pub after : Step → Device → Device
 after (Fetch port slot meaning places) d = with_port d port (with_fetch (d.port port) slot meaning places)
@@ -349,7 +363,8 @@ after (Clear port slot t first count) d =
 after (Done port slot flag t) d =
     recorded d port (with_done (d.port port) slot flag t.meaning.operation) (done_entry port slot t.meaning.operation)
 after (Fault port slot error kept_bits t) d =
-    recorded d port (with_fault (d.port port) (is_queued t.meaning.operation) error kept_bits) (fault_entry port slot error kept_bits)
+    recorded d port (with_fault (d.port port) (is_queued t.meaning.operation) error kept_bits)
+    (fault_entry port slot error kept_bits)
 after (Fatal port place) d =
     recorded d port (record (d.port port) { is = changed (d.port port).is place true; broken = true })
     (entry.Fatal (record { 0 = port }))

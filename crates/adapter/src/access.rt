@@ -71,19 +71,21 @@ pub enum DeviceStep {
     Fetch(Port, Slot),
     /// Move the next 512 bytes of the slot's command.
     Move(Port, Slot),
-    /// Clear so many of the next sectors of the slot's trim, whose block was moved. An adapter may clear fewer of them, and one at least.
+    /// Clear so many of the next sectors of the slot's trim, whose block was moved. An adapter may clear fewer of them,
+    /// and one at least.
     Clear(Port, Slot, u32),
     /// End the slot's command, of which nothing is left to move or to clear.
     Done(Port, Slot),
-    /// What is left of the slot's command: take it, move, clear, end it. An adapter may stop short of the end, after one of these
-    /// at least.
+    /// What is left of the slot's command: take it, move, clear, end it. An adapter may stop short of the end, after
+    /// one of these at least.
     Finish(Port, Slot),
     /// Fail the slot's command, which is taken, with this error (ACS-3, 6.2). The port is halted then.
     Fault(Port, Slot, u8),
-    /// Meet this fatal error on the port, whose engine runs. The port does nothing more for its commands until it is started anew.
+    /// Meet this fatal error on the port, whose engine runs. The port does nothing more for its commands until it is
+    /// started anew.
     Fatal(Port, FatalError),
-    /// Tell lies: from now on the disk of the port sends the byte of this page at this offset, below 512, with these bits turned. This
-    /// is for tests; nothing changes until the page is sent.
+    /// Tell lies: from now on the disk of the port sends the byte of this page at this offset, below 512, with these
+    /// bits turned. This is for tests; nothing changes until the page is sent.
     Lie(Port, DiskPage, u16, u8),
     /// Tell no lies any more.
     Truth(Port),
@@ -99,8 +101,9 @@ pub enum DeviceStep {
 
 /// An adapter whose device does what it is told, if that is possible then.
 pub trait Stepped: Adapter {
-    /// Has the device do a step. `true` says that it was done, and nothing else, or that its command failed in its place or on the way: since its bytes
-    /// mean none, or a disk failed. `false` says that it wasn't done, and that nothing changed.
+    /// Has the device do a step. `true` says that it was done, and nothing else, or that its command failed in its
+    /// place or on the way: since its bytes mean none, or a disk failed. `false` says that it wasn't done, and that
+    /// nothing changed.
     fn step(&mut self, s: &DeviceStep) -> bool
         ensures asked { result ≡ true → Asked s.now (Self.device self.old) (Self.device self.new) }
         ensures steps { Steps (Self.device self.old) (Self.device self.new) }

@@ -50,8 +50,9 @@ pub fn saying_is_one()
 
 /// Bytes that no command in use may write stay as they are, and the commands in use go on to stand on them.
 pub fn kept_bytes_stay()
-    ensures { (tables kept : ℕ → Bool) (old new : Device) → IsGuarded (Passing tables) (Passing kept) old → Steps old new
-        → IsGuarded (Passing tables) (Passing kept) new × ((at : ℕ) → Passing kept at → new.memory at ≡ old.memory at) }
+    ensures { (tables kept : ℕ → Bool) (old new : Device) → IsGuarded (Passing tables) (Passing kept) old
+        → Steps old new → IsGuarded (Passing tables) (Passing kept) new
+        × ((at : ℕ) → Passing kept at → new.memory at ≡ old.memory at) }
 {}
 
 /// Kept bytes that belong to no table and no header in use may be loaded and stored, whatever the device does first.
@@ -76,8 +77,8 @@ pub fn accesses_compose()
         → DoesAll (early ++ late) old new }
 {}
 
-/// While no reset is pending, a reading of a port's register leaves the adapter as steps of the device do, and the port shows the value and
-/// has it noted. A write is steps of the device, and then the port alone has what was written.
+/// While no reset is pending, a reading of a port's register leaves the adapter as steps of the device do, and the port
+/// shows the value and has it noted. A write is steps of the device, and then the port alone has what was written.
 pub fn port_registers_are_accessed()
     ensures seen { (port : Port) (r : PortReg) (v : ℕ) (old new : Device) → Reads (Px port r) v old new → old.hr ≡ false
         → SeenAt port.0 r v old new }
@@ -91,39 +92,43 @@ pub fn controls_are_kept()
     ensures more { (old mid new : PortState) → KeepsControls old mid → KeepsControls mid new → KeepsControls old new }
 {}
 
-/// Where no slot has a command, any bytes that are not of a received FIS area in use are guarded, and no table is needed.
+/// Where no slot has a command, any bytes that are not of a received FIS area in use are guarded, and no table is
+/// needed.
 pub fn an_adapter_without_commands_is_guarded()
     ensures { (kept : ℕ → Bool) (d : Device) → HasNoCommand d
-        → ((port : ℕ) → (d.port port).fre ≡ true → Spares (Passing kept) (d.port port).bases.fb ((d.port port).bases.fb + RECEIVED_BYTES))
+        → ((port : ℕ) → (d.port port).fre ≡ true
+        → Spares (Passing kept) (d.port port).bases.fb ((d.port port).bases.fb + RECEIVED_BYTES))
         → IsGuarded (Passing (λ _. false)) (Passing kept) d }
 {}
 
-/// An idle adapter is guarded, whatever bytes are kept; so its driver may load and store any bytes of the memory, whatever
-/// the device does first.
+/// An idle adapter is guarded, whatever bytes are kept; so its driver may load and store any bytes of the memory,
+/// whatever the device does first.
 pub fn an_idle_adapter_is_guarded()
     ensures guarded { (kept : ℕ → Bool) (d : Device) → IsIdle d → IsGuarded (Passing (λ _. false)) (Passing kept) d }
     ensures free { (at n : ℕ) (d : Device) → IsIdle d → at + n ≤ d.size → Stays (IsFree at n) d }
 {}
 
-/// An adapter with one command is guarded: what the device only reads for it are the tables, and what it doesn't write is
-/// kept. So the driver may load and store all other bytes of the memory, whatever the device does first.
+/// An adapter with one command is guarded: what the device only reads for it are the tables, and what it doesn't write
+/// is kept. So the driver may load and store all other bytes of the memory, whatever the device does first.
 pub fn an_adapter_with_a_command_is_guarded()
     ensures guarded { (port slot : ℕ) (d : Device) (c : HasOneCommand d port slot)
-        → IsGuarded (Passing (is_read_alone (standing d port slot c.command))) (Passing (is_unwritten (standing d port slot c.command))) d }
+        → IsGuarded (Passing (is_read_alone (standing d port slot c.command)))
+        (Passing (is_unwritten (standing d port slot c.command))) d }
     ensures free { (port slot at n : ℕ) (d : Device) (c : HasOneCommand d port slot)
         → IsElsewhere (standing d port slot c.command) at n d → Stays (IsFree at n) d }
 {}
 
-/// A read that may be fetched can be done, on a disk that tells its sectors: some steps of its slot's command lead to where
-/// each sector stands in its piece, and the slot is free.
+/// A read that may be fetched can be done, on a disk that tells its sectors: some steps of its slot's command lead to
+/// where each sector stands in its piece, and the slot is free.
 pub fn a_read_can_be_done()
-    ensures { (port slot first count : ℕ) (places : List ℕ) (told : ℕ → List ℕ) (old : Device) → MayBeRead old port slot first count places told
-        → (new : Device) × IsRead old new port slot first count places told }
+    ensures { (port slot first count : ℕ) (places : List ℕ) (told : ℕ → List ℕ) (old : Device)
+        → MayBeRead old port slot first count places told → (new : Device)
+        × IsRead old new port slot first count places told }
 {}
 
-/// There is an adapter with a command, so that the laws above speak of something: eight sectors from 100 on are to be read
-/// into frame 40. It is switched on; its memory and disks are sane; the bytes of the slot say the read; frame 41 is free,
-/// whatever the device does; and the read can be done.
+/// There is an adapter with a command, so that the laws above speak of something: eight sectors from 100 on are to be
+/// read into frame 40. It is switched on; its memory and disks are sane; the bytes of the slot say the read; frame 41
+/// is free, whatever the device does; and the read can be done.
 pub fn a_first_read_exists()
     ensures on { IsOn first_read }
     ensures sane { IsSane first_read }

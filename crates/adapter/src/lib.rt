@@ -1,5 +1,11 @@
-//! A host adapter as its driver sees it: its registers and memory, the steps that the device may do before each access,
-//! what the device reads in a command table, and the rules that the driver keeps to.
+//! The trait `Adapter`, and what a host adapter, its memory and its disks may do.
+//!
+//! Before each of the trait's four calls the device may do any list of steps; then the call has its
+//! one effect. `specs` has the state (`Device`), the steps, what a reading shows and a write does,
+//! what the bytes of a slot say (`Says`), and the rules for drivers, which have to hold whatever
+//! the device does first (`Stays`). Nothing else is known of the hardware: a bit that no definition
+//! names reads as anything. The main law is that bytes which no command in use may write stay as
+//! they are. `Stepped` adds a device that does the steps it is told, for scripts and tests.
 #![tactic(auto)]
 
 mod access;

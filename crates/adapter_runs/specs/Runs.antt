@@ -49,8 +49,8 @@ abbrev pub MayAllCome : List Event → Device → Type 0
 MayAllCome [] d = Unit {0}
 MayAllCome (event ∷ events) d = MayCome event d × MayAllCome events (after_event event d)
 
--- A port as a reset of the adapter leaves it, with a disk in it or without: no link is due, nothing halts it, and nothing was programmed, set
--- or read yet (AHCI 1.3.1, 10.4.3).
+-- A port as a reset of the adapter leaves it, with a disk in it or without: no link is due, nothing halts it, and
+-- nothing was programmed, set or read yet (AHCI 1.3.1, 10.4.3).
 pub record IsAsReset (p : PortState) : Type 0 where
   pub bases : p.bases ≡ quiet_port.bases
   pub control : p.sctl_det ≡ 0

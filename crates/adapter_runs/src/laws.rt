@@ -8,8 +8,9 @@ ghost use Rattle.adapter_runs.specs.Runs.Kind.{FetchFault};
 
 use adapter::laws::{kept_bytes_stay, saying_is_one};
 
-/// Each kind of step of the device can come, in a state that an idle adapter comes to by accesses, each of which the rules allow in the
-/// state in which it is made: and where its commands stand on bytes that no step changes, but for the one on bytes that mean no command.
+/// Each kind of step of the device can come, in a state that an idle adapter comes to by accesses, each of which the
+/// rules allow in the state in which it is made: and where its commands stand on bytes that no step changes, but for
+/// the one on bytes that mean no command.
 pub fn each_step_can_come()
     ensures safely { (kind : Kind) → kind ≢ FetchFault → ComesSafely kind }
     ensures senseless { Comes FetchFault }
@@ -20,7 +21,8 @@ pub fn each_step_can_come()
 
 /// Where the commands stand on bytes that no step changes, none is taken for no command.
 pub fn safe_commands_make_sense()
-    ensures { (d : Device) (port slot kept_bits : ℕ) (queued : Bool) → IsSafe d → Can (SenselessFetch port slot queued kept_bits) d → ⊥ }
+    ensures { (d : Device) (port slot kept_bits : ℕ) (queued : Bool) → IsSafe d
+        → Can (SenselessFetch port slot queued kept_bits) d → ⊥ }
 {}
 
 /// A queued command may end while another, in a lower slot, is taken still.

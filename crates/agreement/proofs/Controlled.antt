@@ -5,7 +5,7 @@ use Rattle.ata_types.specs.declared.Port.{Port}
 use Rattle.hba_regs.specs.declared.reg.PortReg.{PortReg}
 use Rattle.hba_regs.specs.declared.reg.Reg.{Reg}
 use Rattle.hba_regs.specs.declared.reg.Reg.TheVariants.{Cap, Ghc, Is, Pi, Vs, Cap2, Bohc, Px}
-use Rattle.adapter.specs.Access.{Access, Does, DoesAll, Reads, Writes}
+use Rattle.adapter.specs.Access.{Access, Does, DoesAll}
 use Rattle.adapter.specs.Access.Access.{Reading, Writing, Loading, Storing}
 use Rattle.adapter.specs.Device.{PortState, Device}
 use Rattle.adapter.specs.Kept.{Keeps, KeepsOn}
@@ -20,7 +20,7 @@ use Rattle.agreement.specs.Facts.{IsRecorded}
 use Rattle.agreement.specs.Links.{SparesRegister, SameAdapter}
 use Rattle.agreement.specs.Slots.{Uses}
 use Rattle.agreement.proofs.Crossing.{access_steps, beside_same}
-use Rattle.agreement.proofs.Driven.{followed_adds, along, driven_as, over}
+use Rattle.agreement.proofs.Driven.{followed_adds, along, over}
 use Rattle.agreement.proofs.Lasting.{access_same, same_more, same_refl}
 use Rattle.agreement.proofs.Recording.{steps_recorded}
 
@@ -74,16 +74,6 @@ module _ (Written : PortReg → Type 0) (port : Port) where
   is_control (Loading at bytes) is = absurd is
   is_control (Storing at bytes) is = absurd is
 
-  -- what is shown of a reading and of a write
-  pub by_kind : (Keeps : Device → Device → Type 0) (access : Access) (old new : Device) → IsControl Written port access → Does access old new
-      → ((r : PortReg) (v : ℕ) → Reads (Px port r) v old new → Keeps old new)
-      → ((r : PortReg) (v : ℕ) → Written r → Writes (Px port r) v old new → Keeps old new) → Keeps old new
-  by_kind Keeps access old new is does reads writes =
-      elim (is_control access is) [
-        | inl (r, v, e) ↦ reads r v (subst (λ (a : Access). Does a old new) e does)
-        | inr (r, v, e, w) ↦ writes r v w (subst (λ (a : Access). Does a old new) e does)
-      ]
-
   -- it doesn't write what the kind has not
   control_spares_at : (at : Port) (spared : PortReg) → (Written spared → ⊥) → NoneWrites (IsControl Written port) (Px at spared)
   control_spares_at at spared not access is =
@@ -109,9 +99,6 @@ module _ (Written : PortReg → Type 0) (port : Port) where
         | inl (r, v, e) ↦ subst (IsOf port) (sym e) refl
         | inr (r, v, e, w) ↦ subst (IsOf port) (sym e) refl
       ]
-
-  pub control_spares_ghc : NoneWrites (IsControl Written port) Ghc
-  control_spares_ghc access is = of_spares_ghc port access (control_is_of access is)
 
 -- ---- a port that isn't theirs
 
@@ -176,20 +163,6 @@ module _ (port : Port) (old new : Device) (driven : IsDrivenBy (IsOf port) old n
       along (λ a b. IsRecorded a.tape (a.port q) q → IsRecorded b.tape (b.port q) q) (λ d h. h) (λ a b c x y h. y (x h)) (IsOf port)
       (λ access a b may does. beside_recorded port q other access a b may does)
       driven.accesses old new driven.only driven.all
-
--- of controls
-module _ (Written : PortReg → Type 0) (port : Port) (old new : Device) (driven : IsDrivenBy (IsControl Written port) old new) where
-  pub driven_of : IsDrivenBy (IsOf port) old new
-  driven_of = driven_as (IsControl Written port) (IsOf port) old new (control_is_of Written port) driven
-
-  pub stays_on : IsOn old → IsOn new
-  stays_on = on_over (IsControl Written port) old new driven (control_spares_ghc Written port)
-
-  pub same_adapter : SameAdapter old new
-  same_adapter = same_over (IsControl Written port) old new driven
-
-  pub tape_gains : Grows old new
-  tape_gains = tape_over (IsControl Written port) old new driven
 
 -- ---- a machine that agrees
 

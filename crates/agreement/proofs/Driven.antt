@@ -132,14 +132,6 @@ module _ (May : Access → Type 0) (Fits : Uses → Type 0) where
   pub followed_then : (old mid new : Device) → IsFollowed May Fits old mid → IsFollowed May Fits mid new → IsFollowed May Fits old new
   followed_then old mid new a b = followed_both May Fits Fits (λ uses. uses) (λ uses. uses) (λ uses fits. fits) old mid new a b
 
-  -- and then one that puts slots to use
-  pub followed_to_then : (next : Uses → Uses) (old mid new : Device) → IsFollowed May Fits old mid → IsFollowedTo May Fits next mid new → IsFollowedTo May Fits next old new
-  followed_to_then next old mid new a b = followed_both May Fits Fits (λ uses. uses) next (λ uses fits. fits) old mid new a b
-
-  -- slots that were put to use go on so
-  pub followed_to_more : (next : Uses → Uses) (old mid new : Device) → IsFollowedTo May Fits next old mid → IsFollowed May AnyUse mid new → IsFollowedTo May Fits next old new
-  followed_to_more next old mid new a b = followed_both May Fits AnyUse next (λ uses. uses) (λ uses fits. tt) old mid new a b
-
 -- of another kind, and with uses that fit less
 module _ (May More : Access → Type 0) (Fits Less : Uses → Type 0) where
   pub followed_to_as : (next : Uses → Uses) (old new : Device) → ((access : Access) → May access → More access) → ((uses : Uses) → Less uses → Fits uses) →
@@ -163,11 +155,6 @@ module _ (May More : Access → Type 0) (Fits Less : Uses → Type 0) where
 
 -- ---- what is told of a list of accesses
 
-module _ (Tells More : List Access → Type 0) (May : Access → Type 0) (Fits : Uses → Type 0) (next : Uses → Uses) where
-  -- more is told of it
-  pub told_more : (old new : Device) → ((accesses : List Access) → Tells accesses → More accesses) → IsToldTo Tells May Fits next old new → IsToldTo More May Fits next old new
-  told_more old new more a = record { followed = a.followed; tells = more a.followed.driven.accesses a.tells }
-
 -- of one stretch after another
 module _ (First Second Tells : List Access → Type 0) (join : (early late : List Access) → First early → Second late → Tells (early ++ late)) (May : Access → Type 0) where
   pub told_both : (Fits Less : Uses → Type 0) (first second : Uses → Uses) → ((uses : Uses) → Fits uses → Less (first uses)) → (old mid new : Device) →
@@ -177,18 +164,6 @@ module _ (First Second Tells : List Access → Type 0) (join : (early late : Lis
     followed = followed_both May Fits Less first second on old mid new a.followed b.followed;
     tells = join a.followed.driven.accesses b.followed.driven.accesses a.tells b.tells;
   }
-
--- of one that goes on, or that was begun before
-module _ (Tells : List Access → Type 0) (May : Access → Type 0) (Fits : Uses → Type 0) where
-  pub told_then : ((early late : List Access) → Tells early → Tells (early ++ late)) → (old mid new : Device) → IsTold Tells May Fits old mid → IsFollowed May Fits mid new →
-      IsTold Tells May Fits old new
-  told_then on old mid new a b = told_both Tells (λ late. Unit {0}) Tells (λ early late is any. on early late is) May Fits Fits (λ uses. uses) (λ uses. uses) (λ uses fits. fits) old mid new a
-      (record { followed = b; tells = tt })
-
-  pub told_since : ((early late : List Access) → Tells late → Tells (early ++ late)) → (next : Uses → Uses) (old mid new : Device) → IsFollowed May Fits old mid →
-      IsToldTo Tells May Fits next mid new → IsToldTo Tells May Fits next old new
-  told_since on next old mid new a b = told_both (λ early. Unit {0}) Tells Tells (λ early late any is. on early late is) May Fits Fits (λ uses. uses) next (λ uses fits. fits) old mid new
-      (record { followed = a; tells = tt }) b
 
 -- of accesses that are of another kind, too, where the uses fit less
 module _ (Tells : List Access → Type 0) (May More : Access → Type 0) (Fits Less : Uses → Type 0) where

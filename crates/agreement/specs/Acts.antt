@@ -13,8 +13,8 @@ use Rattle.agreement.specs.Slots.{Uses}
 
 -- ---- acts
 
--- One act of the driver: an access, over which the device makes steps; or none, where the driver decides on a request or a slot. With
--- it, the machine's steps meanwhile, the last one first, and what the driver knows then.
+-- One act of the driver: an access, over which the device makes steps; or none, where the driver decides on a request
+-- or a slot. With it, the machine's steps meanwhile, the last one first, and what the driver knows then.
 pub record Act : Type 0 where
   pub access : Option Access
   pub steps : List Step
@@ -28,9 +28,11 @@ Leads (Some access) old new = Does access old new
 -- Over an access these are the device's steps, and after them one of the driver's own at most; without one, that alone.
 abbrev pub IsOneAct : Option Access → List Step → Type 0
 IsOneAct None steps = (steps ≡ []) ⊎ ((step : Step) × (IsDevices step → ⊥) × (steps ≡ step ∷ []))
-IsOneAct (Some access) steps = AllDevices steps ⊎ ((step : Step) × (before : List Step) × (steps ≡ step ∷ before) × AllDevices before)
+IsOneAct (Some access) steps = AllDevices steps ⊎ ((step : Step) × (before : List Step) × (steps ≡ step ∷ before)
+    × AllDevices before)
 
--- The act is done, from a machine that agrees with what the driver knew: its steps lead to one that agrees with what it knows then.
+-- The act is done, from a machine that agrees with what the driver knew: its steps lead to one that agrees with what it
+-- knows then.
 pub record IsDone (k : Known) (m : Machine) (act : Act) : Type 0 where
   pub leads : Leads act.access k.device act.later.device
   pub one : IsOneAct act.access act.steps
@@ -57,7 +59,8 @@ steps_of (act ∷ acts) = steps_of acts ++ act.steps
 
 -- ---- the form
 
--- What the driver has put into each slot, and, by port, the requests that it took from their slots and hasn't decided on.
+-- What the driver has put into each slot, and, by port, the requests that it took from their slots and hasn't decided
+-- on.
 pub record InSlots : Type 0 where
   pub uses : Uses
   pub parked : ℕ → List RequestId
@@ -67,16 +70,17 @@ abbrev pub at : InSlots → Device → Known
 at s d = record { uses = s.uses; parked = s.parked; device = d }
 
 -- From this machine, acts with these accesses lead to what the driver knows then; and this is told of them.
-pub record Comes (accesses : List Access) (k : Known) (m : Machine) (later : Known) (Tells : List Act → Type 0) : Type 0 where
+pub record Comes (accesses : List Access) (k : Known) (m : Machine) (later : Known) (Tells : List Act
+    → Type 0) : Type 0 where
   pub acts : List Act
   pub done : AreDone acts k m later
   pub accesses_are : accesses_of acts ≡ accesses
   pub tells : Tells acts
 
--- So it is whatever is in the slots, from each machine that is reached and agrees with that, where the two fit; and the acts lead to what
--- is in the slots next.
-abbrev pub ComesWith : List Access → (InSlots → Machine → Type 0) → (InSlots → InSlots) → (InSlots → Machine → List Act → Type 0)
-    → Device → Device → Type 0
+-- So it is whatever is in the slots, from each machine that is reached and agrees with that, where the two fit; and the
+-- acts lead to what is in the slots next.
+abbrev pub ComesWith : List Access → (InSlots → Machine → Type 0) → (InSlots → InSlots)
+    → (InSlots → Machine → List Act → Type 0) → Device → Device → Type 0
 ComesWith accesses Fits next Tells old new = (s : InSlots) (m : Machine) → IsReached m → Knows m (at s old) → Fits s m
     → Comes accesses (at s old) m (at (next s) new) (Tells s m)
 

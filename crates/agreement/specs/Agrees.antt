@@ -33,15 +33,16 @@ pub record SameSectors (m : Machine) (disk : Disk) (port : ℕ) : Type 0 where
 
 -- each client frame holds what the machine's does
 abbrev pub SameMemory : Machine → (ℕ → ℕ) → Type 0
-SameMemory m memory = (frame : Frame) (b : ℕ) → DRIVER_FRAMES ≤ frame.0 → b < FRAME_BYTES → memory (FRAME_BYTES * frame.0 + b) ≡ m.memory frame b
+SameMemory m memory = (frame : Frame) (b : ℕ) → DRIVER_FRAMES ≤ frame.0 → b < FRAME_BYTES
+    → memory (FRAME_BYTES * frame.0 + b) ≡ m.memory frame b
 
 -- no two slots serve one request
 abbrev pub AreApart : Uses → Type 0
-AreApart uses = (port slot other_port other_slot : ℕ) (id : RequestId) → uses port slot ≡ Serves id → uses other_port other_slot ≡ Serves id
-    → (port ≡ other_port) × (slot ≡ other_slot)
+AreApart uses = (port slot other_port other_slot : ℕ) (id : RequestId) → uses port slot ≡ Serves id
+    → uses other_port other_slot ≡ Serves id → (port ≡ other_port) × (slot ≡ other_slot)
 
--- Device and machine agree: each slot is as its use says, each received FIS area that is in use is where it belongs, disks are
--- the same, and client frames hold the same bytes; so do the sectors of an adapter whose disks tell them.
+-- Device and machine agree: each slot is as its use says, each received FIS area that is in use is where it belongs,
+-- disks are the same, and client frames hold the same bytes; so do the sectors of an adapter whose disks tell them.
 pub record Agrees (uses : Uses) (m : Machine) (d : Device) : Type 0 where
   pub slot : (port slot : ℕ) → IsServed m d.memory d.tape (d.port port) port slot (uses port slot)
   pub apart : AreApart uses
@@ -52,8 +53,8 @@ pub record Agrees (uses : Uses) (m : Machine) (d : Device) : Type 0 where
 
 -- ---- what stands beside it, by port
 
--- Each request of the port that is issued or kept has a slot, but for those of these ids: their slots were given up before
--- they were decided.
+-- Each request of the port that is issued or kept has a slot, but for those of these ids: their slots were given up
+-- before they were decided.
 abbrev pub HaveSlots : Uses → Machine → ℕ → List RequestId → Type 0
 HaveSlots uses m port parked = (e : Pending) → MayMove m e → e.request.port.0 ≡ port
     → Contains parked e.request.id ⊎ ((slot : ℕ) × (uses port slot ≡ Serves e.request.id))

@@ -12,14 +12,22 @@ use Rattle.agreement.specs.Facts.{RunsWell}
 
 -- Port 0 receives FISes and has a disk in, without a link as yet; an adapter with such a port.
 abbrev pub waking_port : PortState
-waking_port = record reading_port { st = false; cr = false; tfd = 0x7f; sig = 0xffffffff; ssts_det = 0; ci = λ _. false; fresh = false }
+waking_port = record reading_port {
+  st = false;
+  cr = false;
+  tfd = 0x7f;
+  sig = 0xffffffff;
+  ssts_det = 0;
+  ci = λ _. false;
+  fresh = false;
+}
 
 abbrev pub waking : Device
 waking = record first_read { port = changed (λ _. quiet_port) 0 waking_port }
 
 -- There such accesses may give these values: COMRESET is sent and ended, PxSSTS is read with a device, PxSERR and PxIS
--- are cleared, PxTFD is read idle, so that ST may be set, and is, and PxIS is read with no cause. Each write is permitted
--- when it is made, whatever the device does first. The port runs well then.
+-- are cleared, PxTFD is read idle, so that ST may be set, and is, and PxIS is read with no cause. Each write is
+-- permitted when it is made, whatever the device does first. The port runs well then.
 pub record BootIsFound : Type 0 where
   pub sent : Device
   pub may_send : Stays (MayWrite (Px (port_at 0) Sctl) 1) waking

@@ -67,8 +67,8 @@ pub record IsBitOf (port v : ℕ) : Type 0 where
   pub here : bit v port ≡ true
   pub alone : (k : ℕ) → k ≢ port → bit v k ≡ false
 
--- It reads or writes a register of the port, writes IS with the port's bit alone, reads a register of the adapter's own, or loads or stores
--- bytes: it touches no register of another port, nor another port's bit of IS.
+-- It reads or writes a register of the port, writes IS with the port's bit alone, reads a register of the adapter's
+-- own, or loads or stores bytes: it touches no register of another port, nor another port's bit of IS.
 abbrev pub IsOf : Port → Access → Type 0
 IsOf port (Reading (Px at r) v) = at ≡ port
 IsOf port (Writing (Px at r) v) = at ≡ port
@@ -82,26 +82,31 @@ NoneWrites May r = (access : Access) → May access → SparesRegister r access
 
 -- the tape has gained no move of the port's by a command of this operation
 abbrev pub SendsNone : ℕ → Operation → Device → Device → Type 0
-SendsNone port o old new = (gained : List Entry) × (new.tape ≡ old.tape ++ gained) × All (λ e. IsMove port o e → ⊥) gained
+SendsNone port o old new = (gained : List Entry) × (new.tape ≡ old.tape ++ gained)
+    × All (λ e. IsMove port o e → ⊥) gained
 
--- Acts in which the device alone makes steps. Where no access of the kind writes PxCI or PxSACT of a port, its slots are used after each
--- act as before the first.
+-- Acts in which the device alone makes steps. Where no access of the kind writes PxCI or PxSACT of a port, its slots
+-- are used after each act as before the first.
 pub record AreDevices (May : Access → Type 0) (uses : Uses) (acts : List Act) : Type 0 where
   pub only : AllDevices (steps_of acts)
-  pub kept : (port : Port) → NoneWrites May (Px port Ci) → NoneWrites May (Px port Sact) → All (λ act. act.later.uses port.0 ≡ uses port.0) acts
+  pub kept : (port : Port) → NoneWrites May (Px port Ci) → NoneWrites May (Px port Sact)
+      → All (λ act. act.later.uses port.0 ≡ uses port.0) acts
 
--- Accesses of this kind led from the old device to the new. And where the uses of slots fit, acts with these accesses lead to such uses of
--- the slots, with what is parked as it was; and the device alone makes steps meanwhile.
-pub record IsFollowedTo (May : Access → Type 0) (Fits : Uses → Type 0) (next : Uses → Uses) (old new : Device) : Type 0 where
+-- Accesses of this kind led from the old device to the new. And where the uses of slots fit, acts with these accesses
+-- lead to such uses of the slots, with what is parked as it was; and the device alone makes steps meanwhile.
+pub record IsFollowedTo (May : Access → Type 0) (Fits : Uses → Type 0) (next : Uses → Uses)
+    (old new : Device) : Type 0 where
   pub driven : IsDrivenBy May old new
-  pub comes : ComesWith driven.accesses (λ s m. Fits s.uses) (λ s. record s { uses = next s.uses }) (λ s m. AreDevices May s.uses) old new
+  pub comes : ComesWith driven.accesses (λ s m. Fits s.uses) (λ s. record s { uses = next s.uses })
+      (λ s m. AreDevices May s.uses) old new
 
 -- the same, where each slot goes on as it is used
 abbrev pub IsFollowed : (Access → Type 0) → (Uses → Type 0) → Device → Device → Type 0
 IsFollowed May Fits old new = IsFollowedTo May Fits (λ uses. uses) old new
 
 -- What was followed, and so much is told of the list of its accesses: that list to which the machine's steps belong.
-pub record IsToldTo (Tells : List Access → Type 0) (May : Access → Type 0) (Fits : Uses → Type 0) (next : Uses → Uses) (old new : Device) : Type 0 where
+pub record IsToldTo (Tells : List Access → Type 0) (May : Access → Type 0) (Fits : Uses → Type 0) (next : Uses → Uses)
+    (old new : Device) : Type 0 where
   pub followed : IsFollowedTo May Fits next old new
   pub tells : Tells followed.driven.accesses
 

@@ -53,7 +53,8 @@ MayStore uses at n = InFreeTable uses at n ⊎ InFreeScratch uses at n
 abbrev pub AllFree : Uses → ℕ → Type 0
 AllFree uses port = (slot : ℕ) → uses port slot ≡ Free
 
--- A write of PxCMD sets ST on a port that runs or has no slot in use, and FRE where the received FIS area is in its place.
+-- A write of PxCMD sets ST on a port that runs or has no slot in use, and FRE where the received FIS area is in its
+-- place.
 pub record IsCommand (uses : Uses) (port v : ℕ) (p : PortState) : Type 0 where
   pub start : bit v 0 ≡ true → (p.st ≡ true) ⊎ AllFree uses port
   pub receive : bit v 4 ≡ true → (port < 4) × (p.bases.fb ≡ received_of port)
@@ -64,8 +65,8 @@ pub record IsWrittenBack (st fre : Bool) (was v : ℕ) : Type 0 where
   pub receive : bit v 4 ≡ fre
   pub others : (place : ℕ) → place < 32 → place ≢ 0 → place ≢ 4 → bit v place ≡ bit was place
 
--- What is asked of a write so that each slot goes on as it was used: PxCLB has the list's place, or no slot is used; PxSACT and PxCI have no
--- bit.
+-- What is asked of a write so that each slot goes on as it was used: PxCLB has the list's place, or no slot is used;
+-- PxSACT and PxCI have no bit.
 abbrev pub LeavesUses : Uses → Reg → ℕ → Device → Type 0
 LeavesUses uses (Px port Clb) v d = (v ≡ list_of port.0) ⊎ AllFree uses port.0
 LeavesUses uses (Px port Cmd) v d = IsCommand uses port.0 v (d.port port.0)
@@ -75,8 +76,8 @@ LeavesUses uses r v d = Unit {0}
 
 -- ---- what the driver knows, and what a call adds
 
--- What the driver has put into the slots; by port, the requests that it took from their slots and hasn't decided on; and the
--- device.
+-- What the driver has put into the slots; by port, the requests that it took from their slots and hasn't decided on;
+-- and the device.
 pub record Known : Type 0 where
   pub uses : Uses
   pub parked : ℕ → List RequestId
@@ -87,15 +88,16 @@ pub record Knows (m : Machine) (k : Known) : Type 0 where
   pub agrees : Agrees k.uses m k.device
   pub have : (port : ℕ) → HaveSlots k.uses m port (k.parked port)
 
--- The tape's new entries tell of the device's steps among these; reads moved what their disks hold, where these tell it; and the
--- disks that were put in are the device's.
+-- The tape's new entries tell of the device's steps among these; reads moved what their disks hold, where these tell
+-- it; and the disks that were put in are the device's.
 pub record IsBacked (old new : Device) (m : Machine) (steps : List Step) : Type 0 where
   pub telling : new.telling ≡ old.telling
   pub gained : List Entry
   pub tape : new.tape ≡ old.tape ++ gained
   pub tells : TellsAmong m gained steps
   pub told : old.telling ≡ true → AllTold m steps
-  pub plugged : (port : ℕ) → (disks : List device.Disk) × ((new.port port).plugged ≡ (old.port port).plugged ++ disks) × PutsIn port disks steps
+  pub plugged : (port : ℕ) → (disks : List device.Disk) × ((new.port port).plugged ≡ (old.port port).plugged ++ disks)
+      × PutsIn port disks steps
 
 -- The device backs the steps, and all of them are its own: the driver made none.
 pub record ByDevice (old new : Device) (m : Machine) (steps : List Step) : Type 0 where
@@ -109,11 +111,12 @@ pub record Goes (k : Known) (m : Machine) (steps : List Step) (later : Known) : 
   pub backed : IsBacked k.device later.device m steps
   pub knows : Knows (after m steps) later
 
--- What the device leaves of what is not in use: all headers, but for PRDBC, and all tables; and the scratch frame where slot 0 has
--- no command of the driver's own.
+-- What the device leaves of what is not in use: all headers, but for PRDBC, and all tables; and the scratch frame where
+-- slot 0 has no command of the driver's own.
 pub record LeavesFree (uses : Uses) (old new : Device) : Type 0 where
   pub tables : (port slot at : ℕ) → port < 4 → slot < 32 → IsTable port slot at → new.memory at ≡ old.memory at
-  pub scratch : (port at : ℕ) → port < 4 → ((o : Operation) → uses port 0 ≡ Own o → ⊥) → IsScratch port at → new.memory at ≡ old.memory at
+  pub scratch : (port at : ℕ) → port < 4 → ((o : Operation) → uses port 0 ≡ Own o → ⊥) → IsScratch port at
+      → new.memory at ≡ old.memory at
 
 -- none of these n bytes is of the slot's header, but for PRDBC, or of its table
 abbrev pub MissesTable : ℕ → ℕ → ℕ → ℕ → Type 0
@@ -125,10 +128,11 @@ MissesScratch port at n = (place : ℕ) → IsScratch port place → at ≤ plac
 
 -- ---- issuing
 
--- The request is due; its slot is armed if the request is queued, and else free; the slot is usable in this mode, and a plain
--- request's is slot 0; the slot's bytes say its command, which is queued exactly if the request is; and the value has the slot's bit
--- alone.
-pub record IsPrepared (uses : Uses) (m : Machine) (d : Device) (port slot : ℕ) (mode : Mode) (e : Pending) (v : ℕ) : Type 0 where
+-- The request is due; its slot is armed if the request is queued, and else free; the slot is usable in this mode, and a
+-- plain request's is slot 0; the slot's bytes say its command, which is queued exactly if the request is; and the value
+-- has the slot's bit alone.
+pub record IsPrepared (uses : Uses) (m : Machine) (d : Device) (port slot : ℕ) (mode : Mode) (e : Pending)
+    (v : ℕ) : Type 0 where
   pub may : May m (Issue mode e)
   pub port_is : e.request.port.0 ≡ port
   pub free : uses port slot ≡ (if is_plain mode e.request.asked.op then Free else Armed)
@@ -158,8 +162,8 @@ pub record IsOwnPrepared (uses : Uses) (d : Device) (port : ℕ) (o : Operation)
   pub here : bit v 0 ≡ true
   pub alone : (k : ℕ) → k ≢ 0 → bit v k ≡ false
 
--- What an access adds that ends with a step of the driver's own: steps of the device first, and then this one, after which the
--- machine agrees with what the driver knows then.
+-- What an access adds that ends with a step of the driver's own: steps of the device first, and then this one, after
+-- which the machine agrees with what the driver knows then.
 pub record EndsWith (k : Known) (m : Machine) (step : Step) (later : Known) : Type 0 where
   pub steps : List Step
   pub only : AllDevices steps
@@ -179,15 +183,18 @@ HasNoSlot uses id = (port slot : ℕ) → uses port slot ≡ Serves id → ⊥
 
 -- but for this request, what was parked is parked
 abbrev pub Forgets : RequestId → (ℕ → List RequestId) → (ℕ → List RequestId) → Type 0
-Forgets id parked later = (port : ℕ) (other : RequestId) → Contains (parked port) other → (other ≡ id → ⊥) → Contains (later port) other
+Forgets id parked later = (port : ℕ) (other : RequestId) → Contains (parked port) other → (other ≡ id → ⊥)
+    → Contains (later port) other
 
 -- but for the kept requests, what was parked is parked
 abbrev pub ForgetsKept : Machine → (ℕ → List RequestId) → (ℕ → List RequestId) → Type 0
-ForgetsKept m parked later = (port : ℕ) (other : RequestId) → Contains (parked port) other → ((e : Pending) → Contains m.kept e → e.request.id ≢ other) → Contains (later port) other
+ForgetsKept m parked later = (port : ℕ) (other : RequestId) → Contains (parked port) other
+    → ((e : Pending) → Contains m.kept e → e.request.id ≢ other) → Contains (later port) other
 
 -- the slot was given up, and its request isn't decided yet
 abbrev pub parking : Known → ℕ → ℕ → RequestId → Known
-parking k port slot id = record k { uses = put k.uses port slot Free; parked = changed k.parked port (id ∷ k.parked port) }
+parking k port slot id =
+    record k { uses = put k.uses port slot Free; parked = changed k.parked port (id ∷ k.parked port) }
 
 -- the slot was given up
 abbrev pub freeing : Known → ℕ → ℕ → Known

@@ -23,12 +23,13 @@ pub record NoneComes (port : ℕ) (old new : Device) : Type 0 where
   pub tape : new.tape ≡ old.tape ++ gained
   pub none : All (λ e. IsComing port e → ⊥) gained
 
--- N of PxSERR rises only for a disk that goes or comes, and X only for one that comes. Where no disk has come and PxSSTS.DET is 3,
--- it was 3 before, and none has gone.
+-- N of PxSERR rises only for a disk that goes or comes, and X only for one that comes. Where no disk has come and
+-- PxSSTS.DET is 3, it was 3 before, and none has gone.
 pub record ChangesByDisks (port : ℕ) (old new : Device) : Type 0 where
   pub serr_n : PlugsNone port old new → (old.port port).serr_n ≡ false → (new.port port).serr_n ≡ false
   pub serr_x : NoneComes port old new → (old.port port).serr_x ≡ false → (new.port port).serr_x ≡ false
-  pub det : NoneComes port old new → (new.port port).ssts_det ≡ 3 → ((old.port port).ssts_det ≡ 3) × PlugsNone port old new
+  pub det : NoneComes port old new → (new.port port).ssts_det ≡ 3 → ((old.port port).ssts_det ≡ 3)
+      × PlugsNone port old new
 
 -- Each bit that tells of trouble is clear still if it was: N and X of PxSERR, and 27 to 30 of PxIS.
 pub record StaysClear (old new : PortState) : Type 0 where
@@ -41,7 +42,8 @@ abbrev pub IsFatalOf : ℕ → Entry → Type 0
 IsFatalOf port (entry.Fatal at) = at.0 ≡ port
 IsFatalOf port _ = ⊥
 
--- the tape gained no fatal error of the port
+-- The tape gained no fatal error of the port. It counts on the tape: so what holds of a stretch of accesses holds of
+-- each of its parts.
 pub record NoneFatal (port : ℕ) (old new : Device) : Type 0 where
   pub gained : List Entry
   pub tape : new.tape ≡ old.tape ++ gained
@@ -53,8 +55,8 @@ pub record NoneFails (port : ℕ) (old new : Device) : Type 0 where
   pub tape : new.tape ≡ old.tape ++ gained
   pub none : All (λ e. IsFaultOf port e → ⊥) gained
 
--- Bits 27 to 29 of PxIS, IFS, HBDS and HBFS, rise only for a fatal error of the port; and bit 30, TFES, only for a fault of it
--- (AHCI 1.3.1, 3.3.5).
+-- Bits 27 to 29 of PxIS, IFS, HBDS and HBFS, rise only for a fatal error of the port; and bit 30, TFES, only for a
+-- fault of it (AHCI 1.3.1, 3.3.5).
 pub record ChangesByErrors (port : ℕ) (old new : Device) : Type 0 where
   pub fatal : NoneFatal port old new → (place : ℕ) → 27 ≤ place → place ≤ 29 → (old.port port).is place ≡ false
       → (new.port port).is place ≡ false
@@ -75,8 +77,8 @@ pub record IsLeftByReset (p : PortState) : Type 0 where
   pub fresh : p.fresh ≡ false
   pub broken : p.broken ≡ false
 
--- What a port shows after it while its engine stands: no bit of PxIS, and PxSCTL.DET 0; and until X tells of a disk or a link that
--- came, no device in PxSSTS, and task file and signature as the reset left them.
+-- What a port shows after it while its engine stands: no bit of PxIS, and PxSCTL.DET 0; and until X tells of a disk or
+-- a link that came, no device in PxSSTS, and task file and signature as the reset left them.
 pub record IsCleared (p : PortState) : Type 0 where
   pub is : (place : ℕ) → p.is place ≡ false
   pub sctl_det : p.sctl_det ≡ 0

@@ -42,8 +42,8 @@ pub record IsAfterReset (p : PortState) : Type 0 where
 
 -- ---- commands that are over
 
--- A request of the port was ended, with each of its sectors touched since its last issue. Where no kept request is on the port,
--- it is in the book.
+-- A request of the port was ended, with each of its sectors touched since its last issue. Where no kept request is on
+-- the port, it is in the book.
 pub record EndedIn (m : Machine) (port : Port) (id : RequestId) : Type 0 where
   pub pending : Pending
   pub moves : MayMove m pending
@@ -58,32 +58,34 @@ pub record IsClear (p : PortState) (slot : ℕ) : Type 0 where
   pub over : IsOver p slot
   pub sact : p.sact slot ≡ false
 
--- What CI and then SACT tell: the machine follows; each slot whose bit was clear in both is clear, and its request has ended; and
--- none was kept meanwhile.
+-- What CI and then SACT tell: the machine follows; each slot whose bit was clear in both is clear, and its request has
+-- ended; and none was kept meanwhile.
 pub record Finds (uses : Uses) (m : Machine) (port : Port) (ci sact : ℕ) (old new : Device) : Type 0 where
   pub follows : Follows uses m old new
-  pub clear : (slot : ℕ) (id : RequestId) → slot < 32 → uses port.0 slot ≡ Serves id → bit ci slot ≡ false → bit sact slot ≡ false
-      → IsClear (new.port port.0) slot × EndedIn (after m follows.steps) port id
+  pub clear : (slot : ℕ) (id : RequestId) → slot < 32 → uses port.0 slot ≡ Serves id → bit ci slot ≡ false
+      → bit sact slot ≡ false → IsClear (new.port port.0) slot × EndedIn (after m follows.steps) port id
   pub kept : NoneKept m port → NoneKept (after m follows.steps) port
 
--- What CI tells of a command of the driver's own: the machine follows, and the command is over and has brought its page since
--- ST was set.
+-- What CI tells of a command of the driver's own: the machine follows, and the command is over and has brought its page
+-- since ST was set.
 pub record FindsPage (uses : Uses) (m : Machine) (port : ℕ) (o : Operation) (old new : Device) : Type 0 where
   pub follows : Follows uses m old new
   pub clear : IsClear (new.port port) 0
   pub brought : Brought new.memory new.tape port o (new.port port).notes.st_set_at
 
 -- these are the steps by which the machine follows, and the device made them alone
-pub record AreStepsOf {uses : Uses} {m : Machine} {old new : Device} (follows : Follows uses m old new) (steps : List Step) : Type 0 where
+pub record AreStepsOf {uses : Uses} {m : Machine} {old new : Device} (follows : Follows uses m old new)
+    (steps : List Step) : Type 0 where
   pub same : steps ≡ follows.steps
   pub device : ByDevice old new m steps
 
 -- ---- frames that the device leaves alone
 
--- The device uses no byte of the frame: none is of a header, a table or a place of a command that is issued or taken, or of a
--- received FIS area that is in use.
+-- The device uses no byte of the frame: none is of a header, a table or a place of a command that is issued or taken,
+-- or of a received FIS area that is in use.
 abbrev pub IsStill : Frame → Device → Type 0
-IsStill frame d = (port slot at : ℕ) → FRAME_BYTES * frame.0 ≤ at → at < FRAME_BYTES * frame.0 + FRAME_BYTES → rules.Uses d (d.port port) slot at → ⊥
+IsStill frame d = (port slot at : ℕ) → FRAME_BYTES * frame.0 ≤ at → at < FRAME_BYTES * frame.0 + FRAME_BYTES
+    → rules.Uses d (d.port port) slot at → ⊥
 
 -- the commands of the request of this id are over, in each slot
 abbrev pub AreOver : Uses → Device → RequestId → Type 0
@@ -97,7 +99,8 @@ pub record ShowsNoTrouble (p : PortState) : Type 0 where
   pub serr_x : p.serr_x ≡ false
   pub quiet : (place : ℕ) → 27 ≤ place → place ≤ 30 → p.is place ≡ false
 
--- The port runs, its disk is there with its link up and no other link due, no error has stopped it, and no bit tells of one.
+-- The port runs, its disk is there with its link up and no other link due, no error has stopped it, and no bit tells of
+-- one.
 pub record RunsWell (p : PortState) : Type 0 where
   pub st : p.st ≡ true
   pub cr : p.cr ≡ true
@@ -123,7 +126,8 @@ pub record Undisturbed (port : ℕ) (old new : Device) : Type 0 where
   pub tape : new.tape ≡ old.tape ++ gained
   pub calm : All (λ e. IsDisturbance port e → ⊥) gained
 
--- A value of PxIS tells of none: neither PCS, which shows X, and PRCS, which shows N, nor those four (AHCI 1.3.1, 3.3.5).
+-- A value of PxIS tells of none: neither PCS, which shows X, and PRCS, which shows N, nor those four (AHCI 1.3.1,
+-- 3.3.5).
 pub record TellsNoTrouble (v : ℕ) : Type 0 where
   pub change : bit v 6 ≡ false
   pub ready : bit v 22 ≡ false
@@ -145,8 +149,8 @@ abbrev pub IsFaultOf : ℕ → Entry → Type 0
 IsFaultOf port (entry.Fault fault) = fault.port.0 ≡ port
 IsFaultOf port _ = ⊥
 
--- The task file shows the port's last fault among these entries: the status in its low byte, the error in the next (AHCI 1.3.1,
--- 3.3.8). The slot of the command that failed is still in use.
+-- The task file shows the port's last fault among these entries: the status in its low byte, the error in the next
+-- (AHCI 1.3.1, 3.3.8). The slot of the command that failed is still in use.
 pub record ShowsFault (entries : List Entry) (p : PortState) (port : ℕ) : Type 0 where
   pub before : List Entry
   pub fault : tape_fault.Fault
@@ -158,8 +162,9 @@ pub record ShowsFault (entries : List Entry) (p : PortState) (port : ℕ) : Type
   pub shown : p.tfd ≡ fault.status + 256 * fault.error
   pub used : InUse p fault.slot.0
 
--- What the tape has of a port whose ST is 1. TFES, bit 30 of PxIS, tells that a fault has halted the port; and then the task file
--- shows the last one since ST was set. No link is due, so none comes up and ends the halt.
+-- What the tape has of a port whose ST is 1. TFES, bit 30 of PxIS, tells that a fault has halted the port; and then the
+-- task file shows the last one since ST was set. No link is due, so none comes up and ends the halt. It goes by the
+-- halt, which lasts until the disk goes on, since the driver clears TFES before it reads PxTFD.
 pub record HasFaults (tape : List Entry) (p : PortState) (port : ℕ) : Type 0 where
   pub known : p.notes.st_set_at ≤ length tape
   pub linked : p.link_due ≡ false
@@ -184,7 +189,8 @@ pub record IsQuiet (p : PortState) : Type 0 where
   pub linked : p.link_due ≡ false
   pub no_comreset : p.sctl_det ≢ 1
 
--- What is asked of a write, beside the register's rules: ST is set on a quiet port, and SCTL is written while the engine stands.
+-- What is asked of a write, beside the register's rules: ST is set on a quiet port, and SCTL is written while the
+-- engine stands.
 abbrev pub KeepsRecord : Reg → ℕ → Device → Type 0
 KeepsRecord (Px port Cmd) v d = bit v 0 ≡ true → ((d.port port.0).st ≡ true) ⊎ IsQuiet (d.port port.0)
 KeepsRecord (Px port Sctl) v d = (d.port port.0).cr ≡ false

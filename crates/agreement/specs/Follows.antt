@@ -11,8 +11,8 @@ use Rattle.agreement.specs.Slots.{Uses}
 use Rattle.agreement.specs.Agrees.{Agrees}
 use Rattle.agreement.specs.Tape.{Tells, PutsIn}
 
--- The entries that the tape gained are steps of the machine, each of which may come; reads moved what their disks hold, where
--- these tell it; the disks that were put in are the device's; and after the steps the two agree.
+-- The entries that the tape gained are steps of the machine, each of which may come; reads moved what their disks hold,
+-- where these tell it; the disks that were put in are the device's; and after the steps the two agree.
 pub record Follows (uses : Uses) (m : Machine) (old new : Device) : Type 0 where
   pub steps : List Step
   pub telling : new.telling ≡ old.telling
@@ -21,5 +21,6 @@ pub record Follows (uses : Uses) (m : Machine) (old new : Device) : Type 0 where
   pub gained : List Entry
   pub tape : new.tape ≡ old.tape ++ gained
   pub tells : Tells m gained steps
-  pub plugged : (port : ℕ) → (disks : List device.Disk) × ((new.port port).plugged ≡ (old.port port).plugged ++ disks) × PutsIn port disks steps
+  pub plugged : (port : ℕ) → (disks : List device.Disk) × ((new.port port).plugged ≡ (old.port port).plugged ++ disks)
+      × PutsIn port disks steps
   pub agrees : Agrees uses (after m steps) new

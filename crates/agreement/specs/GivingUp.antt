@@ -35,7 +35,11 @@ parking_all k port = record k {
 
 -- what is in the slots then, and parked
 abbrev pub given_up : ℕ → InSlots → InSlots
-given_up port s = record { uses = changed s.uses port (λ slot. Free); parked = changed s.parked port (served_ids s.uses port 32 ++ s.parked port) }
+given_up port s = record {
+  uses = changed s.uses port (λ slot. Free);
+  parked = changed s.parked port
+      (served_ids s.uses port 32 ++ s.parked port);
+}
 
 -- a request of the port that the device may move, and hasn't ended
 pub record IsUnended (m : Machine) (port : ℕ) (id : RequestId) : Type 0 where
@@ -45,9 +49,10 @@ pub record IsUnended (m : Machine) (port : ℕ) (id : RequestId) : Type 0 where
   pub port_is : pending.request.port.0 ≡ port
   pub unended : pending.ended ≡ false
 
--- What a slot in use has: a command of the driver's own, in slot 0, or one of an unended request; and while ST is 1, a bit of the
--- slot is set in PxCI or PxSACT.
+-- What a slot in use has: a command of the driver's own, in slot 0, or one of an unended request; and while ST is 1, a
+-- bit of the slot is set in PxCI or PxSACT.
 pub record IsOutstanding (uses : Uses) (m : Machine) (p : PortState) (port slot : ℕ) : Type 0 where
   pub below : slot < 32
-  pub whose : ((o : Operation) × (uses port slot ≡ Own o) × (slot ≡ 0)) ⊎ ((id : RequestId) × (uses port slot ≡ Serves id) × IsUnended m port id)
+  pub whose : ((o : Operation) × (uses port slot ≡ Own o) × (slot ≡ 0))
+      ⊎ ((id : RequestId) × (uses port slot ≡ Serves id) × IsUnended m port id)
   pub shown : p.st ≡ true → (p.ci slot ≡ true) ⊎ (p.sact slot ≡ true)

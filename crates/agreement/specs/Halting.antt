@@ -7,7 +7,8 @@ use Rattle.adapter.specs.Device.Halt.{HaltedQueued, LogOnly}
 -- READ LOG EXT isn't awaited; and where a queued command has halted the port, a queued one is taken.
 pub record HaltsAsTaken (p : PortState) : Type 0 where
   pub unlogged : p.halt ≢ LogOnly
-  pub queued : p.halt ≡ HaltedQueued → (slot : ℕ) × (t : Taken) × (p.taken slot ≡ Some t) × (is_queued t.meaning.operation ≡ true)
+  pub queued : p.halt ≡ HaltedQueued → (slot : ℕ) × (t : Taken) × (p.taken slot ≡ Some t)
+      × (is_queued t.meaning.operation ≡ true)
 
 -- so it is while ST is one
 abbrev pub IsHaltedAsTaken : PortState → Type 0

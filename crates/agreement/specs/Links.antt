@@ -1,4 +1,5 @@
--- What the device and accesses leave of the adapter, of a port's controls, of its disk and of its link (this project's own).
+-- What the device and accesses leave of the adapter, of a port's controls, of its disk and of its link (this project's
+-- own).
 use Rattle.std.specs.Prelude.{ℕ, true, false, ◌≡◌, ◌≢◌, ◌⊎◌, ◌++◌, List, All}
 use Rattle.ata_types.specs.declared.Port.{Port}
 use Rattle.hba_regs.specs.declared.reg.Reg.{Reg}
@@ -26,8 +27,8 @@ pub record SameAdapter (old new : Device) : Type 0 where
 
 -- ---- what the driver has written
 
--- Each control of the port that the access doesn't write is as the driver left it: ST and FRE of PxCMD, and when ST was set, and a
--- port that runs goes on running; DET of PxSCTL, and when it was written; and the addresses.
+-- Each control of the port that the access doesn't write is as the driver left it: ST and FRE of PxCMD, and when ST was
+-- set, and a port that runs goes on running; DET of PxSCTL, and when it was written; and the addresses.
 pub record LeavesControls (access : Access) (port : Port) (old new : PortState) : Type 0 where
   pub command : SparesRegister (Px port Cmd) access
       → (new.st ≡ old.st) × (new.fre ≡ old.fre) × (new.notes.st_set_at ≡ old.notes.st_set_at)
@@ -35,9 +36,11 @@ pub record LeavesControls (access : Access) (port : Port) (old new : PortState) 
   pub control : SparesRegister (Px port Sctl) access
       → (new.sctl_det ≡ old.sctl_det) × (new.notes.sctl_written_at ≡ old.notes.sctl_written_at)
   pub interrupts : SparesRegister (Px port Ie) access → new.ie ≡ old.ie
-  pub list : SparesRegister (Px port Clb) access → (new.bases.clb ≡ old.bases.clb) × (new.bases.clb_set ≡ old.bases.clb_set)
+  pub list : SparesRegister (Px port Clb) access → (new.bases.clb ≡ old.bases.clb)
+      × (new.bases.clb_set ≡ old.bases.clb_set)
   pub list_upper : SparesRegister (Px port Clbu) access → new.bases.clbu_set ≡ old.bases.clbu_set
-  pub received : SparesRegister (Px port Fb) access → (new.bases.fb ≡ old.bases.fb) × (new.bases.fb_set ≡ old.bases.fb_set)
+  pub received : SparesRegister (Px port Fb) access → (new.bases.fb ≡ old.bases.fb)
+      × (new.bases.fb_set ≡ old.bases.fb_set)
   pub received_upper : SparesRegister (Px port Fbu) access → new.bases.fbu_set ≡ old.bases.fbu_set
 
 -- ---- the disk

@@ -36,8 +36,8 @@ logging = record (ready_with log_memory) { port = changed (ready_with log_memory
 abbrev pub log_uses : Uses
 log_uses = put (λ port slot. Free) 0 0 (Own ReadLog)
 
--- A machine agrees with its driver, for whom READ LOG EXT is prepared. The write of PxCI is permitted, and issues it. PxCI may be read 0
--- then, and PxIS with DHRS alone: the port runs well.
+-- A machine agrees with its driver, for whom READ LOG EXT is prepared. The write of PxCI is permitted, and issues it.
+-- PxCI may be read 0 then, and PxIS with DHRS alone: the port runs well.
 pub record LogIsEnded : Type 0 where
   pub machine : Machine
   pub reached : IsReached machine

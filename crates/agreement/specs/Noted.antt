@@ -14,10 +14,11 @@ abbrev pub SparesReading : Reg → Access → Type 0
 SparesReading r (Reading other v) = other ≢ r
 SparesReading r access = Unit {0}
 
--- Each value that was last read is as it was, but for a reading of its register, and so is its count; those of the link, of busy and of
--- the command also but for a write of PxSCTL.
+-- Each value that was last read is as it was, but for a reading of its register, and so is its count; those of the
+-- link, of busy and of the command also but for a write of PxSCTL.
 pub record LeavesNotes (access : Access) (port : Port) (old new : Notes) : Type 0 where
-  pub command : SparesReading (Px port Cmd) access → (new.last_cmd ≡ old.last_cmd) × (new.engine_count ≡ old.engine_count)
+  pub command : SparesReading (Px port Cmd) access → (new.last_cmd ≡ old.last_cmd)
+      × (new.engine_count ≡ old.engine_count)
   pub link : SparesReading (Px port Ssts) access
       → (new.last_ssts ≡ old.last_ssts) × (SparesRegister (Px port Sctl) access → new.link_count ≡ old.link_count)
   pub file : SparesReading (Px port Tfd) access

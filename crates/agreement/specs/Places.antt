@@ -5,7 +5,8 @@ use Rattle.ata_types.specs.declared.memory.TheConstants.{FRAME_BYTES, HEADER_BYT
 use Rattle.ata_types.specs.declared.request.Frame.{Frame}
 use Rattle.block_machine.specs.State.{frame_at}
 
--- the driver's frames of each port: the command list, the received FIS area, a command table for each slot, and the scratch frame
+-- the driver's frames of each port: the command list, the received FIS area, a command table for each slot, and the
+-- scratch frame
 abbrev pub list_of : ℕ → ℕ
 list_of port = PORT_BYTES * port
 
@@ -18,7 +19,8 @@ table_of port slot = PORT_BYTES * port + TABLES + TABLE_BYTES * slot
 abbrev pub scratch_of : ℕ → ℕ
 scratch_of port = PORT_BYTES * port + SCRATCH
 
--- the place of sector number i of these frames: eight sectors stand in each, in order
+-- The place of sector number i of these frames: eight sectors stand in each, in order. So says `place_of` of
+-- `command_table`, on which this crate doesn't stand.
 abbrev pub place_in : List Frame → ℕ → ℕ
 place_in frames i = FRAME_BYTES * (frame_at frames (i / 8)).0 + 512 * (i % 8)
 

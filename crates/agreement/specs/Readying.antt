@@ -23,7 +23,8 @@ pub record IsReadied (uses : Uses) (d : Device) (port slot : ℕ) (c : Meaning) 
   pub used : uses port slot ≡ (if is_queued c.operation then Armed else Free)
   pub stored : IsStored d port slot c places
 
--- The access leaves what is stored for the slot: it writes neither GHC nor PxCLB, doesn't clear ST, and stores nothing in header or table.
+-- The access leaves what is stored for the slot: it writes neither GHC nor PxCLB, doesn't clear ST, and stores nothing
+-- in header or table.
 pub record LeavesStored (port : Port) (slot : ℕ) (access : Access) : Type 0 where
   pub host : SparesRegister Ghc access
   pub start : ClearsNoStart port access

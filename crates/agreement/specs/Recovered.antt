@@ -14,9 +14,9 @@ use Rattle.agreement.specs.Agrees.{port_at}
 use Rattle.agreement.specs.Facts.{IsHalted, RunsWell}
 use Rattle.agreement.specs.Recovering.{IsLinked, WorksPlainly}
 
--- The first read may fail. Then such accesses may give these values: PxCMD is written with ST 0, and CR may fall; PxSERR and PxIS are
--- cleared, PxTFD and PxSSTS are read, and ST is set and PxIS read with no cause. Each write is permitted when it is made. The port
--- worked on plain commands alone, with its link up; and it runs well then.
+-- The first read may fail. Then such accesses may give these values: PxCMD is written with ST 0, and CR may fall;
+-- PxSERR and PxIS are cleared, PxTFD and PxSSTS are read, and ST is set and PxIS read with no cause. Each write is
+-- permitted when it is made. The port worked on plain commands alone, with its link up; and it runs well then.
 pub record RecoveryIsFound : Type 0 where
   pub plain : WorksPlainly (first_read.port 0)
   pub linked : IsLinked (first_read.port 0)
@@ -48,8 +48,8 @@ pub record RecoveryIsFound : Type 0 where
   pub still_linked : IsLinked (ready.port 0)
   pub well : RunsWell (found.port 0)
 
--- By the time that PxSSTS is read, with a device, the command in this slot of port 0 may have failed: its fault stands on the tape, and halts the
--- port so.
+-- By the time that PxSSTS is read, with a device, the command in this slot of port 0 may have failed: its fault stands
+-- on the tape, and halts the port so.
 pub record FaultIsSeen (old : Device) (slot : ℕ) (halt : Halt) : Type 0 where
   pub seen : Device
   pub sees : Reads (Px (port_at 0) Ssts) 3 old seen

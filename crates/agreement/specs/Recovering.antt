@@ -7,8 +7,8 @@ use Rattle.adapter.specs.Steps.{restarted}
 use Rattle.agreement.specs.Facts.{IsFaulted}
 use Rattle.agreement.specs.Slots.{Uses, Free}
 
--- The link is up: a disk is in, its first FIS has come, no other link is due, and COMRESET isn't being sent. A fault may
--- have halted the port.
+-- The link is up: a disk is in, its first FIS has come, no other link is due, and COMRESET isn't being sent. A fault
+-- may have halted the port.
 pub record IsLinked (p : PortState) : Type 0 where
   pub det : p.ssts_det ≡ 3
   pub present : p.present ≡ true
@@ -16,8 +16,8 @@ pub record IsLinked (p : PortState) : Type 0 where
   pub linked : p.link_due ≡ false
   pub released : p.sctl_det ≢ 1
 
--- The port works on plain commands alone: no bit of PxSACT is set, no queued command is taken, and no halt is of one. So
--- once ST is set no halt is left (AHCI 1.3.1, 6.2.2).
+-- The port works on plain commands alone: no bit of PxSACT is set, no queued command is taken, and no halt is of one.
+-- So once ST is set no halt is left (AHCI 1.3.1, 6.2.2).
 pub record WorksPlainly (p : PortState) : Type 0 where
   pub restarts : restarted p.halt ≡ NotHalted
   pub unarmed : (slot : ℕ) → p.sact slot ≡ false
@@ -34,8 +34,8 @@ pub record RunsLinked (p : PortState) : Type 0 where
   pub linked : p.link_due ≡ false
   pub whole : p.broken ≡ false
 
--- No reset is pending, and slot 0 of a running port has a plain command, the only one of the port: it isn't over yet, or
--- no fault halts the port. (The end of READ LOG EXT ends the halt of a queued fault.)
+-- No reset is pending, and slot 0 of a running port has a plain command, the only one of the port: it isn't over yet,
+-- or no fault halts the port. (The end of READ LOG EXT ends the halt of a queued fault.)
 pub record EndsHalt (uses : Uses) (port : ℕ) (d : Device) : Type 0 where
   pub off : d.hr ≡ false
   pub st : (d.port port).st ≡ true
@@ -43,8 +43,9 @@ pub record EndsHalt (uses : Uses) (port : ℕ) (d : Device) : Type 0 where
   pub alone : (slot : ℕ) → slot ≢ 0 → uses port slot ≡ Free
   pub ends : ((d.port port).ci 0 ≡ true) ⊎ ((d.port port).halt ≡ NotHalted)
 
--- No reset is pending and no link is due, and slot 0 of a running port alone may have a command, a plain one. TFES, bit 30 of PxIS,
--- is clear; or a fault halts the port, and the command isn't over. (A command that a fault has halted doesn't end.)
+-- No reset is pending and no link is due, and slot 0 of a running port alone may have a command, a plain one. TFES, bit
+-- 30 of PxIS, is clear; or a fault halts the port, and the command isn't over. (A command that a fault has halted
+-- doesn't end.)
 pub record FailsOpenly (uses : Uses) (port : ℕ) (d : Device) : Type 0 where
   pub off : d.hr ≡ false
   pub st : (d.port port).st ≡ true

@@ -44,10 +44,11 @@ second_prd = 0 ∷ 0x90 ∷ 2 ∷ 0 ∷ 0 ∷ 0 ∷ 0 ∷ 0 ∷ 0 ∷ 0 ∷ 0 �
 -- In the first read's memory: slot 0 has a queued read from sector 100 on into frame 40, and slot 1 one from sector
 -- 108 on into frame 41.
 unfoldable pub two_memory : ℕ → ℕ
-two_memory = patched (patched (patched (patched first_memory 0x1000 (queued_bytes 0 100)) 32 second_header) 0x1400 (queued_bytes 1 108)) 0x1480 second_prd
+two_memory = patched (patched (patched (patched first_memory 0x1000 (queued_bytes 0 100)) 32 second_header) 0x1400
+    (queued_bytes 1 108)) 0x1480 second_prd
 
--- Such a device: PxSACT was written with bit 0 and with bit 1, then PxCI with bit 0, and then with bit 1; and slot 0's command
--- is taken.
+-- Such a device: PxSACT was written with bit 0 and with bit 1, then PxCI with bit 0, and then with bit 1; and slot 0's
+-- command is taken.
 abbrev pub two_armed : Device
 two_armed = written (Px (port_at 0) Sact) 2 (written (Px (port_at 0) Sact) 1 (ready_with two_memory))
 
@@ -66,11 +67,12 @@ armed_uses = put (put (λ port slot. Free) 0 0 Armed) 0 1 Armed
 
 -- slot 0 of port 0 serves request 1, and slot 1 request 2
 abbrev pub two_known : Device → Known
-two_known d = record { uses = put (put armed_uses 0 0 (Serves first_id)) 0 1 (Serves second_id); parked = λ port. []; device = d }
+two_known d =
+    record { uses = put (put armed_uses 0 0 (Serves first_id)) 0 1 (Serves second_id); parked = λ port. []; device = d }
 
--- A machine is reached that agrees with the driver where both slots are armed; and one that has issued both requests, which have
--- no frame in common. Each write of PxCI is permitted; this machine agrees with the driver when both commands are issued, and when the
--- device has taken the one, which is queued, while the other waits.
+-- A machine is reached that agrees with the driver where both slots are armed; and one that has issued both requests,
+-- which have no frame in common. Each write of PxCI is permitted; this machine agrees with the driver when both
+-- commands are issued, and when the device has taken the one, which is queued, while the other waits.
 pub record TwoAreKnown : Type 0 where
   pub before : Machine
   pub reached_before : IsReached before
@@ -81,7 +83,8 @@ pub record TwoAreKnown : Type 0 where
   pub second : Pending
   pub moves : MayMove machine first × MayMove machine second
   pub ids : (first.request.id ≡ first_id) × (second.request.id ≡ second_id)
-  pub apart : (frame : Frame) → Contains first.request.asked.frames.items frame → Contains second.request.asked.frames.items frame → ⊥
+  pub apart : (frame : Frame) → Contains first.request.asked.frames.items frame
+      → Contains second.request.asked.frames.items frame → ⊥
   pub first_permitted : Stays (MayWrite (Px (port_at 0) Ci) 1) two_armed
   pub second_permitted : Stays (MayWrite (Px (port_at 0) Ci) 2) one_issued
   pub issued : Knows machine (two_known two_issued)

@@ -1,4 +1,5 @@
--- What the driver has put into the slots, and what a slot has to do with the request that it serves (this project's own).
+-- What the driver has put into the slots, and what a slot has to do with the request that it serves (this project's
+-- own).
 use Rattle.std.specs.Prelude.{ℕ, zero, suc, Bool, true, false, not, if◌then◌else◌, ◌&&◌, ◌≡◌, ◌⊎◌, ◌<◌, ◌≤◌, List, [], ◌∷◌, ◌++◌, length, Option, Some, None, slice_index, nat_lt, All}
 use Rattle.ata_types.specs.declared.request.Op.{Op}
 use Rattle.ata_types.specs.declared.request.Op.TheVariants.{Read, Write, Trim, Flush}
@@ -17,8 +18,8 @@ use Rattle.block_machine.specs.State.{Accepted, Pending, Machine}
 use Rattle.block_machine.specs.Steps.{MayMove, AllTouched}
 use Rattle.agreement.specs.Places.{list_of, table_of, scratch_of, place_in}
 
--- What the driver has put into a slot: nothing, its bit of PxSACT alone, a command of its own (IDENTIFY DEVICE or READ LOG EXT), or
--- the request of this id.
+-- What the driver has put into a slot: nothing, its bit of PxSACT alone, a command of its own (IDENTIFY DEVICE or READ
+-- LOG EXT), or the request of this id.
 pub data Use : Type 0 where
   Free : Use
   Armed : Use
@@ -43,7 +44,8 @@ is_serving (Serves id) = true
 -- how many of the port's slots below n serve a request
 abbrev pub serving_count : Uses → ℕ → ℕ → ℕ
 serving_count uses port zero = 0
-serving_count uses port (suc n) = if is_serving (uses port n) then suc (serving_count uses port n) else serving_count uses port n
+serving_count uses port (suc n) = if is_serving (uses port n) then suc (serving_count uses port n) else serving_count
+    uses port n
 
 -- the client's operation that a command does; the driver's own do none
 abbrev pub op_of : Operation → Option Op
@@ -60,8 +62,10 @@ op_of operation.ReadLog = None
 
 -- Where a request's bytes lie: its sectors at their places in its frames, a trim's block in the scratch frame.
 abbrev pub ArePlaces : Op → ℕ → Accepted → List ℕ → Type 0
-ArePlaces Read port r places = (length places ≡ r.asked.count) × ((i : ℕ) → i < r.asked.count → slice_index places i ≡ place_in r.asked.frames.items i)
-ArePlaces Write port r places = (length places ≡ r.asked.count) × ((i : ℕ) → i < r.asked.count → slice_index places i ≡ place_in r.asked.frames.items i)
+ArePlaces Read port r places = (length places ≡ r.asked.count)
+    × ((i : ℕ) → i < r.asked.count → slice_index places i ≡ place_in r.asked.frames.items i)
+ArePlaces Write port r places = (length places ≡ r.asked.count)
+    × ((i : ℕ) → i < r.asked.count → slice_index places i ≡ place_in r.asked.frames.items i)
 ArePlaces Trim port r places = places ≡ scratch_of port ∷ []
 ArePlaces Flush port r places = places ≡ []
 
@@ -120,7 +124,8 @@ Progress Trim memory port e t =
 Progress Flush memory port e t = Unit {0}
 
 -- taken by the device: the request isn't ended, also where all its sectors were touched
-pub record IsTaken (memory : ℕ → ℕ) (p : PortState) (port slot : ℕ) (e : Pending) (c : Meaning) (places : List ℕ) : Type 0 where
+pub record IsTaken (memory : ℕ → ℕ) (p : PortState) (port slot : ℕ) (e : Pending) (c : Meaning)
+    (places : List ℕ) : Type 0 where
   pub command : Taken
   pub taken : p.taken slot ≡ Some command
   pub meaning : command.meaning ≡ c
@@ -177,8 +182,8 @@ abbrev pub IsMove : ℕ → Operation → Entry → Type 0
 IsMove port o (entry.Move move) = (move.port.0 ≡ port) × (move.operation ≡ o)
 IsMove port o _ = ⊥
 
--- The page that the port's last command of this operation brought stands in the scratch frame, and it came when the tape was at
--- least so long.
+-- The page that the port's last command of this operation brought stands in the scratch frame, and it came when the
+-- tape was at least so long.
 pub record Brought (memory : ℕ → ℕ) (tape : List Entry) (port : ℕ) (o : Operation) (since : ℕ) : Type 0 where
   pub before : List Entry
   pub after : since ≤ length before
@@ -210,7 +215,8 @@ pub record OwnOver (memory : ℕ → ℕ) (tape : List Entry) (p : PortState) (p
   pub over : IsOver p slot
   pub brought : (p.st ≡ false) ⊎ Brought memory tape port c.operation p.notes.st_set_at
 
--- The slot has a command of the driver's own, which is plain and has its page in the scratch frame. Only slot 0 has one.
+-- The slot has a command of the driver's own, which is plain and has its page in the scratch frame. Only slot 0 has
+-- one.
 pub record ServesOwn (memory : ℕ → ℕ) (tape : List Entry) (p : PortState) (port slot : ℕ) (o : Operation) : Type 0 where
   pub own : op_of o ≡ None
   pub head : slot ≡ 0

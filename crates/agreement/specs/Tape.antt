@@ -17,8 +17,8 @@ use Rattle.block_machine.specs.Events.{IsDevices}
 use Rattle.agreement.specs.Places.{scratch_of, place_in}
 use Rattle.agreement.specs.Slots.{op_of}
 
--- Sector number i of a request that may move went between its place on the disk and its place in memory, in the operation's
--- direction, and the frame there is lent to the request.
+-- Sector number i of a request that may move went between its place on the disk and its place in memory, in the
+-- operation's direction, and the frame there is lent to the request.
 pub record IsTouch (m : Machine) (op : Op) (move : tape_move.Move) (steps : List Step) : Type 0 where
   pub pending : Pending
   pub moves : MayMove m pending
@@ -65,7 +65,8 @@ pub record IsClear (m : Machine) (clear : tape_clear.Clear) (steps : List Step) 
   pub first_is : clear.first ≡ sector_of pending.request from
   pub step : steps ≡ touches pending from clear.count
 
--- a request's command ended
+-- A request's command ended. The tape ties it to no slot: which request ended follows from the slots, since none whose
+-- command waits, is taken or was given up has.
 pub record IsEnd (m : Machine) (op : Op) (done : tape_done.Done) (steps : List Step) : Type 0 where
   pub pending : Pending
   pub moves : MayMove m pending
@@ -98,7 +99,8 @@ TellsEntry m (entry.Plug port name) steps = IsReplace port name steps
 abbrev pub Tells : Machine → List Entry → List Step → Type 0
 Tells m [] steps = steps ≡ []
 Tells m (entry ∷ entries) steps =
-    (first : List Step) × (rest : List Step) × TellsEntry m entry first × Tells (after m first) entries rest × (steps ≡ rest ++ first)
+    (first : List Step) × (rest : List Step) × TellsEntry m entry first × Tells (after m first) entries rest
+    × (steps ≡ rest ++ first)
 
 -- at most one of the entries is of this kind
 abbrev pub OneAtMost : (Entry → Type 0) → List Entry → Type 0
@@ -111,14 +113,16 @@ OneAtMost IsKind (entry ∷ entries) = (IsKind entry → All (λ e. IsKind e →
 pub record IsPutIn (disk : device.Disk) (name size : ℕ) (content : Disk) : Type 0 where
   pub name_is : name ≡ disk.name
   pub size_is : size ≡ disk.size
-  pub holds : (told : ℕ → List ℕ) → disk.sectors ≡ Some told → (k b : ℕ) → k < disk.size → b < 512 → slice_index (told k) b ≡ content k b
+  pub holds : (told : ℕ → List ℕ) → disk.sectors ≡ Some told → (k b : ℕ) → k < disk.size → b < 512
+      → slice_index (told k) b ≡ content k b
 
 -- the disks that these steps, the newest first, put into the port, the oldest first
 abbrev pub PutsIn : ℕ → List device.Disk → List Step → Type 0
 PutsIn port disks [] = disks ≡ []
 PutsIn port disks (Replace q name size content ∷ steps) =
     ((q.0 ≢ port) × PutsIn port disks steps)
-    ⊎ ((q.0 ≡ port) × ((earlier : List device.Disk) × (disk : device.Disk) × (disks ≡ earlier ++ disk ∷ []) × IsPutIn disk name size content × PutsIn port earlier steps))
+    ⊎ ((q.0 ≡ port) × ((earlier : List device.Disk) × (disk : device.Disk) × (disks ≡ earlier ++ disk ∷ [])
+    × IsPutIn disk name size content × PutsIn port earlier steps))
 PutsIn port disks (step ∷ steps) = PutsIn port disks steps
 
 -- ---- what a call adds: device steps, and the driver's own between them
@@ -128,7 +132,8 @@ abbrev pub AllOwn : List Step → Type 0
 AllOwn [] = Unit {0}
 AllOwn (step ∷ before) = AllOwn before × (IsDevices step → ⊥)
 
--- The entries, the oldest first, tell of the device's steps among these, the newest first; the others are the driver's own.
+-- The entries, the oldest first, tell of the device's steps among these, the newest first; the others are the driver's
+-- own.
 abbrev pub TellsAmong : Machine → List Entry → List Step → Type 0
 TellsAmong m [] steps = AllOwn steps
 TellsAmong m (entry ∷ entries) steps =

@@ -33,7 +33,8 @@ trim_block = 100 ∷ 0 ∷ 0 ∷ 0 ∷ 0 ∷ 0 ∷ 8 ∷ 0 ∷ replicate 504 0
 -- In the first read's memory: the header has W, the table has the trim with the PRD of a page, and the block stands in
 -- the scratch frame.
 unfoldable pub trim_memory : ℕ → ℕ
-trim_memory = patched (patched (patched (patched first_memory 0 (0x45 ∷ [])) 0x1000 trim_bytes) 0x1080 page_bytes) 0x9000 trim_block
+trim_memory = patched (patched (patched (patched first_memory 0 (0x45 ∷ [])) 0x1000 trim_bytes) 0x1080 page_bytes)
+    0x9000 trim_block
 
 -- such a device before bit 0 of PxCI is written, after, and when the command is taken
 abbrev pub prepared_trim : Device

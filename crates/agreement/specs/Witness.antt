@@ -24,8 +24,8 @@ use Rattle.agreement.specs.Slots.{Free, Own, Serves, Uses, put, IsEnded}
 abbrev pub first_id : RequestId
 first_id = record { 0 = 1 }
 
--- Port 0 runs with a disk, as in the first read, and no command is in a slot; an adapter with such a port, and these bytes in
--- its memory.
+-- Port 0 runs with a disk, as in the first read, and no command is in a slot; an adapter with such a port, and these
+-- bytes in its memory.
 abbrev pub ready_port : PortState
 ready_port = record reading_port { ci = λ _. false }
 
@@ -36,8 +36,8 @@ ready_with memory = record first_read { memory = memory; port = changed (λ _. q
 abbrev pub prepared_read : Device
 prepared_read = ready_with first_memory
 
--- A machine is reached that has accepted request 1, and agrees with a driver that has put it into no slot yet. All is there for
--- the write of bit 0 of PxCI; the write is permitted, and gives the first read.
+-- A machine is reached that has accepted request 1, and agrees with a driver that has put it into no slot yet. All is
+-- there for the write of bit 0 of PxCI; the write is permitted, and gives the first read.
 pub record PreparedIsKnown : Type 0 where
   pub machine : Machine
   pub reached : IsReached machine
@@ -76,8 +76,8 @@ stopped_read = after (Fall 0) stopping_read
 abbrev pub parked_known : Known
 parked_known = parking (record first_known { device = stopped_read }) 0 0 first_id
 
--- PxCMD may be written so, CR may fall then, and the port has halted. A machine is reached that agrees with the driver, who has
--- taken request 1 from its slot; and the request may wait again.
+-- PxCMD may be written so, CR may fall then, and the port has halted. A machine is reached that agrees with the driver,
+-- who has taken request 1 from its slot; and the request may wait again.
 pub record ParkedIsKnown : Type 0 where
   pub permitted : Stays (MayWrite (Px (port_at 0) Cmd) 0x10) first_read
   pub writes : Writes (Px (port_at 0) Cmd) 0x10 first_read stopping_read
@@ -91,8 +91,9 @@ pub record ParkedIsKnown : Type 0 where
   pub id_is : request.request.id ≡ first_id
   pub may : May machine (Again request)
 
--- A machine is reached that answered request 1 PortDead: its frames are kept. It agrees with the driver of the first read, whose
--- slot serves the request still, and with the one who has taken it from there; so no slot serves a kept request then.
+-- A machine is reached that answered request 1 PortDead: its frames are kept. It agrees with the driver of the first
+-- read, whose slot serves the request still, and with the one who has taken it from there; so no slot serves a kept
+-- request then.
 pub record KeptIsKnown : Type 0 where
   pub machine : Machine
   pub reached : IsReached machine
@@ -148,8 +149,8 @@ issued_identify = written (Px (port_at 0) Ci) 1 prepared_identify
 abbrev pub own_known : Known
 own_known = record { uses = put (λ port slot. Free) 0 0 (Own Identify); parked = λ port. []; device = issued_identify }
 
--- A machine is reached that agrees with the driver while IDENTIFY DEVICE is prepared, and once it is issued; and PxCI may be read 0
--- after that, with the page in the scratch frame.
+-- A machine is reached that agrees with the driver while IDENTIFY DEVICE is prepared, and once it is issued; and PxCI
+-- may be read 0 after that, with the page in the scratch frame.
 pub record OwnIsKnown : Type 0 where
   pub machine : Machine
   pub reached : IsReached machine

@@ -17,16 +17,19 @@ ghost use Rattle.agreement.specs.Links.{SparesRegister};
 ghost use Rattle.agreement.specs.Recovering.{WorksPlainly};
 ghost use Rattle.agreement.specs.Slots.{Own, op_of};
 
-/// What is one act: an access that the machine follows by the device's steps, or whose last step is the driver's own; and, without an
-/// access, a step of the driver's own, or none where it knows of the same device something else.
+/// What is one act: an access that the machine follows by the device's steps, or whose last step is the driver's own;
+/// and, without an access, a step of the driver's own, or none where it knows of the same device something else.
 pub fn acts_are_done()
-    ensures access { (k later : Known) (m : Machine) (access : Access) → AddsSteps Knows k later (ByDevice k.device later.device)
-        → IsReached m → Knows m k → Does access k.device later.device
-        → (steps : List Step) × AllDevices steps × IsDone k m (record { access = Some access; steps = steps; later = later }) }
+    ensures access { (k later : Known) (m : Machine) (access : Access)
+        → AddsSteps Knows k later (ByDevice k.device later.device) → IsReached m → Knows m k
+        → Does access k.device later.device → (steps : List Step) × AllDevices steps
+        × IsDone k m (record { access = Some access; steps = steps; later = later }) }
     ensures ends { (k later : Known) (m : Machine) (access : Access) (step : Step) → (e : EndsWith k m step later)
-        → Does access k.device later.device → IsDone k m (record { access = Some access; steps = step ∷ e.steps; later = later }) }
-    ensures own { (k later : Known) (m : Machine) (step : Step) → (IsDevices step → ⊥) → May m step → later.device ≡ k.device
-        → Knows (after_step m step) later → IsDone k m (record { access = None; steps = step ∷ []; later = later }) }
+        → Does access k.device later.device
+        → IsDone k m (record { access = Some access; steps = step ∷ e.steps; later = later }) }
+    ensures own { (k later : Known) (m : Machine) (step : Step) → (IsDevices step → ⊥) → May m step
+        → later.device ≡ k.device → Knows (after_step m step) later
+        → IsDone k m (record { access = None; steps = step ∷ []; later = later }) }
     ensures still { (k later : Known) (m : Machine) → later.device ≡ k.device → Knows m later
         → IsDone k m (record { access = None; steps = []; later = later }) }
 {}
@@ -40,17 +43,17 @@ pub fn acts_compose()
     ensures steps { (early late : List Act) → steps_of (early ++ late) ≡ steps_of late ++ steps_of early }
 {}
 
-/// What acts give: the driver goes by all their steps, and their accesses are made. A port for which slot 0 has no command of an
-/// operation, before any of them, is sent no page by it; and where none of them writes its PxSACT, one that works on plain commands
-/// alone goes on so.
+/// What acts give: the driver goes by all their steps, and their accesses are made. A port for which slot 0 has no
+/// command of an operation, before any of them, is sent no page by it; and where none of them writes its PxSACT, one
+/// that works on plain commands alone goes on so.
 pub fn acts_give()
     ensures goes { (acts : List Act) (k later : Known) (m : Machine) → Knows m k → AreDone acts k m later
         → Goes k m (steps_of acts) later }
     ensures does { (acts : List Act) (k later : Known) (m : Machine) → AreDone acts k m later
         → DoesAll (accesses_of acts) k.device later.device }
-    ensures silent { (acts : List Act) (k later : Known) (m : Machine) (port : ℕ) (o : Operation) → op_of o ≡ None → IsReached m
-        → Knows m k → (k.uses port 0 ≡ Own o → ⊥) → All (λ act. act.later.uses port 0 ≡ Own o → ⊥) acts → AreDone acts k m later
-        → SendsNone port o k.device later.device }
+    ensures silent { (acts : List Act) (k later : Known) (m : Machine) (port : ℕ) (o : Operation) → op_of o ≡ None
+        → IsReached m → Knows m k → (k.uses port 0 ≡ Own o → ⊥) → All (λ act. act.later.uses port 0 ≡ Own o → ⊥) acts
+        → AreDone acts k m later → SendsNone port o k.device later.device }
     ensures plain { (acts : List Act) (k later : Known) (m : Machine) (port : Port) → IsReached m → Knows m k
         → All (SparesRegister (Px port Sact)) (accesses_of acts) → AreDone acts k m later
         → WorksPlainly (k.device.port port.0) → WorksPlainly (later.device.port port.0) }

@@ -1,4 +1,5 @@
-// Laws of disks that go, stay away, or show themselves: the clause is the theorem. Nothing that runs calls these functions.
+// Laws of disks that go, stay away, or show themselves: the clause is the theorem. Nothing that runs calls these
+// functions.
 ghost use Rattle.std.specs.Prelude.{ℕ, true, false, ◌≡◌, ◌≢◌, ◌≤◌, ◌%◌, ◌⊎◌};
 ghost use Rattle.ata_types.specs.declared.Port.{Port};
 ghost use Rattle.hba_regs.specs.Bits.{bit};
@@ -12,26 +13,27 @@ ghost use Rattle.agreement.specs.Errors.{NoneComes, NoneFails};
 ghost use Rattle.agreement.specs.Links.{PlugsNone, HasDeviceOrNone};
 ghost use Rattle.agreement.specs.Vacant.{IsVacant, IsFreshIfShown};
 
-/// Where the tape tells of no disk of the port that comes: a port with no disk in has none in then, and one that shows none, none
-/// then; and where a device shows, its first FIS has come, if it had where one showed before. Whatever else the device does, also
-/// over a reset that ends, and over each access. A reset that has ended shows no device, and so does COMRESET.
+/// Where the tape tells of no disk of the port that comes: a port with no disk in has none in then, and one that shows
+/// none, none then; and where a device shows, its first FIS has come, if it had where one showed before. Whatever else
+/// the device does, also over a reset that ends, and over each access. A reset that has ended shows no device, and so
+/// does COMRESET.
 pub fn none_comes_in()
-    ensures out_steps { (port : ℕ) (old new : Device) → NoneComes port old new → Steps old new → (old.port port).present ≡ false
-        → (new.port port).present ≡ false }
-    ensures out_access { (port : Port) (access : Access) (old new : Device) → NoneComes port.0 old new → Does access old new
-        → (old.port port.0).present ≡ false → (new.port port.0).present ≡ false }
-    ensures vacant_steps { (port : ℕ) (old new : Device) → NoneComes port old new → Steps old new → IsVacant (old.port port)
-        → IsVacant (new.port port) }
-    ensures vacant_access { (port : Port) (access : Access) (old new : Device) → NoneComes port.0 old new → Does access old new
-        → IsVacant (old.port port.0) → IsVacant (new.port port.0) }
-    ensures fresh_steps { (port : ℕ) (old new : Device) → NoneComes port old new → Steps old new → IsFreshIfShown (old.port port)
-        → IsFreshIfShown (new.port port) }
-    ensures fresh_access { (port : Port) (access : Access) (old new : Device) → NoneComes port.0 old new → Does access old new
-        → IsFreshIfShown (old.port port.0) → IsFreshIfShown (new.port port.0) }
-    ensures vacant_reset { (v : ℕ) (old new : Device) → old.hr ≡ true → Reads Ghc v old new → bit v 0 ≡ false → (port : ℕ)
-        → NoneComes port old new → (old.port port).present ≡ false → IsVacant (new.port port) }
-    ensures fresh_reset { (v : ℕ) (old new : Device) → old.hr ≡ true → Reads Ghc v old new → bit v 0 ≡ false → (port : ℕ)
-        → NoneComes port old new → IsFreshIfShown (new.port port) }
+    ensures out_steps { (port : ℕ) (old new : Device) → NoneComes port old new → Steps old new
+        → (old.port port).present ≡ false → (new.port port).present ≡ false }
+    ensures out_access { (port : Port) (access : Access) (old new : Device) → NoneComes port.0 old new
+        → Does access old new → (old.port port.0).present ≡ false → (new.port port.0).present ≡ false }
+    ensures vacant_steps { (port : ℕ) (old new : Device) → NoneComes port old new → Steps old new
+        → IsVacant (old.port port) → IsVacant (new.port port) }
+    ensures vacant_access { (port : Port) (access : Access) (old new : Device) → NoneComes port.0 old new
+        → Does access old new → IsVacant (old.port port.0) → IsVacant (new.port port.0) }
+    ensures fresh_steps { (port : ℕ) (old new : Device) → NoneComes port old new → Steps old new
+        → IsFreshIfShown (old.port port) → IsFreshIfShown (new.port port) }
+    ensures fresh_access { (port : Port) (access : Access) (old new : Device) → NoneComes port.0 old new
+        → Does access old new → IsFreshIfShown (old.port port.0) → IsFreshIfShown (new.port port.0) }
+    ensures vacant_reset { (v : ℕ) (old new : Device) → old.hr ≡ true → Reads Ghc v old new → bit v 0 ≡ false
+        → (port : ℕ) → NoneComes port old new → (old.port port).present ≡ false → IsVacant (new.port port) }
+    ensures fresh_reset { (v : ℕ) (old new : Device) → old.hr ≡ true → Reads Ghc v old new → bit v 0 ≡ false
+        → (port : ℕ) → NoneComes port old new → IsFreshIfShown (new.port port) }
     ensures fresh_comreset { (port : Port) (v : ℕ) (old new : Device) → v % 16 ≡ 1 → Writes (Px port Sctl) v old new
         → IsFreshIfShown (new.port port.0) }
     ensures shown { (port : Port) (v : ℕ) (old new : Device) → Reads (Px port Ssts) v old new → v % 16 ≡ 3
@@ -43,19 +45,20 @@ pub fn reset_is_idle()
     ensures { (v : ℕ) (old new : Device) → old.hr ≡ true → Reads Ghc v old new → bit v 0 ≡ false → IsIdle new }
 {}
 
-/// What a reading of PxIS or PxSSTS tells of a port with no link due. Each bit of 27 to 30 that is set shows, PRCS shows N and PCS X.
-/// Where PxIS shows PRCS or PCS, or PxSSTS no device, N or X was set or no device showed before, or a disk has gone or come. And
-/// where it shows TFES, it was set before, or the tape tells of a fault.
+/// What a reading of PxIS or PxSSTS tells of a port with no link due. Each bit of 27 to 30 that is set shows, PRCS
+/// shows N and PCS X. Where PxIS shows PRCS or PCS, or PxSSTS no device, N or X was set or no device showed before, or
+/// a disk has gone or come. And where it shows TFES, it was set before, or the tape tells of a fault.
 pub fn look_tells()
-    ensures causes { (port : Port) (v place : ℕ) (old new : Device) → old.hr ≡ false → Reads (Px port Is) v old new → 27 ≤ place
-        → place ≤ 30 → (old.port port.0).is place ≡ true → bit v place ≡ true }
+    ensures causes { (port : Port) (v place : ℕ) (old new : Device) → old.hr ≡ false → Reads (Px port Is) v old new
+        → 27 ≤ place → place ≤ 30 → (old.port port.0).is place ≡ true → bit v place ≡ true }
     ensures errors { (port : Port) (v : ℕ) (old new : Device) → old.hr ≡ false → Reads (Px port Is) v old new
         → ((old.port port.0).serr_n ≡ true → bit v 22 ≡ true) × ((old.port port.0).serr_x ≡ true → bit v 6 ≡ true) }
     ensures lost { (port : Port) (v : ℕ) (old new : Device) → old.hr ≡ false → (old.port port.0).link_due ≡ false
         → Reads (Px port Is) v old new → (bit v 22 ≡ true) ⊎ (bit v 6 ≡ true)
         → ((old.port port.0).serr_n ≡ true) ⊎ (((old.port port.0).serr_x ≡ true) ⊎ (PlugsNone port.0 old new → ⊥)) }
     ensures unlinked { (port : Port) (v : ℕ) (old new : Device) → old.hr ≡ false → (old.port port.0).link_due ≡ false
-        → Reads (Px port Ssts) v old new → v % 16 ≢ 3 → ((old.port port.0).ssts_det ≢ 3) ⊎ (PlugsNone port.0 old new → ⊥) }
-    ensures fault { (port : Port) (v : ℕ) (old new : Device) → old.hr ≡ false → Reads (Px port Is) v old new → bit v 30 ≡ true
-        → ((old.port port.0).is 30 ≡ true) ⊎ (NoneFails port.0 old new → ⊥) }
+        → Reads (Px port Ssts) v old new → v % 16 ≢ 3 → ((old.port port.0).ssts_det ≢ 3)
+        ⊎ (PlugsNone port.0 old new → ⊥) }
+    ensures fault { (port : Port) (v : ℕ) (old new : Device) → old.hr ≡ false → Reads (Px port Is) v old new
+        → bit v 30 ≡ true → ((old.port port.0).is 30 ≡ true) ⊎ (NoneFails port.0 old new → ⊥) }
 {}

@@ -1,4 +1,5 @@
-// Laws of what a driver learns from the device, for the crates above: the clause is the theorem. Nothing that runs calls these functions.
+// Laws of what a driver learns from the device, for the crates above: the clause is the theorem. Nothing that runs
+// calls these functions.
 ghost use Rattle.std.specs.Prelude.{ℕ, true, false, ◌≡◌, ◌≢◌, ◌≤◌, ◌+◌, ◌*◌, ◌/◌, ◌%◌, ◌++◌, List, length, drop, Some, None, Contains, All};
 ghost use Rattle.ata_types.specs.declared.Port.{Port};
 ghost use Rattle.ata_types.specs.declared.memory.TheConstants.{DRIVER_FRAMES, FRAME_BYTES};
@@ -40,14 +41,16 @@ ghost use Rattle.agreement.specs.Started.{IsUp, IsComingUp, IsStarted, SetsNoSta
 
 use adapter::laws::steps_keep;
 
-/// A port that has halted stays so, whatever the device does, also over a reset of the adapter that ends, over readings, and over
-/// each write that may be made and doesn't set its ST; and an idle port has halted.
+/// A port that has halted stays so, whatever the device does, also over a reset of the adapter that ends, over
+/// readings, and over each write that may be made and doesn't set its ST; and an idle port has halted.
 pub fn halted_stays()
-    ensures steps { (port : ℕ) (old new : Device) → Steps old new → IsHalted (old.port port) → IsHalted (new.port port) }
+    ensures steps { (port : ℕ) (old new : Device) → Steps old new → IsHalted (old.port port)
+        → IsHalted (new.port port) }
     ensures reads { (port : ℕ) (r : Reg) (v : ℕ) (old new : Device) → Reads r v old new → IsHalted (old.port port)
         → IsHalted (new.port port) }
     ensures writes { (port : Port) (r : Reg) (v : ℕ) (old new : Device) → Stays (MayWrite r v) old
-        → (r ≡ Px port Cmd → bit v 0 ≡ false) → Writes r v old new → IsHalted (old.port port.0) → IsHalted (new.port port.0) }
+        → (r ≡ Px port Cmd → bit v 0 ≡ false) → Writes r v old new → IsHalted (old.port port.0)
+        → IsHalted (new.port port.0) }
     ensures idle { (p : PortState) → IsIdlePort p → IsHalted p }
 {}
 
@@ -69,46 +72,49 @@ pub fn reset_is_found()
     ensures reset { (v : ℕ) (old new : Device) → old.hr ≡ true → Reads Ghc v old new → bit v 0 ≡ false
         → (port : ℕ) → IsAfterReset (new.port port) }
     ensures left { (v : ℕ) (old new : Device) → old.hr ≡ true → Reads Ghc v old new → bit v 0 ≡ false
-        → (mid : Device) × (mid.hr ≡ false) × ((port : ℕ) → IsLeftByReset (mid.port port)) × Steps mid new × Steps old mid }
+        → (mid : Device) × (mid.hr ≡ false) × ((port : ℕ) → IsLeftByReset (mid.port port)) × Steps mid new
+        × Steps old mid }
     ensures cleared { (v : ℕ) (old new : Device) → old.hr ≡ true → Reads Ghc v old new → bit v 0 ≡ false
         → (port : ℕ) → IsCleared (new.port port) }
-    ensures stays { (port : ℕ) (old new : Device) → Steps old new → IsAfterReset (old.port port) → IsAfterReset (new.port port) }
+    ensures stays { (port : ℕ) (old new : Device) → Steps old new → IsAfterReset (old.port port)
+        → IsAfterReset (new.port port) }
     ensures reads { (port : ℕ) (r : Reg) (v : ℕ) (old new : Device) → Reads r v old new → IsAfterReset (old.port port)
         → IsAfterReset (new.port port) }
     ensures writes { (port : Port) (r : Reg) (v : ℕ) (old new : Device) → Stays (MayWrite r v) old
-        → (r ≡ Px port Cmd → (bit v 0 ≡ false) × (bit v 4 ≡ false)) → Writes r v old new → IsAfterReset (old.port port.0)
-        → IsAfterReset (new.port port.0) }
+        → (r ≡ Px port Cmd → (bit v 0 ≡ false) × (bit v 4 ≡ false)) → Writes r v old new
+        → IsAfterReset (old.port port.0) → IsAfterReset (new.port port.0) }
     ensures idle { (p : PortState) → IsIdlePort p → IsAfterReset p }
     ensures is_idle { (p : PortState) → IsAfterReset p → IsIdlePort p }
 {}
 
-/// CI and then SACT of a running port are read: each slot whose bits were clear in both has ended its request. The steps by which
-/// the machine follows are those of the two readings, and what the driver knows stays known.
+/// CI and then SACT of a running port are read: each slot whose bits were clear in both has ended its request. The
+/// steps by which the machine follows are those of the two readings, and what the driver knows stays known.
 pub fn done_is_found()
-    ensures finds { (uses : Uses) (m : Machine) (port : Port) (ci sact : ℕ) (old mid new : Device) → IsReached m → Agrees uses m old
-        → old.hr ≡ false → (old.port port.0).st ≡ true → Reads (Px port Ci) ci old mid → Reads (Px port Sact) sact mid new
-        → Finds uses m port ci sact old new }
-    ensures adds { (k : Known) (port : Port) (ci sact : ℕ) (mid new : Device) → k.device.hr ≡ false → (k.device.port port.0).st ≡ true
-        → Reads (Px port Ci) ci k.device mid → Reads (Px port Sact) sact mid new
+    ensures finds { (uses : Uses) (m : Machine) (port : Port) (ci sact : ℕ) (old mid new : Device) → IsReached m
+        → Agrees uses m old → old.hr ≡ false → (old.port port.0).st ≡ true → Reads (Px port Ci) ci old mid
+        → Reads (Px port Sact) sact mid new → Finds uses m port ci sact old new }
+    ensures adds { (k : Known) (port : Port) (ci sact : ℕ) (mid new : Device) → k.device.hr ≡ false
+        → (k.device.port port.0).st ≡ true → Reads (Px port Ci) ci k.device mid → Reads (Px port Sact) sact mid new
         → AddsSteps Knows k (record k { device = new })
         (λ m steps. (found : Finds k.uses m port ci sact k.device new) × AreStepsOf found.follows steps) }
 {}
 
-/// A request of the book that has ended is issued still. One that may move and has ended leaves its slot clear, also where ST is 0. And
-/// on a running port a slot that serves a request and whose bits are both clear has ended it.
+/// A request of the book that has ended is issued still. One that may move and has ended leaves its slot clear, also
+/// where ST is 0. And on a running port a slot that serves a request and whose bits are both clear has ended it.
 pub fn ended_is_clear()
     ensures issued { (m : Machine) (e : Pending) → IsReached m → Contains m.book e → e.ended ≡ true → e.issued ≡ true }
-    ensures clears { (uses : Uses) (m : Machine) (d : Device) (port : Port) (slot : ℕ) (e : Pending) → IsReached m → Agrees uses m d
-        → MayMove m e → e.ended ≡ true → uses port.0 slot ≡ Serves e.request.id
+    ensures clears { (uses : Uses) (m : Machine) (d : Device) (port : Port) (slot : ℕ) (e : Pending) → IsReached m
+        → Agrees uses m d → MayMove m e → e.ended ≡ true → uses port.0 slot ≡ Serves e.request.id
         → IsClear (d.port port.0) slot × EndedIn m port e.request.id }
     ensures ends { (uses : Uses) (m : Machine) (d : Device) (port : Port) (slot : ℕ) (id : RequestId) → Agrees uses m d
         → uses port.0 slot ≡ Serves id → (d.port port.0).st ≡ true → (d.port port.0).ci slot ≡ false
         → (d.port port.0).sact slot ≡ false → IsClear (d.port port.0) slot × EndedIn m port id }
 {}
 
-/// A slot's command that is over stays so, and so do its clear bits, whatever the device does, and over each access that doesn't write
-/// the slot's bit of PxCI or PxSACT. And a request that was ended stays so over the device's own steps, and over each step that isn't
-/// of it, so that several that were found ended are answered one after another; Release alone gives back what is kept.
+/// A slot's command that is over stays so, and so do its clear bits, whatever the device does, and over each access
+/// that doesn't write the slot's bit of PxCI or PxSACT. And a request that was ended stays so over the device's own
+/// steps, and over each step that isn't of it, so that several that were found ended are answered one after another;
+/// Release alone gives back what is kept.
 pub fn over_stays()
     ensures over { (port slot : ℕ) (old new : Device) → Steps old new → IsOver (old.port port) slot
         → IsOver (new.port port) slot }
@@ -121,28 +127,28 @@ pub fn over_stays()
         → ((v : ℕ) → access ≡ Writing (Px port Ci) v → bit v slot ≡ false)
         → ((v : ℕ) → access ≡ Writing (Px port Sact) v → bit v slot ≡ false) → Does access old new
         → IsClear (old.port port.0) slot → IsClear (new.port port.0) slot }
-    ensures ended { (m : Machine) (steps : List Step) (port : Port) (id : RequestId) → AllDevices steps → EndedIn m port id
-        → EndedIn (after m steps) port id }
-    ensures ended_beside { (m : Machine) (step : Step) (port : Port) (id : RequestId) → IsOfAnother id step → step ≢ Release
-        → EndedIn m port id → EndedIn (after_step m step) port id }
+    ensures ended { (m : Machine) (steps : List Step) (port : Port) (id : RequestId) → AllDevices steps
+        → EndedIn m port id → EndedIn (after m steps) port id }
+    ensures ended_beside { (m : Machine) (step : Step) (port : Port) (id : RequestId) → IsOfAnother id step
+        → step ≢ Release → EndedIn m port id → EndedIn (after_step m step) port id }
     ensures ended_released { (m : Machine) (port : Port) (id : RequestId) → NoneKept m port → EndedIn m port id
         → EndedIn (after_step m Release) port id }
 {}
 
-/// CI of a running port with a command of the driver's own is read: once bit 0 is clear, the command has brought its page; and
-/// a load of the scratch frame then gives the bytes that the port's last command of this operation has moved. The steps by which
-/// the machine follows are the device's, and what the driver knows stays known.
+/// CI of a running port with a command of the driver's own is read: once bit 0 is clear, the command has brought its
+/// page; and a load of the scratch frame then gives the bytes that the port's last command of this operation has moved.
+/// The steps by which the machine follows are the device's, and what the driver knows stays known.
 pub fn page_is_found()
-    ensures read { (uses : Uses) (m : Machine) (port : Port) (o : Operation) (v : ℕ) (old new : Device) → IsReached m → Agrees uses m old
-        → old.hr ≡ false → (old.port port.0).st ≡ true → uses port.0 0 ≡ Own o → Reads (Px port Ci) v old new → bit v 0 ≡ false
-        → FindsPage uses m port.0 o old new }
-    ensures load { (uses : Uses) (m : Machine) (port : ℕ) (o : Operation) (bytes : List ℕ) (old new : Device) → IsReached m → Agrees uses m old
-        → old.hr ≡ false → (old.port port).st ≡ true → uses port 0 ≡ Own o → IsOver (old.port port) 0
-        → Loads (scratch_of port) bytes old new → length bytes ≡ 512
+    ensures read { (uses : Uses) (m : Machine) (port : Port) (o : Operation) (v : ℕ) (old new : Device) → IsReached m
+        → Agrees uses m old → old.hr ≡ false → (old.port port.0).st ≡ true → uses port.0 0 ≡ Own o
+        → Reads (Px port Ci) v old new → bit v 0 ≡ false → FindsPage uses m port.0 o old new }
+    ensures load { (uses : Uses) (m : Machine) (port : ℕ) (o : Operation) (bytes : List ℕ) (old new : Device)
+        → IsReached m → Agrees uses m old → old.hr ≡ false → (old.port port).st ≡ true → uses port 0 ≡ Own o
+        → IsOver (old.port port) 0 → Loads (scratch_of port) bytes old new → length bytes ≡ 512
         → (page : FindsPage uses m port o old new) × (bytes ≡ page.brought.move.bytes.value) }
     ensures read_adds { (k : Known) (port : Port) (o : Operation) (v : ℕ) (new : Device) → k.device.hr ≡ false
-        → (k.device.port port.0).st ≡ true → k.uses port.0 0 ≡ Own o → Reads (Px port Ci) v k.device new → bit v 0 ≡ false
-        → AddsSteps Knows k (record k { device = new })
+        → (k.device.port port.0).st ≡ true → k.uses port.0 0 ≡ Own o → Reads (Px port Ci) v k.device new
+        → bit v 0 ≡ false → AddsSteps Knows k (record k { device = new })
         (λ m steps. (page : FindsPage k.uses m port.0 o k.device new) × AreStepsOf page.follows steps) }
     ensures load_adds { (k : Known) (port : ℕ) (o : Operation) (bytes : List ℕ) (new : Device) → k.device.hr ≡ false
         → (k.device.port port).st ≡ true → k.uses port 0 ≡ Own o → IsOver (k.device.port port) 0
@@ -162,48 +168,53 @@ pub fn page_is_awaited()
         → AwaitsPage (put uses port.0 0 (Own o)) port.0 o (length new.tape) new }
     ensures steps { (uses : Uses) (m : Machine) (port : ℕ) (o : Operation) (since : ℕ) (old new : Device) → IsReached m
         → Agrees uses m old → Steps old new → AwaitsPage uses port o since old → AwaitsPage uses port o since new }
-    ensures access { (uses : Uses) (m : Machine) (port : Port) (o : Operation) (since : ℕ) (access : Access) (old new : Device)
+    ensures access { (uses : Uses) (m : Machine) (port : Port) (o : Operation) (since : ℕ) (access : Access)
+        (old new : Device)
         → IsReached m → Agrees uses m old → ClearsNoStart port access → new.hr ≡ false → Does access old new
         → AwaitsPage uses port.0 o since old → AwaitsPage uses port.0 o since new }
-    ensures found { (uses : Uses) (m : Machine) (port : Port) (o : Operation) (since v : ℕ) (old new : Device) → IsReached m
-        → Agrees uses m old → AwaitsPage uses port.0 o since old → Reads (Px port Ci) v old new → bit v 0 ≡ false
-        → FindsPage uses m port.0 o old new × Brought new.memory new.tape port.0 o since }
-    ensures loaded { (uses : Uses) (m : Machine) (port : ℕ) (o : Operation) (since : ℕ) (bytes : List ℕ) (old new : Device)
+    ensures found { (uses : Uses) (m : Machine) (port : Port) (o : Operation) (since v : ℕ) (old new : Device)
+        → IsReached m → Agrees uses m old → AwaitsPage uses port.0 o since old → Reads (Px port Ci) v old new
+        → bit v 0 ≡ false → FindsPage uses m port.0 o old new × Brought new.memory new.tape port.0 o since }
+    ensures loaded { (uses : Uses) (m : Machine) (port : ℕ) (o : Operation) (since : ℕ) (bytes : List ℕ)
+        (old new : Device)
         → IsReached m → Agrees uses m old → AwaitsPage uses port o since old → IsOver (old.port port) 0
         → Loads (scratch_of port) bytes old new → length bytes ≡ 512
         → (b : Brought new.memory new.tape port o since) × (bytes ≡ b.move.bytes.value) }
 {}
 
-/// Where the commands of a request are over, the device uses none of the frames that are lent to it any more, whatever it does;
-/// so they may leave the loan. (One slot alone serves a request.) Nor does it use a client's frame that is lent to nobody, nor any
-/// frame where it is idle. The bytes of such a frame may be loaded and stored.
+/// Where the commands of a request are over, the device uses none of the frames that are lent to it any more, whatever
+/// it does; so they may leave the loan. (One slot alone serves a request.) Nor does it use a client's frame that is
+/// lent to nobody, nor any frame where it is idle. The bytes of such a frame may be loaded and stored.
 pub fn frames_are_still()
-    ensures lent { (uses : Uses) (m : Machine) (d : Device) (frame : Frame) (id : RequestId) → IsReached m → Agrees uses m d
-        → m.lent frame ≡ Some id → AreOver uses d id → Stays (IsStill frame) d }
+    ensures lent { (uses : Uses) (m : Machine) (d : Device) (frame : Frame) (id : RequestId) → IsReached m
+        → Agrees uses m d → m.lent frame ≡ Some id → AreOver uses d id → Stays (IsStill frame) d }
     ensures unlent { (uses : Uses) (m : Machine) (d : Device) (frame : Frame) → IsReached m → Agrees uses m d
         → m.lent frame ≡ None → DRIVER_FRAMES ≤ frame.0 → Stays (IsStill frame) d }
     ensures over { (uses : Uses) (m : Machine) (d : Device) (port slot : ℕ) (id : RequestId) → Agrees uses m d
         → uses port slot ≡ Serves id → IsOver (d.port port) slot → AreOver uses d id }
     ensures idle { (d : Device) (frame : Frame) → IsIdle d → Stays (IsStill frame) d }
     ensures free { (d : Device) (frame : Frame) (offset n : ℕ) → Stays (IsStill frame) d
-        → FRAME_BYTES * frame.0 + FRAME_BYTES ≤ d.size → offset + n ≤ FRAME_BYTES → Stays (IsFree (FRAME_BYTES * frame.0 + offset) n) d }
+        → FRAME_BYTES * frame.0 + FRAME_BYTES ≤ d.size → offset + n ≤ FRAME_BYTES
+        → Stays (IsFree (FRAME_BYTES * frame.0 + offset) n) d }
 {}
 
-/// While no reset is pending, a healthy port on which nothing goes wrong stays healthy, whatever else the device does, over
-/// readings, and over writes that neither clear ST nor write SCTL. There is one.
+/// While no reset is pending, a healthy port on which nothing goes wrong stays healthy, whatever else the device does,
+/// over readings, and over writes that neither clear ST nor write SCTL. There is one.
 pub fn healthy_stays()
     ensures steps { (port : ℕ) (old new : Device) → old.hr ≡ false → Steps old new → Undisturbed port old new
         → RunsWell (old.port port) → RunsWell (new.port port) }
-    ensures reads { (port : ℕ) (r : Reg) (v : ℕ) (old new : Device) → old.hr ≡ false → Reads r v old new → Undisturbed port old new
-        → RunsWell (old.port port) → RunsWell (new.port port) }
-    ensures writes { (port : Port) (r : Reg) (v : ℕ) (old new : Device) → old.hr ≡ false → (r ≡ Px port Cmd → bit v 0 ≡ true)
-        → r ≢ Px port Sctl → Writes r v old new → Undisturbed port.0 old new → RunsWell (old.port port.0) → RunsWell (new.port port.0) }
+    ensures reads { (port : ℕ) (r : Reg) (v : ℕ) (old new : Device) → old.hr ≡ false → Reads r v old new
+        → Undisturbed port old new → RunsWell (old.port port) → RunsWell (new.port port) }
+    ensures writes { (port : Port) (r : Reg) (v : ℕ) (old new : Device) → old.hr ≡ false
+        → (r ≡ Px port Cmd → bit v 0 ≡ true) → r ≢ Px port Sctl → Writes r v old new → Undisturbed port.0 old new
+        → RunsWell (old.port port.0) → RunsWell (new.port port.0) }
     ensures exists { RunsWell (first_read.port 0) }
 {}
 
-/// While no reset is pending, whatever goes wrong on a port sets a bit of PxIS or of PxSERR, which stays until the driver clears it:
-/// where none is set, none was, and nothing went wrong. PxIS alone tells of each, and a healthy port has none; so where it is read
-/// with none, or with none of its own and then PxSERR with none, a port that was healthy is so still when PxIS is read.
+/// While no reset is pending, whatever goes wrong on a port sets a bit of PxIS or of PxSERR, which stays until the
+/// driver clears it: where none is set, none was, and nothing went wrong. PxIS alone tells of each, and a healthy port
+/// has none; so where it is read with none, or with none of its own and then PxSERR with none, a port that was healthy
+/// is so still when PxIS is read.
 pub fn trouble_is_shown()
     ensures steps { (port : ℕ) (old new : Device) → old.hr ≡ false → Steps old new → ShowsNoTrouble (new.port port)
         → ShowsNoTrouble (old.port port) × Undisturbed port old new }
@@ -212,33 +223,37 @@ pub fn trouble_is_shown()
     ensures stores { (port at : ℕ) (bytes : List ℕ) (old new : Device) → old.hr ≡ false → Stores at bytes old new
         → ShowsNoTrouble (new.port port) → ShowsNoTrouble (old.port port) × Undisturbed port old new }
     ensures writes { (port : Port) (r : Reg) (v : ℕ) (old new : Device) → old.hr ≡ false → ClearsNoTrouble port r v
-        → Writes r v old new → ShowsNoTrouble (new.port port.0) → ShowsNoTrouble (old.port port.0) × Undisturbed port.0 old new }
-    ensures told { (port : Port) (v : ℕ) (old new : Device) → old.hr ≡ false → Reads (Px port Is) v old new → TellsNoTrouble v
-        → ShowsNoTrouble (new.port port.0) }
+        → Writes r v old new → ShowsNoTrouble (new.port port.0) → ShowsNoTrouble (old.port port.0)
+        × Undisturbed port.0 old new }
+    ensures told { (port : Port) (v : ℕ) (old new : Device) → old.hr ≡ false → Reads (Px port Is) v old new
+        → TellsNoTrouble v → ShowsNoTrouble (new.port port.0) }
     ensures tells { (port : Port) (v : ℕ) (old new : Device) → old.hr ≡ false → Reads (Px port Is) v old new
         → ShowsNoTrouble (new.port port.0) → TellsNoTrouble v }
     ensures back { (port : Port) (v : ℕ) → TellsNoTrouble v → ClearsNoTrouble port (Px port Is) v }
     ensures healthy { (p : PortState) → RunsWell p → ShowsNoTrouble p }
-    ensures found { (port : Port) (v : ℕ) (old new : Device) → old.hr ≡ false → Reads (Px port Is) v old new → TellsNoTrouble v
-        → RunsWell (old.port port.0) → Undisturbed port.0 old new × RunsWell (new.port port.0) }
+    ensures found { (port : Port) (v : ℕ) (old new : Device) → old.hr ≡ false → Reads (Px port Is) v old new
+        → TellsNoTrouble v → RunsWell (old.port port.0) → Undisturbed port.0 old new × RunsWell (new.port port.0) }
     ensures both { (port : Port) (v errors : ℕ) (old mid new : Device) → old.hr ≡ false → Reads (Px port Is) v old mid
         → Reads (Px port Serr) errors mid new → ((place : ℕ) → 27 ≤ place → place ≤ 30 → bit v place ≡ false)
         → bit errors 16 ≡ false → bit errors 26 ≡ false → RunsWell (old.port port.0)
         → Undisturbed port.0 old mid × RunsWell (mid.port port.0) }
 {}
 
-/// And each error sets bits of its own, which stay until PxIS is written, while no reset is pending: where TFES, bit 30, is clear, it was,
-/// and no fault of the port came; and where 27 to 29 are clear, they were, and no fatal error came.
+/// And each error sets bits of its own, which stay until PxIS is written, while no reset is pending: where TFES, bit
+/// 30, is clear, it was, and no fault of the port came; and where 27 to 29 are clear, they were, and no fatal error
+/// came.
 pub fn errors_are_shown()
     ensures fault { (port : ℕ) (old new : Device) → old.hr ≡ false → Steps old new → (new.port port).is 30 ≡ false
         → ((old.port port).is 30 ≡ false) × NoneFails port old new }
-    ensures fault_access { (port : Port) (access : Access) (old new : Device) → old.hr ≡ false → SparesRegister (Px port Is) access
-        → Does access old new → (new.port port.0).is 30 ≡ false → ((old.port port.0).is 30 ≡ false) × NoneFails port.0 old new }
+    ensures fault_access { (port : Port) (access : Access) (old new : Device) → old.hr ≡ false
+        → SparesRegister (Px port Is) access → Does access old new → (new.port port.0).is 30 ≡ false
+        → ((old.port port.0).is 30 ≡ false) × NoneFails port.0 old new }
     ensures fatal { (port : ℕ) (old new : Device) → old.hr ≡ false → Steps old new
         → ((place : ℕ) → 27 ≤ place → place ≤ 29 → (new.port port).is place ≡ false)
         → ((place : ℕ) → 27 ≤ place → place ≤ 29 → (old.port port).is place ≡ false) × NoneFatal port old new }
-    ensures fatal_access { (port : Port) (access : Access) (old new : Device) → old.hr ≡ false → SparesRegister (Px port Is) access
-        → Does access old new → ((place : ℕ) → 27 ≤ place → place ≤ 29 → (new.port port.0).is place ≡ false)
+    ensures fatal_access { (port : Port) (access : Access) (old new : Device) → old.hr ≡ false
+        → SparesRegister (Px port Is) access → Does access old new
+        → ((place : ℕ) → 27 ≤ place → place ≤ 29 → (new.port port.0).is place ≡ false)
         → ((place : ℕ) → 27 ≤ place → place ≤ 29 → (old.port port.0).is place ≡ false) × NoneFatal port.0 old new }
 {
     steps_keep();
@@ -263,9 +278,9 @@ pub fn link_comes_up()
         → v % 16 ≡ 3 → IsComingUp (old.port port.0) → IsUp (new.port port.0) }
     ensures stays { (port : ℕ) (old new : Device) → old.hr ≡ false → (old.port port).cr ≡ false → PlugsNone port old new
         → Steps old new → IsUp (old.port port) → IsUp (new.port port) }
-    ensures stays_access { (port : Port) (access : Access) (old new : Device) → old.hr ≡ false → (old.port port.0).cr ≡ false
-        → SetsNoStart port access → SparesRegister (Px port Sctl) access → PlugsNone port.0 old new → Does access old new
-        → IsUp (old.port port.0) → IsUp (new.port port.0) }
+    ensures stays_access { (port : Port) (access : Access) (old new : Device) → old.hr ≡ false
+        → (old.port port.0).cr ≡ false → SetsNoStart port access → SparesRegister (Px port Sctl) access
+        → PlugsNone port.0 old new → Does access old new → IsUp (old.port port.0) → IsUp (new.port port.0) }
     ensures undisturbed { (port : ℕ) (old new : Device) → old.hr ≡ false → Undisturbed port old new → Steps old new
         → IsUp (old.port port) → IsUp (new.port port) }
     ensures undisturbed_access { (port : Port) (access : Access) (old new : Device) → old.hr ≡ false
@@ -277,8 +292,8 @@ pub fn link_comes_up()
 /// or comes: the port is started. So it stays, unless the tape tells of a disturbance of the port, whatever else the
 /// device does, and over each access that neither clears ST nor writes PxSCTL. Where no bit tells of trouble, it runs
 /// well; and so it does where PxIS is read with none. So where ST is set with the link up, and PxIS is read with no
-/// trouble right after that, the port runs well, whatever the tape tells. A port that was started has its link up, unless
-/// COMRESET is being sent: so it may be stopped and started again.
+/// trouble right after that, the port runs well, whatever the tape tells. A port that was started has its link up,
+/// unless COMRESET is being sent: so it may be stopped and started again.
 pub fn running_well_is_found()
     ensures starts { (port : Port) (v : ℕ) (old new : Device) → old.hr ≡ false → (old.port port.0).st ≡ false
         → (old.port port.0).cr ≡ false → bit v 0 ≡ true → Writes (Px port Cmd) v old new → IsUp (old.port port.0)
@@ -291,8 +306,8 @@ pub fn running_well_is_found()
     ensures well { (p : PortState) → IsStarted p → ShowsNoTrouble p → RunsWell p }
     ensures started { (p : PortState) → RunsWell p → IsStarted p }
     ensures up { (p : PortState) → IsStarted p → p.sctl_det ≢ 1 → IsUp p }
-    ensures told { (port : Port) (v : ℕ) (old new : Device) → old.hr ≡ false → Reads (Px port Is) v old new → TellsNoTrouble v
-        → IsStarted (old.port port.0) → RunsWell (new.port port.0) }
+    ensures told { (port : Port) (v : ℕ) (old new : Device) → old.hr ≡ false → Reads (Px port Is) v old new
+        → TellsNoTrouble v → IsStarted (old.port port.0) → RunsWell (new.port port.0) }
     ensures found { (port : Port) (v causes : ℕ) (old mid new : Device) → old.hr ≡ false → (old.port port.0).st ≡ false
         → (old.port port.0).cr ≡ false → bit v 0 ≡ true → IsUp (old.port port.0) → Writes (Px port Cmd) v old mid
         → Reads (Px port Is) causes mid new → TellsNoTrouble causes → RunsWell (new.port port.0) }
@@ -304,34 +319,36 @@ pub fn a_boot_runs_well()
     ensures { BootIsFound }
 {}
 
-/// While no reset is pending and no link of the port is due, as on a port that runs: each bit that tells of trouble
-/// and is clear stays so, unless the tape tells of a disturbance of the port, whatever else the device does, and over
-/// each access. So where none is set, none is then. Those of PxIS rise with their own errors alone, whatever the link
-/// does, and also where a reset is pending or ends: 27 to 29 only where the tape tells of a fatal error of the port, and
-/// 30 only where it tells of a fault of it.
+/// While no reset is pending and no link of the port is due, as on a port that runs: each bit that tells of trouble and
+/// is clear stays so, unless the tape tells of a disturbance of the port, whatever else the device does, and over each
+/// access. So where none is set, none is then. Those of PxIS rise with their own errors alone, whatever the link does,
+/// and also where a reset is pending or ends: 27 to 29 only where the tape tells of a fatal error of the port, and 30
+/// only where it tells of a fault of it.
 pub fn cleared_stays()
-    ensures steps { (port : ℕ) (old new : Device) → old.hr ≡ false → (old.port port).link_due ≡ false → Undisturbed port old new
-        → Steps old new → StaysClear (old.port port) (new.port port) }
-    ensures access { (port : Port) (access : Access) (old new : Device) → old.hr ≡ false → (old.port port.0).link_due ≡ false
-        → Undisturbed port.0 old new → Does access old new → StaysClear (old.port port.0) (new.port port.0) }
+    ensures steps { (port : ℕ) (old new : Device) → old.hr ≡ false → (old.port port).link_due ≡ false
+        → Undisturbed port old new → Steps old new → StaysClear (old.port port) (new.port port) }
+    ensures access { (port : Port) (access : Access) (old new : Device) → old.hr ≡ false
+        → (old.port port.0).link_due ≡ false → Undisturbed port.0 old new → Does access old new
+        → StaysClear (old.port port.0) (new.port port.0) }
     ensures none { (p new : PortState) → StaysClear p new → ShowsNoTrouble p → ShowsNoTrouble new }
     ensures causes { (port : ℕ) (old new : Device) → Steps old new → ChangesByErrors port old new }
     ensures causes_access { (port : Port) (access : Access) (old new : Device) → Does access old new
         → ChangesByErrors port.0 old new }
 {}
 
-/// Where nothing goes wrong in each of two parts of a call, nothing does in the whole; and where nothing does in the whole,
-/// nothing does in the parts.
+/// Where nothing goes wrong in each of two parts of a call, nothing does in the whole; and where nothing does in the
+/// whole, nothing does in the parts.
 pub fn calm_composes()
     ensures none { (port : ℕ) (d : Device) → Undisturbed port d d }
-    ensures more { (port : ℕ) (old mid new : Device) → Undisturbed port old mid → Undisturbed port mid new → Undisturbed port old new }
+    ensures more { (port : ℕ) (old mid new : Device) → Undisturbed port old mid → Undisturbed port mid new
+        → Undisturbed port old new }
     ensures parts { (port : ℕ) (old mid new : Device) (early late : List Entry) → mid.tape ≡ old.tape ++ early
         → new.tape ≡ mid.tape ++ late → Undisturbed port old new → Undisturbed port old mid × Undisturbed port mid new }
 {}
 
-/// What the adapter is stays over each access: its memory's size, its capabilities and its ports; and so over one stretch after another. One
-/// that is switched on, with no reset pending, stays so over each access but a write of GHC that clears AE or sets HR, and over any that
-/// don't write it.
+/// What the adapter is stays over each access: its memory's size, its capabilities and its ports; and so over one
+/// stretch after another. One that is switched on, with no reset pending, stays so over each access but a write of GHC
+/// that clears AE or sets HR, and over any that don't write it.
 pub fn adapter_stays()
     ensures same { (access : Access) (old new : Device) → Does access old new → SameAdapter old new }
     ensures same_none { (d : Device) → SameAdapter d d }
@@ -344,11 +361,12 @@ pub fn adapter_stays()
 
 /// While no reset is pending, a write of GHC with AE and without HR switches the adapter on.
 pub fn switching_on()
-    ensures { (v : ℕ) (old new : Device) → old.hr ≡ false → bit v 31 ≡ true → bit v 0 ≡ false → Writes Ghc v old new → IsOn new }
+    ensures { (v : ℕ) (old new : Device) → old.hr ≡ false → bit v 31 ≡ true → bit v 0 ≡ false → Writes Ghc v old new
+        → IsOn new }
 {}
 
-/// A load is steps of the device, and a store is such steps with memory changed after them: so what holds of ports and of the tape over
-/// the device's steps holds over loads and stores.
+/// A load is steps of the device, and a store is such steps with memory changed after them: so what holds of ports and
+/// of the tape over the device's steps holds over loads and stores.
 pub fn loads_and_stores_leave_ports()
     ensures load { (at : ℕ) (bytes : List ℕ) (old new : Device) → Loads at bytes old new → Steps old new }
     ensures store { (at : ℕ) (bytes : List ℕ) (old new : Device) → Stores at bytes old new
@@ -356,15 +374,16 @@ pub fn loads_and_stores_leave_ports()
         × (new.hr ≡ mid.hr) }
 {}
 
-/// While no reset is pending, what the driver has written of a port's controls stays over each access but a write of the register: ST
-/// and FRE, and when ST was set, and a port that runs goes on running; DET of PxSCTL, and when it was written; PxIE; and the addresses.
+/// While no reset is pending, what the driver has written of a port's controls stays over each access but a write of
+/// the register: ST and FRE, and when ST was set, and a port that runs goes on running; DET of PxSCTL, and when it was
+/// written; PxIE; and the addresses.
 pub fn controls_stay()
     ensures { (port : Port) (access : Access) (old new : Device) → old.hr ≡ false → Does access old new
         → LeavesControls access port (old.port port.0) (new.port port.0) }
 {}
 
-/// And a write of the register sets it: ST and FRE of PxCMD, and with ST going to 1 also CR, and when it was set; DET of PxSCTL, and when
-/// it was written; PxIE; and the addresses.
+/// And a write of the register sets it: ST and FRE of PxCMD, and with ST going to 1 also CR, and when it was set; DET
+/// of PxSCTL, and when it was written; PxIE; and the addresses.
 pub fn controls_are_set()
     ensures command { (port : Port) (v : ℕ) (old new : Device) → Writes (Px port Cmd) v old new
         → ((new.port port.0).st ≡ bit v 0) × ((new.port port.0).fre ≡ bit v 4) }
@@ -373,7 +392,8 @@ pub fn controls_are_set()
         → ((new.port port.0).cr ≡ true) × ((new.port port.0).notes.st_set_at ≡ length new.tape) }
     ensures control { (port : Port) (v : ℕ) (old new : Device) → Writes (Px port Sctl) v old new
         → ((new.port port.0).sctl_det ≡ v % 16) × ((new.port port.0).notes.sctl_written_at ≡ length new.tape) }
-    ensures interrupts { (port : Port) (v : ℕ) (old new : Device) → Writes (Px port Ie) v old new → (new.port port.0).ie ≡ v }
+    ensures interrupts { (port : Port) (v : ℕ) (old new : Device) → Writes (Px port Ie) v old new
+        → (new.port port.0).ie ≡ v }
     ensures list { (port : Port) (v : ℕ) (old new : Device) → Writes (Px port Clb) v old new
         → ((new.port port.0).bases.clb ≡ v) × ((new.port port.0).bases.clb_set ≡ true) }
     ensures list_upper { (port : Port) (v : ℕ) (old new : Device) → Writes (Px port Clbu) v old new
@@ -384,18 +404,21 @@ pub fn controls_are_set()
         → (new.port port.0).bases.fbu_set ≡ true }
 {}
 
-/// Where the tape tells of no disk of the port that goes or comes in two parts of a call, it tells of none in the whole, and the other
-/// way round; where nothing goes wrong, it tells of none either.
+/// Where the tape tells of no disk of the port that goes or comes in two parts of a call, it tells of none in the
+/// whole, and the other way round; where nothing goes wrong, it tells of none either.
 pub fn plugging_composes()
     ensures none { (port : ℕ) (d : Device) → PlugsNone port d d }
-    ensures more { (port : ℕ) (old mid new : Device) → PlugsNone port old mid → PlugsNone port mid new → PlugsNone port old new }
+    ensures more { (port : ℕ) (old mid new : Device) → PlugsNone port old mid → PlugsNone port mid new
+        → PlugsNone port old new }
     ensures parts { (port : ℕ) (old mid new : Device) (early late : List Entry) → mid.tape ≡ old.tape ++ early
         → new.tape ≡ mid.tape ++ late → PlugsNone port old new → PlugsNone port old mid × PlugsNone port mid new }
     ensures calm { (port : ℕ) (old new : Device) → Undisturbed port old new → PlugsNone port old new }
 {}
 
-/// While no reset is pending, N of PxSERR tells each disk that goes or comes, until PxSERR is written: where it is 0 after the device's
-/// steps or an access, or is read 0, no disk of the port went or came, and it was 0 before.
+/// While no reset is pending, N of PxSERR tells each disk that goes or comes, until PxSERR is written: where it is 0
+/// after the device's steps or an access, or is read 0, no disk of the port went or came, and it was 0 before. A disk
+/// that goes and comes between the link's coming up and the clearing of PxSERR sets N alone, which the link may have
+/// set, too: that is found only where N is read 0 before it is cleared.
 pub fn plugging_is_found()
     ensures steps { (port : ℕ) (old new : Device) → old.hr ≡ false → Steps old new → (new.port port).serr_n ≡ false
         → ((old.port port).serr_n ≡ false) × PlugsNone port old new }
@@ -407,8 +430,8 @@ pub fn plugging_is_found()
         → ((new.port port.0).serr_n ≡ false) × ((old.port port.0).serr_n ≡ false) × PlugsNone port.0 old new }
 {}
 
-/// Where the tape tells of no disk of the port that goes or comes, the same disk is in, or out, whatever else the device does, also
-/// over a reset of the adapter that ends, and over each access.
+/// Where the tape tells of no disk of the port that goes or comes, the same disk is in, or out, whatever else the
+/// device does, also over a reset of the adapter that ends, and over each access.
 pub fn disk_stays()
     ensures steps { (port : ℕ) (old new : Device) → Steps old new → PlugsNone port old new
         → LeavesDisk (old.port port) (new.port port) }
@@ -416,36 +439,39 @@ pub fn disk_stays()
         → LeavesDisk (old.port port) (new.port port) }
 {}
 
-/// Where the tape tells of no disk of the port that goes or comes, and no reset is pending, the port's link stays as it was, or one that
-/// was due has come up: whatever else the device does, and over each access but a write of PxSCTL.
+/// Where the tape tells of no disk of the port that goes or comes, and no reset is pending, the port's link stays as it
+/// was, or one that was due has come up: whatever else the device does, and over each access but a write of PxSCTL.
 pub fn link_stays()
     ensures steps { (port : ℕ) (old new : Device) → old.hr ≡ false → Steps old new → PlugsNone port old new
         → LeavesLink (old.port port) (new.port port) }
-    ensures access { (port : Port) (access : Access) (old new : Device) → old.hr ≡ false → SparesRegister (Px port Sctl) access
-        → Does access old new → PlugsNone port.0 old new → LeavesLink (old.port port.0) (new.port port.0) }
+    ensures access { (port : Port) (access : Access) (old new : Device) → old.hr ≡ false
+        → SparesRegister (Px port Sctl) access → Does access old new → PlugsNone port.0 old new
+        → LeavesLink (old.port port.0) (new.port port.0) }
 {}
 
-/// While no reset is pending, a port whose PxSSTS.DET is 3 or that has no disk in goes on so: a disk that comes shows at
-/// once, and so does a link that comes up. Whatever the device does, and over each access but a write of PxSCTL.
+/// While no reset is pending, a port whose PxSSTS.DET is 3 or that has no disk in goes on so: a disk that comes shows
+/// at once, and so does a link that comes up. Whatever the device does, and over each access but a write of PxSCTL.
 pub fn device_or_none_stays()
     ensures steps { (port : ℕ) (old new : Device) → old.hr ≡ false → Steps old new → HasDeviceOrNone (old.port port)
         → HasDeviceOrNone (new.port port) }
-    ensures access { (port : Port) (access : Access) (old new : Device) → old.hr ≡ false → SparesRegister (Px port Sctl) access
-        → Does access old new → HasDeviceOrNone (old.port port.0) → HasDeviceOrNone (new.port port.0) }
+    ensures access { (port : Port) (access : Access) (old new : Device) → old.hr ≡ false
+        → SparesRegister (Px port Sctl) access → Does access old new → HasDeviceOrNone (old.port port.0)
+        → HasDeviceOrNone (new.port port.0) }
 {}
 
-/// The faults of a port since its ST was set stand on the tape, and the task file shows the last one: so it stays, whatever the
-/// device does, over readings, and over each write that may be made, where ST is set on a quiet port alone: what is asked of the
-/// write stays so until it is made, and nothing is asked where commands are issued. Nor is it of any access that writes neither PxCMD nor
-/// PxSCTL of the port. So it is while ST is 0, on a port that runs, and on one
-/// that has failed.
+/// The faults of a port since its ST was set stand on the tape, and the task file shows the last one: so it stays,
+/// whatever the device does, over readings, and over each write that may be made, where ST is set on a quiet port
+/// alone: what is asked of the write stays so until it is made, and nothing is asked where commands are issued. Nor is
+/// it of any access that writes neither PxCMD nor PxSCTL of the port. So it is while ST is 0, on a port that runs, and
+/// on one that has failed.
 pub fn faults_are_recorded()
     ensures steps { (port : ℕ) (old new : Device) → Steps old new → IsRecorded old.tape (old.port port) port
         → IsRecorded new.tape (new.port port) port }
-    ensures reads { (port : ℕ) (r : Reg) (v : ℕ) (old new : Device) → Reads r v old new → IsRecorded old.tape (old.port port) port
+    ensures reads { (port : ℕ) (r : Reg) (v : ℕ) (old new : Device) → Reads r v old new
+        → IsRecorded old.tape (old.port port) port → IsRecorded new.tape (new.port port) port }
+    ensures writes { (port : ℕ) (r : Reg) (v : ℕ) (old new : Device) → Stays (MayWrite r v) old
+        → Stays (KeepsRecord r v) old → Writes r v old new → IsRecorded old.tape (old.port port) port
         → IsRecorded new.tape (new.port port) port }
-    ensures writes { (port : ℕ) (r : Reg) (v : ℕ) (old new : Device) → Stays (MayWrite r v) old → Stays (KeepsRecord r v) old
-        → Writes r v old new → IsRecorded old.tape (old.port port) port → IsRecorded new.tape (new.port port) port }
     ensures issues { (port : ℕ) (at : Port) (v : ℕ) (old new : Device) → Writes (Px at Ci) v old new
         → IsRecorded old.tape (old.port port) port → IsRecorded new.tape (new.port port) port }
     ensures access { (port : Port) (access : Access) (old new : Device) → SparesRegister (Px port Cmd) access
@@ -454,41 +480,46 @@ pub fn faults_are_recorded()
     ensures asked { (r : Reg) (v : ℕ) (d : Device) → d.hr ≡ false → KeepsRecord r v d → Stays (KeepsRecord r v) d }
     ensures idle { (tape : List Entry) (p : PortState) (port : ℕ) → p.st ≡ false → IsRecorded tape p port }
     ensures runs { HasFaults first_read.tape (first_read.port 0) 0 }
-    ensures failed { (new : Device) × Steps first_read new × ((new.port 0).halt ≡ HaltedPlain) × HasFaults new.tape (new.port 0) 0 }
+    ensures failed { (new : Device) × Steps first_read new × ((new.port 0).halt ≡ HaltedPlain)
+        × HasFaults new.tape (new.port 0) 0 }
 {}
 
-/// From COMRESET until the link comes up the engine stands, and the task file shows DRQ: COMRESET begins it, and so does a reset of the
-/// adapter; and so it stays, whatever the device does, over readings, over each write that may be made and keeps the record of faults, and
-/// over each access that writes neither PxCMD nor PxSCTL of the port. So it is where no link is due and PxSCTL.DET isn't 1, as on a port that runs.
+/// From COMRESET until the link comes up the engine stands, and the task file shows DRQ: COMRESET begins it, and so
+/// does a reset of the adapter; and so it stays, whatever the device does, over readings, over each write that may be
+/// made and keeps the record of faults, and over each access that writes neither PxCMD nor PxSCTL of the port. So it is
+/// where no link is due and PxSCTL.DET isn't 1, as on a port that runs.
 pub fn link_is_awaited()
     ensures begins { (port : Port) (v : ℕ) (old new : Device) → (old.port port.0).cr ≡ false → v % 16 ≡ 1
         → Writes (Px port Sctl) v old new → IsAwaited (new.port port.0) }
-    ensures steps { (port : ℕ) (old new : Device) → Steps old new → IsAwaited (old.port port) → IsAwaited (new.port port) }
+    ensures steps { (port : ℕ) (old new : Device) → Steps old new → IsAwaited (old.port port)
+        → IsAwaited (new.port port) }
     ensures reads { (port : ℕ) (r : Reg) (v : ℕ) (old new : Device) → Reads r v old new → IsAwaited (old.port port)
         → IsAwaited (new.port port) }
-    ensures writes { (port : ℕ) (r : Reg) (v : ℕ) (old new : Device) → Stays (MayWrite r v) old → Stays (KeepsRecord r v) old
-        → Writes r v old new → IsAwaited (old.port port) → IsAwaited (new.port port) }
+    ensures writes { (port : ℕ) (r : Reg) (v : ℕ) (old new : Device) → Stays (MayWrite r v) old
+        → Stays (KeepsRecord r v) old → Writes r v old new → IsAwaited (old.port port) → IsAwaited (new.port port) }
     ensures access { (port : Port) (access : Access) (old new : Device) → SparesRegister (Px port Cmd) access
-        → SparesRegister (Px port Sctl) access → Does access old new → IsAwaited (old.port port.0) → IsAwaited (new.port port.0) }
+        → SparesRegister (Px port Sctl) access → Does access old new → IsAwaited (old.port port.0)
+        → IsAwaited (new.port port.0) }
     ensures reset { (v : ℕ) (old new : Device) → old.hr ≡ true → Reads Ghc v old new → bit v 0 ≡ false
         → (port : ℕ) → IsAwaited (new.port port) }
     ensures undue { (p : PortState) → p.link_due ≡ false → p.sctl_det ≢ 1 → IsAwaited p }
     ensures runs { IsAwaited (first_read.port 0) }
 {}
 
-/// A port is quiet, so that ST may be set and faults go on to be recorded: PxIS is written with TFES while the engine stands,
-/// TFD is read without DRQ, and then it stays so, whatever the device does, over readings, and over writes that neither set its ST
-/// nor send COMRESET on it.
+/// A port is quiet, so that ST may be set and faults go on to be recorded: PxIS is written with TFES while the engine
+/// stands, TFD is read without DRQ, and then it stays so, whatever the device does, over readings, and over writes that
+/// neither set its ST nor send COMRESET on it.
 pub fn quiet_is_found()
     ensures cleared { (port : Port) (v : ℕ) (old new : Device) → (old.port port.0).cr ≡ false → bit v 30 ≡ true
         → Writes (Px port Is) v old new → IsUnflagged (new.port port.0) }
-    ensures steps { (port : ℕ) (old new : Device) → Steps old new → IsUnflagged (old.port port) → IsUnflagged (new.port port) }
+    ensures steps { (port : ℕ) (old new : Device) → Steps old new → IsUnflagged (old.port port)
+        → IsUnflagged (new.port port) }
     ensures reads { (port : ℕ) (r : Reg) (v : ℕ) (old new : Device) → Reads r v old new → IsUnflagged (old.port port)
         → IsUnflagged (new.port port) }
     ensures writes { (port : Port) (r : Reg) (v : ℕ) (old new : Device) → (r ≡ Px port Cmd → bit v 0 ≡ false)
         → Writes r v old new → IsUnflagged (old.port port.0) → IsUnflagged (new.port port.0) }
-    ensures found { (port : Port) (v : ℕ) (old new : Device) → IsAwaited (old.port port.0) → IsUnflagged (old.port port.0)
-        → Reads (Px port Tfd) v old new → bit v 3 ≡ false → IsQuiet (new.port port.0) }
+    ensures found { (port : Port) (v : ℕ) (old new : Device) → IsAwaited (old.port port.0)
+        → IsUnflagged (old.port port.0) → Reads (Px port Tfd) v old new → bit v 3 ≡ false → IsQuiet (new.port port.0) }
     ensures stays { (port : ℕ) (old new : Device) → Steps old new → IsQuiet (old.port port) → IsQuiet (new.port port) }
     ensures stays_read { (port : ℕ) (r : Reg) (v : ℕ) (old new : Device) → Reads r v old new → IsQuiet (old.port port)
         → IsQuiet (new.port port) }
@@ -497,9 +528,10 @@ pub fn quiet_is_found()
     ensures exists { IsQuiet (first_read.port 1) }
 {}
 
-/// A fault has halted a running port: TFES of PxIS tells it, and so it stays while ST is 1, whatever the device does, over readings,
-/// and over writes, PxIS among them. TFD then shows status and error of the port's last fault since ST was set. And where the machine
-/// agrees with the device, the slot of a fault that the task file shows, which is still in use, isn't a free one.
+/// A fault has halted a running port: TFES of PxIS tells it, and so it stays while ST is 1, whatever the device does,
+/// over readings, and over writes, PxIS among them. TFD then shows status and error of the port's last fault since ST
+/// was set. And where the machine agrees with the device, the slot of a fault that the task file shows, which is still
+/// in use, isn't a free one.
 pub fn fault_is_found()
     ensures told { (port : Port) (v : ℕ) (old new : Device) → old.hr ≡ false → (old.port port.0).st ≡ true
         → IsRecorded old.tape (old.port port.0) port.0 → Reads (Px port Is) v old new → bit v 30 ≡ true
@@ -514,47 +546,53 @@ pub fn fault_is_found()
         → IsRecorded old.tape (old.port port) port → IsFaulted (old.port port).halt → Writes r v old new
         → IsFaulted (new.port port).halt }
     ensures shown { (port : Port) (v : ℕ) (old new : Device) → old.hr ≡ false → (old.port port.0).st ≡ true
-        → IsRecorded old.tape (old.port port.0) port.0 → IsFaulted (old.port port.0).halt → Reads (Px port Tfd) v old new
+        → IsRecorded old.tape (old.port port.0) port.0 → IsFaulted (old.port port.0).halt
+        → Reads (Px port Tfd) v old new
         → (s : ShowsFault (drop (new.port port.0).notes.st_set_at new.tape) (new.port port.0) port.0)
         × (v % 256 ≡ s.fault.status) × (v / 256 % 256 ≡ s.fault.error) }
     ensures slot { (uses : Uses) (m : Machine) (d : Device) (port : ℕ) (entries : List Entry) → Agrees uses m d
         → (s : ShowsFault entries (d.port port) port) → uses port s.fault.slot.0 ≢ Free }
 {}
 
-/// While no reset is pending, each bit of PxIS that is set stays so until PxIS is written, and N and X of PxSERR until that is: whatever
-/// the device does, and over each access.
+/// While no reset is pending, each bit of PxIS that is set stays so until PxIS is written, and N and X of PxSERR until
+/// that is: whatever the device does, and over each access.
 pub fn errors_are_kept()
-    ensures steps { (port : ℕ) (old new : Device) → old.hr ≡ false → Steps old new → KeepsErrors (old.port port) (new.port port) }
-    ensures causes { (port : Port) (access : Access) (old new : Device) → old.hr ≡ false → SparesRegister (Px port Is) access
-        → Does access old new → (place : ℕ) → (old.port port.0).is place ≡ true → (new.port port.0).is place ≡ true }
-    ensures errors { (port : Port) (access : Access) (old new : Device) → old.hr ≡ false → SparesRegister (Px port Serr) access
-        → Does access old new
+    ensures steps { (port : ℕ) (old new : Device) → old.hr ≡ false → Steps old new
+        → KeepsErrors (old.port port) (new.port port) }
+    ensures causes { (port : Port) (access : Access) (old new : Device) → old.hr ≡ false
+        → SparesRegister (Px port Is) access → Does access old new → (place : ℕ) → (old.port port.0).is place ≡ true
+        → (new.port port.0).is place ≡ true }
+    ensures errors { (port : Port) (access : Access) (old new : Device) → old.hr ≡ false
+        → SparesRegister (Px port Serr) access → Does access old new
         → ((old.port port.0).serr_n ≡ true → (new.port port.0).serr_n ≡ true)
         × ((old.port port.0).serr_x ≡ true → (new.port port.0).serr_x ≡ true) }
 {}
 
-/// While no reset is pending and no link of the port is due, N of PxSERR rises only for a disk that goes or comes, and X only for one
-/// that comes; and where PxSSTS.DET is 3 and no disk has come, it was 3 before, and none has gone: whatever the device does, and over
-/// each access, and over one stretch after another. No link is due then either, but after a write of PxSCTL.
+/// While no reset is pending and no link of the port is due, N of PxSERR rises only for a disk that goes or comes, and
+/// X only for one that comes; and where PxSSTS.DET is 3 and no disk has come, it was 3 before, and none has gone:
+/// whatever the device does, and over each access, and over one stretch after another. No link is due then either, but
+/// after a write of PxSCTL.
 pub fn errors_rise_by_disks()
     ensures steps { (port : ℕ) (old new : Device) → old.hr ≡ false → (old.port port).link_due ≡ false → Steps old new
         → ChangesByDisks port old new }
-    ensures access { (port : Port) (access : Access) (old new : Device) → old.hr ≡ false → (old.port port.0).link_due ≡ false
-        → Does access old new → ChangesByDisks port.0 old new }
+    ensures access { (port : Port) (access : Access) (old new : Device) → old.hr ≡ false
+        → (old.port port.0).link_due ≡ false → Does access old new → ChangesByDisks port.0 old new }
     ensures none { (port : ℕ) (d : Device) → ChangesByDisks port d d }
     ensures more { (port : ℕ) (old mid new : Device) → Grows old mid → Grows mid new → ChangesByDisks port old mid
         → ChangesByDisks port mid new → ChangesByDisks port old new }
     ensures due { (port : ℕ) (old new : Device) → old.hr ≡ false → (old.port port).link_due ≡ false → Steps old new
         → (new.port port).link_due ≡ false }
-    ensures due_access { (port : Port) (access : Access) (old new : Device) → old.hr ≡ false → (old.port port.0).link_due ≡ false
-        → SparesRegister (Px port Sctl) access → Does access old new → (new.port port.0).link_due ≡ false }
+    ensures due_access { (port : Port) (access : Access) (old new : Device) → old.hr ≡ false
+        → (old.port port.0).link_due ≡ false → SparesRegister (Px port Sctl) access → Does access old new
+        → (new.port port.0).link_due ≡ false }
 {}
 
-/// Where the tape tells of no disk of the port that comes in two parts of a call, it tells of none in the whole, and the other way
-/// round; where none goes or comes, none comes.
+/// Where the tape tells of no disk of the port that comes in two parts of a call, it tells of none in the whole, and
+/// the other way round; where none goes or comes, none comes.
 pub fn coming_composes()
     ensures none { (port : ℕ) (d : Device) → NoneComes port d d }
-    ensures more { (port : ℕ) (old mid new : Device) → NoneComes port old mid → NoneComes port mid new → NoneComes port old new }
+    ensures more { (port : ℕ) (old mid new : Device) → NoneComes port old mid → NoneComes port mid new
+        → NoneComes port old new }
     ensures parts { (port : ℕ) (old mid new : Device) (early late : List Entry) → mid.tape ≡ old.tape ++ early
         → new.tape ≡ mid.tape ++ late → NoneComes port old new → NoneComes port old mid × NoneComes port mid new }
     ensures plugs { (port : ℕ) (old new : Device) → PlugsNone port old new → NoneComes port old new }
@@ -564,25 +602,27 @@ pub fn coming_composes()
 /// other way round; where nothing goes wrong, it tells of none either.
 pub fn fatal_errors_compose()
     ensures none { (port : ℕ) (d : Device) → NoneFatal port d d }
-    ensures more { (port : ℕ) (old mid new : Device) → NoneFatal port old mid → NoneFatal port mid new → NoneFatal port old new }
+    ensures more { (port : ℕ) (old mid new : Device) → NoneFatal port old mid → NoneFatal port mid new
+        → NoneFatal port old new }
     ensures parts { (port : ℕ) (old mid new : Device) (early late : List Entry) → mid.tape ≡ old.tape ++ early
         → new.tape ≡ mid.tape ++ late → NoneFatal port old new → NoneFatal port old mid × NoneFatal port mid new }
     ensures calm { (port : ℕ) (old new : Device) → Undisturbed port old new → NoneFatal port old new }
 {}
 
-/// Where the tape tells of no fault of the port in two parts of a call, it tells of none in the whole, and the other way
-/// round; where nothing goes wrong, it tells of none either.
+/// Where the tape tells of no fault of the port in two parts of a call, it tells of none in the whole, and the other
+/// way round; where nothing goes wrong, it tells of none either.
 pub fn faults_compose()
     ensures none { (port : ℕ) (d : Device) → NoneFails port d d }
-    ensures more { (port : ℕ) (old mid new : Device) → NoneFails port old mid → NoneFails port mid new → NoneFails port old new }
+    ensures more { (port : ℕ) (old mid new : Device) → NoneFails port old mid → NoneFails port mid new
+        → NoneFails port old new }
     ensures parts { (port : ℕ) (old mid new : Device) (early late : List Entry) → mid.tape ≡ old.tape ++ early
         → new.tape ≡ mid.tape ++ late → NoneFails port old new → NoneFails port old mid × NoneFails port mid new }
     ensures calm { (port : ℕ) (old new : Device) → Undisturbed port old new → NoneFails port old new }
 {}
 
-/// While a port's engine stands, no move, clearing, end, fault or fatal error of the port comes; and where no disk comes either, the disk
-/// holds what it did: whatever the device does, also over a reset of the adapter that ends, and over each access, also the write of ST
-/// itself.
+/// While a port's engine stands, no move, clearing, end, fault or fatal error of the port comes; and where no disk
+/// comes either, the disk holds what it did: whatever the device does, also over a reset of the adapter that ends, and
+/// over each access, also the write of ST itself.
 pub fn halted_is_silent()
     ensures steps { (port : ℕ) (old new : Device) (gained : List Entry) → (old.port port).cr ≡ false → Steps old new
         → new.tape ≡ old.tape ++ gained → All (λ e. IsWork port e → ⊥) gained }
@@ -590,31 +630,32 @@ pub fn halted_is_silent()
         → Does access old new → new.tape ≡ old.tape ++ gained → All (λ e. IsWork port e → ⊥) gained }
     ensures disk { (port : ℕ) (old new : Device) → (old.port port).cr ≡ false → Steps old new → NoneComes port old new
         → (new.port port).disk ≡ (old.port port).disk }
-    ensures disk_access { (port : ℕ) (access : Access) (old new : Device) → (old.port port).cr ≡ false → Does access old new
-        → NoneComes port old new → (new.port port).disk ≡ (old.port port).disk }
+    ensures disk_access { (port : ℕ) (access : Access) (old new : Device) → (old.port port).cr ≡ false
+        → Does access old new → NoneComes port old new → (new.port port).disk ≡ (old.port port).disk }
 {}
 
-/// A write of PxSCTL with DET 1 sends COMRESET: no device shows in PxSSTS, and the status is 7Fh. While no reset is pending, one with
-/// DET 0 after it makes the link due, and no other write of PxSCTL does.
+/// A write of PxSCTL with DET 1 sends COMRESET: no device shows in PxSSTS, and the status is 7Fh. While no reset is
+/// pending, one with DET 0 after it makes the link due, and no other write of PxSCTL does.
 pub fn link_is_reset()
     ensures comreset { (port : Port) (v : ℕ) (old new : Device) → v % 16 ≡ 1 → Writes (Px port Sctl) v old new
         → ((new.port port.0).ssts_det ≡ 0) × ((new.port port.0).tfd % 256 ≡ 0x7f) }
-    ensures due { (port : Port) (v : ℕ) (old new : Device) → old.hr ≡ false → (old.port port.0).sctl_det ≡ 1 → v % 16 ≡ 0
-        → Writes (Px port Sctl) v old new → (new.port port.0).link_due ≡ true }
+    ensures due { (port : Port) (v : ℕ) (old new : Device) → old.hr ≡ false → (old.port port.0).sctl_det ≡ 1
+        → v % 16 ≡ 0 → Writes (Px port Sctl) v old new → (new.port port.0).link_due ≡ true }
     ensures undue { (port : Port) (v : ℕ) (old new : Device) → old.hr ≡ false → (old.port port.0).link_due ≡ false
-        → ((old.port port.0).sctl_det ≡ 1 → v % 16 ≢ 0) → Writes (Px port Sctl) v old new → (new.port port.0).link_due ≡ false }
+        → ((old.port port.0).sctl_det ≡ 1 → v % 16 ≢ 0) → Writes (Px port Sctl) v old new
+        → (new.port port.0).link_due ≡ false }
 {}
 
 /// A write of PxSERR clears N and X where it has their bits, 16 and 26, and one of PxIS clears each bit that it has.
 pub fn errors_are_cleared()
     ensures errors { (port : Port) (v : ℕ) (old new : Device) → Writes (Px port Serr) v old new
         → (bit v 16 ≡ true → (new.port port.0).serr_n ≡ false) × (bit v 26 ≡ true → (new.port port.0).serr_x ≡ false) }
-    ensures causes { (port : Port) (v : ℕ) (old new : Device) → Writes (Px port Is) v old new → (place : ℕ) → bit v place ≡ true
-        → (new.port port.0).is place ≡ false }
+    ensures causes { (port : Port) (v : ℕ) (old new : Device) → Writes (Px port Is) v old new → (place : ℕ)
+        → bit v place ≡ true → (new.port port.0).is place ≡ false }
 {}
 
-/// A reading of a port's register notes the value as the last one read. While no reset is pending it counts the readings in a row, too,
-/// as the adapter's notes do, and shows what the port has then.
+/// A reading of a port's register notes the value as the last one read. While no reset is pending it counts the
+/// readings in a row, too, as the adapter's notes do, and shows what the port has then.
 pub fn notes_are_set()
     ensures command { (port : Port) (v : ℕ) (old new : Device) → Reads (Px port Cmd) v old new
         → (new.port port.0).notes.last_cmd ≡ v }
@@ -628,14 +669,15 @@ pub fn notes_are_set()
         → (new.port port.0).notes.last_sact ≡ v }
     ensures signature { (port : Port) (v : ℕ) (old new : Device) → Reads (Px port Sig) v old new
         → (new.port port.0).notes.last_sig ≡ v }
-    ensures counts { (port : Port) (r : PortReg) (v : ℕ) (old new : Device) → old.hr ≡ false → Reads (Px port r) v old new
-        → (new.port port.0).notes ≡ note r v (old.port port.0) }
-    ensures shows { (port : Port) (r : PortReg) (v : ℕ) (old new : Device) → old.hr ≡ false → Reads (Px port r) v old new
-        → PortShows r v (new.port port.0) }
+    ensures counts { (port : Port) (r : PortReg) (v : ℕ) (old new : Device) → old.hr ≡ false
+        → Reads (Px port r) v old new → (new.port port.0).notes ≡ note r v (old.port port.0) }
+    ensures shows { (port : Port) (r : PortReg) (v : ℕ) (old new : Device) → old.hr ≡ false
+        → Reads (Px port r) v old new → PortShows r v (new.port port.0) }
 {}
 
-/// What the readings of a port noted stays, whatever the device does, and over each access: each value but for a reading of its
-/// register, and so its count; those of the link, of busy and of the command also but for a write of PxSCTL.
+/// What the readings of a port noted stays, whatever the device does, and over each access: each value but for a
+/// reading of its register, and so its count; those of the link, of busy and of the command also but for a write of
+/// PxSCTL.
 pub fn notes_stay()
     ensures steps { (port : ℕ) (old new : Device) → Steps old new → (new.port port).notes ≡ (old.port port).notes }
     ensures access { (port : Port) (access : Access) (old new : Device) → Does access old new

@@ -1,4 +1,5 @@
-// Laws of slots that are given up together, and of the slot of a fault: the clause is the theorem. Nothing that runs calls these functions.
+// Laws of slots that are given up together, and of the slot of a fault: the clause is the theorem. Nothing that runs
+// calls these functions.
 ghost use Rattle.std.specs.Prelude.{ℕ, true, false, ◌⊎◌, ◌≡◌, ◌≢◌, ◌<◌, List, Contains};
 ghost use Rattle.ata_types.specs.declared.request.RequestId.{RequestId};
 ghost use Rattle.adapter.specs.Device.{Device};
@@ -12,43 +13,49 @@ ghost use Rattle.agreement.specs.Facts.{IsHalted, ShowsFault};
 ghost use Rattle.agreement.specs.Slots.{Uses, Free, Serves, IsOver};
 ghost use Rattle.agreement.specs.GivingUp.{AreOver, served_ids, parking_all, IsOutstanding};
 
-/// Where all slots of a port are over, and none is armed on a running one, as on a port that has halted, the driver gives them all up
-/// at once: what it knows stays known. None of them is used then, other ports' are as they were, and exactly the requests that they
-/// served are parked beside those that were. No slot serves one of these then, nor one that none served before.
+/// Where all slots of a port are over, and none is armed on a running one, as on a port that has halted, the driver
+/// gives them all up at once: what it knows stays known. None of them is used then, other ports' are as they were, and
+/// exactly the requests that they served are parked beside those that were. No slot serves one of these then, nor one
+/// that none served before.
 pub fn slots_are_given_up()
     ensures over { (k : Known) (m : Machine) (port : ℕ) → Knows m k → AreOver k.uses (k.device.port port) port
         → Knows m (parking_all k port) }
-    ensures halted { (k : Known) (m : Machine) (port : ℕ) → Knows m k → IsHalted (k.device.port port) → Knows m (parking_all k port) }
+    ensures halted { (k : Known) (m : Machine) (port : ℕ) → Knows m k → IsHalted (k.device.port port)
+        → Knows m (parking_all k port) }
     ensures free { (k : Known) (port : ℕ) → AllFree (parking_all k port).uses port }
     ensures others { (k : Known) (port other : ℕ) → other ≢ port
         → ((parking_all k port).uses other ≡ k.uses other) × ((parking_all k port).parked other ≡ k.parked other) }
-    ensures parks { (k : Known) (m : Machine) (port slot : ℕ) (id : RequestId) → Agrees k.uses m k.device → k.uses port slot ≡ Serves id
+    ensures parks { (k : Known) (m : Machine) (port slot : ℕ) (id : RequestId) → Agrees k.uses m k.device
+        → k.uses port slot ≡ Serves id → Contains ((parking_all k port).parked port) id }
+    ensures keeps { (k : Known) (port : ℕ) (id : RequestId) → Contains (k.parked port) id
         → Contains ((parking_all k port).parked port) id }
-    ensures keeps { (k : Known) (port : ℕ) (id : RequestId) → Contains (k.parked port) id → Contains ((parking_all k port).parked port) id }
     ensures served { (uses : Uses) (port n : ℕ) (id : RequestId) → Contains (served_ids uses port n) id
         → (slot : ℕ) × (slot < n) × (uses port slot ≡ Serves id) }
     ensures frees { (k : Known) (port slot : ℕ) (id : RequestId) → AreApart k.uses → k.uses port slot ≡ Serves id
         → HasNoSlot (parking_all k port).uses id }
-    ensures leaves { (k : Known) (port : ℕ) (id : RequestId) → HasNoSlot k.uses id → HasNoSlot (parking_all k port).uses id }
+    ensures leaves { (k : Known) (port : ℕ) (id : RequestId) → HasNoSlot k.uses id
+        → HasNoSlot (parking_all k port).uses id }
 {}
 
-/// Where the machine agrees with the device, a slot in use is outstanding: so is the slot of a fault that the task file shows. Where
-/// every other slot is free, it is the one that isn't.
+/// Where the machine agrees with the device, a slot in use is outstanding: so is the slot of a fault that the task file
+/// shows. Where every other slot is free, it is the one that isn't.
 pub fn fault_is_outstanding()
     ensures used { (uses : Uses) (m : Machine) (d : Device) (port slot : ℕ) → Agrees uses m d → InUse (d.port port) slot
         → IsOutstanding uses m (d.port port) port slot }
     ensures shown { (uses : Uses) (m : Machine) (d : Device) (port : ℕ) (entries : List Entry) → Agrees uses m d
         → (s : ShowsFault entries (d.port port) port) → IsOutstanding uses m (d.port port) port s.fault.slot.0 }
     ensures sole { (uses : Uses) (m : Machine) (d : Device) (port slot : ℕ) (entries : List Entry) → Agrees uses m d
-        → (s : ShowsFault entries (d.port port) port) → ((other : ℕ) → other ≢ slot → uses port other ≡ Free) → s.fault.slot.0 ≡ slot }
+        → (s : ShowsFault entries (d.port port) port) → ((other : ℕ) → other ≢ slot → uses port other ≡ Free)
+        → s.fault.slot.0 ≡ slot }
 {}
 
 /// Of a port with ST 0 each bit of PxCI and PxSACT is clear. And a slot that serves a request and
 /// is over has ended it; or ST is 0, and it was given up unended.
 pub fn stopped_slots_tell()
-    ensures clear { (uses : Uses) (m : Machine) (d : Device) (port slot : ℕ) → Agrees uses m d → (d.port port).st ≡ false
-        → ((d.port port).ci slot ≡ false) × ((d.port port).sact slot ≡ false) }
-    ensures over { (uses : Uses) (m : Machine) (d : Device) (port slot : ℕ) (id : RequestId) → Agrees uses m d → uses port slot ≡ Serves id
-        → IsOver (d.port port) slot
-        → (e : Pending) × MayMove m e × (e.request.id ≡ id) × ((e.ended ≡ true) ⊎ (((d.port port).st ≡ false) × (e.ended ≡ false))) }
+    ensures clear { (uses : Uses) (m : Machine) (d : Device) (port slot : ℕ) → Agrees uses m d
+        → (d.port port).st ≡ false → ((d.port port).ci slot ≡ false) × ((d.port port).sact slot ≡ false) }
+    ensures over { (uses : Uses) (m : Machine) (d : Device) (port slot : ℕ) (id : RequestId) → Agrees uses m d
+        → uses port slot ≡ Serves id → IsOver (d.port port) slot
+        → (e : Pending) × MayMove m e × (e.request.id ≡ id)
+        × ((e.ended ≡ true) ⊎ (((d.port port).st ≡ false) × (e.ended ≡ false))) }
 {}

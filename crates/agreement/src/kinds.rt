@@ -1,5 +1,5 @@
-// Laws of stretches of accesses, whatever their kinds are, for the crates above: the clause is the theorem. A crate names its kinds by an
-// `impl`. Nothing calls these functions when it runs.
+// Laws of stretches of accesses, whatever their kinds are, for the crates above: the clause is the theorem. A crate
+// names its kinds by an `impl`. Nothing calls these functions when it runs.
 ghost use Rattle.std.specs.Prelude.{ℕ, None, false, ◌≡◌, ◌⊎◌, ◌++◌, [], ◌∷◌, List};
 ghost use Rattle.ata_types.specs.declared.Port.{Port};
 ghost use Rattle.hba_regs.specs.declared.reg.PortReg.{PortReg};
@@ -40,8 +40,8 @@ pub trait Kinds {
     ghost fits: { Kind → Uses → Type 0 };
 }
 
-/// Accesses that read a port's registers and write those of a set are the one or the other. They are of that port (`IsOf`), spare its other
-/// registers, and are so of each wider set.
+/// Accesses that read a port's registers and write those of a set are the one or the other. They are of that port
+/// (`IsOf`), spare its other registers, and are so of each wider set.
 pub fn controls_are_of_a_port<R: Registers>()
     ensures either { (set : R.Set) (port : Port) (access : Access) → IsControl (R.has set) port access
         → ((r : PortReg) × (v : ℕ) × (access ≡ Reading (Px port r) v))
@@ -53,64 +53,75 @@ pub fn controls_are_of_a_port<R: Registers>()
         → IsControl (R.has set) port access → IsControl (R.has more) port access }
 {}
 
-/// What is a stretch that is followed: no access is; and one of its kind is, where it is a reading, a load, a write that is permitted and
-/// leaves each slot to its use, or the issue of a command of the driver's own.
+/// What is a stretch that is followed: no access is; and one of its kind is, where it is a reading, a load, a write
+/// that is permitted and leaves each slot to its use, or the issue of a command of the driver's own.
 pub fn accesses_are_followed<K: Kinds>()
     ensures none { (kind : K.Kind) (d : Device) → IsTold (λ made. made ≡ []) (K.may kind) (K.fits kind) d d }
     ensures reads { (kind : K.Kind) (r : Reg) (v : ℕ) (old new : Device) → K.may kind (Reading r v) → Reads r v old new
         → IsTold (λ made. made ≡ Reading r v ∷ []) (K.may kind) (K.fits kind) old new }
     ensures loads { (kind : K.Kind) (at : ℕ) (bytes : List ℕ) (old new : Device) → K.may kind (Loading at bytes)
         → Loads at bytes old new → IsTold (λ made. made ≡ Loading at bytes ∷ []) (K.may kind) (K.fits kind) old new }
-    ensures writes { (kind : K.Kind) (r : Reg) (v : ℕ) (old new : Device) → K.may kind (Writing r v) → Stays (MayWrite r v) old
-        → ((uses : Uses) → K.fits kind uses → LeavesUses uses r v old) → Writes r v old new
+    ensures writes { (kind : K.Kind) (r : Reg) (v : ℕ) (old new : Device) → K.may kind (Writing r v)
+        → Stays (MayWrite r v) old → ((uses : Uses) → K.fits kind uses → LeavesUses uses r v old) → Writes r v old new
         → IsTold (λ made. made ≡ Writing r v ∷ []) (K.may kind) (K.fits kind) old new }
-    ensures asks { (kind : K.Kind) (port : Port) (o : Operation) (v : ℕ) (old new : Device) → K.may kind (Writing (Px port Ci) v)
-        → old.hr ≡ false → ((uses : Uses) → K.fits kind uses → IsOwnPrepared uses old port.0 o v) → Writes (Px port Ci) v old new
+    ensures asks { (kind : K.Kind) (port : Port) (o : Operation) (v : ℕ) (old new : Device)
+        → K.may kind (Writing (Px port Ci) v) → old.hr ≡ false
+        → ((uses : Uses) → K.fits kind uses → IsOwnPrepared uses old port.0 o v) → Writes (Px port Ci) v old new
         → IsFollowedTo (K.may kind) (K.fits kind) (λ uses. put uses port.0 0 (Own o)) old new }
 {}
 
-/// Stretches that are followed compose: by one after another, where the second is of the first's kind or a narrower one, and the uses that
-/// the first leads to fit it. One is so with each wider kind whose uses fit it. And a command of the driver's own that was issued meanwhile
-/// and is over leaves its slot.
+/// Stretches that are followed compose: by one after another, where the second is of the first's kind or a narrower
+/// one, and the uses that the first leads to fit it. One is so with each wider kind whose uses fit it. And a command of
+/// the driver's own that was issued meanwhile and is over leaves its slot.
 pub fn stretches_are_followed<K: Kinds>()
-    ensures both { (kind then : K.Kind) (first second : Uses → Uses) → ((access : Access) → K.may then access → K.may kind access)
+    ensures both { (kind then : K.Kind) (first second : Uses → Uses)
+        → ((access : Access) → K.may then access → K.may kind access)
         → ((uses : Uses) → K.fits kind uses → K.fits then (first uses)) → (old mid new : Device)
-        → (a : IsFollowedTo (K.may kind) (K.fits kind) first old mid) → (b : IsFollowedTo (K.may then) (K.fits then) second mid new)
+        → (a : IsFollowedTo (K.may kind) (K.fits kind) first old mid)
+        → (b : IsFollowedTo (K.may then) (K.fits then) second mid new)
         → IsToldTo (λ made. made ≡ a.driven.accesses ++ b.driven.accesses) (K.may kind) (K.fits kind)
         (λ uses. second (first uses)) old new }
-    ensures wider { (kind more : K.Kind) (next : Uses → Uses) → ((access : Access) → K.may kind access → K.may more access)
+    ensures wider { (kind more : K.Kind) (next : Uses → Uses)
+        → ((access : Access) → K.may kind access → K.may more access)
         → ((uses : Uses) → K.fits more uses → K.fits kind uses) → (old new : Device)
         → (a : IsFollowedTo (K.may kind) (K.fits kind) next old new)
         → IsToldTo (λ made. made ≡ a.driven.accesses) (K.may more) (K.fits more) next old new }
-    ensures over { (kind : K.Kind) (port : Port) (o : Operation) (v : ℕ) (old new : Device) → K.may kind (Writing (Px port Ci) v)
-        → ((uses : Uses) → K.fits kind uses → uses port.0 0 ≡ Free) → IsOver (new.port port.0) 0
+    ensures over { (kind : K.Kind) (port : Port) (o : Operation) (v : ℕ) (old new : Device)
+        → K.may kind (Writing (Px port Ci) v) → ((uses : Uses) → K.fits kind uses → uses port.0 0 ≡ Free)
+        → IsOver (new.port port.0) 0
         → (a : IsFollowedTo (K.may kind) (K.fits kind) (λ uses. put uses port.0 0 (Own o)) old new)
         → IsTold (λ made. made ≡ a.driven.accesses) (K.may kind) (K.fits kind) old new }
 {}
 
-/// What a stretch that is followed gives: some machine goes on agreeing, with the uses that it leads to. And a port of which it writes
-/// neither PxCI nor PxSACT is sent no page by a command that isn't in its slot 0. One that works on plain commands alone goes on so.
+/// What a stretch that is followed gives: some machine goes on agreeing, with the uses that it leads to. And a port of
+/// which it writes neither PxCI nor PxSACT is sent no page by a command that isn't in its slot 0. One that works on
+/// plain commands alone goes on so.
 pub fn followed_stretches_give<K: Kinds>()
     ensures agreed { (kind : K.Kind) (next : Uses → Uses) (uses : Uses) (old new : Device) → K.fits kind uses
         → IsFollowedTo (K.may kind) (K.fits kind) next old new → IsAgreed uses old → IsAgreed (next uses) new }
     ensures silent { (kind : K.Kind) (next : Uses → Uses) (uses : Uses) (port : Port) (o : Operation) (old new : Device)
-        → K.fits kind uses → NoneWrites (K.may kind) (Px port Ci) → NoneWrites (K.may kind) (Px port Sact) → op_of o ≡ None
-        → (uses port.0 0 ≡ Own o → ⊥) → IsFollowedTo (K.may kind) (K.fits kind) next old new → IsAgreed uses old
-        → SendsNone port.0 o old new }
-    ensures plain { (kind : K.Kind) (next : Uses → Uses) (uses : Uses) (port : Port) (old new : Device) → K.fits kind uses
-        → NoneWrites (K.may kind) (Px port Sact) → IsFollowedTo (K.may kind) (K.fits kind) next old new → IsAgreed uses old
+        → K.fits kind uses → NoneWrites (K.may kind) (Px port Ci) → NoneWrites (K.may kind) (Px port Sact)
+        → op_of o ≡ None → (uses port.0 0 ≡ Own o → ⊥) → IsFollowedTo (K.may kind) (K.fits kind) next old new
+        → IsAgreed uses old → SendsNone port.0 o old new }
+    ensures plain { (kind : K.Kind) (next : Uses → Uses) (uses : Uses) (port : Port) (old new : Device)
+        → K.fits kind uses → NoneWrites (K.may kind) (Px port Sact) → IsFollowedTo (K.may kind) (K.fits kind) next old
+        new → IsAgreed uses old
         → WorksPlainly (old.port port.0) → WorksPlainly (new.port port.0) }
 {}
 
-/// A stretch that is followed is a part of a call, in which the device alone makes steps. And where a port has halted after it, the driver may
-/// give up all slots of the port, and go on with another stretch, of any kind that a port without a used slot allows: the two are one part, too.
+/// A stretch that is followed is a part of a call, in which the device alone makes steps. And where a port has halted
+/// after it, the driver may give up all slots of the port, and go on with another stretch, of any kind that a port
+/// without a used slot allows: the two are one part, too.
 pub fn stretches_are_parts<K: Kinds>()
-    ensures one { (kind : K.Kind) (next : Uses → Uses) (old new : Device) → (a : IsFollowedTo (K.may kind) (K.fits kind) next old new)
-        → Performs a.driven.accesses (λ s m. K.fits kind s.uses) (λ s. record s { uses = next s.uses }) ByDeviceAlone old new }
+    ensures one { (kind : K.Kind) (next : Uses → Uses) (old new : Device)
+        → (a : IsFollowedTo (K.may kind) (K.fits kind) next old new)
+        → Performs a.driven.accesses (λ s m. K.fits kind s.uses) (λ s. record s { uses = next s.uses }) ByDeviceAlone
+        old new }
     ensures giving_up { (kind then : K.Kind) (next : Uses → Uses) (port : ℕ) (old mid new : Device)
         → (a : IsFollowed (K.may kind) (K.fits kind) old mid) → IsHalted (mid.port port)
-        → ((uses : Uses) → AllFree uses port → K.fits then uses) → (b : IsFollowedTo (K.may then) (K.fits then) next mid new)
-        → Performs (a.driven.accesses ++ b.driven.accesses) (λ s m. K.fits kind s.uses)
+        → ((uses : Uses) → AllFree uses port → K.fits then uses)
+        → (b : IsFollowedTo (K.may then) (K.fits then) next mid new) → Performs (a.driven.accesses ++ b.driven.accesses)
+        (λ s m. K.fits kind s.uses)
         (λ s. record (given_up port s) { uses = next (given_up port s).uses }) ByDeviceAlone old new }
 {
     accesses_compose();

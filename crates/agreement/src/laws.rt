@@ -42,8 +42,8 @@ ghost use Rattle.agreement.specs.Slots.{Use, Free, Armed, Own, Serves, Uses, put
 ghost use Rattle.agreement.specs.Spares.{IsFurther, AllFurther, SparesBook, IsOfAnother};
 ghost use Rattle.agreement.specs.Tape.{OneAtMost, TellsAmong};
 
-/// Whatever the device does by itself, the machine follows: what the tape gains are steps of the machine that may come, and
-/// the two agree again. So it is while a reset of the adapter is pending, too, and after one that is stuck.
+/// Whatever the device does by itself, the machine follows: what the tape gains are steps of the machine that may come,
+/// and the two agree again. So it is while a reset of the adapter is pending, too, and after one that is stuck.
 pub fn device_is_followed()
     ensures { (uses : Uses) (m : Machine) (old new : Device) → IsReached m → Agrees uses m old → Steps old new
         → Follows uses m old new }
@@ -67,15 +67,16 @@ pub fn loading_is_followed()
         → AddsSteps Knows k (record k { device = new }) (ByDevice k.device new) }
 {}
 
-/// So it is over a store to the header or the table of a free slot, or to the scratch frame of a port whose slot 0 is free.
+/// So it is over a store to the header or the table of a free slot, or to the scratch frame of a port whose slot 0 is
+/// free.
 pub fn storing_is_followed()
     ensures { (k : Known) (at : ℕ) (bytes : List ℕ) (new : Device) → MayStore k.uses at (length bytes)
         → Stores at bytes k.device new
         → AddsSteps Knows k (record k { device = new }) (ByDevice k.device new) }
 {}
 
-/// So it is over a write of any register that leaves each slot to its use: where ST is cleared, what waited is given up, and
-/// what is taken goes on.
+/// So it is over a write of any register that leaves each slot to its use: where ST is cleared, what waited is given
+/// up, and what is taken goes on.
 pub fn writing_is_followed()
     ensures { (k : Known) (r : Reg) (v : ℕ) (new : Device) → Stays (MayWrite r v) k.device
         → LeavesUses k.uses r v k.device → Writes r v k.device new
@@ -103,12 +104,12 @@ pub fn own_issuing_is_followed()
         → AddsSteps Knows k (record k { uses = put k.uses port.0 0 (Own o); device = new }) (ByDevice k.device new) }
 {}
 
-/// The write of PxSACT arms a free slot of a running port, which is no step of the machine. Once ST is cleared, the slot is free again.
-/// A free slot has no bit of PxSACT.
+/// The write of PxSACT arms a free slot of a running port, which is no step of the machine. Once ST is cleared, the
+/// slot is free again. A free slot has no bit of PxSACT.
 pub fn arming_is_followed()
-    ensures armed { (k : Known) (port : Port) (slot v : ℕ) (new : Device) → k.device.hr ≡ false → k.uses port.0 slot ≡ Free
-        → (k.device.port port.0).st ≡ true → bit v slot ≡ true → ((other : ℕ) → other ≢ slot → bit v other ≡ false)
-        → Writes (Px port Sact) v k.device new
+    ensures armed { (k : Known) (port : Port) (slot v : ℕ) (new : Device) → k.device.hr ≡ false
+        → k.uses port.0 slot ≡ Free → (k.device.port port.0).st ≡ true → bit v slot ≡ true
+        → ((other : ℕ) → other ≢ slot → bit v other ≡ false) → Writes (Px port Sact) v k.device new
         → AddsSteps Knows k (record k { uses = put k.uses port.0 slot Armed; device = new }) (ByDevice k.device new) }
     ensures disarmed { (k : Known) (m : Machine) → Knows m k → (port slot : ℕ) → (k.device.port port).st ≡ false
         → k.uses port slot ≡ Armed → Knows m (freeing k port slot) }
@@ -164,22 +165,23 @@ pub fn backing_composes()
 /// call. The machine that is gone to is reached.
 pub fn going_composes()
     ensures none { (k : Known) (m : Machine) → Knows m k → Goes k m [] k }
-    ensures more { (a b c : Known) (m : Machine) (early late : List Step) → Goes a m early b → Goes b (after m early) late c
-        → Goes a m (late ++ early) c }
+    ensures more { (a b c : Known) (m : Machine) (early late : List Step) → Goes a m early b
+        → Goes b (after m early) late c → Goes a m (late ++ early) c }
     ensures still { (k later : Known) (m : Machine) → later.device ≡ k.device → Knows m later → Goes k m [] later }
-    ensures own { (k later : Known) (m : Machine) (step : Step) → (IsDevices step → ⊥) → May m step → later.device ≡ k.device
-        → Knows (after_step m step) later → Goes k m (step ∷ []) later }
+    ensures own { (k later : Known) (m : Machine) (step : Step) → (IsDevices step → ⊥) → May m step
+        → later.device ≡ k.device → Knows (after_step m step) later → Goes k m (step ∷ []) later }
     ensures device { (k later : Known) (m : Machine) (steps : List Step) → AllMay m steps
         → ByDevice k.device later.device m steps → Knows (after m steps) later → Goes k m steps later }
     ensures follows { (k : Known) (m : Machine) (new : Device) → Knows m k → (f : Follows k.uses m k.device new)
         → Goes k m f.steps (record k { device = new }) }
     ensures ends { (k later : Known) (m : Machine) (step : Step) → (e : EndsWith k m step later)
         → Goes k m (step ∷ e.steps) later }
-    ensures access { (k later : Known) (m : Machine) → AddsSteps Knows k later (ByDevice k.device later.device) → IsReached m
-        → Knows m k → (steps : List Step) × AllDevices steps × Goes k m steps later }
-    ensures part { (k later : Known) (m : Machine) → AddsSteps Knows k later (IsBacked k.device later.device) → IsReached m
-        → Knows m k → (steps : List Step) × Goes k m steps later }
-    ensures adds { (k later : Known) → ((m : Machine) → IsReached m → Knows m k → (steps : List Step) × Goes k m steps later)
+    ensures access { (k later : Known) (m : Machine) → AddsSteps Knows k later (ByDevice k.device later.device)
+        → IsReached m → Knows m k → (steps : List Step) × AllDevices steps × Goes k m steps later }
+    ensures part { (k later : Known) (m : Machine) → AddsSteps Knows k later (IsBacked k.device later.device)
+        → IsReached m → Knows m k → (steps : List Step) × Goes k m steps later }
+    ensures adds { (k later : Known) → ((m : Machine) → IsReached m → Knows m k → (steps : List Step)
+        × Goes k m steps later)
         → AddsSteps Knows k later (IsBacked k.device later.device) }
     ensures reached { (k later : Known) (m : Machine) (steps : List Step) → IsReached m → Goes k m steps later
         → IsReached (after m steps) }
@@ -197,22 +199,23 @@ pub fn ticking_agrees()
 
 /// A slot whose command is over is given up, and its request is decided on later.
 pub fn parking_agrees()
-    ensures { (k : Known) (m : Machine) → Knows m k → (port slot : ℕ) → IsOver (k.device.port port) slot → (id : RequestId)
-        → k.uses port slot ≡ Serves id → Knows m (parking k port slot id) }
+    ensures { (k : Known) (m : Machine) → Knows m k → (port slot : ℕ) → IsOver (k.device.port port) slot
+        → (id : RequestId) → k.uses port slot ≡ Serves id → Knows m (parking k port slot id) }
 {}
 
-/// A slot that is put to another use has it, and every other slot goes on as it was used. So a request that no slot serves has none
-/// then either, unless the slot is put to it.
+/// A slot that is put to another use has it, and every other slot goes on as it was used. So a request that no slot
+/// serves has none then either, unless the slot is put to it.
 pub fn putting_is_of_one_slot()
     ensures here { (uses : Uses) (port slot : ℕ) (u : Use) → put uses port slot u port slot ≡ u }
     ensures others { (uses : Uses) (port slot : ℕ) (u : Use) (other_port other_slot : ℕ)
-        → (other_port ≡ port → other_slot ≡ slot → ⊥) → put uses port slot u other_port other_slot ≡ uses other_port other_slot }
+        → (other_port ≡ port → other_slot ≡ slot → ⊥) → put uses port slot u other_port other_slot ≡ uses other_port
+        other_slot }
     ensures unserved { (uses : Uses) (port slot : ℕ) (u : Use) (id : RequestId) → HasNoSlot uses id
         → ((other : RequestId) → u ≡ Serves other → other ≢ id) → HasNoSlot (put uses port slot u) id }
 {}
 
-/// Once the slot of a request is parked, no slot serves it, and it is among the parked; nor does a slot then serve a request
-/// that none served before.
+/// Once the slot of a request is parked, no slot serves it, and it is among the parked; nor does a slot then serve a
+/// request that none served before.
 pub fn parking_frees()
     ensures frees { (k : Known) (port slot : ℕ) (id : RequestId) → AreApart k.uses → k.uses port slot ≡ Serves id
         → HasNoSlot (parking k port slot id).uses id }
@@ -223,8 +226,8 @@ pub fn parking_frees()
 
 /// So is one whose command was the driver's own.
 pub fn own_release_agrees()
-    ensures { (k : Known) (m : Machine) → Knows m k → (port slot : ℕ) → IsOver (k.device.port port) slot → (o : Operation)
-        → k.uses port slot ≡ Own o → Knows m (freeing k port slot) }
+    ensures { (k : Known) (m : Machine) → Knows m k → (port slot : ℕ) → IsOver (k.device.port port) slot
+        → (o : Operation) → k.uses port slot ≡ Own o → Knows m (freeing k port slot) }
 {}
 
 /// A request that no slot serves may be answered: its frames are given back.
@@ -248,7 +251,8 @@ pub fn going_again_agrees()
         → Knows (after_step m (Again e)) (record k { parked = later }) }
 {}
 
-/// The frames of kept requests may be given back where no slot serves one of them. Those that were parked needn't be so any more.
+/// The frames of kept requests may be given back where no slot serves one of them. Those that were parked needn't be so
+/// any more.
 pub fn releasing_agrees()
     ensures { (k : Known) (m : Machine) (later : ℕ → List RequestId) → IsReached m → Knows m k
         → ((e : Pending) → Contains m.kept e → HasNoSlot k.uses e.request.id) → ForgetsKept m k.parked later
@@ -257,37 +261,40 @@ pub fn releasing_agrees()
 
 /// No slot serves a request that waits.
 pub fn waiting_has_no_slot()
-    ensures { (uses : Uses) (m : Machine) (d : Device) → IsReached m → Agrees uses m d → (e : Pending) → Contains m.book e
-        → e.issued ≡ false → HasNoSlot uses e.request.id }
+    ensures { (uses : Uses) (m : Machine) (d : Device) → IsReached m → Agrees uses m d → (e : Pending)
+        → Contains m.book e → e.issued ≡ false → HasNoSlot uses e.request.id }
 {}
 
-/// Where no kept request is on the port, each slot that serves a request serves one of those that are issued there, and no two
-/// the same. So no more serve than are issued; and just as many, where each that is issued has a slot, and these are below n.
+/// Where no kept request is on the port, each slot that serves a request serves one of those that are issued there, and
+/// no two the same. So no more serve than are issued; and just as many, where each that is issued has a slot, and these
+/// are below n.
 pub fn slots_are_counted()
-    ensures most { (uses : Uses) (m : Machine) (d : Device) → IsReached m → Agrees uses m d → (port : Port) → NoneKept m port
-        → (n : ℕ) → serving_count uses port.0 n ≤ issued_count (map unanswered m.book) port }
+    ensures most { (uses : Uses) (m : Machine) (d : Device) → IsReached m → Agrees uses m d → (port : Port)
+        → NoneKept m port → (n : ℕ) → serving_count uses port.0 n ≤ issued_count (map unanswered m.book) port }
     ensures issued { (uses : Uses) (m : Machine) (d : Device) → Agrees uses m d → (port : Port) → NoneKept m port
         → (slot : ℕ) (id : RequestId) → uses port.0 slot ≡ Serves id
         → (e : Pending) × Contains m.book e × (e.issued ≡ true) × (e.request.id ≡ id) × (e.request.port ≡ port) }
-    ensures all { (uses : Uses) (m : Machine) (d : Device) → IsReached m → Agrees uses m d → (port : Port) → NoneKept m port
-        → (n : ℕ) → HaveSlots uses m port.0 [] → ((slot : ℕ) (id : RequestId) → uses port.0 slot ≡ Serves id → slot < n)
+    ensures all { (uses : Uses) (m : Machine) (d : Device) → IsReached m → Agrees uses m d → (port : Port)
+        → NoneKept m port → (n : ℕ) → HaveSlots uses m port.0 []
+        → ((slot : ℕ) (id : RequestId) → uses port.0 slot ≡ Serves id → slot < n)
         → serving_count uses port.0 n ≡ issued_count (map unanswered m.book) port }
 {}
 
-/// So a request that is due finds a free slot, where slot 0 has no command of the driver's own: a plain one slot 0, and a queued
-/// one some slot that is usable.
+/// So a request that is due finds a free slot, where slot 0 has no command of the driver's own: a plain one slot 0, and
+/// a queued one some slot that is usable.
 pub fn due_finds_free_slot()
-    ensures plain { (uses : Uses) (m : Machine) (d : Device) → IsReached m → Agrees uses m d → (mode : Mode) (e : Pending)
-        → May m (Issue mode e) → ((o : Operation) → uses e.request.port.0 0 ≡ Own o → ⊥)
-        → ((slot : ℕ) → uses e.request.port.0 slot ≡ Armed → ⊥) → is_plain mode e.request.asked.op ≡ true → uses e.request.port.0 0 ≡ Free }
-    ensures queued { (uses : Uses) (m : Machine) (d : Device) → IsReached m → Agrees uses m d → (mode : Mode) (e : Pending)
-        → May m (Issue mode e) → ((o : Operation) → uses e.request.port.0 0 ≡ Own o → ⊥)
+    ensures plain { (uses : Uses) (m : Machine) (d : Device) → IsReached m → Agrees uses m d
+        → (mode : Mode) (e : Pending) → May m (Issue mode e) → ((o : Operation) → uses e.request.port.0 0 ≡ Own o → ⊥)
+        → ((slot : ℕ) → uses e.request.port.0 slot ≡ Armed → ⊥) → is_plain mode e.request.asked.op ≡ true
+        → uses e.request.port.0 0 ≡ Free }
+    ensures queued { (uses : Uses) (m : Machine) (d : Device) → IsReached m → Agrees uses m d
+        → (mode : Mode) (e : Pending) → May m (Issue mode e) → ((o : Operation) → uses e.request.port.0 0 ≡ Own o → ⊥)
         → ((slot : ℕ) → uses e.request.port.0 slot ≡ Armed → ⊥) → is_plain mode e.request.asked.op ≡ false
         → (slot : ℕ) × (slot < mode.usable) × (uses e.request.port.0 slot ≡ Free) }
 {}
 
-/// While no reset is pending the device leaves alone what no slot uses; so it is over readings, writes and loads. A store leaves of
-/// it what it would at once, had the device done nothing first.
+/// While no reset is pending the device leaves alone what no slot uses; so it is over readings, writes and loads. A
+/// store leaves of it what it would at once, had the device done nothing first.
 pub fn free_slots_are_left()
     ensures steps { (uses : Uses) (m : Machine) (old new : Device) → IsReached m → Agrees uses m old → old.hr ≡ false
         → Steps old new → LeavesFree uses old new }
@@ -302,35 +309,37 @@ pub fn free_slots_are_left()
         → (r : Reg) (v : ℕ) → Writes r v old new → LeavesFree uses old new }
 {}
 
-/// What is left over each of two stretches is left over both; and so it is over none. What is left while a slot has no command of the
-/// driver's own, is left where it is put to another use.
+/// What is left over each of two stretches is left over both; and so it is over none. What is left while a slot has no
+/// command of the driver's own, is left where it is put to another use.
 pub fn leaving_composes()
     ensures none { (uses : Uses) (d : Device) → LeavesFree uses d d }
     ensures more { (uses : Uses) (old mid new : Device) → LeavesFree uses old mid → LeavesFree uses mid new
         → LeavesFree uses old new }
-    ensures used { (uses : Uses) (port slot : ℕ) (u : Use) (old new : Device) → ((o : Operation) → uses port slot ≡ Own o → ⊥)
-        → LeavesFree uses old new → LeavesFree (put uses port slot u) old new }
+    ensures used { (uses : Uses) (port slot : ℕ) (u : Use) (old new : Device)
+        → ((o : Operation) → uses port slot ≡ Own o → ⊥) → LeavesFree uses old new
+        → LeavesFree (put uses port slot u) old new }
 {}
 
-/// A page comes only where slot 0 of its port has that command of the driver's own, which isn't over; and one at most comes for it,
-/// whatever the device does, also while a reset is pending. So it is over each access.
+/// A page comes only where slot 0 of its port has that command of the driver's own, which isn't over; and one at most
+/// comes for it, whatever the device does, also while a reset is pending. So it is over each access.
 pub fn pages_come_when_asked()
-    ensures steps { (uses : Uses) (m : Machine) (old new : Device) (port : ℕ) (o : Operation) (gained : List Entry) → IsReached m
-        → Agrees uses m old → Steps old new → new.tape ≡ old.tape ++ gained → op_of o ≡ None
+    ensures steps { (uses : Uses) (m : Machine) (old new : Device) (port : ℕ) (o : Operation) (gained : List Entry)
+        → IsReached m → Agrees uses m old → Steps old new → new.tape ≡ old.tape ++ gained → op_of o ≡ None
         → (uses port 0 ≡ Own o → IsOver (old.port port) 0) → All (λ e. IsMove port o e → ⊥) gained }
     ensures access { (uses : Uses) (m : Machine) (access : Access) (old new : Device) (port : ℕ) (o : Operation)
         (gained : List Entry) → IsReached m → Agrees uses m old → Does access old new → new.tape ≡ old.tape ++ gained
         → op_of o ≡ None → (uses port 0 ≡ Own o → IsOver (old.port port) 0) → All (λ e. IsMove port o e → ⊥) gained }
-    ensures once { (uses : Uses) (m : Machine) (old new : Device) (port : ℕ) (o : Operation) (gained : List Entry) → IsReached m
-        → Agrees uses m old → Steps old new → new.tape ≡ old.tape ++ gained → op_of o ≡ None
+    ensures once { (uses : Uses) (m : Machine) (old new : Device) (port : ℕ) (o : Operation) (gained : List Entry)
+        → IsReached m → Agrees uses m old → Steps old new → new.tape ≡ old.tape ++ gained → op_of o ≡ None
         → OneAtMost (IsMove port o) gained }
     ensures access_once { (uses : Uses) (m : Machine) (access : Access) (old new : Device) (port : ℕ) (o : Operation)
         (gained : List Entry) → IsReached m → Agrees uses m old → Does access old new → new.tape ≡ old.tape ++ gained
         → op_of o ≡ None → OneAtMost (IsMove port o) gained }
 {}
 
-/// So the bytes of a slot that say a command go on saying it, and a trim's block stays where slot 0 has no command of the
-/// driver's own. A store beside them leaves them, too; and one for a free slot is beside what belongs to a slot in use.
+/// So the bytes of a slot that say a command go on saying it, and a trim's block stays where slot 0 has no command of
+/// the driver's own. A store beside them leaves them, too; and one for a free slot is beside what belongs to a slot in
+/// use.
 pub fn what_is_told_is_left()
     ensures told { (uses : Uses) (old new : Device) → LeavesFree uses old new → (port slot : ℕ) (c : Meaning)
         (places : List ℕ) → port < 4 → slot < 32 → Told old.memory (list_of port) port slot c places
@@ -342,11 +351,11 @@ pub fn what_is_told_is_left()
         → LeavesFree uses (record old { memory = patched old.memory at bytes }) new → (port slot : ℕ) (c : Meaning)
         (places : List ℕ) → port < 4 → slot < 32 → MissesTable port slot at (length bytes)
         → Told old.memory (list_of port) port slot c places → Told new.memory (list_of port) port slot c places }
-    ensures misses { (uses : Uses) (port slot at n : ℕ) → uses port slot ≢ Free → port < 4 → slot < 32 → MayStore uses at n
-        → MissesTable port slot at n }
+    ensures misses { (uses : Uses) (port slot at n : ℕ) → uses port slot ≢ Free → port < 4 → slot < 32
+        → MayStore uses at n → MissesTable port slot at n }
     ensures block_beside { (uses : Uses) (at : ℕ) (bytes : List ℕ) (old new : Device)
-        → LeavesFree uses (record old { memory = patched old.memory at bytes }) new → (port : ℕ) (r : Accepted) → port < 4
-        → ((o : Operation) → uses port 0 ≡ Own o → ⊥) → MissesScratch port at (length bytes)
+        → LeavesFree uses (record old { memory = patched old.memory at bytes }) new → (port : ℕ) (r : Accepted)
+        → port < 4 → ((o : Operation) → uses port 0 ≡ Own o → ⊥) → MissesScratch port at (length bytes)
         → HasBlock r.asked.op old.memory port r → HasBlock r.asked.op new.memory port r }
     ensures misses_scratch { (uses : Uses) (port at n : ℕ) → uses port 0 ≢ Free → port < 4 → MayStore uses at n
         → MissesScratch port at n }
@@ -358,9 +367,10 @@ pub fn due_stays()
         → (mode : Mode) (e : Pending) → May m (Issue mode e) → May (after m steps) (Issue mode e) }
 {}
 
-/// The device's own steps leave the machine's grants and owners, its loans and its next id; and the same requests are unanswered
-/// and kept, in the same order, each as far as it was, or further. So what is due is the same. A frame that isn't lent to a
-/// request that the device may move keeps its bytes. And a port of which no request is kept has none kept after them.
+/// The device's own steps leave the machine's grants and owners, its loans and its next id; and the same requests are
+/// unanswered and kept, in the same order, each as far as it was, or further. So what is due is the same. A frame that
+/// isn't lent to a request that the device may move keeps its bytes. And a port of which no request is kept has none
+/// kept after them.
 pub fn steps_spare_the_book()
     ensures spares { (m : Machine) (steps : List Step) → AllDevices steps → SparesBook m (after m steps) }
     ensures none { (m : Machine) → SparesBook m m }
@@ -377,8 +387,8 @@ pub fn steps_spare_the_book()
         → NoneKept (after m steps) port }
 {}
 
-/// A step leaves each request that it isn't of as it was, in the book and among the kept ones: but a tick makes it older, and Release
-/// gives back all that are kept. An answer that keeps no frames leaves the kept ones as they were.
+/// A step leaves each request that it isn't of as it was, in the book and among the kept ones: but a tick makes it
+/// older, and Release gives back all that are kept. An answer that keeps no frames leaves the kept ones as they were.
 pub fn others_are_spared()
     ensures book { (m : Machine) (step : Step) (e : Pending) → IsOfAnother e.request.id step
         → ((ready : Port → Bool) → step ≢ Age ready) → Contains m.book e → Contains (after_step m step).book e }
@@ -390,8 +400,8 @@ pub fn others_are_spared()
         → (after_step m (Answer e outcome)).kept ≡ m.kept }
 {}
 
-/// Where entries of the tape tell of the device's steps among these, one of the entries is of a disk of the port that goes or comes
-/// exactly if one of the steps takes the port's disk out or puts one in.
+/// Where entries of the tape tell of the device's steps among these, one of the entries is of a disk of the port that
+/// goes or comes exactly if one of the steps takes the port's disk out or puts one in.
 pub fn disks_are_told()
     ensures steps { (port : Port) (m : Machine) (gained : List Entry) (steps : List Step) → TellsAmong m gained steps
         → (e : Entry) → Contains gained e → IsPlugging port.0 e → list_any (changes_disk port) steps ≡ true }
@@ -401,8 +411,8 @@ pub fn disks_are_told()
         → list_any (changes_disk port) steps ≡ false → All (λ e. IsPlugging port.0 e → ⊥) gained }
 {}
 
-/// A history goes on by steps that may come, and so do stretches of them. Two stretches of the device's steps are one, too; and so are
-/// two whose reads moved what the disks hold.
+/// A history goes on by steps that may come, and so do stretches of them. Two stretches of the device's steps are one,
+/// too; and so are two whose reads moved what the disks hold.
 pub fn histories_go_on()
     ensures reached { (m : Machine) (steps : List Step) → IsReached m → AllMay m steps → IsReached (after m steps) }
     ensures may { (m : Machine) (late early : List Step) → AllMay m early → AllMay (after m early) late
@@ -420,15 +430,16 @@ pub fn prepared_stays()
         → IsPrepared uses m old port slot mode e v → IsPrepared uses (after m f.steps) new port slot mode e v }
 {}
 
-/// A bit of PxSACT that is clear stays so whatever the device does, over readings, and over writes but for one of PxSACT that sets
-/// it.
+/// A bit of PxSACT that is clear stays so whatever the device does, over readings, and over writes but for one of
+/// PxSACT that sets it.
 pub fn clear_bits_stay()
     ensures device { (port slot : ℕ) (old new : Device) → Steps old new → (old.port port).sact slot ≡ false
         → (new.port port).sact slot ≡ false }
     ensures reads { (port slot : ℕ) (r : Reg) (v : ℕ) (old new : Device) → Reads r v old new
         → (old.port port).sact slot ≡ false → (new.port port).sact slot ≡ false }
-    ensures writes { (port : Port) (slot : ℕ) (r : Reg) (v : ℕ) (old new : Device) → (r ≡ Px port Sact → bit v slot ≡ false)
-        → Writes r v old new → (old.port port.0).sact slot ≡ false → (new.port port.0).sact slot ≡ false }
+    ensures writes { (port : Port) (slot : ℕ) (r : Reg) (v : ℕ) (old new : Device)
+        → (r ≡ Px port Sact → bit v slot ≡ false) → Writes r v old new → (old.port port.0).sact slot ≡ false
+        → (new.port port.0).sact slot ≡ false }
 {}
 
 /// What the driver may store for itself may be loaded and stored, whatever the device does first.
@@ -450,44 +461,54 @@ pub fn client_bytes_are_free()
         → IsOpen m.owner m.lent client frame offset n → Stays (IsFree (FRAME_BYTES * frame.0 + offset) n) d }
 {}
 
-/// A write that may be made now, of any register but PxCI, may be made whatever the device does first; and, while no reset is pending,
-/// one that leaves each slot to its use goes on to.
+/// A write that may be made now, of any register but PxCI, may be made whatever the device does first; and, while no
+/// reset is pending, one that leaves each slot to its use goes on to.
 pub fn writing_is_permitted()
-    ensures rules { (r : Reg) (v : ℕ) (d : Device) → ((port : Port) → r ≢ Px port Ci) → MayWrite r v d → Stays (MayWrite r v) d }
+    ensures rules { (r : Reg) (v : ℕ) (d : Device) → ((port : Port) → r ≢ Px port Ci) → MayWrite r v d
+        → Stays (MayWrite r v) d }
     ensures uses { (uses : Uses) (r : Reg) (v : ℕ) (d : Device) → d.hr ≡ false → LeavesUses uses r v d
         → Stays (LeavesUses uses r v) d }
 {}
 
-/// Where a port's engine stands its command list may be put into its place; and where it receives no FISes, the received FIS area may.
+/// Where a port's engine stands its command list may be put into its place; and where it receives no FISes, the
+/// received FIS area may.
 pub fn placing_is_permitted()
-    ensures list { (d : Device) (port : Port) → IsOn d → HasPort d port.0 → (d.port port.0).st ≡ false → (d.port port.0).cr ≡ false
-        → list_of port.0 + LIST_BYTES ≤ d.size → Stays (MayWrite (Px port Clb) (list_of port.0)) d }
+    ensures list { (d : Device) (port : Port) → IsOn d → HasPort d port.0 → (d.port port.0).st ≡ false
+        → (d.port port.0).cr ≡ false → list_of port.0 + LIST_BYTES ≤ d.size
+        → Stays (MayWrite (Px port Clb) (list_of port.0)) d }
     ensures list_upper { (d : Device) (port : Port) → IsOn d → HasPort d port.0 → (d.port port.0).st ≡ false
         → (d.port port.0).cr ≡ false → Stays (MayWrite (Px port Clbu) 0) d }
     ensures received { (d : Device) (port : Port) → IsOn d → HasPort d port.0 → (d.port port.0).fre ≡ false
-        → (d.port port.0).fr ≡ false → received_of port.0 + RECEIVED_BYTES ≤ d.size → Stays (MayWrite (Px port Fb) (received_of port.0)) d }
+        → (d.port port.0).fr ≡ false → received_of port.0 + RECEIVED_BYTES ≤ d.size
+        → Stays (MayWrite (Px port Fb) (received_of port.0)) d }
     ensures received_upper { (d : Device) (port : Port) → IsOn d → HasPort d port.0 → (d.port port.0).fre ≡ false
         → (d.port port.0).fr ≡ false → Stays (MayWrite (Px port Fbu) 0) d }
 {}
 
-/// PxCMD may be written as it was last read, but for ST and FRE: with ST set where the port may start; with ST clear and FRE as it is;
-/// with FRE set and ST as it is where the port may receive; and with FRE and ST clear where its engine stands.
+/// PxCMD may be written as it was last read, but for ST and FRE: with ST set where the port may start; with ST clear
+/// and FRE as it is; with FRE set and ST as it is where the port may receive; and with FRE and ST clear where its
+/// engine stands.
 pub fn commanding_is_permitted()
-    ensures start { (port : Port) (was v : ℕ) (d : Device) → IsOn d → HasPort d port.0 → (d.port port.0).notes.last_cmd ≡ was
+    ensures start { (port : Port) (was v : ℕ) (d : Device) → IsOn d → HasPort d port.0 → (d.port port.0).notes.last_cmd
+        ≡ was
         → MayStart (d.port port.0) → IsWrittenBack true true was v → Stays (MayWrite (Px port Cmd) v) d }
-    ensures stop { (port : Port) (was v : ℕ) (d : Device) → IsOn d → HasPort d port.0 → (d.port port.0).notes.last_cmd ≡ was
+    ensures stop { (port : Port) (was v : ℕ) (d : Device) → IsOn d → HasPort d port.0 → (d.port port.0).notes.last_cmd
+        ≡ was
         → IsWrittenBack false (d.port port.0).fre was v → Stays (MayWrite (Px port Cmd) v) d }
-    ensures receive { (port : Port) (was v : ℕ) (d : Device) → IsOn d → HasPort d port.0 → (d.port port.0).notes.last_cmd ≡ was
-        → MayReceive (d.port port.0) → IsWrittenBack (d.port port.0).st true was v → Stays (MayWrite (Px port Cmd) v) d }
+    ensures receive { (port : Port) (was v : ℕ) (d : Device) → IsOn d → HasPort d port.0
+        → (d.port port.0).notes.last_cmd ≡ was → MayReceive (d.port port.0)
+        → IsWrittenBack (d.port port.0).st true was v → Stays (MayWrite (Px port Cmd) v) d }
     ensures stop_receiving { (port : Port) (was v : ℕ) (d : Device) → IsOn d → HasPort d port.0
         → (d.port port.0).notes.last_cmd ≡ was → MayStopReceiving (d.port port.0) → IsWrittenBack false false was v
         → Stays (MayWrite (Px port Cmd) v) d }
 {}
 
-/// PxIS is written, and then the port's bit of IS may be, with those of ports whose PxIS was written since it was last read, and since their own bits were.
+/// PxIS is written, and then the port's bit of IS may be, with those of ports whose PxIS was written since it was last
+/// read, and since their own bits were.
 pub fn acknowledging_is_permitted()
     ensures { (port : Port) (v : ℕ) (old new : Device) → IsOn old → Writes (Px port Is) v old new
-        → (ports : ℕ) → ((q : ℕ) → q < 32 → bit ports q ≡ true → (q ≡ port.0) ⊎ ((old.port q).notes.acknowledged ≡ true))
+        → (ports : ℕ) → ((q : ℕ) → q < 32 → bit ports q ≡ true → (q ≡ port.0)
+        ⊎ ((old.port q).notes.acknowledged ≡ true))
         → Stays (MayWrite registers.Is ports) new }
 {}
 
@@ -504,34 +525,34 @@ pub fn own_issuing_is_permitted()
         (v : ℕ) → IsOn d → HasPort d port.0 → IsOwnPrepared uses d port.0 o v → Stays (MayWrite (Px port Ci) v) d }
 {}
 
-/// A device that is taken over idle agrees with a machine that has nothing in it, where both have the same disks and client
-/// frames.
+/// A device that is taken over idle agrees with a machine that has nothing in it, where both have the same disks and
+/// client frames.
 pub fn an_idle_device_agrees()
     ensures { (m : Machine) (d : Device) → IsStart m → IsIdle d → ((port : ℕ) → IsDiskOf m (d.port port) port)
         → SameMemory m d.memory
         → (d.telling ≡ true → (port : ℕ) → SameSectors m (d.port port).disk port) → Knows m (idle d) }
 {}
 
-/// There is an adapter whose first read is prepared, and a machine that is reached and agrees with it: the write of PxCI is
-/// permitted, and issues the read.
+/// There is an adapter whose first read is prepared, and a machine that is reached and agrees with it: the write of
+/// PxCI is permitted, and issues the read.
 pub fn a_prepared_read_agrees()
     ensures { PreparedIsKnown }
 {}
 
-/// There is an adapter with its first read issued, and a machine that is reached and agrees with what its driver knows: so
-/// none of these laws is empty.
+/// There is an adapter with its first read issued, and a machine that is reached and agrees with what its driver knows:
+/// so none of these laws is empty.
 pub fn a_first_read_agrees()
     ensures { FirstIsKnown }
 {}
 
-/// There is one whose driver has stopped the port of that read, and has taken it from its slot once the engine stood: the read
-/// may wait again.
+/// There is one whose driver has stopped the port of that read, and has taken it from its slot once the engine stood:
+/// the read may wait again.
 pub fn a_parked_read_agrees()
     ensures { ParkedIsKnown }
 {}
 
-/// There is one that keeps the read: it was answered PortDead, with its frames lent, while the slot serves it still; and once the
-/// driver has taken it from there, the frames may be given back.
+/// There is one that keeps the read: it was answered PortDead, with its frames lent, while the slot serves it still;
+/// and once the driver has taken it from there, the frames may be given back.
 pub fn a_kept_read_agrees()
     ensures { KeptIsKnown }
 {}
@@ -553,8 +574,8 @@ pub fn a_trim_agrees()
     ensures { TrimIsKnown }
 {}
 
-/// There is an adapter with a command of the driver's own, IDENTIFY DEVICE: prepared, issued by a write that is permitted, and over
-/// once its page has come; and a machine agrees with it all the way.
+/// There is an adapter with a command of the driver's own, IDENTIFY DEVICE: prepared, issued by a write that is
+/// permitted, and over once its page has come; and a machine agrees with it all the way.
 pub fn an_own_command_agrees()
     ensures { OwnIsKnown }
 {}

@@ -1,4 +1,11 @@
-//! What the device and the block machine have to do with one another: definitions and laws, no driver code.
+//! The relation of device and block machine: the machine follows what the device does.
+//!
+//! `Agrees` ties the two, given what the driver has put into the slots (`Known`). A driver whose
+//! proof stands on these laws never looks into a step of the device. `laws` has the relation over
+//! steps and accesses; `facts` what readings tell; `stretches` and `kinds` lists of accesses, of
+//! the kinds that a crate names; `acts` a part of a call, act by act; `giving_up`, `readying` and
+//! `recovering` what becomes of slots and ports; `disks` disks that come; and `limits` some
+//! witnesses. There is no driver code.
 #![tactic(auto)]
 
 pub mod acts;

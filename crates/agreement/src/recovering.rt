@@ -1,4 +1,5 @@
-// Laws of how a port runs well again without COMRESET: the clause is the theorem. Nothing that runs calls these functions.
+// Laws of how a port runs well again without COMRESET: the clause is the theorem. Nothing that runs calls these
+// functions.
 ghost use Rattle.std.specs.Prelude.{ℕ, List, All, true, false, ◌≡◌, ◌≢◌, ◌≤◌};
 ghost use Rattle.ata_types.specs.declared.Port.{Port};
 ghost use Rattle.hba_regs.specs.Bits.{bit};
@@ -22,100 +23,111 @@ ghost use Rattle.agreement.specs.Started.{IsUp, IsStarted, ClearsNoStart};
 ghost use Rattle.agreement.specs.Halting.{HaltsAsTaken, IsHaltedAsTaken};
 ghost use Rattle.agreement.specs.Recovering.{IsLinked, WorksPlainly, RunsLinked, EndsHalt, FailsOpenly};
 
-/// While no reset is pending, a link that is up stays so where the tape tells of no disk that goes or comes, whatever else
-/// the device does, faults and fatal errors among it, and over each access but a write of PxSCTL. So it is of a port that was
-/// started, and of one whose link came up.
+/// While no reset is pending, a link that is up stays so where the tape tells of no disk that goes or comes, whatever
+/// else the device does, faults and fatal errors among it, and over each access but a write of PxSCTL. So it is of a
+/// port that was started, and of one whose link came up.
 pub fn link_is_kept()
     ensures steps { (port : ℕ) (old new : Device) → old.hr ≡ false → PlugsNone port old new → Steps old new
         → IsLinked (old.port port) → IsLinked (new.port port) }
-    ensures access { (port : Port) (access : Access) (old new : Device) → old.hr ≡ false → SparesRegister (Px port Sctl) access
-        → PlugsNone port.0 old new → Does access old new → IsLinked (old.port port.0) → IsLinked (new.port port.0) }
+    ensures access { (port : Port) (access : Access) (old new : Device) → old.hr ≡ false
+        → SparesRegister (Px port Sctl) access → PlugsNone port.0 old new → Does access old new
+        → IsLinked (old.port port.0) → IsLinked (new.port port.0) }
     ensures started { (p : PortState) → IsStarted p → p.sctl_det ≢ 1 → IsLinked p }
     ensures up { (p : PortState) → IsUp p → IsLinked p }
 {}
 
-/// Where the machine agrees with the device, a port that works on plain commands alone goes on so, whatever the device does, also
-/// over a reset that ends, and over each access but a write of PxSACT: faults halt it in a way that ends once ST is set. A port that
-/// runs without a halt does so exactly if no bit of PxSACT is set. And then the link is up for a start.
+/// Where the machine agrees with the device, a port that works on plain commands alone goes on so, whatever the device
+/// does, also over a reset that ends, and over each access but a write of PxSACT: faults halt it in a way that ends
+/// once ST is set. A port that runs without a halt does so exactly if no bit of PxSACT is set. And then the link is up
+/// for a start.
 pub fn faults_are_plain()
-    ensures steps { (uses : Uses) (m : Machine) (port : ℕ) (old new : Device) → IsReached m → Agrees uses m old → Steps old new
-        → WorksPlainly (old.port port) → WorksPlainly (new.port port) }
-    ensures access { (uses : Uses) (m : Machine) (port : Port) (access : Access) (old new : Device) → IsReached m → Agrees uses m old
-        → SparesRegister (Px port Sact) access → Does access old new → WorksPlainly (old.port port.0) → WorksPlainly (new.port port.0) }
+    ensures steps { (uses : Uses) (m : Machine) (port : ℕ) (old new : Device) → IsReached m → Agrees uses m old
+        → Steps old new → WorksPlainly (old.port port) → WorksPlainly (new.port port) }
+    ensures access { (uses : Uses) (m : Machine) (port : Port) (access : Access) (old new : Device) → IsReached m
+        → Agrees uses m old → SparesRegister (Px port Sact) access → Does access old new
+        → WorksPlainly (old.port port.0) → WorksPlainly (new.port port.0) }
     ensures runs { (uses : Uses) (m : Machine) (port : ℕ) (d : Device) → Agrees uses m d → (d.port port).st ≡ true
         → (d.port port).halt ≡ NotHalted → ((slot : ℕ) → (d.port port).sact slot ≡ false) → WorksPlainly (d.port port) }
     ensures up { (p : PortState) → IsLinked p → WorksPlainly p → IsUp p }
     ensures found { (port : Port) (v causes : ℕ) (old mid new : Device) → old.hr ≡ false → (old.port port.0).st ≡ false
         → (old.port port.0).cr ≡ false → bit v 0 ≡ true → IsLinked (old.port port.0) → WorksPlainly (old.port port.0)
-        → Writes (Px port Cmd) v old mid → Reads (Px port Is) causes mid new → TellsNoTrouble causes → RunsWell (new.port port.0) }
+        → Writes (Px port Cmd) v old mid → Reads (Px port Is) causes mid new → TellsNoTrouble causes
+        → RunsWell (new.port port.0) }
 {}
 
-/// While ST is one, a queued command that has halted a port is taken still, and READ LOG EXT isn't awaited: so it stays where the machine agrees
-/// with the device, whatever the device does, over each access but a write of PxCMD, and over acts without one. So it is without a halt, and of a port that works on
-/// plain commands alone.
+/// While ST is one, a queued command that has halted a port is taken still, and READ LOG EXT isn't awaited: so it stays
+/// where the machine agrees with the device, whatever the device does, over each access but a write of PxCMD, and over
+/// acts without one. So it is without a halt, and of a port that works on plain commands alone.
 pub fn halts_are_of_taken_commands()
-    ensures steps { (uses : Uses) (m : Machine) (port : ℕ) (old new : Device) → IsReached m → Agrees uses m old → Steps old new
-        → IsHaltedAsTaken (old.port port) → IsHaltedAsTaken (new.port port) }
-    ensures access { (uses : Uses) (m : Machine) (port : Port) (access : Access) (old new : Device) → IsReached m → Agrees uses m old
-        → SparesRegister (Px port Cmd) access → Does access old new → IsHaltedAsTaken (old.port port.0)
-        → IsHaltedAsTaken (new.port port.0) }
-    ensures acts { (port : Port) (acts : List Act) (k later : Known) (m : Machine) → IsReached m → Knows m k → AreDone acts k m later
-        → All (SparesRegister (Px port Cmd)) (accesses_of acts) → IsHaltedAsTaken (k.device.port port.0)
-        → IsHaltedAsTaken (later.device.port port.0) }
+    ensures steps { (uses : Uses) (m : Machine) (port : ℕ) (old new : Device) → IsReached m → Agrees uses m old
+        → Steps old new → IsHaltedAsTaken (old.port port) → IsHaltedAsTaken (new.port port) }
+    ensures access { (uses : Uses) (m : Machine) (port : Port) (access : Access) (old new : Device) → IsReached m
+        → Agrees uses m old → SparesRegister (Px port Cmd) access → Does access old new
+        → IsHaltedAsTaken (old.port port.0) → IsHaltedAsTaken (new.port port.0) }
+    ensures acts { (port : Port) (acts : List Act) (k later : Known) (m : Machine) → IsReached m → Knows m k
+        → AreDone acts k m later → All (SparesRegister (Px port Cmd)) (accesses_of acts)
+        → IsHaltedAsTaken (k.device.port port.0) → IsHaltedAsTaken (later.device.port port.0) }
     ensures calm { (p : PortState) → p.halt ≡ NotHalted → HaltsAsTaken p }
     ensures plain { (p : PortState) → WorksPlainly p → HaltsAsTaken p }
 {}
 
-/// ST is set while the engine stands and the link is up: the port runs, though a queued fault may halt it still. It runs on where
-/// the tape tells of no fatal error of the port and of no disk that goes or comes, whatever else the device does, and over each
-/// access that neither clears ST nor writes PxSCTL. It is started where no fault halts it.
+/// ST is set while the engine stands and the link is up: the port runs, though a queued fault may halt it still. It
+/// runs on where the tape tells of no fatal error of the port and of no disk that goes or comes, whatever else the
+/// device does, and over each access that neither clears ST nor writes PxSCTL. It is started where no fault halts it.
 pub fn running_goes_on()
     ensures starts { (port : Port) (v : ℕ) (old new : Device) → old.hr ≡ false → (old.port port.0).st ≡ false
         → (old.port port.0).cr ≡ false → bit v 0 ≡ true → PlugsNone port.0 old new → Writes (Px port Cmd) v old new
         → IsLinked (old.port port.0) → RunsLinked (new.port port.0) }
-    ensures steps { (port : ℕ) (old new : Device) → old.hr ≡ false → PlugsNone port old new → NoneFatal port old new → Steps old new
-        → RunsLinked (old.port port) → RunsLinked (new.port port) }
+    ensures steps { (port : ℕ) (old new : Device) → old.hr ≡ false → PlugsNone port old new → NoneFatal port old new
+        → Steps old new → RunsLinked (old.port port) → RunsLinked (new.port port) }
     ensures access { (port : Port) (access : Access) (old new : Device) → old.hr ≡ false → ClearsNoStart port access
-        → SparesRegister (Px port Sctl) access → PlugsNone port.0 old new → NoneFatal port.0 old new → Does access old new
-        → RunsLinked (old.port port.0) → RunsLinked (new.port port.0) }
+        → SparesRegister (Px port Sctl) access → PlugsNone port.0 old new → NoneFatal port.0 old new
+        → Does access old new → RunsLinked (old.port port.0) → RunsLinked (new.port port.0) }
     ensures started { (p : PortState) → RunsLinked p → p.halt ≡ NotHalted → IsStarted p }
 {}
 
-/// The write of PxCI issues a command of the driver's own on a port with no other: its end ends a halt. So it stays, whatever the
-/// device does, and over each access that doesn't clear ST, doesn't write PxSACT and leaves no reset pending. Once PxCI is read with
-/// bit 0 clear, no fault halts the port; and where PxIS is read then with no trouble, it runs well.
+/// The write of PxCI issues a command of the driver's own on a port with no other: its end ends a halt. So it stays,
+/// whatever the device does, and over each access that doesn't clear ST, doesn't write PxSACT and leaves no reset
+/// pending. Once PxCI is read with bit 0 clear, no fault halts the port; and where PxIS is read then with no trouble,
+/// it runs well.
 pub fn halt_is_ended()
     ensures issued { (uses : Uses) (m : Machine) (port : Port) (o : Operation) (v : ℕ) (old new : Device) → IsReached m
-        → Agrees uses m old → old.hr ≡ false → ((slot : ℕ) → slot ≢ 0 → uses port.0 slot ≡ Free) → IsOwnPrepared uses old port.0 o v
-        → Writes (Px port Ci) v old new → EndsHalt (put uses port.0 0 (Own o)) port.0 new }
-    ensures steps { (uses : Uses) (m : Machine) (port : ℕ) (old new : Device) → IsReached m → Agrees uses m old → Steps old new
-        → EndsHalt uses port old → EndsHalt uses port new }
-    ensures access { (uses : Uses) (m : Machine) (port : Port) (access : Access) (old new : Device) → IsReached m → Agrees uses m old
-        → ClearsNoStart port access → SparesRegister (Px port Sact) access → new.hr ≡ false → Does access old new
-        → EndsHalt uses port.0 old → EndsHalt uses port.0 new }
-    ensures read { (uses : Uses) (m : Machine) (port : Port) (v : ℕ) (old new : Device) → IsReached m → Agrees uses m old
-        → EndsHalt uses port.0 old → Reads (Px port Ci) v old new → bit v 0 ≡ false → (new.port port.0).halt ≡ NotHalted }
-    ensures found { (uses : Uses) (m : Machine) (port : Port) (v causes : ℕ) (old mid new : Device) → IsReached m → Agrees uses m old
-        → EndsHalt uses port.0 old → RunsLinked (old.port port.0) → Reads (Px port Ci) v old mid → bit v 0 ≡ false
-        → Reads (Px port Is) causes mid new → TellsNoTrouble causes → RunsWell (new.port port.0) }
+        → Agrees uses m old → old.hr ≡ false → ((slot : ℕ) → slot ≢ 0 → uses port.0 slot ≡ Free)
+        → IsOwnPrepared uses old port.0 o v → Writes (Px port Ci) v old new
+        → EndsHalt (put uses port.0 0 (Own o)) port.0 new }
+    ensures steps { (uses : Uses) (m : Machine) (port : ℕ) (old new : Device) → IsReached m → Agrees uses m old
+        → Steps old new → EndsHalt uses port old → EndsHalt uses port new }
+    ensures access { (uses : Uses) (m : Machine) (port : Port) (access : Access) (old new : Device) → IsReached m
+        → Agrees uses m old → ClearsNoStart port access → SparesRegister (Px port Sact) access → new.hr ≡ false
+        → Does access old new → EndsHalt uses port.0 old → EndsHalt uses port.0 new }
+    ensures read { (uses : Uses) (m : Machine) (port : Port) (v : ℕ) (old new : Device) → IsReached m
+        → Agrees uses m old → EndsHalt uses port.0 old → Reads (Px port Ci) v old new → bit v 0 ≡ false
+        → (new.port port.0).halt ≡ NotHalted }
+    ensures found { (uses : Uses) (m : Machine) (port : Port) (v causes : ℕ) (old mid new : Device) → IsReached m
+        → Agrees uses m old → EndsHalt uses port.0 old → RunsLinked (old.port port.0) → Reads (Px port Ci) v old mid
+        → bit v 0 ≡ false → Reads (Px port Is) causes mid new → TellsNoTrouble causes → RunsWell (new.port port.0) }
 {}
 
-/// ST is set on a quiet port with no slot in use and no bit of PxSACT: from then on, while slot 0 alone is used, by a plain command, a
-/// fault shows only while that isn't over. So it stays, whatever the device does, where slot 0 is put to use, and over each access that
-/// clears no ST, writes neither PxSACT nor PxSCTL and leaves no reset pending. So once PxCI is read with bit 0 clear, TFES is clear:
-/// a command that a fault has halted isn't over. And then the port runs well, where no other bit tells of trouble.
+/// ST is set on a quiet port with no slot in use and no bit of PxSACT: from then on, while slot 0 alone is used, by a
+/// plain command, a fault shows only while that isn't over. So it stays, whatever the device does, where slot 0 is put
+/// to use, and over each access that clears no ST, writes neither PxSACT nor PxSCTL and leaves no reset pending. So
+/// once PxCI is read with bit 0 clear, TFES is clear: a command that a fault has halted isn't over. And then the port
+/// runs well, where no other bit tells of trouble.
 pub fn faults_show_before_the_end()
     ensures starts { (uses : Uses) (port : Port) (v : ℕ) (old new : Device) → old.hr ≡ false → bit v 0 ≡ true
         → ((slot : ℕ) → uses port.0 slot ≡ Free) → (old.port port.0).sact 0 ≡ false → IsQuiet (old.port port.0)
         → (old.port port.0).st ≡ false → Writes (Px port Cmd) v old new → FailsOpenly uses port.0 new }
-    ensures used { (uses : Uses) (port : ℕ) (u : Use) (d : Device) → FailsOpenly uses port d → FailsOpenly (put uses port 0 u) port d }
-    ensures steps { (uses : Uses) (m : Machine) (port : ℕ) (old new : Device) → IsReached m → Agrees uses m old → Steps old new
-        → FailsOpenly uses port old → FailsOpenly uses port new }
-    ensures access { (uses : Uses) (m : Machine) (port : Port) (access : Access) (old new : Device) → IsReached m → Agrees uses m old
-        → ClearsNoStart port access → SparesRegister (Px port Sact) access → SparesRegister (Px port Sctl) access → new.hr ≡ false
-        → Does access old new → FailsOpenly uses port.0 old → FailsOpenly uses port.0 new }
-    ensures read { (uses : Uses) (m : Machine) (port : Port) (v : ℕ) (old new : Device) → IsReached m → Agrees uses m old
-        → FailsOpenly uses port.0 old → Reads (Px port Ci) v old new → bit v 0 ≡ false → (new.port port.0).is 30 ≡ false }
-    ensures well { (p : PortState) → RunsLinked p → p.halt ≡ NotHalted → p.is 30 ≡ false → p.serr_n ≡ false → p.serr_x ≡ false
-        → ((place : ℕ) → 27 ≤ place → place ≤ 29 → p.is place ≡ false) → RunsWell p }
+    ensures used { (uses : Uses) (port : ℕ) (u : Use) (d : Device) → FailsOpenly uses port d
+        → FailsOpenly (put uses port 0 u) port d }
+    ensures steps { (uses : Uses) (m : Machine) (port : ℕ) (old new : Device) → IsReached m → Agrees uses m old
+        → Steps old new → FailsOpenly uses port old → FailsOpenly uses port new }
+    ensures access { (uses : Uses) (m : Machine) (port : Port) (access : Access) (old new : Device) → IsReached m
+        → Agrees uses m old → ClearsNoStart port access → SparesRegister (Px port Sact) access
+        → SparesRegister (Px port Sctl) access → new.hr ≡ false → Does access old new → FailsOpenly uses port.0 old
+        → FailsOpenly uses port.0 new }
+    ensures read { (uses : Uses) (m : Machine) (port : Port) (v : ℕ) (old new : Device) → IsReached m
+        → Agrees uses m old → FailsOpenly uses port.0 old → Reads (Px port Ci) v old new → bit v 0 ≡ false
+        → (new.port port.0).is 30 ≡ false }
+    ensures well { (p : PortState) → RunsLinked p → p.halt ≡ NotHalted → p.is 30 ≡ false → p.serr_n ≡ false
+        → p.serr_x ≡ false → ((place : ℕ) → 27 ≤ place → place ≤ 29 → p.is place ≡ false) → RunsWell p }
 {}

@@ -1,4 +1,5 @@
-// Laws of stretches of accesses, for the crates above: the clause is the theorem. Nothing that runs calls these functions.
+// Laws of stretches of accesses, for the crates above: the clause is the theorem. Nothing that runs calls these
+// functions.
 ghost use Rattle.std.specs.Prelude.{ℕ, false, ◌≡◌, ◌≢◌, ◌++◌, List, Contains, length, None};
 ghost use Rattle.ata_types.specs.declared.Port.{Port};
 ghost use Rattle.hba_regs.specs.Bits.{bit};
@@ -18,59 +19,18 @@ ghost use Rattle.agreement.specs.Facts.{IsRecorded};
 ghost use Rattle.agreement.specs.Links.{SameAdapter, SparesRegister};
 ghost use Rattle.agreement.specs.Slots.{Uses, Free, IsOver, Own, op_of, put};
 
-/// Stretches of accesses of one port, which write some of its registers: none, one access, and one stretch after
-/// another. So it is with stretches that are followed: any reading is, and so is a write that is permitted and leaves
-/// the uses; and what is followed is so where more registers may be written, and with these uses alone. Such accesses touch no
-/// register of another port (`IsOf`). And with those that don't: one stretch after another, any load, and a store that may be made.
-pub fn stretches_compose()
-    ensures none { (registers : List PortReg) (port : Port) (d : Device)
-        → IsDrivenBy (IsControl (Contains registers) port) d d }
-    ensures one { (registers : List PortReg) (port : Port) (access : Access) (old new : Device)
-        → IsControl (Contains registers) port access → Does access old new
-        → IsDrivenBy (IsControl (Contains registers) port) old new }
-    ensures more { (registers : List PortReg) (port : Port) (old mid new : Device)
-        → IsDrivenBy (IsControl (Contains registers) port) old mid
-        → IsDrivenBy (IsControl (Contains registers) port) mid new
-        → IsDrivenBy (IsControl (Contains registers) port) old new }
-    ensures driven_of { (registers : List PortReg) (port : Port) (old new : Device)
-        → IsDrivenBy (IsControl (Contains registers) port) old new → IsDrivenBy (IsOf port) old new }
-    ensures followed_none { (registers : List PortReg) (port : Port) (d : Device)
-        → IsFollowed (IsControl (Contains registers) port) AnyUse d d }
-    ensures followed_more { (registers : List PortReg) (port : Port) (uses : Uses) (old mid new : Device)
-        → IsFollowed (IsControl (Contains registers) port) (IsUse uses) old mid
-        → IsFollowed (IsControl (Contains registers) port) (IsUse uses) mid new
-        → IsFollowed (IsControl (Contains registers) port) (IsUse uses) old new }
-    ensures followed_as { (registers more : List PortReg) (port : Port) (uses : Uses) (old new : Device)
-        → ((r : PortReg) → Contains registers r → Contains more r)
-        → IsFollowed (IsControl (Contains registers) port) AnyUse old new
-        → IsFollowed (IsControl (Contains more) port) (IsUse uses) old new }
-    ensures followed_of { (registers : List PortReg) (port : Port) (uses : Uses) (old new : Device)
-        → IsFollowed (IsControl (Contains registers) port) (IsUse uses) old new → IsFollowed (IsOf port) (IsUse uses) old new }
-    ensures followed_then { (port : Port) (uses : Uses) (old mid new : Device) → IsFollowed (IsOf port) (IsUse uses) old mid
-        → IsFollowed (IsOf port) (IsUse uses) mid new → IsFollowed (IsOf port) (IsUse uses) old new }
-    ensures reading { (registers : List PortReg) (port : Port) (r : PortReg) (v : ℕ) (old new : Device)
-        → Reads (Px port r) v old new → IsFollowed (IsControl (Contains registers) port) AnyUse old new }
-    ensures writing { (registers : List PortReg) (port : Port) (uses : Uses) (r : PortReg) (v : ℕ) (old new : Device)
-        → Contains registers r → Stays (MayWrite (Px port r) v) old → LeavesUses uses (Px port r) v old
-        → Writes (Px port r) v old new → IsFollowed (IsControl (Contains registers) port) (IsUse uses) old new }
-    ensures loading { (port : Port) (at : ℕ) (bytes : List ℕ) (old new : Device) → Loads at bytes old new
-        → IsFollowed (IsOf port) AnyUse old new }
-    ensures storing { (port : Port) (uses : Uses) (at : ℕ) (bytes : List ℕ) (old new : Device) → MayStore uses at (length bytes)
-        → Stores at bytes old new → IsFollowed (IsOf port) (IsUse uses) old new }
-{}
-
-/// Accesses that touch no register of another port, nor another port's bit of IS (`IsOf`), leave every other port to the device, with what
-/// readings noted of it, and with the record of its faults; and where they are followed, its disk sends no page for which its slot 0 has
-/// no command.
-/// What is left so in two stretches is left in both. They write neither GHC nor a register of another port, and an adapter that is on stays
-/// on. Any accesses leave the adapter what it is, and the tape only gains.
+/// Accesses that touch no register of another port, nor another port's bit of IS (`IsOf`), leave every other port to
+/// the device, with what readings noted of it, and with the record of its faults; and where they are followed, its disk
+/// sends no page for which its slot 0 has no command. What is left so in two stretches is left in both. They write
+/// neither GHC nor a register of another port, and an adapter that is on stays on. Any accesses leave the adapter what
+/// it is, and the tape only gains.
 pub fn other_ports_are_left()
     ensures left { (port : Port) (q : ℕ) (old new : Device) → q ≢ port.0 → IsOn old → IsDrivenBy (IsOf port) old new
         → LeavesPort (old.port q) (new.port q) }
     ensures recorded { (port : Port) (q : ℕ) (old new : Device) → q ≢ port.0 → IsDrivenBy (IsOf port) old new
         → IsRecorded old.tape (old.port q) q → IsRecorded new.tape (new.port q) q }
-    ensures silent { (port q : Port) (uses : Uses) (next : Uses → Uses) (o : Operation) (old new : Device) → q.0 ≢ port.0
-        → IsFollowedTo (IsOf port) (IsUse uses) next old new → IsAgreed uses old → op_of o ≡ None
+    ensures silent { (port q : Port) (uses : Uses) (next : Uses → Uses) (o : Operation) (old new : Device)
+        → q.0 ≢ port.0 → IsFollowedTo (IsOf port) (IsUse uses) next old new → IsAgreed uses old → op_of o ≡ None
         → (uses q.0 0 ≡ Own o → ⊥) → SendsNone q.0 o old new }
     ensures none { (p : PortState) → LeavesPort p p }
     ensures more { (old mid new : PortState) → LeavesPort old mid → LeavesPort mid new → LeavesPort old new }
@@ -79,17 +39,19 @@ pub fn other_ports_are_left()
     ensures spares_host { (port : Port) (access : Access) → IsOf port access → SparesRegister Ghc access }
     ensures on { (port : Port) (old new : Device) → IsOn old → IsDrivenBy (IsOf port) old new → IsOn new }
     ensures adapter { (old new : Device) → IsDrivenBy AnyAccess old new → SameAdapter old new }
-    ensures tape { (old new : Device) → IsDrivenBy AnyAccess old new → (gained : List Entry) × (new.tape ≡ old.tape ++ gained) }
+    ensures tape { (old new : Device) → IsDrivenBy AnyAccess old new → (gained : List Entry)
+        × (new.tape ≡ old.tape ++ gained) }
 {}
 
-/// Over accesses that are followed some machine goes on agreeing with the same uses. So it does once a command of the driver's own that is
-/// over has left its slot. And with an idle device, whose disks tell their sectors if the adapter is one that tells, some machine agrees where no slot is used.
+/// Over accesses that are followed some machine goes on agreeing with the same uses. So it does once a command of the
+/// driver's own that is over has left its slot. And with an idle device, whose disks tell their sectors if the adapter
+/// is one that tells, some machine agrees where no slot is used.
 pub fn agreeing_goes_on()
     ensures followed { (uses : Uses) (old new : Device)
         → IsFollowed AnyAccess (IsUse uses) old new
         → IsAgreed uses old → IsAgreed uses new }
-    ensures released { (uses : Uses) (port : ℕ) (o : Operation) (d : Device) → uses port 0 ≡ Free → IsOver (d.port port) 0
-        → IsAgreed (put uses port 0 (Own o)) d → IsAgreed uses d }
+    ensures released { (uses : Uses) (port : ℕ) (o : Operation) (d : Device) → uses port 0 ≡ Free
+        → IsOver (d.port port) 0 → IsAgreed (put uses port 0 (Own o)) d → IsAgreed uses d }
     ensures idle { (d : Device) → IsIdle d → TellsDisks d → IsAgreed (λ port slot. Free) d }
 {}
 
@@ -119,15 +81,17 @@ pub fn causes_stay_clear()
         → Does access old new → (old.port port.0).is place ≡ false → (new.port port.0).is place ≡ false }
 {}
 
-/// A port none of whose slots has a command moves nothing: whatever the device does, over each access, and over accesses of the
-/// port's registers that write no PxCI, after which none has one still. Where none of two parts brings a page, the whole brings none.
+/// A port none of whose slots has a command moves nothing: whatever the device does, over each access, and over
+/// accesses of the port's registers that write no PxCI, after which none has one still. Where none of two parts brings
+/// a page, the whole brings none.
 pub fn unused_slots_are_silent()
     ensures steps { (port : ℕ) (o : Operation) (old new : Device) → HasNoCommand (old.port port) → Steps old new
         → SendsNone port o old new }
     ensures access { (port : ℕ) (o : Operation) (access : Access) (old new : Device) → HasNoCommand (old.port port)
         → Does access old new → SendsNone port o old new }
-    ensures controls { (port : Port) (o : Operation) (old new : Device) → IsDrivenBy (IsControl (λ r. r ≢ Ci) port) old new
-        → HasNoCommand (old.port port.0) → SendsNone port.0 o old new × HasNoCommand (new.port port.0) }
-    ensures more { (port : ℕ) (o : Operation) (old mid new : Device) → SendsNone port o old mid → SendsNone port o mid new
-        → SendsNone port o old new }
+    ensures controls { (port : Port) (o : Operation) (old new : Device)
+        → IsDrivenBy (IsControl (λ r. r ≢ Ci) port) old new → HasNoCommand (old.port port.0)
+        → SendsNone port.0 o old new × HasNoCommand (new.port port.0) }
+    ensures more { (port : ℕ) (o : Operation) (old mid new : Device) → SendsNone port o old mid
+        → SendsNone port o mid new → SendsNone port o old new }
 {}

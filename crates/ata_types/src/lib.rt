@@ -1,5 +1,9 @@
-//! The words that all layers share: sectors and ranges of them, who asks, what is asked and allowed, why it is refused,
-//! and how it ended; and the numbers of the memory map.
+//! The words that all layers share, and the numbers of the memory map.
+//!
+//! Sectors and ranges, clients, ports, slots, frames, requests, grants, refusals, outcomes and
+//! replies. A type means what its comment says. `memory` names each place of the driver's frames:
+//! code, contracts and definitions go by the names, and no contract says that a number is the right
+//! one.
 #![tactic(auto)]
 
 mod grant;

@@ -7,8 +7,8 @@ pub const FRAME_BYTES: u32 = 4096;
 /// Frames of the largest memory that a server can use.
 pub const MOST_FRAMES: u16 = 1024;
 
-/// The driver's frames of each port. The first has the port's command list and its received FIS area, the next eight have
-/// its command tables, and the last is its scratch frame.
+/// The driver's frames of each port. The first has the port's command list and its received FIS area, the next eight
+/// have its command tables, and the last is its scratch frame.
 pub const PORT_FRAMES: u16 = 10;
 
 /// Bytes of the driver's frames of a port: those of port p begin at byte `PORT_BYTES` p, with its command list.

@@ -89,8 +89,8 @@ fn transfer(server: &mut Served, client: u8, op: Op, frame: u16) -> Option<()> {
     Some(())
 }
 
-/// Has the disk do what is issued in the lowest slots, so many, the last first, and asks the server for replies: `None` if there aren't this
-/// many.
+/// Has the disk do what is issued in the lowest slots, so many, the last first, and asks the server for replies: `None`
+/// if there aren't this many.
 fn answer(server: &mut Served, slots: u8, replies: usize) -> Option<()> {
     for slot in (0..slots).rev() {
         let _done = server.device(&DeviceStep::Finish(Port(0), Slot(slot)));
@@ -151,7 +151,8 @@ fn each<W: io::Write>(server: &mut Served, table: &mut Table<'_, W>) -> Option<(
     table.row("a store of 64 bytes", server)
 }
 
-/// Reads that are asked, by two clients where one may not ask so many, done by the disk in the opposite order, and answered by one service.
+/// Reads that are asked, by two clients where one may not ask so many, done by the disk in the opposite order, and
+/// answered by one service.
 fn together<W: io::Write>(server: &mut Served, table: &mut Table<'_, W>) -> Option<()> {
     for (count, calls) in TOGETHER {
         for place in 0..count {
@@ -180,8 +181,8 @@ fn rows<W: io::Write>(server: &mut Served, out: &mut W) -> Option<()> {
     together(server, &mut table)
 }
 
-/// Prints a row for each kind of call: its register reads and writes, and its stores and loads of memory. `None` where a call did something
-/// else than it should, or memory or output was refused.
+/// Prints a row for each kind of call: its register reads and writes, and its stores and loads of memory. `None` where
+/// a call did something else than it should, or memory or output was refused.
 pub fn print<W: io::Write>(alloc: Global, out: &mut W) -> Option<()> {
     let image = MemStore::new(alloc, SECTORS).ok()?;
     let blank = MemStore::new(alloc, 0).ok()?;

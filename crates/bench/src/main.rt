@@ -1,5 +1,7 @@
-//! `bench`: how many accesses of the adapter the server's calls make. `bench CONFIG SCRIPT` plays a script over a disk in memory, for a
-//! clock outside.
+//! Counts how many accesses of the adapter the server's calls make.
+//!
+//! `bench CONFIG SCRIPT` plays a script over a disk in memory, for a clock outside. It promises
+//! nothing of what it prints.
 #![tactic(auto)]
 
 mod counted;
@@ -16,7 +18,8 @@ use std::{env, io};
 enum Fault {
     /// The words are neither none nor two.
     Words,
-    /// A file can't be read, the configuration or the script is wrong, a call didn't do what it should, or memory or output was refused.
+    /// A file can't be read, the configuration or the script is wrong, a call didn't do what it should, or memory or
+    /// output was refused.
     Failed,
 }
 

@@ -89,9 +89,6 @@ holds_elsewhere : (mode : Mode) (x o : Unanswered) → (o.port.0 == x.port.0) �
 holds_elsewhere mode x o port = and_left _ _ port ∙ sym (and_left _ _ port)
 
 module _ (mode : Mode) (book : List Unanswered) (e : Unanswered) (order : Ordered book) (due : IsDue mode book e) where
-  new_book : List Unanswered
-  new_book = with_issued e.id book
-
   here : In e book
   here = in_from book e due.here
 

@@ -51,11 +51,12 @@ HasFrame r frame = (i : ℕ) × (i < length r.asked.frames.items) × (frame_at r
 
 -- The frames hold what they held at acceptance, but for the sectors of a read: so a write's hold its bytes.
 abbrev pub IsHeld : Machine → Accepted → Type 0
-IsHeld m r = (i b : ℕ) → (is_reader r.asked.op ≡ true → r.asked.count ≤ i) → i < 8 * length r.asked.frames.items → b < 512
-    → block_of m.memory r.asked.frames.items i b ≡ r.held i b
+IsHeld m r = (i b : ℕ) → (is_reader r.asked.op ≡ true → r.asked.count ≤ i) → i < 8 * length r.asked.frames.items
+    → b < 512 → block_of m.memory r.asked.frames.items i b ≡ r.held i b
 
--- A client has at most 16 unanswered requests, and all have 128. A request that is unanswered or kept was issued at most four times, and
--- once at least where it is issued; its frames are its client's, and lent to it: so no frame is lent to two.
+-- A client has at most 16 unanswered requests, and all have 128. A request that is unanswered or kept was issued at
+-- most four times, and once at least where it is issued; its frames are its client's, and lent to it: so no frame is
+-- lent to two.
 pub record WithinLimits (m : Machine) : Type 0 where
   pub few : (client : ClientId) → unanswered_of m.book client ≤ 16
   pub all : length m.book ≤ 128
@@ -66,17 +67,20 @@ pub record WithinLimits (m : Machine) : Type 0 where
   pub owned : (e : Pending) → IsLiving m e → (i : ℕ) → i < length e.request.asked.frames.items
       → m.owner (frame_at e.request.asked.frames.items i) ≡ Some e.request.asked.client
 
--- What may change a byte of a client's frame: a touch of a read that the frame is lent to, of the sector whose place the byte
--- is in; or a store of these bytes by the frame's owner, while it is lent to none.
+-- What may change a byte of a client's frame: a touch of a read that the frame is lent to, of the sector whose place
+-- the byte is in; or a store of these bytes by the frame's owner, while it is lent to none.
 abbrev pub MayChangeByte : Machine → Step → Frame → ℕ → Type 0
-MayChangeByte m (Touch e i block) frame b = (e.request.asked.op ≡ Read) × (frame_at e.request.asked.frames.items (i / 8) ≡ frame)
-    × (m.lent frame ≡ Some e.request.id) × (512 * (i % 8) ≤ b) × (b < 512 * (i % 8) + 512)
-MayChangeByte m (Store client f offset bytes) frame b = (f ≡ frame) × (m.owner frame ≡ Some client) × (m.lent frame ≡ None)
-    × (offset ≤ b) × (b < offset + length bytes)
+MayChangeByte m (Touch e i block) frame b = (e.request.asked.op ≡ Read)
+    × (frame_at e.request.asked.frames.items (i / 8) ≡ frame) × (m.lent frame ≡ Some e.request.id) × (512 * (i % 8) ≤ b)
+    × (b < 512 * (i % 8) + 512)
+MayChangeByte m (Store client f offset bytes) frame b = (f ≡ frame) × (m.owner frame ≡ Some client)
+    × (m.lent frame ≡ None) × (offset ≤ b) × (b < offset + length bytes)
 MayChangeByte m _ frame b = ⊥
 
--- What may change a sector of a port's disk: a touch of it by a write or trim of the port, or a disk that is put in there.
+-- What may change a sector of a port's disk: a touch of it by a write or trim of the port, or a disk that is put in
+-- there.
 abbrev pub MayChangeSector : Step → Port → ℕ → Type 0
-MayChangeSector (Touch e i block) port k = (is_writer e.request.asked.op ≡ true) × (e.request.port ≡ port) × (sector_of e.request i ≡ k)
+MayChangeSector (Touch e i block) port k = (is_writer e.request.asked.op ≡ true) × (e.request.port ≡ port)
+    × (sector_of e.request i ≡ k)
 MayChangeSector (Replace p id size disk) port k = p ≡ port
 MayChangeSector _ port k = ⊥

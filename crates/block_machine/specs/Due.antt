@@ -27,7 +27,8 @@ is_writer Flush = false
 
 -- the ranges have a sector in common
 abbrev pub overlap : Range → Range → Bool
-overlap a b = (nat_lt a.first.0 (range_end b) && nat_lt b.first.0 (range_end a)) && (nat_lt 0 a.count && nat_lt 0 b.count)
+overlap a b = (nat_lt a.first.0 (range_end b) && nat_lt b.first.0 (range_end a)) &&
+    (nat_lt 0 a.count && nat_lt 0 b.count)
 
 -- two requests of one port conflict if one is a flush, or if one of them writes or trims and their ranges overlap
 abbrev pub conflict : Unanswered → Unanswered → Bool
@@ -80,7 +81,8 @@ pub record IsDue (mode : Mode) (book : List Unanswered) (r : Unanswered) : Type 
 
 -- `IsDue` of a request of the book, as a test
 abbrev pub is_due : Mode → List Unanswered → Unanswered → Bool
-is_due mode book r = is_clear mode book r && (is_plain mode r.op || nat_lt (ahead mode book r) (free_slots mode book r.port))
+is_due mode book r = is_clear mode book r &&
+    (is_plain mode r.op || nat_lt (ahead mode book r) (free_slots mode book r.port))
 
 -- how many earlier ones of its port are due: law `slots_by_due` says that a slot is left after these too
 abbrev pub due_ahead : Mode → List Unanswered → Unanswered → ℕ
@@ -126,4 +128,5 @@ due_of mode port book = filter (λ r. r.port.0 == port.0 && is_due mode book r) 
 abbrev pub AreDueInTurn : Mode → Port → List RequestId → List Unanswered → Type 0
 AreDueInTurn mode port [] book = NoneDue mode book port
 AreDueInTurn mode port (id ∷ ids) book =
-    ((r : Unanswered) × (r.id ≡ id) × (r.port ≡ port) × IsDue mode book r) × AreDueInTurn mode port ids (with_issued id book)
+    ((r : Unanswered) × (r.id ≡ id) × (r.port ≡ port) × IsDue mode book r)
+    × AreDueInTurn mode port ids (with_issued id book)

@@ -1,6 +1,5 @@
--- Calls of the server as events, and runs of them (this project's own).
--- An event ties what was asked, what was said, what the ports showed, and the machine's steps. `D` are the steps that a device
--- can be told to do.
+-- Calls of the server as events, and runs of them (this project's own). An event ties what was asked, what was said,
+-- what the ports showed, and the machine's steps. `D` are the steps that a device can be told to do.
 use Rattle.std.specs.Prelude.{◌≡◌, ◌≢◌, ◌⊎◌, ℕ, ◌<◌, ◌≤◌, ◌==◌, Bool, true, false, IsTrue, List, [], ◌∷◌, ◌++◌, length, map, count_by, Contains, AllPairs, IsPermutation, Option, Some, None, Result, Ok, Err}
 use Rattle.std.specs.List.{list_any}
 use Rattle.ata_types.specs.declared.Port.{Port}
@@ -80,14 +79,16 @@ GivesUp outcome.Unplugged = Unit {0}
 GivesUp outcome.PortDead = Unit {0}
 GivesUp _ = ⊥
 
--- The step is one that the server makes in a call that asks this. Requests are issued, or wait again, on ports that are ready
--- at its end, and are issued in the mode that the port has then. A tick tells no fault, and a reset tells neither faults nor
--- that something was done.
+-- The step is one that the server makes in a call that asks this. Requests are issued, or wait again, on ports that are
+-- ready at its end, and are issued in the mode that the port has then. A tick tells no fault, and a reset tells neither
+-- faults nor that something was done.
 abbrev pub IsServers : {D : Type 0} → Ask D → Ports → Step → Type 0
 IsServers (Submit r) ports (Accept new) = new.asked ≡ r
 IsServers (Submit r) ports (Issue mode e) = (ports.state e.request.port ≡ Ready) × (ports.mode e.request.port ≡ mode)
-IsServers (StoreAt client frame offset bytes) ports (Store c f o b) = (c ≡ client) × (f ≡ frame) × (o ≡ offset) × (b ≡ bytes)
-IsServers (LoadAt client frame offset count) ports (Load c f o b) = (c ≡ client) × (f ≡ frame) × (o ≡ offset) × (length b ≡ count)
+IsServers (StoreAt client frame offset bytes) ports (Store c f o b) = (c ≡ client) × (f ≡ frame) × (o ≡ offset)
+    × (b ≡ bytes)
+IsServers (LoadAt client frame offset count) ports (Load c f o b) = (c ≡ client) × (f ≡ frame) × (o ≡ offset)
+    × (length b ≡ count)
 IsServers Service ports (Issue mode e) = (ports.state e.request.port ≡ Ready) × (ports.mode e.request.port ≡ mode)
 IsServers Service ports (Again e) = ports.state e.request.port ≡ Ready
 IsServers Service ports (Answer e o) = Unit {0}
@@ -166,7 +167,8 @@ handles id _ = false
 abbrev pub IsIssuedIn : RequestId → List Step → Type 0
 IsIssuedIn id steps = list_any (issues_it id) steps ≡ true
 
--- A call does nothing more with a request that it issued: so it issues a request once at most, and answers none that it issued.
+-- A call does nothing more with a request that it issued: so it issues a request once at most, and answers none that it
+-- issued.
 abbrev pub IssuesLast : List Step → Type 0
 IssuesLast [] = Unit {0}
 IssuesLast (step ∷ before) = IssuesLast before × ((id : RequestId) → handles id step ≡ true → IsIssuedIn id before → ⊥)
@@ -178,27 +180,33 @@ pub record WasIssued (m : Machine) (id : RequestId) : Type 0 where
   pub id_is : pending.request.id ≡ id
   pub issued : pending.issued ≡ true
 
--- What stands behind each outcome. An Ok, a fault and an abort are of a request that was issued when the call began; Unplugged is of
--- one on a port that was lost. Of an Ok
--- each sector was touched since the last issue, and it was ended. A fault is told of a request that is issued. An abort comes
--- after four issues, and leaves the port ready. An issued request's frames are given back only where it ended or its port stopped:
--- else they may still be written. And PortDead leaves the port dead. (So it was when the call began, or it got stuck in the call: that
--- follows from what the calls make of ports, by law `dead_ports_were_stuck`.)
+-- What stands behind each outcome. An Ok, a fault and an abort are of a request that was issued when the call began;
+-- Unplugged is of one on a port that was lost. Of an Ok each sector was touched since the last issue, and it was ended.
+-- A fault is told of a request that is issued. An abort comes after four issues, and leaves the port ready. An issued
+-- request's frames are given back only where it ended or its port stopped: else they may still be written. And PortDead
+-- leaves the port dead. (So it was when the call began, or it got stuck in the call: that follows from what the calls
+-- make of ports, by law `dead_ports_were_stuck`.)
 abbrev pub IsLawful : Moment → Evidence → Ports → Pending → Outcome → Type 0
-IsLawful old evidence ports e outcome.Ok = WasIssued old.machine e.request.id × (e.issued ≡ true) × AllTouched e × (e.ended ≡ true)
-IsLawful old evidence ports e (outcome.DeviceError status error) = WasIssued old.machine e.request.id × (e.issued ≡ true)
-    × Contains evidence.faults (record { id = e.request.id; status = status; error = error }) × Contains evidence.stopped e.request.port
-IsLawful old evidence ports e outcome.Aborted = WasIssued old.machine e.request.id × (e.issues ≡ 4) × (ports.state e.request.port ≡ Ready)
-    × Contains evidence.stopped e.request.port × SameDisk old.ports ports e.request.port
-IsLawful old evidence ports e outcome.Unplugged = Contains evidence.lost e.request.port × Contains evidence.stopped e.request.port
+IsLawful old evidence ports e outcome.Ok = WasIssued old.machine e.request.id × (e.issued ≡ true) × AllTouched e
+    × (e.ended ≡ true)
+IsLawful old evidence ports e (outcome.DeviceError status error) = WasIssued old.machine e.request.id
+    × (e.issued ≡ true) × Contains evidence.faults (record { id = e.request.id; status = status; error = error })
+    × Contains evidence.stopped e.request.port
+IsLawful old evidence ports e outcome.Aborted = WasIssued old.machine e.request.id × (e.issues ≡ 4)
+    × (ports.state e.request.port ≡ Ready) × Contains evidence.stopped e.request.port
+    × SameDisk old.ports ports e.request.port
+IsLawful old evidence ports e outcome.Unplugged = Contains evidence.lost e.request.port
+    × Contains evidence.stopped e.request.port
 IsLawful old evidence ports e outcome.PortDead = ports.state e.request.port ≡ Dead
 
--- Each answer of the call is lawful, with these ports at its end. And a request waits again only where its port stopped: else its
--- command may still move.
+-- Each answer of the call is lawful, with these ports at its end. And a request waits again only where its port
+-- stopped: else its command may still move.
 abbrev pub AllLawful : Moment → Evidence → Ports → List Step → Type 0
 AllLawful old evidence ports [] = Unit {0}
-AllLawful old evidence ports (Answer e o ∷ before) = AllLawful old evidence ports before × IsLawful old evidence ports e o
-AllLawful old evidence ports (Again e ∷ before) = AllLawful old evidence ports before × Contains evidence.stopped e.request.port
+AllLawful old evidence ports (Answer e o ∷ before) = AllLawful old evidence ports before
+    × IsLawful old evidence ports e o
+AllLawful old evidence ports (Again e ∷ before) = AllLawful old evidence ports before
+    × Contains evidence.stopped e.request.port
 AllLawful old evidence ports (step ∷ before) = AllLawful old evidence ports before
 
 -- the answers of a call, as they are told: by port, and then by id
@@ -232,16 +240,18 @@ situation_of m = record {
 
 -- no request of a ready port is due
 abbrev pub AllIssued : Moment → Type 0
-AllIssued m = (port : Port) → m.ports.state port ≡ Ready → NoneDue (m.ports.mode port) (map unanswered m.machine.book) port
+AllIssued m = (port : Port) → m.ports.state port ≡ Ready → NoneDue (m.ports.mode port) (map unanswered m.machine.book)
+    port
 
 -- where a port isn't ready, none of its requests is unanswered
 abbrev pub IsEmptied : Moment → Port → Type 0
 IsEmptied m port = m.ports.state port ≢ Ready → (e : Pending) → Contains m.machine.book e → e.request.port ≢ port
 
--- a request that was unanswered when the call began, and still is, is on a port that shows serial and size as it did then
+-- a request that was unanswered when the call began, and still is, is on a port that shows serial and size as it did
+-- then
 abbrev pub KeepsDisks : Moment → Moment → Type 0
-KeepsDisks old new = (e o : Pending) → Contains new.machine.book e → Contains old.machine.book o → o.request.id ≡ e.request.id
-    → SameDisk old.ports new.ports e.request.port
+KeepsDisks old new = (e o : Pending) → Contains new.machine.book e → Contains old.machine.book o
+    → o.request.id ≡ e.request.id → SameDisk old.ports new.ports e.request.port
 
 -- a tick brings the age of an issued request of this ready port to three
 pub record IsHung (old : Moment) (port : Port) : Type 0 where
@@ -254,7 +264,8 @@ pub record IsHung (old : Moment) (port : Port) : Type 0 where
 
 -- no unanswered request of the port keeps an issue that it had before these steps
 abbrev pub NoneKeepsIssue : List Step → Machine → Port → Type 0
-NoneKeepsIssue steps m port = (e : Pending) → Contains m.book e → e.request.port ≡ port → e.issued ≡ true → IsIssuedIn e.request.id steps
+NoneKeepsIssue steps m port = (e : Pending) → Contains m.book e → e.request.port ≡ port → e.issued ≡ true
+    → IsIssuedIn e.request.id steps
 
 -- the step takes the port's disk out, or puts one in
 abbrev pub changes_disk : Port → Step → Bool
@@ -262,23 +273,26 @@ changes_disk port (Unplug p) = p.0 == port.0
 changes_disk port (Replace p id size disk) = p.0 == port.0
 changes_disk port _ = false
 
--- Each request of the port that had ended when the call began is answered Ok. (`done` is that request: the machine would let a
--- sector of it be touched once more until then, though no device does.)
+-- Each request of the port that had ended when the call began is answered Ok. (`done` is that request: the machine
+-- would let a sector of it be touched once more until then, though no device does.)
 abbrev pub AnswersEnded : Machine → List Step → Port → Type 0
 AnswersEnded old steps port = (e : Pending) → Contains old.book e → e.request.port ≡ port → e.ended ≡ true
     → (done : Pending) × (done.request ≡ e.request) × Contains steps (Answer done outcome.Ok)
 
 -- each answer to a request of the port is Ok, or this one
 abbrev pub AreTold : Outcome → List Step → Port → Type 0
-AreTold told steps port = (e : Pending) (o : Outcome) → Contains steps (Answer e o) → e.request.port ≡ port → (o ≡ outcome.Ok) ⊎ (o ≡ told)
+AreTold told steps port = (e : Pending) (o : Outcome) → Contains steps (Answer e o) → e.request.port ≡ port
+    → (o ≡ outcome.Ok) ⊎ (o ≡ told)
 
 -- Where a request is answered Unplugged, no request of its port is left unanswered, and none is answered PortDead.
 pub record UnplugsAll (steps : List Step) (new : Machine) : Type 0 where
-  pub emptied : (e other : Pending) → Contains steps (Answer e outcome.Unplugged) → Contains new.book other → other.request.port ≢ e.request.port
-  pub alike : (e other : Pending) → Contains steps (Answer e outcome.Unplugged) → Contains steps (Answer other outcome.PortDead) → other.request.port ≢ e.request.port
+  pub emptied : (e other : Pending) → Contains steps (Answer e outcome.Unplugged) → Contains new.book other
+      → other.request.port ≢ e.request.port
+  pub alike : (e other : Pending) → Contains steps (Answer e outcome.Unplugged)
+      → Contains steps (Answer other outcome.PortDead) → other.request.port ≢ e.request.port
 
--- Where a request is told Unplugged, its port is neither dead nor ready with serial and size as before: a tick, or a reset, lets
--- requests go again where it finds the same disk.
+-- Where a request is told Unplugged, its port is neither dead nor ready with serial and size as before: a tick, or a
+-- reset, lets requests go again where it finds the same disk.
 abbrev pub FindsAnother : List Step → Ports → Ports → Type 0
 FindsAnother steps old new = (e : Pending) → Contains steps (Answer e outcome.Unplugged)
     → (new.state e.request.port ≢ Dead) × (new.state e.request.port ≡ Ready → SameDisk old new e.request.port → ⊥)
@@ -298,13 +312,14 @@ HadDisk old steps new port = ShowsDisk (new.ports.state port)
 -- The tick comes first, and once, at the ports that are ready then.
 pub record AgesOnce (ports : Ports) (steps : List Step) : Type 0 where
   pub ready : Port → Bool
-  pub is_ready : (port : Port) → (IsTrue (ready port) → ports.state port ≡ Ready) × (ports.state port ≡ Ready → IsTrue (ready port))
+  pub is_ready : (port : Port) → (IsTrue (ready port) → ports.state port ≡ Ready)
+      × (ports.state port ≡ Ready → IsTrue (ready port))
   pub later : List Step
   pub first : steps ≡ later ++ Age ready ∷ []
   pub once : count_by is_age later ≡ 0
 
--- A tick restarts each port that is hung, and no other: what had ended there is answered Ok, no request then keeps its issue, and it
--- shows a disk only where one was in. Other ports stay what they are, and nothing is answered there.
+-- A tick restarts each port that is hung, and no other: what had ended there is answered Ok, no request then keeps its
+-- issue, and it shows a disk only where one was in. Other ports stay what they are, and nothing is answered there.
 pub record RestartsHung (old : Moment) (evidence : Evidence) (steps : List Step) (new : Moment) : Type 0 where
   pub ports : (port : Port) → ((IsHung old port → ⊥) × SamePort old.ports new.ports port)
       ⊎ (IsHung old port × MayBecome old.ports evidence new.ports port)
@@ -327,21 +342,25 @@ pub record ReleasesOnce (steps : List Step) : Type 0 where
 
 -- a service answers the requests of a dead port PortDead
 abbrev pub TellsDead : Moment → List Step → Type 0
-TellsDead old steps = (e : Pending) (o : Outcome) → Contains steps (Answer e o) → old.ports.state e.request.port ≡ Dead → o ≡ outcome.PortDead
+TellsDead old steps = (e : Pending) (o : Outcome) → Contains steps (Answer e o) → old.ports.state e.request.port ≡ Dead
+    → o ≡ outcome.PortDead
 
 -- requests wait again, are aborted, or have a fault told of them, on ports that failed
 abbrev pub AllGrounded : Evidence → List Step → Type 0
 AllGrounded evidence [] = Unit {0}
 AllGrounded evidence (Again e ∷ before) = AllGrounded evidence before × Contains evidence.failed e.request.port
-AllGrounded evidence (Answer e outcome.Aborted ∷ before) = AllGrounded evidence before × Contains evidence.failed e.request.port
-AllGrounded evidence (Answer e (outcome.DeviceError status error) ∷ before) = AllGrounded evidence before × Contains evidence.failed e.request.port
+AllGrounded evidence (Answer e outcome.Aborted ∷ before) = AllGrounded evidence before
+    × Contains evidence.failed e.request.port
+AllGrounded evidence (Answer e (outcome.DeviceError status error) ∷ before) = AllGrounded evidence before
+    × Contains evidence.failed e.request.port
 AllGrounded evidence (step ∷ before) = AllGrounded evidence before
 
--- What a service says and does. It tells dead ports; it lets requests wait again, aborts them, or tells faults of them, where
--- something failed; where it tells one of a port's requests Unplugged, it leaves none of that port's unanswered; it issues what is
--- due; it leaves no request unanswered where the port isn't ready; it makes of each port what it may; and one that it changed
--- shows a disk only where one was in.
-pub record AnswersService (old : Moment) (evidence : Evidence) (steps : List Step) (replies : List Reply) (new : Moment) : Type 0 where
+-- What a service says and does. It tells dead ports; it lets requests wait again, aborts them, or tells faults of them,
+-- where something failed; where it tells one of a port's requests Unplugged, it leaves none of that port's unanswered;
+-- it issues what is due; it leaves no request unanswered where the port isn't ready; it makes of each port what it may;
+-- and one that it changed shows a disk only where one was in.
+pub record AnswersService (old : Moment) (evidence : Evidence) (steps : List Step) (replies : List Reply)
+    (new : Moment) : Type 0 where
   pub tells : Tells steps replies
   pub dead : TellsDead old steps
   pub grounded : AllGrounded evidence steps
@@ -352,7 +371,8 @@ pub record AnswersService (old : Moment) (evidence : Evidence) (steps : List Ste
   pub disk : (port : Port) → SamePort old.ports new.ports port ⊎ HadDisk old steps new port
 
 -- What a tick says and does.
-pub record AnswersTick (old : Moment) (evidence : Evidence) (steps : List Step) (replies : List Reply) (new : Moment) : Type 0 where
+pub record AnswersTick (old : Moment) (evidence : Evidence) (steps : List Step) (replies : List Reply)
+    (new : Moment) : Type 0 where
   pub tells : Tells steps replies
   pub ages : AgesOnce old.ports steps
   pub restarts : RestartsHung old evidence steps new
@@ -360,9 +380,10 @@ pub record AnswersTick (old : Moment) (evidence : Evidence) (steps : List Step) 
   pub issues : AllIssued new
   pub emptied : (port : Port) → old.ports.state port ≡ Ready → IsEmptied new port
 
--- What a reset that ends makes of each port: it boots it, none of its requests keeps an issue, none is unanswered where it isn't
--- ready then, a port that is served has stopped, and one that shows a disk had it, or got it.
-pub record IsRebooted (old : Moment) (evidence : Evidence) (steps : List Step) (new : Moment) (port : Port) : Type 0 where
+-- What a reset that ends makes of each port: it boots it, none of its requests keeps an issue, none is unanswered where
+-- it isn't ready then, a port that is served has stopped, and one that shows a disk had it, or got it.
+pub record IsRebooted (old : Moment) (evidence : Evidence) (steps : List Step) (new : Moment)
+    (port : Port) : Type 0 where
   pub emptied : IsEmptied new port
   pub becomes : MayBecome old.ports evidence new.ports port
   pub anew : NoneKeepsIssue steps new.machine port
@@ -370,7 +391,8 @@ pub record IsRebooted (old : Moment) (evidence : Evidence) (steps : List Step) (
   pub disk : HadDisk old steps new port
 
 -- What a reset that ends says and does.
-pub record AnswersReset (old : Moment) (evidence : Evidence) (steps : List Step) (replies : List Reply) (new : Moment) : Type 0 where
+pub record AnswersReset (old : Moment) (evidence : Evidence) (steps : List Step) (replies : List Reply)
+    (new : Moment) : Type 0 where
   pub tells : Tells steps replies
   pub releases : ReleasesOnce steps
   pub unplugs : UnplugsAll steps new.machine
@@ -399,8 +421,10 @@ IsAnswered (LoadAt client frame offset count) (Loaded (Err fault)) old evidence 
 IsAnswered Service (Served replies) old evidence steps new = AnswersService old evidence steps replies new
 IsAnswered Tick (Served replies) old evidence steps new = AnswersTick old evidence steps replies new
 IsAnswered Reset (WasReset (Some replies)) old evidence steps new = AnswersReset old evidence steps replies new
-IsAnswered Reset (WasReset None) old evidence steps new = AllDevices steps × ((port : Port) → IsStuck old.ports evidence new.ports port)
-IsAnswered (State port) (Shown state) old evidence steps new = (state ≡ old.ports.state port) × (steps ≡ []) × SamePorts old.ports new.ports
+IsAnswered Reset (WasReset None) old evidence steps new = AllDevices steps
+    × ((port : Port) → IsStuck old.ports evidence new.ports port)
+IsAnswered (State port) (Shown state) old evidence steps new = (state ≡ old.ports.state port) × (steps ≡ [])
+    × SamePorts old.ports new.ports
 IsAnswered (Device step) (Stepped true) old evidence steps new = AllDevices steps × SamePorts old.ports new.ports
 IsAnswered (Device step) (Stepped false) old evidence steps new = (steps ≡ []) × SamePorts old.ports new.ports
 IsAnswered ask said old evidence steps new = ⊥
@@ -409,7 +433,8 @@ IsAnswered ask said old evidence steps new = ⊥
 
 -- the port failed, or its link had told of a change when the call began, or a disk goes or comes in it
 abbrev pub IsDisturbed : Evidence → List Step → Port → Type 0
-IsDisturbed evidence steps port = Contains evidence.failed port ⊎ Contains evidence.gone port ⊎ (list_any (changes_disk port) steps ≡ true)
+IsDisturbed evidence steps port = Contains evidence.failed port ⊎ Contains evidence.gone port
+    ⊎ (list_any (changes_disk port) steps ≡ true)
 
 -- the step tells a fault of a request of the port
 abbrev pub tells_fault : Port → Step → Bool
@@ -417,17 +442,20 @@ tells_fault port (Answer e (outcome.DeviceError status error)) = e.request.port.
 tells_fault port _ = false
 
 -- Nothing interrupts the port: it stays what it is, and nothing but Ok is told.
-pub record IsLeftAlone (old : Ports) (evidence : Evidence) (steps : List Step) (new : Ports) (port : Port) : Type 0 where
+pub record IsLeftAlone (old : Ports) (evidence : Evidence) (steps : List Step) (new : Ports)
+    (port : Port) : Type 0 where
   pub same : SamePort old new port
   pub told : AreTold outcome.Ok steps port
   pub uninterrupted : IsInterrupted evidence port → ⊥
 
--- What a service owes a port that was ready when it began. What had ended is answered Ok. Where the port's link had told of a
--- change, all its requests are answered, and those that aren't Ok are all told Unplugged, or all PortDead. Where that is so, or it
--- failed, the port is stopped, or gets stuck. Where it failed or was stopped, no request keeps its issue. One fault is told at most,
--- and none where an error was fatal, which is a failure, too. It shows a disk after the call only where one was in. And where nothing
--- disturbs it, the port is left alone. (That it is what it was unless it was interrupted, `IsServiced` has of each port.)
-pub record ServesReady (old : Moment) (evidence : Evidence) (steps : List Step) (new : Moment) (port : Port) : Type 0 where
+-- What a service owes a port that was ready when it began. What had ended is answered Ok. Where the port's link had
+-- told of a change, all its requests are answered, and those that aren't Ok are all told Unplugged, or all PortDead.
+-- Where that is so, or it failed, the port is stopped, or gets stuck. Where it failed or was stopped, no request keeps
+-- its issue. One fault is told at most, and none where an error was fatal, which is a failure, too. It shows a disk
+-- after the call only where one was in. And where nothing disturbs it, the port is left alone. (That it is what it was
+-- unless it was interrupted, `IsServiced` has of each port.)
+pub record ServesReady (old : Moment) (evidence : Evidence) (steps : List Step) (new : Moment)
+    (port : Port) : Type 0 where
   pub ended : AnswersEnded old.machine steps port
   pub emptied : Contains evidence.gone port → (e : Pending) → Contains new.machine.book e → e.request.port ≢ port
   pub told : Contains evidence.gone port → AreTold outcome.Unplugged steps port ⊎ AreTold outcome.PortDead steps port
@@ -438,8 +466,8 @@ pub record ServesReady (old : Moment) (evidence : Evidence) (steps : List Step) 
   pub disk : HadDisk old steps new port
   pub calm : IsDisturbed evidence steps port ⊎ IsLeftAlone old.ports evidence steps new.ports port
 
--- A call heeds what it finds of a port: a service serves one that was ready when it began. A tick and a reset are bound by what they
--- answer; and no other call stops a port, or gets one stuck.
+-- A call heeds what it finds of a port: a service serves one that was ready when it began. A tick and a reset are bound
+-- by what they answer; and no other call stops a port, or gets one stuck.
 abbrev pub HeedsAt : {D : Type 0} → Port → Ask D → Moment → Evidence → List Step → Moment → Type 0
 HeedsAt port Service old evidence steps new = old.ports.state port ≡ Ready → ServesReady old evidence steps new port
 HeedsAt port Tick old evidence steps new = Unit {0}
@@ -516,7 +544,8 @@ gives_id id said = false
 abbrev pub WasGiven : {D : Type 0} → RequestId → ClientId → List (Event D) → Type 0
 WasGiven id client [] = ⊥
 WasGiven id client (event ∷ past) =
-    ((r : Request) × (event.ask ≡ Submit r) × (event.said ≡ Submitted (Ok id)) × (r.client ≡ client)) ⊎ WasGiven id client past
+    ((r : Request) × (event.ask ≡ Submit r) × (event.said ≡ Submitted (Ok id)) × (r.client ≡ client))
+    ⊎ WasGiven id client past
 
 -- a read that this step answers Ok has, in this memory, what is left
 abbrev pub AnswerHolds : Machine → Memory → List Step → Step → Type 0

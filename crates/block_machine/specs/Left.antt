@@ -23,8 +23,8 @@ abbrev pub IsLegal : Machine → List Step → Type 0
 IsLegal start [] = Unit {0}
 IsLegal start (step ∷ past) = IsLegal start past × May (after start past) step
 
--- A grant as a configuration may give it: to a client from 1 to 8, under a number from 0 to 63, on a port from 0 to 3, of one
--- sector at least, all of them below 2^48.
+-- A grant as a configuration may give it: to a client from 1 to 8, under a number from 0 to 63, on a port from 0 to 3,
+-- of one sector at least, all of them below 2^48.
 pub record IsRow (row : GrantRow) : Type 0 where
   pub client : (1 ≤ row.client.0) × (row.client.0 ≤ 8)
   pub number : row.number ≤ 63
@@ -32,9 +32,9 @@ pub record IsRow (row : GrantRow) : Type 0 where
   pub some : 1 ≤ row.count
   pub below : row.first.0 + row.count ≤ 2 ^ 48
 
--- A machine to begin with: no request is there, no frame is lent, and no id was handed out. There are at most 64 rows, which
--- differ in name, and each is one that a configuration may give. The clients, 1 to 8, own frames behind the driver's, which are
--- nobody's.
+-- A machine to begin with: no request is there, no frame is lent, and no id was handed out. There are at most 64 rows,
+-- which differ in name, and each is one that a configuration may give. The clients, 1 to 8, own frames behind the
+-- driver's, which are nobody's.
 pub record IsStart (m : Machine) : Type 0 where
   pub book : m.book ≡ []
   pub kept : m.kept ≡ []
@@ -129,7 +129,8 @@ IsLast start port k n before history block =
     ((writer : Accepted) × Wrote port k n before history writer
     × ((other : Accepted) → Wrote port k n before history other → other.id.0 ≤ writer.id.0)
     × (block ≡ written_by writer.asked.op writer.held (k - writer.asked.first.0)))
-    ⊎ (((writer : Accepted) → Wrote port k n before history writer → ⊥) × (block ≡ bytes_when_plugged start port n history k))
+    ⊎ (((writer : Accepted) → Wrote port k n before history writer → ⊥)
+    × (block ≡ bytes_when_plugged start port n history k))
 
 -- what the writes and trims accepted before this read left on sector k, on the disk that the read last found there
 abbrev pub IsLeft : Machine → List Step → Accepted → ℕ → Block → Type 0
@@ -142,7 +143,8 @@ pub record HoldsLeft (start : Machine) (history : List Step) (memory : Memory) (
   pub rest : (i b : ℕ) → read.asked.count ≤ i → i < 8 * length read.asked.frames.items → b < 512
       → block_of memory read.asked.frames.items i b ≡ read.held i b
 
--- The bytes that a read moved are those of its disk. (A disk over a store that doesn't tell what it holds may move any.)
+-- The bytes that a read moved are those of its disk. (A disk over a store that doesn't tell what it holds may move
+-- any.)
 abbrev pub IsTold : Machine → Step → Type 0
 IsTold old (Touch e i block) = e.request.asked.op ≡ Read
     → (b : ℕ) → b < 512 → block b ≡ old.disks e.request.port (sector_of e.request i) b

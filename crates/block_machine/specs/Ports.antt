@@ -6,8 +6,8 @@ use Rattle.ata_types.specs.declared.PortState.TheVariants.{Absent, Ready, Unfit,
 use Rattle.ata_types.specs.declared.request.RequestId.{RequestId}
 use Rattle.block_machine.specs.declared.due.Mode.{Mode}
 
--- What the ports are. Serial and sectors are those of the disk that the port is ready with, or was last ready with; the two last
--- things are known of a ready port alone.
+-- What the ports are. Serial and sectors are those of the disk that the port is ready with, or was last ready with; the
+-- two last things are known of a ready port alone.
 pub record Ports : Type 0 where
   -- whether adapter and configuration have the port; one that they lack is absent for good
   pub served : Port → Bool
@@ -23,8 +23,8 @@ pub record Ports : Type 0 where
 abbrev pub IsMode : Mode → Type 0
 IsMode mode = (1 ≤ mode.usable) × (mode.usable ≤ 32) × (mode.queued ≡ false → mode.usable ≡ 1)
 
--- What ports are between any two calls: at most four are served, and there are nine causes to be unfit. (A mode is known of a
--- ready port alone: the disk's own page tells it.)
+-- What ports are between any two calls: at most four are served, and there are nine causes to be unfit. (A mode is
+-- known of a ready port alone: the disk's own page tells it.)
 pub record AreFit (ports : Ports) : Type 0 where
   pub few : (port : Port) → ports.served port ≡ true → port.0 < 4
   pub absent : (port : Port) → ports.served port ≡ false → ports.state port ≡ Absent
@@ -33,8 +33,9 @@ pub record AreFit (ports : Ports) : Type 0 where
 
 -- the port is what it was
 abbrev pub SamePort : Ports → Ports → Port → Type 0
-SamePort old new port = (new.served port ≡ old.served port) × (new.state port ≡ old.state port) × (new.serial port ≡ old.serial port)
-    × (new.sectors port ≡ old.sectors port) × (new.trims port ≡ old.trims port) × (new.mode port ≡ old.mode port)
+SamePort old new port = (new.served port ≡ old.served port) × (new.state port ≡ old.state port)
+    × (new.serial port ≡ old.serial port) × (new.sectors port ≡ old.sectors port) × (new.trims port ≡ old.trims port)
+    × (new.mode port ≡ old.mode port)
 
 -- all ports are what they were
 abbrev pub SamePorts : Ports → Ports → Type 0
@@ -50,19 +51,19 @@ pub record Fault : Type 0 where
   pub status : ℕ
   pub error : ℕ
 
--- What the device vouches for in a call.
--- `faults`: of requests, each with its bytes as the device told them: in the task file, or in the log page that was read in the call.
--- `lost`: ports that had N or X of PxSERR set, or a DET other than 3, when the call began; ports of which a disk went or came in
--- it; and ports that end it neither dead nor ready with serial and size as when they were last ready before it.
--- `gone`: ports that were ready when the call began, all of those that had N or X set then, or a DET other than 3 where no disk was put
--- in in the call; and others only of which a disk went or came in it, or DET was other than 3.
--- `failed`: ports that were ready when the call began, all of those that had TFES, HBDS, HBFS or IFS in PxIS then; and others only that
--- came to have one in it. `fatal`: so for HBDS, HBFS and IFS.
--- `stopped`: ports whose CR was read 0 in the call after ST was cleared; and the served ports, where the call is a reset that ended.
--- `stuck`: ports of which a wait of the call read CR, or FR, as 1 at each of its 64 readings; and the served ports, where the call
--- is a reset that the adapter didn't end.
--- A port may be in both of these: stopped first, and stuck later. The layer that knows the device backs each port and fault that is named.
--- `faults` and `lost` may leave some out; the others name each port that the layer claims to heed, where they apply to it.
+-- What the device vouches for in a call. `faults`: of requests, each with its bytes as the device told them: in the
+-- task file, or in the log page that was read in the call. `lost`: ports that had N or X of PxSERR set, or a DET other
+-- than 3, when the call began; ports of which a disk went or came in it; and ports that end it neither dead nor ready
+-- with serial and size as when they were last ready before it. `gone`: ports that were ready when the call began, all
+-- of those that had N or X set then, or a DET other than 3 where no disk was put in in the call; and others only of
+-- which a disk went or came in it, or DET was other than 3. `failed`: ports that were ready when the call began, all of
+-- those that had TFES, HBDS, HBFS or IFS in PxIS then; and others only that came to have one in it. `fatal`: so for
+-- HBDS, HBFS and IFS. `stopped`: ports whose CR was read 0 in the call after ST was cleared; and the served ports,
+-- where the call is a reset that ended. `stuck`: ports of which a wait of the call read CR, or FR, as 1 at each of its
+-- 64 readings; and the served ports, where the call is a reset that the adapter didn't end. A port may be in both of
+-- these: stopped first, and stuck later. The layer that knows the device backs each port and fault that is named.
+-- `faults` and `lost` may leave some out; the others name each port that the layer claims to heed, where they apply to
+-- it.
 pub record Evidence : Type 0 where
   pub faults : List Fault
   pub lost : List Port
@@ -76,8 +77,8 @@ pub record Evidence : Type 0 where
 abbrev pub IsInterrupted : Evidence → Port → Type 0
 IsInterrupted evidence port = Contains evidence.stopped port ⊎ Contains evidence.stuck port
 
--- What a call that looks at the port, or boots it, may make of it: a port is served as it was; it is dead after the call exactly
--- where it got stuck in it; and one that isn't ready remembers the disk that it was last ready with.
+-- What a call that looks at the port, or boots it, may make of it: a port is served as it was; it is dead after the
+-- call exactly where it got stuck in it; and one that isn't ready remembers the disk that it was last ready with.
 pub record MayBecome (old : Ports) (evidence : Evidence) (new : Ports) (port : Port) : Type 0 where
   pub served : new.served port ≡ old.served port
   pub stuck : new.state port ≡ Dead → Contains evidence.stuck port

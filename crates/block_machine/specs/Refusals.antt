@@ -35,9 +35,12 @@ pub record Situation : Type 0 where
 -- the cause applies to the request
 abbrev pub Applies : Situation → Request → Refusal → Type 0
 Applies s r (refused.Rule rule) = Breaks s.rows s.owner s.lent r rule
-Applies s r (refused.PortNotReady state) = (state ≢ Ready) × ((row : GrantRow) × IsNamed s.rows r row × (s.state row.port ≡ state))
-Applies s r refused.OutsideDisk = (r.op ≢ Flush) × ((row : GrantRow) × IsNamed s.rows r row × (s.sectors row.port < r.first.0 + r.count))
-Applies s r refused.TrimUnsupported = (r.op ≡ Trim) × ((row : GrantRow) × IsNamed s.rows r row × (IsTrue (s.trims row.port) → ⊥))
+Applies s r (refused.PortNotReady state) = (state ≢ Ready)
+    × ((row : GrantRow) × IsNamed s.rows r row × (s.state row.port ≡ state))
+Applies s r refused.OutsideDisk = (r.op ≢ Flush)
+    × ((row : GrantRow) × IsNamed s.rows r row × (s.sectors row.port < r.first.0 + r.count))
+Applies s r refused.TrimUnsupported = (r.op ≡ Trim)
+    × ((row : GrantRow) × IsNamed s.rows r row × (IsTrue (s.trims row.port) → ⊥))
 Applies s r refused.ClientFull = 16 ≤ s.unanswered r.client
 Applies s r refused.IdsSpent = 2 ^ 64 ≤ s.next
 
@@ -50,7 +53,8 @@ abbrev pub IsFirstRefusal : Situation → Request → Refusal → Type 0
 IsFirstRefusal s r refusal = IsFirst rank (Applies s r) refusal
 
 -- the cause applies to a client's access to so many bytes of a frame from this offset on
-abbrev pub MemApplies : (Frame → Option ClientId) → (Frame → Option RequestId) → ClientId → Frame → ℕ → ℕ → MemFault → Type 0
+abbrev pub MemApplies : (Frame → Option ClientId) → (Frame → Option RequestId) → ClientId → Frame → ℕ → ℕ → MemFault
+    → Type 0
 MemApplies owner lent client frame offset count FrameForeign = owner frame ≢ Some client
 MemApplies owner lent client frame offset count FrameLent = IsSome (lent frame)
 MemApplies owner lent client frame offset count OutsideFrame = FRAME_BYTES < offset + count
@@ -63,8 +67,11 @@ mem_rank OutsideFrame = (3, 0)
 
 -- no cause applies to the access
 abbrev pub IsOpen : (Frame → Option ClientId) → (Frame → Option RequestId) → ClientId → Frame → ℕ → ℕ → Type 0
-IsOpen owner lent client frame offset count = (fault : MemFault) → MemApplies owner lent client frame offset count fault → ⊥
+IsOpen owner lent client frame offset count = (fault : MemFault) → MemApplies owner lent client frame offset count fault
+    → ⊥
 
 -- the cause applies to the access, and none before it
-abbrev pub IsFirstMemFault : (Frame → Option ClientId) → (Frame → Option RequestId) → ClientId → Frame → ℕ → ℕ → MemFault → Type 0
-IsFirstMemFault owner lent client frame offset count fault = IsFirst mem_rank (MemApplies owner lent client frame offset count) fault
+abbrev pub IsFirstMemFault : (Frame → Option ClientId) → (Frame → Option RequestId) → ClientId → Frame → ℕ → ℕ
+    → MemFault → Type 0
+IsFirstMemFault owner lent client frame offset count fault = IsFirst mem_rank
+    (MemApplies owner lent client frame offset count) fault

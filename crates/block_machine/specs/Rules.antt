@@ -55,7 +55,8 @@ abbrev pub IsLentAt : (Frame → Option RequestId) → List Frame → ℕ → Ty
 IsLentAt lent frames i = (f : Frame) × (slice_get frames i ≡ Some f) × IsSome (lent f)
 
 -- the fault is one of these frames, of this client
-abbrev pub HasFault : (Frame → Option ClientId) → (Frame → Option RequestId) → ClientId → List Frame → FrameFault → Type 0
+abbrev pub HasFault : (Frame → Option ClientId) → (Frame → Option RequestId) → ClientId → List Frame → FrameFault
+    → Type 0
 HasFault owner lent client frames (FrameForeign i) = IsForeignAt owner client frames i
 HasFault owner lent client frames (FrameTwice i) = IsTwiceAt frames i
 HasFault owner lent client frames (FrameLent i) = IsLentAt lent frames i
@@ -65,7 +66,8 @@ abbrev pub Breaks : List GrantRow → (Frame → Option ClientId) → (Frame →
 Breaks rows owner lent r NoGrant = (row : GrantRow) → IsNamed rows r row → ⊥
 Breaks rows owner lent r NoRight = (row : GrantRow) × IsNamed rows r row × (Allows row.rights r.op → ⊥)
 Breaks rows owner lent r BadCount = IsCount r.op r.count → ⊥
-Breaks rows owner lent r OutsideGrant = (r.op ≢ Flush) × ((row : GrantRow) × IsNamed rows r row × (Covers row r.first.0 r.count → ⊥))
+Breaks rows owner lent r OutsideGrant = (r.op ≢ Flush)
+    × ((row : GrantRow) × IsNamed rows r row × (Covers row r.first.0 r.count → ⊥))
 Breaks rows owner lent r FrameCount = length r.frames.items ≢ frames_for r.op r.count
 Breaks rows owner lent r (Frames fault) = HasFault owner lent r.client r.frames.items fault
 
@@ -91,20 +93,24 @@ IsBefore a b = (a.0 < b.0) ⊎ ((a.0 ≡ b.0) × (a.1 < b.1))
 
 -- the cause applies, and none of a rank before its own does
 abbrev pub IsFirst : {C : Type 0} → (C → ℕ × ℕ) → (C → Type 0) → C → Type 0
-IsFirst {C} rank_of Applies cause = Applies cause × ((other : C) → IsBefore (rank_of other) (rank_of cause) → Applies other → ⊥)
+IsFirst {C} rank_of Applies cause = Applies cause × ((other : C) → IsBefore (rank_of other) (rank_of cause)
+    → Applies other → ⊥)
 
 -- the frames have no fault
 abbrev pub HasNoFault : (Frame → Option ClientId) → (Frame → Option RequestId) → ClientId → List Frame → Type 0
 HasNoFault owner lent client frames = (fault : FrameFault) → HasFault owner lent client frames fault → ⊥
 
 -- the fault is one of these frames, and none before it is
-abbrev pub IsFirstFault : (Frame → Option ClientId) → (Frame → Option RequestId) → ClientId → List Frame → FrameFault → Type 0
-IsFirstFault owner lent client frames fault = IsFirst (λ fault. rank (refused.Rule (Frames fault))) (HasFault owner lent client frames) fault
+abbrev pub IsFirstFault : (Frame → Option ClientId) → (Frame → Option RequestId) → ClientId → List Frame → FrameFault
+    → Type 0
+IsFirstFault owner lent client frames fault = IsFirst (λ fault. rank (refused.Rule (Frames fault)))
+    (HasFault owner lent client frames) fault
 
 -- the request breaks no rule
 abbrev pub BreaksNone : List GrantRow → (Frame → Option ClientId) → (Frame → Option RequestId) → Request → Type 0
 BreaksNone rows owner lent r = (rule : Rule) → Breaks rows owner lent r rule → ⊥
 
 -- the request breaks the rule, and none before it
-abbrev pub IsFirstBroken : List GrantRow → (Frame → Option ClientId) → (Frame → Option RequestId) → Request → Rule → Type 0
+abbrev pub IsFirstBroken : List GrantRow → (Frame → Option ClientId) → (Frame → Option RequestId) → Request → Rule
+    → Type 0
 IsFirstBroken rows owner lent r rule = IsFirst (λ rule. rank (refused.Rule rule)) (Breaks rows owner lent r) rule

@@ -59,7 +59,13 @@ pub record Pending : Type 0 where
 
 -- what of a request that waits, or is issued, says which requests are due
 abbrev pub waiting : Accepted → Unanswered
-waiting r = record { id = r.id; port = r.port; op = r.asked.op; range = record { first = r.asked.first; count = r.asked.count }; issued = false }
+waiting r = record {
+  id = r.id;
+  port = r.port;
+  op = r.asked.op;
+  range = record { first = r.asked.first; count = r.asked.count };
+  issued = false;
+}
 
 -- and the same of a request with how far it is
 abbrev pub unanswered : Pending → Unanswered
@@ -67,8 +73,8 @@ unanswered e = record (waiting e.request) { issued = e.issued }
 
 -- What the machine holds.
 pub record Machine : Type 0 where
-  -- By port: whether a disk is in; and of the disk that is in, or was last in: which one it is, its sectors' number, and
-  -- their bytes. A disk is named by its port and a number: so no disk is in two ports, and none changes its port.
+  -- By port: whether a disk is in; and of the disk that is in, or was last in: which one it is, its sectors' number,
+  -- and their bytes. A disk is named by its port and a number: so no disk is in two ports, and none changes its port.
   pub present : Port → Bool
   pub disk_ids : Port → ℕ
   pub sizes : Port → ℕ

@@ -53,7 +53,8 @@ newly_accepted r = record { request = r; issues = 0; age = 0; issued = false; to
 
 -- the request issued once more: nothing touched, not ended, of age 0
 abbrev pub issue : Pending → Pending
-issue e = record { request = e.request; issues = suc e.issues; age = 0; issued = true; touched = λ _. false; ended = false }
+issue e =
+    record { request = e.request; issues = suc e.issues; age = 0; issued = true; touched = λ _. false; ended = false }
 
 -- sector number i touched too
 abbrev pub touch : ℕ → Pending → Pending
@@ -105,7 +106,8 @@ disks_after r i disks =
 -- and in memory: for a read, the bytes that were moved
 abbrev pub memory_after : Accepted → ℕ → Block → Memory → Memory
 memory_after r i block memory =
-    if is_reader r.asked.op then put_bytes (frame_at r.asked.frames.items (i / 8)) (512 * (i % 8)) 512 block memory else memory
+    if is_reader r.asked.op then put_bytes (frame_at r.asked.frames.items (i / 8)) (512 * (i % 8)) 512 block memory
+    else memory
 
 -- a request that was issued and is answered PortDead is kept: the device may still move its sectors
 abbrev pub stays : Pending → Outcome → Bool
@@ -126,7 +128,8 @@ after_step m (Touch e i block) =
       book = map (at e.request.id (touch i)) m.book;
       kept = map (at e.request.id (touch i)) m.kept;
     }
-after_step m (End e) = record m { book = map (at e.request.id mark_ended) m.book; kept = map (at e.request.id mark_ended) m.kept }
+after_step m (End e) =
+    record m { book = map (at e.request.id mark_ended) m.book; kept = map (at e.request.id mark_ended) m.kept }
 after_step m (Age ready) = record m { book = map (older ready) m.book }
 after_step m (Again e) = record m { book = map (at e.request.id requeued) m.book }
 after_step m (Answer e outcome) =
@@ -144,7 +147,8 @@ after_step m (Replace port id size disk) =
       sizes = λ p. if p.0 == port.0 then size else m.sizes p;
       disks = λ p. if p.0 == port.0 then disk else m.disks p;
     }
-after_step m (Store client frame offset bytes) = record m { memory = put_bytes frame offset (length bytes) (slice_index bytes) m.memory }
+after_step m (Store client frame offset bytes) =
+    record m { memory = put_bytes frame offset (length bytes) (slice_index bytes) m.memory }
 after_step m (Load client frame offset bytes) = m
 
 -- issued, or kept: the device may move its sectors

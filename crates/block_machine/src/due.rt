@@ -50,8 +50,8 @@ fn overlap(a: &Range, b: &Range) -> bool
     a.overlaps(b)
 }
 
-/// Whether the two conflict: a flush with every request of its port, and two with a sector in common if one of them writes
-/// or trims.
+/// Whether the two conflict: a flush with every request of its port, and two with a sector in common if one of them
+/// writes or trims.
 pub fn conflict(a: &Unanswered, b: &Unanswered) -> bool
     ensures { result ≡ due.conflict a.now b.now }
 {

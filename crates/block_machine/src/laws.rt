@@ -40,14 +40,15 @@ pub fn rows_and_owners_stay()
         × ((frame : Frame) → (after start history).owner frame ≡ start.owner frame) }
 {}
 
-/// The steps of a run are a legal history, which leads to the run's machine: so the laws on histories of steps hold of runs.
-/// Among them: each touch of a sector in it is of an accepted request's own sector, at a frame that is lent to it; and each
-/// request that it issues was accepted, when it broke no rule, and its frames are still lent to it.
+/// The steps of a run are a legal history, which leads to the run's machine: so the laws on histories of steps hold of
+/// runs. Among them: each touch of a sector in it is of an accepted request's own sector, at a frame that is lent to
+/// it; and each request that it issues was accepted, when it broke no rule, and its frames are still lent to it.
 pub fn runs_are_legal<D>()
     ensures legal { (first : Moment) (run : List (Event D)) → IsRun first run
         → IsStart first.machine × IsLegal first.machine (steps_of run)
         × ((moment_of first run).machine ≡ after first.machine (steps_of run)) }
-    ensures touches { (first : Moment) (run : List (Event D)) (late early : List Step) (e : Pending) (i : ℕ) (block : Block)
+    ensures touches { (first : Moment) (run : List (Event D)) (late early : List Step) (e : Pending) (i : ℕ)
+        (block : Block)
         → IsRun first run → steps_of run ≡ late ++ Touch e i block ∷ early
         → IsConfined first.machine early e.request i }
     ensures issues { (first : Moment) (run : List (Event D)) (late early : List Step) (mode : Mode) (e : Pending)
@@ -58,11 +59,12 @@ pub fn runs_are_legal<D>()
         (frame_at e.request.asked.frames.items i) ≡ Some e.request.id) }
 {}
 
-/// Steps go on from what earlier ones left: after some, and then others, the machine is as after them all, which may come where each part may. So
-/// a machine that is reached leads to others that are.
+/// Steps go on from what earlier ones left: after some, and then others, the machine is as after them all, which may
+/// come where each part may. So a machine that is reached leads to others that are.
 pub fn steps_go_on()
     ensures joined { (m : Machine) (late early : List Step) → after m (late ++ early) ≡ after (after m early) late }
-    ensures may { (m : Machine) (late early : List Step) → AllMay m early → AllMay (after m early) late → AllMay m (late ++ early) }
+    ensures may { (m : Machine) (late early : List Step) → AllMay m early → AllMay (after m early) late
+        → AllMay m (late ++ early) }
     ensures reached { (m : Machine) (steps : List Step) → IsReached m → AllMay m steps → IsReached (after m steps) }
 {}
 
@@ -127,8 +129,8 @@ pub fn one_id_is_one_request()
         → WasAccepted start history other → one.id ≡ other.id → one ≡ other }
 {}
 
-/// The frames of a request that is unanswered or kept hold what they held when it was accepted, but for the sectors of a
-/// read: so the device moves a write's own bytes.
+/// The frames of a request that is unanswered or kept hold what they held when it was accepted, but for the sectors of
+/// a read: so the device moves a write's own bytes.
 pub fn frames_keep_bytes()
     ensures { (start : Machine) (history : List Step) (e : Pending) → IsStart start
         → IsLegal start history
@@ -178,8 +180,9 @@ pub fn slots_by_due()
 
 /// In a book in order, those that stand before a request are those that were accepted before it.
 pub fn earlier_ones_stand_before()
-    ensures { (passes : Unanswered → Bool) (front back : List Unanswered) (r : Unanswered) → IsInOrder (front ++ r ∷ back)
-        → count_by (λ other. nat_lt other.id.0 r.id.0 && passes other) (front ++ r ∷ back) ≡ count_by passes front }
+    ensures { (passes : Unanswered → Bool) (front back : List Unanswered) (r : Unanswered)
+        → IsInOrder (front ++ r ∷ back) → count_by (λ other. nat_lt other.id.0 r.id.0 && passes other)
+        (front ++ r ∷ back) ≡ count_by passes front }
 {}
 
 /// A request of the book is due where the test says so.
@@ -203,21 +206,24 @@ pub fn due_after_issue()
         → due_of mode port (with_issued r.id book) ≡ with_none r.id (due_of mode port book) }
 {}
 
-/// The due requests of a port may be issued one after the other, each of them due when its turn comes; then none is due.
+/// The due requests of a port may be issued one after the other, each of them due when its turn comes; then none is
+/// due.
 pub fn due_in_turn()
     ensures { (mode : Mode) (port : Port) (book : List Unanswered) → IsInOrder book
         → AreDueInTurn mode port (map (λ r. r.id) (due_of mode port book)) book }
 {}
 
-/// A port that takes plain commands alone has one due request at most, and none while one is issued. It is the first of those that wait.
+/// A port that takes plain commands alone has one due request at most, and none while one is issued. It is the first of
+/// those that wait.
 pub fn plain_ports_take_one()
     ensures one { (mode : Mode) (port : Port) (book : List Unanswered) → IsInOrder book → mode.queued ≡ false
         → length (due_of mode port book) ≤ 1 }
-    ensures none { (mode : Mode) (port : Port) (book : List Unanswered) (r : Unanswered) → mode.queued ≡ false → Contains book r
-        → r.port ≡ port → r.issued ≡ true → due_of mode port book ≡ [] }
-    ensures first { (mode : Mode) (port : Port) (book : List Unanswered) (r : Unanswered) → IsInOrder book → mode.queued ≡ false
-        → Contains book r → r.port ≡ port
-        → ((other : Unanswered) → Contains book other → other.port ≡ port → (other.issued ≡ false) × (r.id.0 ≤ other.id.0))
+    ensures none { (mode : Mode) (port : Port) (book : List Unanswered) (r : Unanswered) → mode.queued ≡ false
+        → Contains book r → r.port ≡ port → r.issued ≡ true → due_of mode port book ≡ [] }
+    ensures first { (mode : Mode) (port : Port) (book : List Unanswered) (r : Unanswered) → IsInOrder book
+        → mode.queued ≡ false → Contains book r → r.port ≡ port
+        → ((other : Unanswered) → Contains book other → other.port ≡ port → (other.issued ≡ false)
+        × (r.id.0 ≤ other.id.0))
         → due_of mode port book ≡ r ∷ [] }
 {}
 

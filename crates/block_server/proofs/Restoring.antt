@@ -40,7 +40,7 @@ use Rattle.server_history.specs.declared.Trouble.{Trouble}
 use Rattle.server_history.specs.declared.Trouble.TheVariants.{Broken, Failed as Fails, Hung, Lost}
 use Rattle.slots.specs.Uses.{Uses as PortSlots, use_at}
 use Rattle.block_server.specs.Fates.{HavePlaces, IsSound, holding}
-use Rattle.block_server.specs.Ports.{LendsFound, with_answers, with_part}
+use Rattle.block_server.specs.Ports.{LendsFound, with_part}
 use Rattle.block_server.specs.Recovery.{LendsTroubled, MendsOf, MendsRest, SeesTrouble}
 use Rattle.block_server.proofs.Sending.{served_ready, slots_said}
 
@@ -100,9 +100,6 @@ module _ (laws : RestoringLaws) (s : Server) (port : Port) (trouble : Trouble) (
     (before told : List Reply) (failed : Option Failed) (next : Next) (t : Table) (b : List Held) (u : PortSlots) (one : Device) (r : MendsRest port trouble before told failed next s t b u one) where
   low : port.0 < 4
   low = (sees.kept.there port.0 (served_ready (found_of s.ports port.0) sees.ready)).0
-
-  abbrev mid_as : Server
-  mid_as = with_answers (record s { device = r.mended.found }) t b u port
 
   mid_ready : state_of (found_of r.mid.ports port.0) ≡ ReadyState
   mid_ready = ap (λ (n : Server). state_of (found_of n.ports port.0)) r.mid_is ∙ sees.ready

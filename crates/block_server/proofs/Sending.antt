@@ -20,10 +20,9 @@ use Rattle.block_machine.specs.declared.due.Mode.{Mode}
 use Rattle.block_machine.specs.declared.due.Unanswered.{Unanswered}
 use Rattle.block_server.specs.Ports.{Lends, LendsFound, MayGoIn, with_part}
 use Rattle.dma_frames.specs.Table.{Table}
-use Rattle.adapter.specs.Rules.{IsOn, HasPort}
+use Rattle.adapter.specs.Rules.{HasPort}
 use Rattle.agreement.specs.Driven.{AgreesWith}
 use Rattle.command_table.specs.Written.{IsUnused}
-use Rattle.driver_history.specs.Holds.{Runs}
 use Rattle.host_boot.specs.Taken.{found_of}
 use Rattle.host_boot.specs.declared.Found.{Found}
 use Rattle.host_boot.specs.declared.Found.TheVariants.{Unserved, Ready as FoundReady, Unready}
@@ -33,7 +32,7 @@ use Rattle.request_queue.specs.declared.Entry.{Entry}
 use Rattle.server_history.specs.Served.{IssuesAll, IssuesEach, IssuesOne, task_of, use_for}
 use Rattle.server_history.specs.Server.{Server, IsKept, is_served, mode_in, no_slots, slots_at, state_of, with_slot}
 use Rattle.slots.specs.Uses.{Uses as PortSlots, IsLowestFree, IsTaken, with_use}
-use Rattle.ncq.specs.Tasks.{HasBlockOf, IssuesTask, RunsItsList, addresses_of, meaning_of}
+use Rattle.ncq.specs.Tasks.{HasBlockOf, IssuesTask, addresses_of, meaning_of}
 
 -- ---- what a request of the book is
 
@@ -86,21 +85,6 @@ served_ready (Unready state) ready = refl
 module _ (s : Server) (device : Device) (book : List Held) (slots : PortSlots) (port : Port) (mode : Mode) (l : Lends s device book slots port mode) where
   there : HasPort s.device port.0
   there = l.kept.there port.0 (served_ready (found_of s.ports port.0) l.ready)
-
-  abbrev runs : Runs port.0 s.device
-  runs = (l.kept.behind port.0 there.0).runs l.ready
-
-  pub lent_there : HasPort device port.0
-  lent_there = subst (λ (d : Device). HasPort d port.0) l.device_is there
-
-  pub lent_on : IsOn device
-  lent_on = subst IsOn l.device_is l.kept.on
-
-  pub lent_room : 163840 ≤ device.size
-  lent_room = subst (λ (d : Device). 163840 ≤ d.size) l.device_is l.kept.room
-
-  pub lent_may : RunsItsList port.0 device
-  lent_may = subst (RunsItsList port.0) l.device_is (record { started = runs.st; list = ap (λ b. b.clb) runs.bases })
 
   in_list : port.0 < length s.slots
   in_list = let f = l.kept.four in let p = there.0 in omega (arith, f, p)

@@ -36,41 +36,49 @@ SameServer old new = new ≡ record old { adapter = new.adapter }
 abbrev pub IsFor : List GrantRow → Request → Port → Type 0
 IsFor rows r port = (row : GrantRow) × IsNamed rows r row × (row.port ≡ port)
 
--- The request is acceptable, and was accepted, on its row's port; then what is due there was issued. Where nothing was, no access was made. The adapter is on, as before.
-pub record AcceptsRequest {A : Type 0} (device : A → Device) (old new : ServerView A) (r : Request) (id : RequestId) : Type 0 where
+-- The request is acceptable, and was accepted, on its row's port; then what is due there was issued. Where nothing was,
+-- no access was made. The adapter is on, as before.
+pub record AcceptsRequest {A : Type 0} (device : A → Device) (old new : ServerView A) (r : Request)
+    (id : RequestId) : Type 0 where
   pub acceptable : IsAcceptable (situation_of (server_of device old)) r
   pub port : Port
   pub accepts : Accepts port r id (server_of device old) (server_of device new)
   pub stuck : new.stuck ≡ old.stuck
-  pub same : due_of (mode_in (server_of device old) port) port (asks_of (accepting port r id accepts.table (server_of device old)).book) ≡ [] → new.adapter ≡ old.adapter
+  pub same : due_of (mode_in (server_of device old) port) port
+      (asks_of (accepting port r id accepts.table (server_of device old)).book) ≡ [] → new.adapter ≡ old.adapter
 
 -- A refused request is told the first cause that applies, and changes nothing: neither server nor adapter.
-abbrev pub Submits : {A : Type 0} → (A → Device) → ServerView A → ServerView A → Request → Result RequestId Refusal → Type 0
+abbrev pub Submits : {A : Type 0} → (A → Device) → ServerView A → ServerView A → Request → Result RequestId Refusal
+    → Type 0
 Submits device old new r (Ok id) = AcceptsRequest device old new r id
 Submits device old new r (Err refusal) = IsFirstRefusal (situation_of (server_of device old)) r refusal × (new ≡ old)
 
--- Each ready port was served, and each other one that is served was tried, in rising number. Since a reset that got stuck, all requests were told what their ports are:
--- dead.
+-- Each ready port was served, and each other one that is served was tried, in rising number. Since a reset that got
+-- stuck, all requests were told what their ports are: dead.
 abbrev pub ServicesBy : Bool → List Found → List Reply → Server → Server → Type 0
 ServicesBy false ports replies old new = ServePorts 0 ports replies old new
 ServicesBy true ports replies old new = SettlePorts 0 ports replies old new
 
 -- So a service does; it doesn't end a reset.
 abbrev pub Services : {A : Type 0} → (A → Device) → ServerView A → ServerView A → List Reply → Type 0
-Services device old new replies = ServicesBy old.stuck old.ports replies (server_of device old) (server_of device new) × (new.stuck ≡ old.stuck)
+Services device old new replies = ServicesBy old.stuck old.ports replies (server_of device old) (server_of device new)
+    × (new.stuck ≡ old.stuck)
 
--- Requests got older, and ready ports had their turns. Since a reset that got stuck there is none that is ready: nothing changed.
+-- Requests got older, and ready ports had their turns. Since a reset that got stuck there is none that is ready:
+-- nothing changed.
 abbrev pub TicksBy : Bool → List Reply → Server → Server → Type 0
 TicksBy false replies old new = Ticks replies old new
 TicksBy true replies old new = (replies ≡ []) × (new ≡ old)
 
 -- So a tick does; it doesn't end a reset either.
 abbrev pub TicksServer : {A : Type 0} → (A → Device) → ServerView A → ServerView A → List Reply → Type 0
-TicksServer device old new replies = TicksBy old.stuck replies (server_of device old) (server_of device new) × (new.stuck ≡ old.stuck)
+TicksServer device old new replies = TicksBy old.stuck replies (server_of device old) (server_of device new)
+    × (new.stuck ≡ old.stuck)
 
--- A refused load is told the first cause that applies, and changes nothing, the buffer neither. Another brings the frame's
--- bytes and changes nothing of the server but what the device does meanwhile.
-abbrev pub LoadsFrame : {A : Type 0} → (A → Device) → ServerView A → ServerView A → ClientId → Frame → ℕ → List ℕ → List ℕ → Result (Unit {0}) MemFault → Type 0
+-- A refused load is told the first cause that applies, and changes nothing, the buffer neither. Another brings the
+-- frame's bytes and changes nothing of the server but what the device does meanwhile.
+abbrev pub LoadsFrame : {A : Type 0} → (A → Device) → ServerView A → ServerView A → ClientId → Frame → ℕ → List ℕ
+    → List ℕ → Result (Unit {0}) MemFault → Type 0
 LoadsFrame device old new client frame offset before bytes (Ok done) =
     IsOpen (owner_of old.table) (lent_to old.table) client frame offset (length before)
     × Loads (FRAME_BYTES * frame.0 + offset) bytes (device old.adapter) (device new.adapter) × SameServer old new
@@ -78,10 +86,11 @@ LoadsFrame device old new client frame offset before bytes (Err fault) =
     IsFirstMemFault (owner_of old.table) (lent_to old.table) client frame offset (length before) fault
     × (new ≡ old) × (bytes ≡ before)
 
--- A refused store is told the first cause that applies, and changes nothing: neither server, memory nor adapter, of which no access
--- is made. Another changes of the server nothing but the adapter: the device goes on first; then these bytes stand in the frame, from
--- the offset on, and every other byte is as it was.
-abbrev pub StoresFrame : {A : Type 0} → (A → Device) → ServerView A → ServerView A → ClientId → Frame → ℕ → List ℕ → Result (Unit {0}) MemFault → Type 0
+-- A refused store is told the first cause that applies, and changes nothing: neither server, memory nor adapter, of
+-- which no access is made. Another changes of the server nothing but the adapter: the device goes on first; then these
+-- bytes stand in the frame, from the offset on, and every other byte is as it was.
+abbrev pub StoresFrame : {A : Type 0} → (A → Device) → ServerView A → ServerView A → ClientId → Frame → ℕ → List ℕ
+    → Result (Unit {0}) MemFault → Type 0
 StoresFrame device old new client frame offset bytes (Ok done) =
     IsOpen (owner_of old.table) (lent_to old.table) client frame offset (length bytes)
     × Stores (FRAME_BYTES * frame.0 + offset) bytes (device old.adapter) (device new.adapter) × SameServer old new
@@ -89,7 +98,8 @@ StoresFrame device old new client frame offset bytes (Err fault) =
     IsFirstMemFault (owner_of old.table) (lent_to old.table) client frame offset (length bytes) fault × (new ≡ old)
 
 -- The device does what it is told, or nothing; of the server nothing else changes.
-pub record StepsDevice {A : Type 0} (device : A → Device) (old new : ServerView A) (step : DeviceStep) (done : Bool) : Type 0 where
+pub record StepsDevice {A : Type 0} (device : A → Device) (old new : ServerView A) (step : DeviceStep)
+    (done : Bool) : Type 0 where
   pub asked : done ≡ true → Asked step (device old.adapter) (device new.adapter)
   pub steps : Steps (device old.adapter) (device new.adapter)
   pub refused : done ≡ false → device new.adapter ≡ device old.adapter

@@ -22,18 +22,19 @@ use Rattle.identify.specs.declared.wanted.Wanted.{Wanted}
 use Rattle.port_boot.specs.States.{EndsAs, HasFitDisk}
 
 -- Each of these calls, the newest first, which came after that history, is of this kind.
-abbrev pub EachAfter : (List (Happening Device DeviceStep) → Happening Device DeviceStep → Type 0) → List (Happening Device DeviceStep)
-    → List (Happening Device DeviceStep) → Type 0
+abbrev pub EachAfter : (List (Happening Device DeviceStep) → Happening Device DeviceStep → Type 0)
+    → List (Happening Device DeviceStep) → List (Happening Device DeviceStep) → Type 0
 EachAfter Is past [] = Unit {0}
 EachAfter Is past (h ∷ added) = EachAfter Is past added × Is (added ++ past) h
 
 -- These calls, the newest first, asked that and said this, one after another.
-pub record AreCalls (added : List (Happening Device DeviceStep)) (asked : List (Ask DeviceStep)) (said : List Said) : Type 0 where
+pub record AreCalls (added : List (Happening Device DeviceStep)) (asked : List (Ask DeviceStep))
+    (said : List Said) : Type 0 where
   pub asks : map (λ h. h.event.ask) (reverse added) ≡ asked
   pub says : map (λ h. h.event.said) (reverse added) ≡ said
 
--- What can be seen of a server: the device behind its adapter, the disks that are wanted in its ports, its grants, by frame the owner and the
--- request that it is lent to, and the states of its ports.
+-- What can be seen of a server: the device behind its adapter, the disks that are wanted in its ports, its grants, by
+-- frame the owner and the request that it is lent to, and the states of its ports.
 pub record Visible : Type 0 where
   pub device : Device
   pub wanted : List Wanted
@@ -52,25 +53,30 @@ pub record IsSeenAt (v : Visible) (i : Instant Device) : Type 0 where
 
 -- ---- between two calls
 
--- Why a port is in its state. One that isn't served is absent. Behind a ready one stands the page that its disk sent last, since PxSCTL was
--- last written: it fits what is wanted, and says how many sectors there are and what else requests are checked by. Absent, unfit and foreign ones
--- are stopped, for what was read last or for that page. Of a dead one an engine was awaited in vain; or the adapter isn't on, since its last
--- reset wasn't seen to end (PxSSTS, PxTFD, PxSIG, PxCMD: AHCI 1.3.1, 3.3; IDENTIFY DEVICE: ACS-3, 7.12).
+-- Why a port is in its state. One that isn't served is absent. Behind a ready one stands the page that its disk sent
+-- last, since PxSCTL was last written: it fits what is wanted, and says how many sectors there are and what else
+-- requests are checked by. Absent, unfit and foreign ones are stopped, for what was read last or for that page. Of a
+-- dead one an engine was awaited in vain; or the adapter isn't on, since its last reset wasn't seen to end (PxSSTS,
+-- PxTFD, PxSIG, PxCMD: AHCI 1.3.1, 3.3; IDENTIFY DEVICE: ACS-3, 7.12).
 abbrev pub IsInState : Wanted → Instant Device → Port → Bool → PortState → Type 0
 IsInState wanted i port false state = state ≡ Absent
 IsInState wanted i port true Ready =
-    (info : DiskInfo) × HasFitDisk (serial_of wanted) port.0 i.device info × ShowsDiskInfo i.moment.ports port i.device.cap info
+    (info : DiskInfo) × HasFitDisk (serial_of wanted) port.0 i.device info
+    × ShowsDiskInfo i.moment.ports port i.device.cap info
 IsInState wanted i port true Dead = EndsAs (serial_of wanted) Dead port.0 i.device ⊎ (IsOn i.device → ⊥)
 IsInState wanted i port true state = EndsAs (serial_of wanted) state port.0 i.device
 
--- What holds between two calls. Of ports 0 to 3 those are served in which a disk is wanted and which the adapter has; each is in its state for a
--- reason; and on one that isn't ready no request waits, unless the adapter isn't on. Clients' frames hold what the machine's do. The disk of each
--- port is the machine's; and where the adapter's disks tell their sectors, these hold the same.
+-- What holds between two calls. Of ports 0 to 3 those are served in which a disk is wanted and which the adapter has;
+-- each is in its state for a reason; and on one that isn't ready no request waits, unless the adapter isn't on.
+-- Clients' frames hold what the machine's do. The disk of each port is the machine's; and where the adapter's disks
+-- tell their sectors, these hold the same.
 pub record HoldsBetween (wanted : List Wanted) (i : Instant Device) : Type 0 where
-  pub served : (port : Port) → port.0 < 4 → (i.moment.ports.served port ≡ true) ↔ IsServed (wanted_of wanted port.0) port.0 i.device
+  pub served : (port : Port) → port.0 < 4 → (i.moment.ports.served port ≡ true)
+      ↔ IsServed (wanted_of wanted port.0) port.0 i.device
   pub state : (port : Port) → port.0 < 4
       → IsInState (wanted_of wanted port.0) i port (i.moment.ports.served port) (i.moment.ports.state port)
-  pub waits : (port : Port) → port.0 < 4 → i.moment.ports.state port ≢ Ready → IsOn i.device → NoneWaits i.moment.machine port
+  pub waits : (port : Port) → port.0 < 4 → i.moment.ports.state port ≢ Ready → IsOn i.device
+      → NoneWaits i.moment.machine port
   pub memory : SameMemory i.moment.machine i.device.memory
   pub disk : (port : ℕ) → IsDiskOf i.moment.machine (i.device.port port) port
   pub sectors : i.device.telling ≡ true → (port : ℕ) → SameSectors i.moment.machine (i.device.port port).disk port
@@ -83,10 +89,11 @@ pub record IsConfinedCall (wanted : List Wanted) (first : Instant Device) (past 
   pub moves : KeepsMoves first.moment.machine (steps_of (events_of past)) h.event.steps (now first past).device h.device
   pub holds : HoldsBetween wanted (now first (h ∷ past))
 
--- What is promised to clients of calls that asked that and said this, after a history from where the server was made. With them the history is a run
--- of the block machine, which leads to the server as it is seen after them; in it each read that was answered Ok has what was left, where the
--- adapter's disks tell their sectors. And in each of the calls moves and clears keep to their places, and before and after it there holds what
--- holds between calls; the disks that are wanted stay so.
+-- What is promised to clients of calls that asked that and said this, after a history from where the server was made.
+-- With them the history is a run of the block machine, which leads to the server as it is seen after them; in it each
+-- read that was answered Ok has what was left, where the adapter's disks tell their sectors. And in each of the calls
+-- moves and clears keep to their places, and before and after it there holds what holds between calls; the disks that
+-- are wanted stay so.
 pub record ServesClients (first : Instant Device) (past added : List (Happening Device DeviceStep)) (old new : Visible)
     (asked : List (Ask DeviceStep)) (said : List Said) : Type 0 where
   pub calls : AreCalls added asked said

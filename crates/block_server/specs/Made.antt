@@ -24,16 +24,18 @@ pub record IsReadyFor (config : Config) (d : Device) : Type 0 where
   pub idle : IsIdle d
   pub room : IsSound config → FRAME_BYTES * config.frames ≤ d.size
 
--- The server has what the configuration's plan says: its grants, its owners, and the disks that it asks for. The adapter was taken over. No
--- disk is remembered but those that were found, nothing is asked, nothing lent, no loan kept, no slot used, no id handed out, and no reset got stuck. It keeps what a
--- server keeps, and a history without calls leads to it.
+-- The server has what the configuration's plan says: its grants, its owners, and the disks that it asks for. The
+-- adapter was taken over. No disk is remembered but those that were found, nothing is asked, nothing lent, no loan
+-- kept, no slot used, no id handed out, and no reset got stuck. It keeps what a server keeps, and a history without
+-- calls leads to it.
 pub record IsNew {A : Type 0} (device : A → Device) (config : Config) (adapter : A) (s : ServerView A) : Type 0 where
   pub plan : PlanView
   pub is_plan : IsPlan plan
   pub planned : IsPlanOf config plan
   pub rows : SameRows plan.grants s.grants
   pub owned : (run : Run) (f : Frame) → Contains plan.owners run → HasFrame run f → owner_of s.table f ≡ Some run.0
-  pub only : (f : Frame) (client : ClientId) → owner_of s.table f ≡ Some client → (run : Run) × Contains plan.owners run × HasFrame run f × (run.0 ≡ client)
+  pub only : (f : Frame) (client : ClientId) → owner_of s.table f ≡ Some client → (run : Run) × Contains plan.owners run
+      × HasFrame run f × (run.0 ≡ client)
   pub free : (f : Frame) → lent_to s.table f ≡ None
   pub wanted : s.wanted ≡ plan.wanted
   pub host : Host

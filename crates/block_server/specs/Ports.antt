@@ -20,8 +20,10 @@ use Rattle.server_history.specs.Served.{AnswersEach, AnswersOne, done_reply}
 use Rattle.server_history.specs.Server.{Server, IsKept, mode_in, slots_at, state_of, used_for}
 use Rattle.slots.specs.Uses.{Uses as PortSlots}
 
--- the server keeps what it keeps, and has this device, this book, and these slots of a port that is ready and has this mode
-pub record Lends (s : Server) (device : Device) (book : List Held) (slots : PortSlots) (port : Port) (mode : Mode) : Type 0 where
+-- the server keeps what it keeps, and has this device, this book, and these slots of a port that is ready and has this
+-- mode
+pub record Lends (s : Server) (device : Device) (book : List Held) (slots : PortSlots) (port : Port)
+    (mode : Mode) : Type 0 where
   pub kept : IsKept s
   pub ready : state_of (found_of s.ports port.0) ≡ Ready
   pub device_is : s.device ≡ device
@@ -30,7 +32,8 @@ pub record Lends (s : Server) (device : Device) (book : List Held) (slots : Port
   pub mode_is : mode_in s port ≡ mode
 
 -- the same of a port that was found so
-pub record LendsFound (s : Server) (device : Device) (book : List Held) (slots : PortSlots) (port : Port) (mode : Mode) (found : Found) : Type 0 where
+pub record LendsFound (s : Server) (device : Device) (book : List Held) (slots : PortSlots) (port : Port) (mode : Mode)
+    (found : Found) : Type 0 where
   pub kept : IsKept s
   pub found_is : found_of s.ports port.0 ≡ found
   pub device_is : s.device ≡ device
@@ -42,9 +45,10 @@ pub record LendsFound (s : Server) (device : Device) (book : List Held) (slots :
 abbrev pub with_part : Server → Device → List Held → PortSlots → Port → Server
 with_part s device book slots port = record s { device = device; slots = slice_set s.slots port.0 slots; book = book }
 
--- The server keeps what it keeps, and has these loans, this book, and these slots of a port that is ready. The commands of the slots that have
--- their bits set here are over.
-pub record LendsDone (s : Server) (table : Table) (book : List Held) (slots : PortSlots) (port : Port) (done : ℕ) : Type 0 where
+-- The server keeps what it keeps, and has these loans, this book, and these slots of a port that is ready. The commands
+-- of the slots that have their bits set here are over.
+pub record LendsDone (s : Server) (table : Table) (book : List Held) (slots : PortSlots) (port : Port)
+    (done : ℕ) : Type 0 where
   pub kept : IsKept s
   pub ready : state_of (found_of s.ports port.0) ≡ Ready
   pub table_is : s.table ≡ table
@@ -63,7 +67,8 @@ pub record AnswersSlot (port : Port) (slot : ℕ) (reply : Reply) (old new : Ser
   pub slot_is : answers.slot ≡ slot
   pub reply_is : reply ≡ done_reply request
 
--- What was found done was answered, in order of acceptance, by replies that came after others; and no slot of it is in use any more.
+-- What was found done was answered, in order of acceptance, by replies that came after others; and no slot of it is in
+-- use any more.
 pub record AnswersAll (port : Port) (done : ℕ) (before after : List Reply) (old new : Server) : Type 0 where
   pub requests : List Held
   pub told : after ≡ before ++ map done_reply requests
@@ -73,10 +78,11 @@ pub record AnswersAll (port : Port) (done : ℕ) (before after : List Reply) (ol
 
 -- ---- tasks
 
--- A task of this operation may be issued in the slot: a transfer has its frames; a trim names 1 to 4,194,240 sectors, each below 2^48 (64 entries of
--- 65,535 in its block); and a trim and a flush aren't queued, and go in slot 0.
+-- A task of this operation may be issued in the slot: a transfer has its frames; a trim names 1 to 4,194,240 sectors,
+-- each below 2^48 (64 entries of 65,535 in its block); and a trim and a flush aren't queued, and go in slot 0.
 abbrev pub MayGoIn : Op → Task → List Frame → ℕ → Type 0
 MayGoIn Read r frames slot = IsFit r frames
 MayGoIn Write r frames slot = IsFit r frames
-MayGoIn Trim r frames slot = (slot ≡ 0) × (r.queued ≡ false) × (1 ≤ r.range.count) × (r.range.count ≤ 4194240) × (r.range.first.0 + r.range.count ≤ 2 ^ 48)
+MayGoIn Trim r frames slot = (slot ≡ 0) × (r.queued ≡ false) × (1 ≤ r.range.count) × (r.range.count ≤ 4194240)
+    × (r.range.first.0 + r.range.count ≤ 2 ^ 48)
 MayGoIn Flush r frames slot = (slot ≡ 0) × (r.queued ≡ false)

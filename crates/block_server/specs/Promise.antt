@@ -26,10 +26,11 @@ use Rattle.block_server.specs.View.{ServerView, server_of, visible_of}
 use Rattle.block_server.specs.declared.types.Event.{Event}
 use Rattle.block_server.specs.declared.types.Said.{Said}
 
--- What a call is to the clients of a port that is ready and stays healthy, with no register in it. The port is what it was, with the same
--- disk. What is answered there is answered Ok, and is a request that was issued when the call began, of which each sector was moved or cleared
--- since its last issue, and which was ended; a service answers each that had ended when it began. And of the port's unanswered
--- requests a submit and a service issue exactly those that are due once all else is done.
+-- What a call is to the clients of a port that is ready and stays healthy, with no register in it. The port is what it
+-- was, with the same disk. What is answered there is answered Ok, and is a request that was issued when the call began,
+-- of which each sector was moved or cleared since its last issue, and which was ended; a service answers each that had
+-- ended when it began. And of the port's unanswered requests a submit and a service issue exactly those that are due
+-- once all else is done.
 pub record ServesClientsOf (port : Port) (old : Moment) (call : Call DeviceStep) : Type 0 where
   pub same : SamePort old.ports call.ports port
   pub answers : (e : Pending) (told : Outcome) → Contains call.steps (Answer e told) → e.request.port ≡ port
@@ -41,45 +42,57 @@ pub record ServesClientsOf (port : Port) (old : Moment) (call : Call DeviceStep)
 abbrev pub IsServedWell : Port → Instant Device → Happening Device DeviceStep → Type 0
 IsServedWell port old h = GoesWellFor old h port × ServesClientsOf port old.moment h.event
 
--- In a call after these ones, a service answers each request of a port that is ready when it begins of which the bits of PxCI and PxSACT were clear
--- then; and each port is served well that the call is healthy for.
-pub record ServesPorts (first : Instant Device) (past : List (Happening Device DeviceStep)) (h : Happening Device DeviceStep) : Type 0 where
-  pub seen : (port : Port) (slot : ℕ) (id : RequestId) → h.event.ask ≡ Service → (now first past).moment.ports.state port ≡ Ready
-      → ServesRequest (now first past).moment.machine (now first past).device.memory ((now first past).device.port port.0) port.0 slot id
+-- In a call after these ones, a service answers each request of a port that is ready when it begins of which the bits
+-- of PxCI and PxSACT were clear then; and each port is served well that the call is healthy for.
+pub record ServesPorts (first : Instant Device) (past : List (Happening Device DeviceStep))
+    (h : Happening Device DeviceStep) : Type 0 where
+  pub seen : (port : Port) (slot : ℕ) (id : RequestId) → h.event.ask ≡ Service
+      → (now first past).moment.ports.state port ≡ Ready
+      → ServesRequest (now first past).moment.machine (now first past).device.memory
+      ((now first past).device.port port.0) port.0 slot id
       → ((now first past).device.port port.0).ci slot ≡ false → ((now first past).device.port port.0).sact slot ≡ false
       → (done : Pending) × (done.request.id ≡ id) × Contains h.event.steps (Answer done outcome.Ok)
   pub served : (port : Port) → IsHealthyFor (now first past) h port → IsServedWell port (now first past) h
 
--- What is promised of the device. With these calls the history leads to the server after them: so `Ties` of driver_history has of each of them which
--- accesses were made, what stands behind the evidence, that what is due was issued, and of each port, ready or not, that the call did its part; and
--- `heeds` of `Happens` that it heeded what the evidence names. Each call serves the ports. And a port that is ready and runs well before the list,
--- and on which nothing goes wrong until its end (no fault, no fatal error, no disk that goes or comes), is served well by each of its calls, and is
--- ready and runs well after it, unless one of them is a reset, which boots each port, or a tick that brings a request of the port to its age of three:
--- that restarts the port, since nothing else tells that a request hangs.
-pub record DrivesDevice {A : Type 0} (device : A → Device) (first : Instant Device) (past added : List (Happening Device DeviceStep))
+-- What is promised of the device. With these calls the history leads to the server after them: so `Ties` of
+-- driver_history has of each of them which accesses were made, what stands behind the evidence, that what is due was
+-- issued, and of each port, ready or not, that the call did its part; and `heeds` of `Happens` that it heeded what the
+-- evidence names. Each call serves the ports. And a port that is ready and runs well before the list, and on which
+-- nothing goes wrong until its end (no fault, no fatal error, no disk that goes or comes), is served well by each of
+-- its calls, and is ready and runs well after it, unless one of them is a reset, which boots each port, or a tick that
+-- brings a request of the port to its age of three: that restarts the port, since nothing else tells that a request
+-- hangs.
+pub record DrivesDevice {A : Type 0} (device : A → Device) (first : Instant Device)
+    (past added : List (Happening Device DeviceStep))
     (old new : ServerView A) : Type 0 where
   pub leads : Leads first (added ++ past) (server_of device new)
   pub serves : EachAfter (ServesPorts first) past added
-  pub healthy : (port : Port) → state_of (found_of old.ports port.0) ≡ Ready → StaysHealthy port.0 (device old.adapter) (device new.adapter)
-      → EachAfter (λ before h. (h.event.ask ≢ Reset) × (h.event.ask ≡ Tick → IsHung (now first before).moment port → ⊥)) past added
+  pub healthy : (port : Port) → state_of (found_of old.ports port.0) ≡ Ready
+      → StaysHealthy port.0 (device old.adapter) (device new.adapter)
+      → EachAfter (λ before h. (h.event.ask ≢ Reset) × (h.event.ask ≡ Tick → IsHung (now first before).moment port → ⊥))
+      past added
       → EachAfter (λ before h. IsServedWell port (now first before) h) past added
       × (state_of (found_of new.ports port.0) ≡ Ready) × RunsWell ((device new.adapter).port port.0)
 
--- After a history that leads to the server before them, the calls of a list, which said this, add theirs: with what is promised to clients, and of the
--- device.
-pub record KeepsPromise {A : Type 0} (device : A → Device) (first : Instant Device) (past : List (Happening Device DeviceStep))
+-- After a history that leads to the server before them, the calls of a list, which said this, add theirs: with what is
+-- promised to clients, and of the device.
+pub record KeepsPromise {A : Type 0} (device : A → Device) (first : Instant Device)
+    (past : List (Happening Device DeviceStep))
     (old new : ServerView A) (events : List Event) (said : List Said) : Type 0 where
   pub added : List (Happening Device DeviceStep)
-  pub clients : ServesClients first past added (visible_of device old) (visible_of device new) (map ask_of events) (map said_of said)
+  pub clients : ServesClients first past added (visible_of device old) (visible_of device new) (map ask_of events)
+      (map said_of said)
   pub driver : DrivesDevice device first past added old new
 
--- So it is after each such history. (There is one since the server was made: `begun` of `IsNew`; and with the calls it leads to the server after them.)
+-- So it is after each such history. (There is one since the server was made: `begun` of `IsNew`; and with the calls it
+-- leads to the server after them.)
 abbrev pub Simulates : {A : Type 0} → (A → Device) → ServerView A → ServerView A → List Event → List Said → Type 0
-Simulates device old new events said = (first : Instant Device) (past : List (Happening Device DeviceStep)) → Leads first past (server_of device old)
-    → KeepsPromise device first past old new events said
+Simulates device old new events said = (first : Instant Device) (past : List (Happening Device DeviceStep))
+    → Leads first past (server_of device old) → KeepsPromise device first past old new events said
 
 -- What the calls of a list said, one thing each, stands at the end of what had been said; and they keep the promise.
-pub record RunsAsPromised {A : Type 0} (device : A → Device) (old new : ServerView A) (events : List Event) (before after : List Said) : Type 0 where
+pub record RunsAsPromised {A : Type 0} (device : A → Device) (old new : ServerView A) (events : List Event)
+    (before after : List Said) : Type 0 where
   pub said : List Said
   pub told : after ≡ before ++ said
   pub each : length said ≡ length events

@@ -28,7 +28,8 @@ trouble_of look.Broken = Some Broken
 trouble_of look.Lost = Some Lost
 trouble_of look.Undisturbed = None
 
--- the server keeps what it keeps, and this trouble of its port, which is ready, was found out; so it came to this device
+-- the server keeps what it keeps, and this trouble of its port, which is ready, was found out; so it came to this
+-- device
 pub record SeesTrouble (s : Server) (port : Port) (trouble : Trouble) (device : Device) : Type 0 where
   pub kept : IsKept s
   pub ready : state_of (found_of s.ports port.0) ≡ Ready
@@ -36,15 +37,18 @@ pub record SeesTrouble (s : Server) (port : Port) (trouble : Trouble) (device : 
   pub followed : IsFollowed (IsLooking port) AnyUse s.device device
 
 -- so it was, and it has these loans, this book, and these slots of the port
-pub record LendsTroubled (s : Server) (device : Device) (table : Table) (book : List Held) (slots : PortSlots) (port : Port) (trouble : Trouble) : Type 0 where
+pub record LendsTroubled (s : Server) (device : Device) (table : Table) (book : List Held) (slots : PortSlots)
+    (port : Port) (trouble : Trouble) : Type 0 where
   pub sees : SeesTrouble s port trouble device
   pub table_is : s.table ≡ table
   pub book_is : s.book ≡ book
   pub slots_are : slots_at s.slots port.0 ≡ slots
 
--- What was done was answered by replies that came after others, and the port was mended; the server keeps what it keeps until then. So it came to these loans, this book and these slots, and to
--- this device; to the request whose command failed, and to what the port has to go through.
-pub record MendsRest (port : Port) (trouble : Trouble) (before after : List Reply) (failed : Option Failed) (next : Next) (s : Server) (table : Table) (book : List Held)
+-- What was done was answered by replies that came after others, and the port was mended; the server keeps what it keeps
+-- until then. So it came to these loans, this book and these slots, and to this device; to the request whose command
+-- failed, and to what the port has to go through.
+pub record MendsRest (port : Port) (trouble : Trouble) (before after : List Reply) (failed : Option Failed)
+    (next : Next) (s : Server) (table : Table) (book : List Held)
     (slots : PortSlots) (new : Device) : Type 0 where
   pub mid : Server
   pub kept : IsKept mid

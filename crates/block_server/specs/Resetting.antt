@@ -17,14 +17,16 @@ use Rattle.server_history.specs.Stalled.{GetsStuck, IsStalled}
 use Rattle.slots.specs.Uses.{Uses as PortSlots}
 use Rattle.block_server.specs.View.{ServerView, server_of}
 
--- What holds of a server between calls, by whether its last reset got stuck: its adapter is on, and each request is issued that is due; or
--- the adapter hasn't been seen to end that reset.
+-- What holds of a server between calls, by whether its last reset got stuck: its adapter is on, and each request is
+-- issued that is due; or the adapter hasn't been seen to end that reset.
 abbrev pub HoldsBy : Bool → Server → Type 0
 HoldsBy false s = IsSettled s
 HoldsBy true s = IsStalled s
 
--- The requests of the server may meet their fates, and it has these loans, this book, these loans that are kept, these disks remembered, and ports that were found so.
-pub record LendsBook (s : Server) (table : Table) (book : List Held) (kept : List (List Lending)) (remembered : List (Option DiskInfo)) (ports : List Found) : Type 0 where
+-- The requests of the server may meet their fates, and it has these loans, this book, these loans that are kept, these
+-- disks remembered, and ports that were found so.
+pub record LendsBook (s : Server) (table : Table) (book : List Held) (kept : List (List Lending))
+    (remembered : List (Option DiskInfo)) (ports : List Found) : Type 0 where
   pub may : MaySettle s
   pub table_is : s.table ≡ table
   pub book_is : s.book ≡ book
@@ -36,8 +38,10 @@ pub record LendsBook (s : Server) (table : Table) (book : List Held) (kept : Lis
 abbrev pub with_book : Server → Table → List Held → List (List Lending) → Server
 with_book s table book kept = record s { table = table; book = book; kept = kept }
 
--- the server keeps what it keeps, and has this device, this book, and of its ports these slots, these modes, and these finds
-pub record LendsPorts (s : Server) (device : Device) (book : List Held) (slots : List PortSlots) (modes : List Mode) (ports : List Found) : Type 0 where
+-- the server keeps what it keeps, and has this device, this book, and of its ports these slots, these modes, and these
+-- finds
+pub record LendsPorts (s : Server) (device : Device) (book : List Held) (slots : List PortSlots) (modes : List Mode)
+    (ports : List Found) : Type 0 where
   pub kept : IsKept s
   pub device_is : s.device ≡ device
   pub book_is : s.book ≡ book
@@ -54,7 +58,11 @@ abbrev pub reset_said : Result (Unit {0}) AdapterStuck → List Reply → Said
 reset_said (Ok done) replies = WasReset (Some replies)
 reset_said (Err why) replies = WasReset None
 
--- The adapter was reset, and so was the server with these replies; or the adapter didn't end its reset, and there is no reply.
-abbrev pub DoesReset : {A : Type 0} → (A → Device) → ServerView A → ServerView A → List Reply → Result (Unit {0}) AdapterStuck → Type 0
-DoesReset device old new replies (Ok done) = ResetsServer replies (server_of device old) (server_of device new) × (new.stuck ≡ false)
-DoesReset device old new replies (Err why) = (replies ≡ []) × GetsStuck (server_of device old) (server_of device new) × (new.stuck ≡ true)
+-- The adapter was reset, and so was the server with these replies; or the adapter didn't end its reset, and there is no
+-- reply.
+abbrev pub DoesReset : {A : Type 0} → (A → Device) → ServerView A → ServerView A → List Reply
+    → Result (Unit {0}) AdapterStuck → Type 0
+DoesReset device old new replies (Ok done) = ResetsServer replies (server_of device old) (server_of device new)
+    × (new.stuck ≡ false)
+DoesReset device old new replies (Err why) = (replies ≡ []) × GetsStuck (server_of device old) (server_of device new)
+    × (new.stuck ≡ true)

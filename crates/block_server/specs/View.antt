@@ -19,8 +19,8 @@ pub record ServerView (A : Type 0) : Type 0 where
   -- the grants, and by frame its owner and the request that it is lent to
   pub grants : List GrantRow
   pub table : Table
-  -- by port, the disk that is wanted, what it was found to be, which disk it was ready with before that, how it takes commands, what its slots
-  -- are used for, and what is still lent to requests of it that were answered
+  -- by port, the disk that is wanted, what it was found to be, which disk it was ready with before that, how it takes
+  -- commands, what its slots are used for, and what is still lent to requests of it that were answered
   pub wanted : List Wanted
   pub ports : List Found
   pub remembered : List (Option DiskInfo)

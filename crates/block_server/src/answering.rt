@@ -14,7 +14,8 @@ use request_queue::laws::{an_id_is_one_request, operations_change_one_request};
 use server_history::laws::{a_used_slot_has_its_request, requests_keep};
 use slots::Slots;
 
-/// Answers the request of a used slot, whose command is over: its slot is free then, it leaves the book, and its frames are given back.
+/// Answers the request of a used slot, whose command is over: its slot is free then, it leaves the book, and its frames
+/// are given back.
 fn answer_one(book: &mut Book, table: &mut FrameTable, slots: &mut Slots, slot: Slot) -> Reply
     requires lends { (s : Server) × (port : Port) × (done : ℕ) × LendsDone s table.old book.old slots.old port done
         × (bit done slot.0 ≡ true) }
@@ -39,8 +40,8 @@ fn answer_one(book: &mut Book, table: &mut FrameTable, slots: &mut Slots, slot: 
     }
 }
 
-/// Answers the requests of those slots of a ready port that are used and were found done (bit k is slot k), in order of acceptance. The
-/// replies come after those that there are.
+/// Answers the requests of those slots of a ready port that are used and were found done (bit k is slot k), in order of
+/// acceptance. The replies come after those that there are.
 pub(crate) fn answer_done(
     book: &mut Book,
     table: &mut FrameTable,
@@ -51,7 +52,8 @@ pub(crate) fn answer_done(
     requires lends { (s : Server) × (port : Port) × LendsDone s table.old book.old slots.old port done }
     requires room { length replies.old.items + length book.old ≤ 128 }
     ensures answers { (s : Server) (port : Port) → LendsDone s table.old book.old slots.old port done
-        → AnswersAll port done replies.old.items replies.new.items s (with_answers s table.new book.new slots.new port) }
+        → AnswersAll port done replies.old.items replies.new.items s
+        (with_answers s table.new book.new slots.new port) }
     ensures lends { (s : Server) (port : Port) → LendsDone s table.old book.old slots.old port done
         → LendsDone (with_answers s table.new book.new slots.new port) table.new book.new slots.new port done }
     ensures room { length replies.new.items + length book.new ≤ 128 }

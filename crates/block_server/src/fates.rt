@@ -25,11 +25,13 @@ fn settle_one(
     replies: &mut Replies,
 )
     requires sound { IsSound table.old book.old }
-    requires here { (request : Held) × Contains book.old request × (request.entry.id ≡ id) × HasPlaces request kept.old }
+    requires here { (request : Held) × Contains book.old request × (request.entry.id ≡ id)
+        × HasPlaces request kept.old }
     requires room { length replies.old.items + length book.old ≤ 128 }
     ensures meets { (request : Held) → Contains book.old request → request.entry.id ≡ id
         → (its : List Reply) × (replies.new.items ≡ replies.old.items ++ its)
-        × MeetsFate request (fate_of failed.now prospect request.entry) its (holding book.old table.old kept.old) (holding book.new table.new kept.new) }
+        × MeetsFate request (fate_of failed.now prospect request.entry) its (holding book.old table.old kept.old)
+        (holding book.new table.new kept.new) }
     ensures others { (e : Held) → Contains book.old e → e.entry.id ≢ id → Contains book.new e }
     ensures places { (request : Held) (rest : List Held) → Contains book.old request → request.entry.id ≡ id
         → HavePlaces (request ∷ rest) kept.old → HavePlaces rest kept.new }
@@ -60,7 +62,8 @@ fn settle_one(
     }
 }
 
-/// Has the unanswered requests of a port meet their fates, in order of acceptance. The replies come after those that there are.
+/// Has the unanswered requests of a port meet their fates, in order of acceptance. The replies come after those that
+/// there are.
 pub(crate) fn settle(
     book: &mut Book,
     table: &mut FrameTable,

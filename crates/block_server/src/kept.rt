@@ -1,4 +1,5 @@
-// Loans of a dead port that are kept when their requests are answered, until a reset ends: the device may still move their sectors.
+// Loans of a dead port that are kept when their requests are answered, until a reset ends: the device may still move
+// their sectors.
 ghost use Rattle.std.specs.Prelude.{◌≡◌, ◌<◌, ◌++◌, ◌∷◌, [], ℕ, All, AllPairs, Contains, IfOk, length};
 ghost use Rattle.server_history.specs.Kept.{IsKeptIn, MayGoBack, TakesBack};
 ghost use Rattle.server_history.specs.Server.{AreOfTwo, IsLentOut, kept_at};
@@ -9,8 +10,8 @@ use slots::SLOTS;
 use std::alloc::{AllocError, Global};
 use std::marker::Model;
 
-/// The loans of one port that are kept, 32 at most, in the order in which they came. They can't be dropped: `give_all_back` and
-/// `end_all` end them.
+/// The loans of one port that are kept, 32 at most, in the order in which they came. They can't be dropped:
+/// `give_all_back` and `end_all` end them.
 pub(crate) struct KeptLoans {
     loans: Vec<Loan>,
 }

@@ -22,16 +22,17 @@ use driver_history::laws::{
 };
 use host_boot::laws::what_was_taken_over_may_be_served;
 
-/// Calls that add an event each to every history that leads to the server before them keep their promise: none at all, one, and calls after
-/// others. With them the history is a run of the block machine, in which each read that was answered Ok has what was left, and moves and clears keep to
-/// their places; of the device each call does its part on each port, ready or not; and on a port that is ready and runs well, while it tells of
-/// no fault and no fatal error, and no disk of it goes or comes, each call issues exactly what is due, each service answers what has ended,
-/// with Ok, and nothing else, and the port stays as it is, unless a tick restarts it.
+/// Calls that add an event each to every history that leads to the server before them keep their promise: none at all,
+/// one, and calls after others. With them the history is a run of the block machine, in which each read that was
+/// answered Ok has what was left, and moves and clears keep to their places; of the device each call does its part on
+/// each port, ready or not; and on a port that is ready and runs well, while it tells of no fault and no fatal error,
+/// and no disk of it goes or comes, each call issues exactly what is due, each service answers what has ended, with Ok,
+/// and nothing else, and the port stays as it is, unless a tick restarts it.
 pub fn runs_keep_their_promise<A: Stepped>()
     ensures none { (s : ServerView A) → Simulates A.device s s [] [] }
     ensures one { (old new : ServerView A) (event : Event) (one : Said)
-        → AddsEvent (server_of A.device old) (server_of A.device new) (ask_of event) (said_of one) → new.wanted ≡ old.wanted
-        → Simulates A.device old new (event ∷ []) (one ∷ []) }
+        → AddsEvent (server_of A.device old) (server_of A.device new) (ask_of event) (said_of one)
+        → new.wanted ≡ old.wanted → Simulates A.device old new (event ∷ []) (one ∷ []) }
     ensures more { (old mid new : ServerView A) (events further : List Event) (said more : List Said)
         → Simulates A.device old mid events said → Simulates A.device mid new further more
         → Simulates A.device old new (events ++ further) (said ++ more) }
@@ -44,11 +45,13 @@ pub fn runs_keep_their_promise<A: Stepped>()
     reads_hold();
 }
 
-/// A port that is ready when its server is made runs well then, where nothing went wrong on it since the adapter was idle.
+/// A port that is ready when its server is made runs well then, where nothing went wrong on it since the adapter was
+/// idle.
 pub fn new_servers_run_well<A: Stepped>()
     ensures { (config : Config) (adapter : A) (server : ServerView A) (port : Port) → IsIdle (A.device adapter)
         → IsNew A.device config adapter server → state_of (found_of server.ports port.0) ≡ Ready
-        → Undisturbed port.0 (A.device adapter) (A.device server.adapter) → RunsWell ((A.device server.adapter).port port.0) }
+        → Undisturbed port.0 (A.device adapter) (A.device server.adapter)
+        → RunsWell ((A.device server.adapter).port port.0) }
 {
     what_was_taken_over_may_be_served();
 }

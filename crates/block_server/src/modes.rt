@@ -19,7 +19,8 @@ pub(crate) const PLAIN: Mode = Mode {
     usable: 1,
 };
 
-/// How a port that was found so takes commands, by an adapter with so many slots a port, which queues or doesn't: queued where adapter and disk both can, in as many slots as both have; else one at a time.
+/// How a port that was found so takes commands, by an adapter with so many slots a port, which queues or doesn't:
+/// queued where adapter and disk both can, in as many slots as both have; else one at a time.
 pub(crate) fn mode_of(slots: u8, queued: bool, found: &Found) -> Mode
     ensures found { (cap : ℕ) → slots ≡ cap / 256 % 32 + 1 → queued ≡ bit cap 30 → result ≡ mode_found cap found.now }
     ensures plain { (cap : ℕ) → ((info : DiskInfo) → found.now ≡ Ready info → ⊥) → result ≡ mode_found cap found.now }

@@ -37,7 +37,8 @@ fn issue_task<A: Adapter>(adapter: &mut A, port: Port, slot: Slot, task: &Task, 
     requires runs { RunsItsList port.0 (A.device adapter.old) }
     requires may { MayGoIn task.now.op task.now frames.now slot.0 }
     ensures issues { IssuesTask port slot.0 task.now frames.now (A.device adapter.old) (A.device adapter.new) }
-    ensures stored { IsStored (A.device adapter.new) port.0 slot.0 (meaning_of task.now) (addresses_of port.0 task.now.op task.now.range.count frames.now) }
+    ensures stored { IsStored (A.device adapter.new) port.0 slot.0 (meaning_of task.now)
+        (addresses_of port.0 task.now.op task.now.range.count frames.now) }
     ensures block { HasBlockOf task.now.op task.now.range port.0 (A.device adapter.new).memory }
 {
     match task.op {
@@ -102,7 +103,8 @@ pub(crate) fn issue_due<A: Adapter>(
     }
 }
 
-/// Issues the due requests of a port that was found so and takes commands in this mode, in order of acceptance. On one that isn't ready none is due.
+/// Issues the due requests of a port that was found so and takes commands in this mode, in order of acceptance. On one
+/// that isn't ready none is due.
 pub(crate) fn issue_where_ready<A: Adapter>(
     adapter: &mut A,
     book: &mut Book,

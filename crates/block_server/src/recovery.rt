@@ -1,4 +1,5 @@
-// A port whose trouble was found out is mended: recovered, where a command had failed, else given up; and booted anew where it has to be.
+// A port whose trouble was found out is mended: recovered, where a command had failed, else given up; and booted anew
+// where it has to be.
 ghost use Rattle.std.specs.Prelude.{ℕ, ◌≡◌, ◌≤◌, ◌+◌, ◌++◌, IsTrue, ◌↔◌, Some, List, AllPairs, IsPermutation, drop, length, take};
 ghost use Rattle.ata_types.specs.declared.request.Reply.{Reply};
 ghost use Rattle.block_server.specs.Recovery.{LendsTroubled, MendsRest, trouble_of};
@@ -47,8 +48,8 @@ pub(crate) fn trouble_of(look: Look) -> Option<Trouble>
     }
 }
 
-/// Mends a port in trouble, of which the masks were read: recovers it where a command had failed (AHCI 1.3.1, 6.2.2), and stops it to be
-/// booted where its link or the host's bus had, its disk was lost, or a request is hung.
+/// Mends a port in trouble, of which the masks were read: recovers it where a command had failed (AHCI 1.3.1, 6.2.2),
+/// and stops it to be booted where its link or the host's bus had, its disk was lost, or a request is hung.
 fn mend<A: Adapter>(
     adapter: &mut A,
     port: Port,
@@ -87,7 +88,8 @@ pub(crate) fn mend_rest<A: Adapter>(
     requires room { length replies.old.items + length book.old ≤ 128 }
     ensures on { IsOn (A.device adapter.new) }
     ensures mends { (s : Server) → LendsTroubled s (A.device adapter.old) table.old book.old slots.old port trouble
-        → MendsRest port trouble replies.old.items replies.new.items result.0 result.1 s table.new book.new slots.new (A.device adapter.new) }
+        → MendsRest port trouble replies.old.items replies.new.items result.0 result.1 s table.new book.new slots.new
+        (A.device adapter.new) }
     ensures room { length replies.new.items + length book.new ≤ 128 }
 {
     looks_keep();
@@ -105,8 +107,8 @@ pub(crate) fn mend_rest<A: Adapter>(
 /// Puts the replies from that place on in the order of their ids.
 pub(crate) fn order_from(replies: &mut Replies, first: usize)
     requires { first ≤ length replies.old.items }
-    ensures { (its : List Reply) × (replies.new.items ≡ take first replies.old.items ++ its) × IsPermutation its (drop first replies.old.items)
-        × AllPairs (λ (a b : Reply). a.id.0 ≤ b.id.0) its }
+    ensures { (its : List Reply) × (replies.new.items ≡ take first replies.old.items ++ its)
+        × IsPermutation its (drop first replies.old.items) × AllPairs (λ (a b : Reply). a.id.0 ≤ b.id.0) its }
 {
     replies.as_mut_slice()[first..].sort_unstable_by_key(|reply| reply.id.0);
 }
@@ -163,8 +165,8 @@ fn boot_after<A: Adapter>(
     }
 }
 
-/// What a port is once it was mended, and how it takes commands then: it runs on with its disk, or it is booted anew, or it is dead. One whose disk was lost is
-/// booted only where a device shows.
+/// What a port is once it was mended, and how it takes commands then: it runs on with its disk, or it is booted anew,
+/// or it is dead. One whose disk was lost is booted only where a device shows.
 pub(crate) fn find_after<A: Adapter>(
     adapter: &mut A,
     trouble: Trouble,
@@ -175,11 +177,14 @@ pub(crate) fn find_after<A: Adapter>(
 ) -> (Found, Mode)
     requires on { IsOn (A.device adapter.old) }
     requires mode { mode ≡ mode_found (A.device adapter.old).cap (Ready was.now) }
-    requires bootable { (stopped : stopped_token.Stopped) → next ≡ Next.Restart stopped → IsBootable stopped.port (A.device adapter.old)
-        × IsStopped ((A.device adapter.old).port stopped.port.0) × (((A.device adapter.old).port stopped.port.0).notes.link_count ≡ 64) }
+    requires bootable { (stopped : stopped_token.Stopped) → next ≡ Next.Restart stopped
+        → IsBootable stopped.port (A.device adapter.old)
+        × IsStopped ((A.device adapter.old).port stopped.port.0)
+        × (((A.device adapter.old).port stopped.port.0).notes.link_count ≡ 64) }
     ensures on { IsOn (A.device adapter.new) }
-    ensures found { (port : Port) → ((stopped : stopped_token.Stopped) → next ≡ Next.Restart stopped → stopped.port ≡ port)
-        → IsFoundAfter wanted.now port trouble was.now next (A.device adapter.old) (A.device adapter.new) result.0 }
+    ensures found { (port : Port) → ((stopped : stopped_token.Stopped) → next ≡ Next.Restart stopped
+        → stopped.port ≡ port) → IsFoundAfter wanted.now port trouble was.now next (A.device adapter.old)
+        (A.device adapter.new) result.0 }
     ensures mode { result.1 ≡ mode_found (A.device adapter.new).cap result.0 }
 {
     match next {
@@ -200,8 +205,9 @@ pub(crate) fn is_same_disk(was: &DiskInfo, info: &DiskInfo) -> bool
     info.serial == was.serial && info.sectors == was.sectors
 }
 
-/// What the requests of a port that was ready with a disk may expect, now that it was found to be this. Where the disk was lost, it doesn't count that the same one is
-/// there again: what it keeps of writes that weren't flushed nobody knows.
+/// What the requests of a port that was ready with a disk may expect, now that it was found to be this. Where the disk
+/// was lost, it doesn't count that the same one is there again: what it keeps of writes that weren't flushed nobody
+/// knows.
 pub(crate) fn prospect_of(trouble: Trouble, was: &DiskInfo, found: &Found) -> Prospect
     ensures { IsProspect trouble was.now found.now result }
 {

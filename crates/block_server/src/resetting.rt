@@ -37,7 +37,8 @@ pub(crate) fn disks_of(
     ports: &[Found; PORTS],
     remembered: &[Option<DiskInfo>; PORTS],
 ) -> [Option<DiskInfo>; PORTS]
-    ensures { (port : ℕ) → remembered_at result port ≡ disk_of (found_of ports.now port) (remembered_at remembered.now port) }
+    ensures { (port : ℕ) → remembered_at result port ≡ disk_of (found_of ports.now port)
+        (remembered_at remembered.now port) }
 {
     [
         disk_of(&ports[0], &remembered[0]),
@@ -94,11 +95,12 @@ fn settle_port(
     replies: &mut Replies,
 )
     requires small { port.0 < 4 }
-    requires lends { (s : Server) × LendsBook s table.old book.old kept.old s.remembered s.ports × (remembered_at s.remembered port.0 ≡ was.now)
-        × (found_of s.ports port.0 ≡ found.now) }
+    requires lends { (s : Server) × LendsBook s table.old book.old kept.old s.remembered s.ports
+        × (remembered_at s.remembered port.0 ≡ was.now) × (found_of s.ports port.0 ≡ found.now) }
     requires room { length replies.old.items + length book.old ≤ 128 }
-    ensures settles { (s : Server) → LendsBook s table.old book.old kept.old s.remembered s.ports → remembered_at s.remembered port.0 ≡ was.now
-        → found_of s.ports port.0 ≡ found.now → (its : List Reply) × (replies.new.items ≡ replies.old.items ++ its)
+    ensures settles { (s : Server) → LendsBook s table.old book.old kept.old s.remembered s.ports
+        → remembered_at s.remembered port.0 ≡ was.now → found_of s.ports port.0 ≡ found.now → (its : List Reply)
+        × (replies.new.items ≡ replies.old.items ++ its)
         × SettlesPort port its s (with_book s table.new book.new kept.new) }
     ensures room { length replies.new.items + length book.new ≤ 128 }
 {
@@ -107,8 +109,8 @@ fn settle_port(
     settle(book, table, kept, port, &None, prospect, replies);
 }
 
-/// Has all unanswered requests meet their fates after a reset, port by port, each port's in order of acceptance. The replies come after those
-/// that there are.
+/// Has all unanswered requests meet their fates after a reset, port by port, each port's in order of acceptance. The
+/// replies come after those that there are.
 pub(crate) fn settle_ports(
     book: &mut Book,
     table: &mut FrameTable,
@@ -120,7 +122,8 @@ pub(crate) fn settle_ports(
     requires lends { (s : Server) × LendsBook s table.old book.old kept.old remembered.now ports.now }
     requires room { length replies.old.items + length book.old ≤ 128 }
     ensures settles { (s : Server) → LendsBook s table.old book.old kept.old remembered.now ports.now
-        → (its : List Reply) × (replies.new.items ≡ replies.old.items ++ its) × SettlePorts 0 ports.now its s (with_book s table.new book.new kept.new) }
+        → (its : List Reply) × (replies.new.items ≡ replies.old.items ++ its)
+        × SettlePorts 0 ports.now its s (with_book s table.new book.new kept.new) }
 {
     settling_goes_on();
     for number in 0..PORTS {

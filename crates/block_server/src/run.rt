@@ -27,7 +27,8 @@ impl<A: Adapter> Server<A> {
         offset: u32,
         count: u32,
     ) -> Result<ArrayVec<u8, 64>, MemFault>
-        ensures adds { AddsEvent (server_of A.device self.old) (server_of A.device self.new) (LoadAt client frame offset (min count 64)) (said_of (Said.Loaded result)) }
+        ensures adds { AddsEvent (server_of A.device self.old) (server_of A.device self.new)
+            (LoadAt client frame offset (min count 64)) (said_of (Said.Loaded result)) }
         ensures wanted { self.new.wanted ≡ self.old.wanted }
     {
         let mut buffer = [0; FEW];
@@ -45,9 +46,11 @@ impl<A: Stepped> Server<A> {
     ghost use Rattle.block_server.specs.View.{server_of};
     ghost use Rattle.server_history.specs.Histories.{AddsEvent};
 
-    /// Makes the call. What a service, a tick, or a reset that ends answered is all that `replies` has then; of what it has after another call nothing is told.
+    /// Makes the call. What a service, a tick, or a reset that ends answered is all that `replies` has then; of what it
+    /// has after another call nothing is told.
     fn answer(&mut self, event: &Event, replies: &mut Replies) -> Told
-        ensures adds { AddsEvent (server_of A.device self.old) (server_of A.device self.new) (ask_of event.now) (said_of (with_replies result replies.new.items)) }
+        ensures adds { AddsEvent (server_of A.device self.old) (server_of A.device self.new) (ask_of event.now)
+            (said_of (with_replies result replies.new.items)) }
         ensures wanted { self.new.wanted ≡ self.old.wanted }
     {
         match event {
@@ -78,13 +81,15 @@ impl<A: Stepped> Server<A> {
         }
     }
 
-    /// Makes the calls in order, and puts what each said at the end of `out`. Room for it is made before each call; where memory for that is refused, the
-    /// calls before `at` are done, and no other. Room that there was stays.
+    /// Makes the calls in order, and puts what each said at the end of `out`. Room for it is made before each call;
+    /// where memory for that is refused, the calls before `at` are done, and no other. Room that there was stays.
     pub fn run(&mut self, events: &[Event], out: &mut Sayings) -> Result<(), RunStopped>
-        ensures done { OnOk result (RunsAsPromised A.device self.old self.new events.now (said_in out.old) (said_in out.new)) }
+        ensures done { OnOk result (RunsAsPromised A.device self.old self.new events.now (said_in out.old)
+            (said_in out.new)) }
         ensures stopped { IfErr result (λ e. e.at < length events.now) }
         ensures ample { vec_len out.old.earlier + length events.now ≤ vec_capacity out.old.earlier → IsOk result }
-        ensures begun { IfErr result (λ e. RunsAsPromised A.device self.old self.new (take e.at events.now) (said_in out.old) (said_in out.new)) }
+        ensures begun { IfErr result (λ e. RunsAsPromised A.device self.old self.new (take e.at events.now)
+            (said_in out.old) (said_in out.new)) }
         ensures last { OnOk result (1 ≤ length events.now → IsSome out.new.last) }
         ensures room { vec_capacity out.old.earlier ≤ vec_capacity out.new.earlier }
     {

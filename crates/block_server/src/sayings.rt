@@ -24,8 +24,8 @@ fn said_with(told: Told, replies: Replies) -> Said
     }
 }
 
-/// What calls said, one thing each, in their order. What the last one said stands apart from the list of those before it, with room for all replies of a
-/// call: so it is made in its place, and not moved until another call is made.
+/// What calls said, one thing each, in their order. What the last one said stands apart from the list of those before
+/// it, with room for all replies of a call: so it is made in its place, and not moved until another call is made.
 #[derive(Drop)]
 pub struct Sayings {
     earlier: Vec<Said>,
@@ -81,18 +81,21 @@ impl Sayings {
         self.last.as_ref()
     }
 
-    /// What the last call answered, where that is a service, a tick or a reset that ended; of another call nothing is told.
+    /// What the last call answered, where that is a service, a tick or a reset that ended; of another call nothing is
+    /// told.
     pub fn replies(&self) -> &[Reply]
         ensures { result.now ≡ self.now.replies.items }
     {
         self.replies.as_slice()
     }
 
-    /// Puts what the last call said with that of those before it. A function of its own, since it has room for all replies.
+    /// Puts what the last call said with that of those before it. A function of its own, since it has room for all
+    /// replies.
     #[inline(never)]
     fn join(&mut self, told: Told)
         requires { vec_len self.old.earlier < vec_capacity self.old.earlier }
-        ensures earlier { self.new.earlier.items ≡ self.old.earlier.items ++ with_replies told self.old.replies.items ∷ [] }
+        ensures earlier { self.new.earlier.items ≡ self.old.earlier.items ++ with_replies told self.old.replies.items
+            ∷ [] }
         ensures last { self.new.last ≡ self.old.last }
         ensures len { vec_len self.new.earlier ≡ vec_len self.old.earlier + 1 }
         ensures capacity { vec_capacity self.new.earlier ≡ vec_capacity self.old.earlier }

@@ -5,6 +5,7 @@ use crate::ServerError;
 use crate::answering::answer_done;
 use crate::fates::settle;
 use crate::kept::{KeptLoans, end_all, give_all_back, none_kept};
+use crate::limits::{CLIENT_PLACES, leaves_disk};
 use crate::modes::{PLAIN, modes_of, ready_ports, unused_slots};
 use crate::port::{issue_due, issue_where_ready};
 use crate::recovery::{find_after, mend_rest, order_from, prospect_of, trouble_of};
@@ -42,10 +43,8 @@ use slots::Slots;
 use std::alloc::Global;
 use std::marker::Model;
 
-/// Unanswered requests of one client at most.
-const CLIENT_PLACES: usize = 16;
-
-/// A server of reads, writes, trims and flushes on up to four ports of an adapter. It can't be dropped: `close` ends it.
+/// A server of reads, writes, trims and flushes on up to four ports of an adapter. It can't be dropped: `close` ends
+/// it.
 pub struct Server<A: Adapter> {
     adapter: A,
     grants: Grants,
@@ -53,15 +52,17 @@ pub struct Server<A: Adapter> {
     table: Box<FrameTable>,
     wanted: [Wanted; PORTS],
     ports: [Found; PORTS],
-    /// Of a port that isn't ready, or was mended, or whose adapter was reset, the disk that it was ready with before, if it ever was.
+    /// The disk that a port was last ready with, once it isn't ready, or was mended, or its adapter was reset.
     remembered: [Option<DiskInfo>; PORTS],
     modes: [Mode; PORTS],
     slots: [Slots; PORTS],
-    /// Of a dead port, the loans of requests that were issued, and then answered: until a reset ends, since the device may still move their sectors.
+    /// Of a dead port, the loans of requests that were issued, and then answered: until a reset ends, since the device
+    /// may still move their sectors.
     kept: [KeptLoans; PORTS],
     book: Book,
     last: u64,
-    /// Whether the last reset got stuck: the adapter isn't on, each port that is served is dead, and requests may wait to be told so.
+    /// Whether the last reset got stuck: the adapter isn't on, each port that is served is dead, and requests may wait
+    /// to be told so.
     stuck: bool,
 }
 
@@ -75,14 +76,6 @@ impl<A: Adapter> Model for Server<A> {
     ghost view = { seen };
 
     ghost invariant = { λ s. HoldsBy s.stuck (server_of A.device (seen s)) };
-}
-
-/// Whether sectors of a request leave a disk of so many. A flush has none.
-fn leaves_disk(r: &Request, sectors: u64) -> bool
-    ensures { IsTrue result ↔ ((r.now.op ≢ Op.Flush) × (sectors < r.now.first.0 + r.now.count)) }
-{
-    let end = r.first.0 as u128 + r.count as u128;
-    r.op != Op::Flush && end > sectors as u128
 }
 
 impl<A: Adapter> Server<A> {
@@ -108,11 +101,11 @@ impl<A: Adapter> Server<A> {
     ghost use Rattle.agreement.specs.Slots.{IsOver};
     ghost use Rattle.ata_types.specs.declared.PortState.TheVariants.{Ready};
 
-    /// A server of an idle adapter, by a configuration: who owns which frames, which grants there are, and which disks are wanted. Each
-    /// port is booted in which a disk is wanted; nothing is asked yet.
+    /// A server of an idle adapter, by a configuration: who owns which frames, which grants there are, and which disks
+    /// are wanted. Each port is booted in which a disk is wanted; nothing is asked yet.
     ///
-    /// Where the configuration breaks a rule, or else where memory is refused, no access is made, and the adapter comes back as it
-    /// was.
+    /// Where the configuration breaks a rule, or else where memory is refused, no access is made, and the adapter comes
+    /// back as it was.
     #[inline(never)]
     pub fn new(alloc: Global, config: &Config, mut adapter: A) -> Result<Self, (ServerError, A)>
         requires ready { IsReadyFor config.now (A.device adapter) }
@@ -188,7 +181,8 @@ impl<A: Adapter> Server<A> {
     /// What a port is to its clients. One that isn't served is `Absent`.
     pub fn state(&self, port: Port) -> PortState
         ensures state { result ≡ state_of (found_of self.now.ports port.0) }
-        ensures adds { AddsEvent (server_of A.device self.now) (server_of A.device self.now) (State port) (Shown result) }
+        ensures adds { AddsEvent (server_of A.device self.now) (server_of A.device self.now) (State port)
+            (Shown result) }
     {
         refusals_add();
         stalled_refusals_add();
@@ -210,7 +204,8 @@ impl<A: Adapter> Server<A> {
 
     /// How many sectors that disk has; 0 where there is none.
     fn sectors(&self, port: Port) -> u64
-        ensures { result ≡ sectors_of (disk_of (found_of self.now.ports port.0) (remembered_at self.now.remembered port.0)) }
+        ensures { result
+            ≡ sectors_of (disk_of (found_of self.now.ports port.0) (remembered_at self.now.remembered port.0)) }
     {
         match self.disk(port) {
             Some(info) => info.sectors,
@@ -218,8 +213,8 @@ impl<A: Adapter> Server<A> {
         }
     }
 
-    /// Whether a request is a trim, and the disk of its port doesn't take trims after which zeros are read. A port that isn't ready has none
-    /// that does.
+    /// Whether a request is a trim, and the disk of its port doesn't take trims after which zeros are read. A port that
+    /// isn't ready has none that does.
     fn lacks_trim(&self, r: &Request, port: Port) -> bool
         ensures { IsTrue result ↔ ((r.now.op ≡ Op.Trim) × (trims_of (found_of self.now.ports port.0) ≡ false)) }
     {
@@ -232,8 +227,10 @@ impl<A: Adapter> Server<A> {
 
     /// The first cause to refuse the request, if there is one; else the port that it is for.
     fn admit(&self, r: &Request) -> Result<Port, Refusal>
-        ensures admitted { IfOk result (λ port. IsAcceptable (situation_of (server_of A.device self.now)) r.now × IsFor self.now.grants r.now port) }
-        ensures refused { IfErr result (λ refusal. IsFirstRefusal (situation_of (server_of A.device self.now)) r.now refusal) }
+        ensures admitted { IfOk result (λ port. IsAcceptable (situation_of (server_of A.device self.now)) r.now
+            × IsFor self.now.grants r.now port) }
+        ensures refused { IfErr result (λ refusal. IsFirstRefusal (situation_of (server_of A.device self.now)) r.now
+            refusal) }
     {
         if let Err(rule) = decide(r, &self.grants, &self.table) {
             return Err(Refusal::Rule(rule));
@@ -267,7 +264,8 @@ impl<A: Adapter> Server<A> {
         requires port { IsFor self.old.grants r.now port }
         ensures on { self.new.stuck ≡ false }
         ensures accepts { AcceptsRequest A.device self.old self.new r.now result }
-        ensures adds { AddsEvent (server_of A.device self.old) (server_of A.device self.new) (Submit r.now) (Submitted (Ok result)) }
+        ensures adds { AddsEvent (server_of A.device self.old) (server_of A.device self.new) (Submit r.now)
+            (Submitted (Ok result)) }
     {
         requests_keep();
         acceptances_add();
@@ -299,7 +297,8 @@ impl<A: Adapter> Server<A> {
     /// frames are lent until then. Where refusals apply, the first of them is told, and nothing changes.
     pub fn submit(&mut self, r: &Request) -> Result<RequestId, Refusal>
         ensures submits { Submits A.device self.old self.new r.now result }
-        ensures adds { AddsEvent (server_of A.device self.old) (server_of A.device self.new) (Submit r.now) (Submitted result) }
+        ensures adds { AddsEvent (server_of A.device self.old) (server_of A.device self.new) (Submit r.now)
+            (Submitted result) }
     {
         refusals_add();
         stalled_refusals_add();
@@ -308,12 +307,13 @@ impl<A: Adapter> Server<A> {
         Ok(self.accept(r, port))
     }
 
-    /// Answers the requests of a ready port whose slots were found done, in order of acceptance: their frames are given back. Then what is due
-    /// on the port is issued.
+    /// Answers the requests of a ready port whose slots were found done, in order of acceptance: their frames are given
+    /// back. Then what is due on the port is issued.
     fn finish(&mut self, port: Port, done: u32, replies: &mut Replies)
         requires on { self.old.stuck ≡ false }
         requires ready { state_of (found_of self.old.ports port.0) ≡ Ready }
-        requires over { (slot : ℕ) → slot < 32 → bit done slot ≡ true → IsOver ((A.device self.old.adapter).port port.0) slot }
+        requires over { (slot : ℕ) → slot < 32 → bit done slot ≡ true → IsOver ((A.device self.old.adapter).port port.0)
+            slot }
         requires room { length replies.old.items + length self.old.book ≤ 128 }
         ensures on { self.new.stuck ≡ false }
         ensures finishes { (its : List Reply) × (replies.new.items ≡ replies.old.items ++ its)
@@ -329,21 +329,25 @@ impl<A: Adapter> Server<A> {
         issue_due(&mut self.adapter, &mut self.book, slots, port, mode);
     }
 
-    /// Mends a ready port in trouble. What is done is answered. Where a command had failed, it is found out which one, and the port is had to
-    /// run again, by a boot where that is needed; where its link or the host's bus had, or a request is hung, it is booted anew; where its disk was lost, if a device shows. The request whose command failed is told so. The
-    /// others wait again where their disk is there still, and are `Aborted` after the fourth issue; where it isn't they are `Unplugged`, and where the port is
-    /// dead `PortDead`. Then what is due is issued.
+    /// Mends a ready port in trouble. What is done is answered. Where a command had failed, it is found out which one,
+    /// and the port is had to run again, by a boot where that is needed; where its link or the host's bus had, or a
+    /// request is hung, it is booted anew; where its disk was lost, if a device shows. The request whose command failed
+    /// is told so. The others wait again where their disk is there still, and are `Aborted` after the fourth issue;
+    /// where it isn't they are `Unplugged`, and where the port is dead `PortDead`. Then what is due is issued.
     fn mend_port(&mut self, port: Port, was: DiskInfo, trouble: Trouble, replies: &mut Replies)
         requires on { self.old.stuck ≡ false }
         requires ready { found_of self.old.ports port.0 ≡ Found.Ready was }
-        requires sees { (before : Device) × SeesTrouble (record (server_of A.device self.old) { device = before }) port trouble (A.device self.old.adapter)
+        requires sees { (before : Device) × SeesTrouble (record (server_of A.device self.old) { device = before }) port
+            trouble (A.device self.old.adapter)
             × IsSettled (record (server_of A.device self.old) { device = before }) }
         requires room { length replies.old.items + length self.old.book ≤ 128 }
         ensures on { self.new.stuck ≡ false }
-        ensures mends { (before : Device) → SeesTrouble (record (server_of A.device self.old) { device = before }) port trouble (A.device self.old.adapter)
+        ensures mends { (before : Device) → SeesTrouble (record (server_of A.device self.old) { device = before }) port
+            trouble (A.device self.old.adapter)
             → IsSettled (record (server_of A.device self.old) { device = before })
             → (its : List Reply) × (replies.new.items ≡ replies.old.items ++ its)
-            × MendsOf port trouble its (record (server_of A.device self.old) { device = before }) (server_of A.device self.new) }
+            × MendsOf port trouble its (record (server_of A.device self.old) { device = before })
+            (server_of A.device self.new) }
         ensures settled { IsSettled (server_of A.device self.new) }
         ensures ports { (q : ℕ) → q ≢ port.0 → found_of self.new.ports q ≡ found_of self.old.ports q }
         ensures room { length replies.new.items + length self.new.book ≤ 128 }
@@ -386,8 +390,8 @@ impl<A: Adapter> Server<A> {
         issue_where_ready(&mut self.adapter, &mut self.book, slots, port, mode, &found);
     }
 
-    /// Looks at a ready port. Where commands of what it has issued are done, those requests are answered, and then what is due is issued. Where
-    /// the look tells trouble, the port is mended.
+    /// Looks at a ready port. Where commands of what it has issued are done, those requests are answered, and then what
+    /// is due is issued. Where the look tells trouble, the port is mended.
     fn serve_port(&mut self, port: Port, replies: &mut Replies)
         requires on { self.old.stuck ≡ false }
         requires ready { state_of (found_of self.old.ports port.0) ≡ Ready }
@@ -418,8 +422,9 @@ impl<A: Adapter> Server<A> {
         }
     }
 
-    /// Looks at a port that isn't ready. Where an absent one shows a device, or one whose disk isn't served shows that it is another by now, or gone, the port is
-    /// given up and booted. Nobody waits for it, so that nobody is answered. A dead port isn't looked at.
+    /// Looks at a port that isn't ready. Where an absent one shows a device, or one whose disk isn't served shows that
+    /// it is another by now, or gone, the port is given up and booted. Nobody waits for it, so that nobody is answered.
+    /// A dead port isn't looked at.
     fn try_port(&mut self, port: Port, state: PortState)
         requires on { self.old.stuck ≡ false }
         requires unready { found_of self.old.ports port.0 ≡ Found.Unready state }
@@ -441,23 +446,27 @@ impl<A: Adapter> Server<A> {
         self.slots[number] = Slots::new(mode.usable);
     }
 
-    /// Serves each ready port, in rising number: requests that are done are answered, in order of acceptance, their frames are given back, and
-    /// what is due then is issued. A port of which the look tells that a command had failed is recovered (AHCI 1.3.1, 6.2.2): what is done is answered; the request
-    /// whose command failed is told `DeviceError`, with the disk's status and error; each other one that had been issued goes again, or is `Aborted` after the fourth issue.
-    /// Where the port has to be booted for that and its disk isn't the same then, they are `Unplugged`, and where its engine gets stuck `PortDead`. A port
-    /// whose link or host bus met a fatal error (IFS, HBDS, HBFS) is stopped and booted anew: what is done is answered, nobody is told `DeviceError`, and the
-    /// other requests meet the same fates. Where the look tells that the disk went, though one may be in again, the port is stopped, and booted if a device shows: what is
-    /// done is answered, and all others are `Unplugged`. A recovery waits for the disk at most so often as
-    /// its parts tell, and meanwhile for all ports.
+    /// Looks at all served ports, in rising number, and answers what has ended.
     ///
-    /// A port that isn't ready is looked at in its turn (AHCI 1.3.1, 3.3.5 and 3.3.10): an absent one for a device, by one reading of PxSSTS; one whose disk is unfit or foreign for a
-    /// change of it, by one reading of PxIS and one of PxSSTS. Where a device shows (DET is 3), or a change (PCS or PRCS is set, or DET isn't 3), the port is stopped and booted anew, and is
-    /// what that finds: `Ready` with its disk, or `Absent`, `Unfit`, `Foreign` or `Dead`. Else it stays as it is. Nobody is answered for it. A dead port is left alone.
+    /// | A port | In its turn |
+    /// |---|---|
+    /// | that is ready | What is done is answered `Ok`. What is due then is issued. |
+    /// | with a failed command (TFES) | It is recovered (AHCI 1.3.1, 6.2.2). That request is told `DeviceError`. |
+    /// | with a fatal error (IFS, HBDS, HBFS) | It is stopped and booted anew. Nobody is told `DeviceError`. |
+    /// | whose disk went | It is stopped, and booted if a device shows. What isn't done is `Unplugged`. |
+    /// | that is absent | PxSSTS is read. Where DET is 3 the port is booted. |
+    /// | unfit or foreign | PxIS and PxSSTS are read. Where PCS or PRCS is set, or DET isn't 3, it is booted. |
+    /// | that is dead | It is left alone. After a reset that got stuck its requests are told `PortDead`. |
     ///
-    /// Since a reset that got stuck each served port is dead: no port is looked at, and the requests from before that reset are told `PortDead`, port by port.
+    /// After a recovery or a boot the requests that had been issued go again, or are `Aborted` after the fourth issue;
+    /// where the disk isn't the same, or the port isn't ready, they and those that wait are `Unplugged`; and where the
+    /// engine doesn't stop all are `PortDead`, and frames of those that had been issued stay lent until a reset ends.
+    /// A recovery waits for the disk at most so often as its parts tell, and meanwhile for all ports. The replies stand
+    /// port by port, each port's in order of acceptance.
     pub fn service(&mut self) -> Replies
         ensures services { Services A.device self.old self.new result.items }
-        ensures adds { AddsEvent (server_of A.device self.old) (server_of A.device self.new) Service (Served result.items) }
+        ensures adds { AddsEvent (server_of A.device self.old) (server_of A.device self.new) Service
+            (Served result.items) }
     {
         let mut replies = Replies::new();
         self.service_into(&mut replies);
@@ -467,7 +476,8 @@ impl<A: Adapter> Server<A> {
     /// The same, where the replies stand in a list that the caller keeps, in place of what it had.
     pub fn service_into(&mut self, replies: &mut Replies)
         ensures services { Services A.device self.old self.new replies.new.items }
-        ensures adds { AddsEvent (server_of A.device self.old) (server_of A.device self.new) Service (Served replies.new.items) }
+        ensures adds { AddsEvent (server_of A.device self.old) (server_of A.device self.new) Service
+            (Served replies.new.items) }
     {
         services_add();
         the_book_stays_in_order();
@@ -486,12 +496,14 @@ impl<A: Adapter> Server<A> {
         }
     }
 
-    /// Tells the requests of dead ports so, since the last reset got stuck. Frames of those that had been issued stay lent.
+    /// Tells the requests of dead ports so, since the last reset got stuck. Frames of those that had been issued stay
+    /// lent.
     fn tell_dead(&mut self, replies: &mut Replies)
         requires stuck { self.old.stuck ≡ true }
         requires none { replies.old.items ≡ [] }
         ensures services { Services A.device self.old self.new replies.new.items }
-        ensures adds { AddsEvent (server_of A.device self.old) (server_of A.device self.new) Service (Served replies.new.items) }
+        ensures adds { AddsEvent (server_of A.device self.old) (server_of A.device self.new) Service
+            (Served replies.new.items) }
     {
         a_server_is_booked();
         stalled_services_add();
@@ -514,7 +526,8 @@ impl<A: Adapter> Server<A> {
         ensures on { self.new.stuck ≡ false }
         ensures older { server_of A.device self.new ≡ a_tick_older (server_of A.device self.old) }
         ensures settled { IsSettled (server_of A.device self.new) }
-        ensures overdue { (number : ℕ) → number < 4 → IsTrue (slice_index_or result number false) ↔ IsOverdue (port_at number) self.new.book }
+        ensures overdue { (number : ℕ) → number < 4 → IsTrue (slice_index_or result number false)
+            ↔ IsOverdue (port_at number) self.new.book }
     {
         requests_get_older();
         self.book.tick(&ready_ports(&self.ports));
@@ -526,14 +539,16 @@ impl<A: Adapter> Server<A> {
         ]
     }
 
-    /// Restarts a ready port of which a request is overdue: the port isn't looked at, and is mended as one that is hung. Another rests.
+    /// Restarts a ready port of which a request is overdue: the port isn't looked at, and is mended as one that is
+    /// hung. Another rests.
     fn tick_port(&mut self, port: Port, was: DiskInfo, is_overdue: bool, replies: &mut Replies)
         requires on { self.old.stuck ≡ false }
         requires ready { found_of self.old.ports port.0 ≡ Found.Ready was }
         requires room { length replies.old.items + length self.old.book ≤ 128 }
         ensures on { self.new.stuck ≡ false }
-        ensures ticks { (book : List Held) → (IsTrue is_overdue ↔ IsOverdue port book) → (its : List Reply) × (replies.new.items ≡ replies.old.items ++ its)
-            × TicksPort book port its (server_of A.device self.old) (server_of A.device self.new) }
+        ensures ticks { (book : List Held) → (IsTrue is_overdue ↔ IsOverdue port book) → (its : List Reply)
+            × (replies.new.items ≡ replies.old.items ++ its) × TicksPort book port its (server_of A.device self.old)
+            (server_of A.device self.new) }
         ensures settled { IsSettled (server_of A.device self.new) }
         ensures ports { (q : ℕ) → q ≢ port.0 → found_of self.new.ports q ≡ found_of self.old.ports q }
         ensures room { length replies.new.items + length self.new.book ≤ 128 }
@@ -546,19 +561,23 @@ impl<A: Adapter> Server<A> {
         }
     }
 
-    /// Notes that a tick has gone by: each issued request of a ready port is a tick older. A port is restarted of which a request is three ticks old then: what
-    /// is done is answered; the port is stopped and booted anew; and where its disk is the same then, each request that had been issued goes again, or is `Aborted`
-    /// after the fourth issue. Where the disk isn't the same, or none shows, they are `Unplugged`, those too that wait, and where the port's engine gets stuck
-    /// `PortDead`. Then what is due is issued, of age 0. Which ports are overdue is found out before any is restarted. A port of which no request is
-    /// overdue isn't looked at, nor is one that isn't ready. The replies stand port by port, in rising number, each port's in order of acceptance.
+    /// Notes that a tick has gone by, and restarts each ready port of which a request hangs.
     ///
-    /// The server reads no clock: its caller calls this by one, at a pace of its choosing, beside `service`. A request has between two and three ticks' time
-    /// from its issue until a `service` answers it, which the disk and the caller share: so `service` is called before each tick. A restart costs the other requests that had been issued one
-    /// of their four issues. It waits for the port as its stop and its boot do, at most so often as these tell, and meanwhile for all ports; four ports may be restarted in a
-    /// call. A tick that restarts none makes no access (its contract says that it changes no port's registers).
+    /// | A port | In its turn |
+    /// |---|---|
+    /// | that is ready | Each of its issued requests is a tick older. |
+    /// | of which one is three ticks old then | It is stopped and booted anew, and its requests fare as in `service`. |
+    /// | that isn't ready, or has none so old | It isn't looked at. |
+    ///
+    /// The server reads no clock: its caller calls this by one, at a pace of its choosing. A request has between two
+    /// and three ticks from its issue until a `service` answers it: so `service` is called before each tick. A restart
+    /// costs the port's other issued requests one of their four issues, and all ports wait meanwhile. Which ports are
+    /// overdue is found out before any is restarted. A tick that restarts none makes no access. The replies stand as
+    /// those of `service`.
     pub fn tick(&mut self) -> Replies
         ensures ticks { TicksServer A.device self.old self.new result.items }
-        ensures adds { AddsEvent (server_of A.device self.old) (server_of A.device self.new) Tick (Served result.items) }
+        ensures adds { AddsEvent (server_of A.device self.old) (server_of A.device self.new) Tick
+            (Served result.items) }
     {
         let mut replies = Replies::new();
         self.tick_into(&mut replies);
@@ -568,7 +587,8 @@ impl<A: Adapter> Server<A> {
     /// The same, where the replies stand in a list that the caller keeps, in place of what it had.
     pub fn tick_into(&mut self, replies: &mut Replies)
         ensures ticks { TicksServer A.device self.old self.new replies.new.items }
-        ensures adds { AddsEvent (server_of A.device self.old) (server_of A.device self.new) Tick (Served replies.new.items) }
+        ensures adds { AddsEvent (server_of A.device self.old) (server_of A.device self.new) Tick
+            (Served replies.new.items) }
     {
         ticks_add();
         stalled_ticks_add();
@@ -588,19 +608,27 @@ impl<A: Adapter> Server<A> {
         }
     }
 
-    /// Resets the adapter (AHCI 1.3.1, 10.4.3), and boots each port anew that is served. Frames that were kept of dead ports are given back. Where a port is ready then with the
-    /// disk that it was last ready with (serial and size), each request of it that had been issued goes again, or is `Aborted` after the fourth issue, and those that wait wait on: nobody is
-    /// told of a disk that was out and in again before. Else, unless the port is dead, all its requests are `Unplugged`, those too that wait. Where its engine gets stuck in the boot they are `PortDead`, and
-    /// frames of those that had been issued stay lent until another reset ends. What was done, but wasn't answered yet, isn't looked for: so it goes again. Then what is due is issued. The replies stand port by
-    /// port, in rising number, each port's in order of acceptance.
+    /// Resets the adapter (AHCI 1.3.1, 10.4.3), boots each served port anew, and issues what is due then.
     ///
-    /// `AdapterStuck` is told where HR of GHC is read 1 in 64 readings (that many are this project's own). Then each served port is dead until a reset ends: the next `service` tells its requests
+    /// | What | Then |
+    /// |---|---|
+    /// | frames that were kept of dead ports | They are given back. |
+    /// | a port with the disk that it was last ready with | Its requests fare as after a boot in `service`. |
+    /// | a port with another disk, or that isn't ready | All its requests are `Unplugged`. |
+    /// | a port whose engine doesn't stop | All are `PortDead`. Frames of those issued stay lent. |
+    /// | a request that was done, but isn't answered | It goes again. |
+    ///
+    /// A disk is the same by its serial and size: nobody is told of one that was out and in again. The replies stand as
+    /// those of `service`. `AdapterStuck` is told where HR of GHC is read 1 in 64 readings (that many are this
+    /// project's own). Then each served port is dead until a reset ends: the next `service` tells its requests
     /// `PortDead`, and frames of those that had been issued stay lent. A tick does nothing meanwhile.
     pub fn reset(&mut self) -> Result<Replies, AdapterStuck>
         ensures done { IfOk result (λ replies. DoesReset A.device self.old self.new replies.items (Ok tt)) }
         ensures stuck { IfErr result (λ why. DoesReset A.device self.old self.new [] (Err why)) }
-        ensures adds { IfOk result (λ replies. AddsEvent (server_of A.device self.old) (server_of A.device self.new) Reset (WasReset (Some replies.items))) }
-        ensures adds_stuck { IfErr result (λ why. AddsEvent (server_of A.device self.old) (server_of A.device self.new) Reset (WasReset None)) }
+        ensures adds { IfOk result (λ replies. AddsEvent (server_of A.device self.old) (server_of A.device self.new)
+            Reset (WasReset (Some replies.items))) }
+        ensures adds_stuck { IfErr result (λ why. AddsEvent (server_of A.device self.old) (server_of A.device self.new)
+            Reset (WasReset None)) }
     {
         let mut replies = Replies::new();
         self.reset_into(&mut replies)?;
@@ -610,7 +638,8 @@ impl<A: Adapter> Server<A> {
     /// The same, where the replies stand in a list that the caller keeps, in place of what it had.
     pub fn reset_into(&mut self, replies: &mut Replies) -> Result<(), AdapterStuck>
         ensures resets { DoesReset A.device self.old self.new replies.new.items result }
-        ensures adds { AddsEvent (server_of A.device self.old) (server_of A.device self.new) Reset (reset_said result replies.new.items) }
+        ensures adds { AddsEvent (server_of A.device self.old) (server_of A.device self.new) Reset
+            (reset_said result replies.new.items) }
     {
         a_server_is_booked();
         booked_loans_are_lent();
@@ -651,8 +680,8 @@ impl<A: Adapter> Server<A> {
         Ok(())
     }
 
-    /// Where in memory so many bytes of a client's own frame begin, from an offset in bytes on. The first that applies of
-    /// `FrameForeign`, `FrameLent` and `OutsideFrame` is told.
+    /// Where in memory so many bytes of a client's own frame begin, from an offset in bytes on. The first that applies
+    /// of `FrameForeign`, `FrameLent` and `OutsideFrame` is told.
     fn open(
         &self,
         client: ClientId,
@@ -660,8 +689,10 @@ impl<A: Adapter> Server<A> {
         offset: u32,
         length: usize,
     ) -> Result<u32, MemFault>
-        ensures ok { IfOk result (λ address. IsOpen (owner_of self.now.table) (lent_to self.now.table) client frame offset length × (address ≡ FRAME_BYTES * frame.0 + offset)) }
-        ensures err { IfErr result (IsFirstMemFault (owner_of self.now.table) (lent_to self.now.table) client frame offset length) }
+        ensures ok { IfOk result (λ address. IsOpen (owner_of self.now.table) (lent_to self.now.table) client frame
+            offset length × (address ≡ FRAME_BYTES * frame.0 + offset)) }
+        ensures err { IfErr result (IsFirstMemFault (owner_of self.now.table) (lent_to self.now.table) client frame
+            offset length) }
     {
         if self.table.owner(frame) != Some(client) {
             return Err(MemFault::FrameForeign);
@@ -677,8 +708,8 @@ impl<A: Adapter> Server<A> {
 
     /// Copies bytes into a client's own frame, from an offset in bytes on. Not while the frame is lent.
     ///
-    /// The first that applies of `FrameForeign`, `FrameLent` and `OutsideFrame` is told, and then nothing changes, and no
-    /// access is made. No byte may go past the end of the frame; none at all may be stored there.
+    /// The first that applies of `FrameForeign`, `FrameLent` and `OutsideFrame` is told, and then nothing changes, and
+    /// no access is made. No byte may go past the end of the frame; none at all may be stored there.
     pub fn client_store(
         &mut self,
         client: ClientId,
@@ -687,7 +718,8 @@ impl<A: Adapter> Server<A> {
         bytes: &[u8],
     ) -> Result<(), MemFault>
         ensures stores { StoresFrame A.device self.old self.new client frame offset bytes.now result }
-        ensures adds { AddsEvent (server_of A.device self.old) (server_of A.device self.new) (StoreAt client frame offset bytes.now) (store_said result) }
+        ensures adds { AddsEvent (server_of A.device self.old) (server_of A.device self.new)
+            (StoreAt client frame offset bytes.now) (store_said result) }
     {
         refusals_add();
         stalled_refusals_add();
@@ -708,7 +740,8 @@ impl<A: Adapter> Server<A> {
         out: &mut [u8],
     ) -> Result<(), MemFault>
         ensures loads { LoadsFrame A.device self.old self.new client frame offset out.old out.new result }
-        ensures adds { AddsEvent (server_of A.device self.old) (server_of A.device self.new) (LoadAt client frame offset (length out.old)) (load_said result out.new) }
+        ensures adds { AddsEvent (server_of A.device self.old) (server_of A.device self.new)
+            (LoadAt client frame offset (length out.old)) (load_said result out.new) }
     {
         refusals_add();
         stalled_refusals_add();
@@ -729,19 +762,17 @@ impl<A: Adapter> Server<A> {
         let Server {
             adapter,
             grants: _,
-            table,
+            mut table,
             wanted: _,
             ports: _,
             remembered: _,
             modes: _,
             slots: _,
-            kept,
+            mut kept,
             book,
             last: _,
             stuck: _,
         } = self;
-        let mut table = table;
-        let mut kept = kept;
         book.give_all_back(&mut table);
         give_all_back(&mut kept, &mut table);
         end_all(kept);
@@ -758,7 +789,8 @@ impl<A: Stepped> Server<A> {
     /// Has the device do a step, if that is possible.
     pub fn device(&mut self, step: &DeviceStep) -> bool
         ensures steps { StepsDevice A.device self.old self.new step.now result }
-        ensures adds { AddsEvent (server_of A.device self.old) (server_of A.device self.new) (Told step.now) (Stepped result) }
+        ensures adds { AddsEvent (server_of A.device self.old) (server_of A.device self.new) (Told step.now)
+            (Stepped result) }
     {
         device_steps_add();
         stalled_device_steps_add();

@@ -22,8 +22,8 @@ use identify::Wanted;
 use port_look::{finds_change, finds_device};
 use server_history::laws::looks_keep;
 
-/// Whether a port in such a state shows what it is booted again for: an absent one a device; one whose disk isn't served a change of it, or none. No other is
-/// looked at.
+/// Whether a port in such a state shows what it is booted again for: an absent one a device; one whose disk isn't
+/// served a change of it, or none. No other is looked at.
 pub(crate) fn finds_news<A: Adapter>(adapter: &mut A, port: Port, state: PortState) -> bool
     requires on { IsOn (A.device adapter.old) }
     requires there { HasPort (A.device adapter.old) port.0 }
@@ -41,7 +41,8 @@ pub(crate) fn finds_news<A: Adapter>(adapter: &mut A, port: Port, state: PortSta
     }
 }
 
-/// Gives up a port of which no command is outstanding, and boots it: what it is found to be, and how it takes commands then. One that doesn't stop is dead.
+/// Gives up a port of which no command is outstanding, and boots it: what it is found to be, and how it takes commands
+/// then. One that doesn't stop is dead.
 pub(crate) fn find_anew<A: Adapter>(adapter: &mut A, port: Port, wanted: &Wanted) -> (Found, Mode)
     requires on { IsOn (A.device adapter.old) }
     requires there { HasPort (A.device adapter.old) port.0 }

@@ -36,18 +36,22 @@ module _ {H : Type 0} (reads : H → H → List ℕ → Result (Vec ℕ) Unread 
   -- once the script was read, the image is opened
   abbrev pub LoadsImage : (old new : H) → Vec ℕ → Result (Vec ℕ) Unread → Result Inputs Fault → Type 0
   LoadsImage old new config (Ok script) result =
-      (image : Result FileStore Unread) × opens old new (string_bytes args.image) image × (result ≡ made config script image)
+      (image : Result FileStore Unread) × opens old new (string_bytes args.image) image
+      × (result ≡ made config script image)
   LoadsImage old new config (Err why) result = (new ≡ old) × (result ≡ Err (fault_of why Script))
 
   -- once the configuration was read, the script is
   abbrev pub LoadsScript : (old new : H) → Result (Vec ℕ) Unread → Result Inputs Fault → Type 0
   LoadsScript old new (Ok config) result =
-      (script : Result (Vec ℕ) Unread) × (read : H) × reads old read (string_bytes args.script) script × LoadsImage read new config script result
+      (script : Result (Vec ℕ) Unread) × (read : H) × reads old read (string_bytes args.script) script
+      × LoadsImage read new config script result
   LoadsScript old new (Err why) result = (new ≡ old) × (result ≡ Err (fault_of why (Config 0)))
 
-  -- The host was asked for the files that the words name: the configuration, then the script, then the image, as far as each could be had.
+  -- The host was asked for the files that the words name: the configuration, then the script, then the image, as far as
+  -- each could be had.
   abbrev pub Loads : (old new : H) → Result Inputs Fault → Type 0
-  Loads old new result = (config : Result (Vec ℕ) Unread) × (read : H) × reads old read (string_bytes args.config) config × LoadsScript read new config result
+  Loads old new result = (config : Result (Vec ℕ) Unread) × (read : H)
+      × reads old read (string_bytes args.config) config × LoadsScript read new config result
 
 -- ---- its run
 
@@ -62,8 +66,10 @@ pub record AreDisksOver (image : FileStore) (first second : Disk) : Type 0 where
 abbrev pub Tells : Ended → Result (Unit {0}) Fault → Type 0
 Tells ended result = (result ≡ outcome_of ended) ⊎ ((ended ≡ Done) × (result ≡ Err Unwritten))
 
--- The script was played over both disks, as far as it could be, and the output keeps what it took then. What is told is how that ended.
-pub record RunsScript {S : Type 0} (size : S → ℕ) (told : S → Option (ℕ → List ℕ)) (config script : List ℕ) (image blank : S) (trace : Bool)
+-- The script was played over both disks, as far as it could be, and the output keeps what it took then. What is told is
+-- how that ended.
+pub record RunsScript {S : Type 0} (size : S → ℕ) (told : S → Option (ℕ → List ℕ)) (config script : List ℕ)
+    (image blank : S) (trace : Bool)
     (old new : Option (List ℕ)) (result : Result (Unit {0}) Fault) : Type 0 where
   pub ended : Ended
   pub model : Option (Model S)

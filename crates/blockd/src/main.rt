@@ -1,7 +1,9 @@
-//! `blockd --config FILE --image FILE --script FILE [--trace]`: a script, played against a block server over a modelled adapter.
+//! Plays a script against a block server over a modelled adapter: the program.
 //!
-//! The disk of the adapter's port 0 is the image, and a blank disk in memory can be put in for it. What the lines of the script answer is
-//! printed; where it can't be played, a line on standard error says why.
+//! `blockd --config FILE --image FILE --script FILE [--trace]`. The disk of the adapter's port 0 is
+//! the image, and a blank disk in memory can be put in for it. What the lines of the script answer
+//! is printed; where it can't be played, a line on standard error says why. `program` has what is
+//! made of the files, over any host that has files; `main` hands over what the system gives.
 #![tactic(auto)]
 
 use command_line::{Args, ArgsFault};
@@ -42,9 +44,9 @@ fn words(rt: &(impl Env + AllocGlobal)) -> Result<Args, Fault> {
     })
 }
 
-/// The files of the system. It gives a file the lowest number that is free, and 0, 1 and 2 are those of standard input, output and error. Where
-/// some of these were closed, three files that can only be read take their places until the end, and never the image: else
-/// what is printed would be written into it.
+/// The files of the system. It gives a file the lowest number that is free, and 0, 1 and 2 are those of standard input,
+/// output and error. Where some of these were closed, three files that can only be read take their places until the
+/// end, and never the image: else what is printed would be written into it.
 #[derive(Drop)]
 struct System<'a, R> {
     rt: &'a R,
@@ -90,8 +92,8 @@ impl<R: AllocGlobal + Files<File = File>> Host for System<'_, R> {
     }
 }
 
-/// Plays a script over an image, and prints what it answers. Where somebody watches, what a line answers is written at once, and else it is
-/// gathered.
+/// Plays a script over an image, and prints what it answers. Where somebody watches, what a line answers is written at
+/// once, and else it is gathered.
 fn print_played(
     rt: &(impl AllocGlobal + Print),
     config: &[u8],
@@ -111,7 +113,8 @@ fn print_played(
     ran
 }
 
-/// Does what the words ask: the configuration and the script are read, and the image is opened, in this order, and the script is played.
+/// Does what the words ask: the configuration and the script are read, and the image is opened, in this order, and the
+/// script is played.
 fn run(
     rt: &(impl Env + AllocGlobal + Files<File = File> + Print),
     is_watched: bool,

@@ -62,7 +62,8 @@ pub struct Inputs {
     pub image: FileStore,
 }
 
-/// Reads the configuration and the script, and opens the image, in this order. The first that can't be had is told, and nothing is asked after it.
+/// Reads the configuration and the script, and opens the image, in this order. The first that can't be had is told, and
+/// nothing is asked after it.
 pub fn load<H: Host>(host: &mut H, args: &Args) -> Result<Inputs, Fault>
     ensures { Loads H.reads H.opens args.now host.old host.new result }
 {
@@ -92,8 +93,8 @@ pub fn disks_over(alloc: Global, image: FileStore) -> Result<(Disk, Disk), Alloc
     Ok((Disk::File(image), Disk::Memory(blank)))
 }
 
-/// What is told of how a play ended, once the output was asked to hand on what it gathered. One that failed isn't asked again; where all was played, and it fails
-/// now, it is that which is told.
+/// What is told of how a play ended, once the output was asked to hand on what it gathered. One that failed isn't asked
+/// again; where all was played, and it fails now, it is that which is told.
 fn hand_on<W: io::Write>(ended: Ended, out: &mut W) -> Result<(), Fault>
     ensures keeps { Keeps (W.contents out.old) (W.contents out.new) }
     ensures tells { Tells ended result }
@@ -118,7 +119,8 @@ pub fn run_script<S: SectorStore, W: io::Write>(
     trace: bool,
     out: &mut W,
 ) -> Result<(), Fault>
-    ensures { RunsScript S.size S.told config.now script.now image blank trace (W.contents out.old) (W.contents out.new) result }
+    ensures { RunsScript S.size S.told config.now script.now image blank trace (W.contents out.old) (W.contents out.new)
+        result }
 {
     let finished = play(alloc, config, script, image, blank, trace, out);
     hand_on(finished.ended, out)

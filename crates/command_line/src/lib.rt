@@ -1,4 +1,7 @@
-//! The words of the command line: three files and a flag (this project's own). How words are read as options is `clap`'s.
+//! Reads the words that `blockd` is started with: three files and a flag.
+//!
+//! How words are read as options is the definition of `clap` (which words there are is this
+//! project's own).
 #![tactic(auto)]
 
 ghost use Rattle.std.specs.Prelude.{◌≡◌, ◌≢◌, ◌↔◌, IsTrue, codes, [], List, false, map, string_bytes, IfOk, None};
@@ -71,8 +74,10 @@ fn command<'a>(alloc: Global) -> Result<Command<'a>, AllocError>
 /// What the command finds in the words.
 fn matches<'a>(alloc: Global, words: &'a [&'a str]) -> Result<ArgMatches<'a>, ArgsFault>
     ensures ok { let texts = map (λ word. word.now) words.entry.now in
-        IfOk result (λ found. (rows_of (found_of found) ≡ matches_of blockd_app texts) × (fault_of blockd_app texts ≡ [])) }
-    ensures refused { result ≡ Err ArgsFault.Refused → fault_of blockd_app (map (λ word. word.now) words.entry.now) ≢ [] }
+        IfOk result (λ found. (rows_of (found_of found) ≡ matches_of blockd_app texts)
+        × (fault_of blockd_app texts ≡ [])) }
+    ensures refused { result ≡ Err ArgsFault.Refused → fault_of blockd_app (map (λ word. word.now) words.entry.now)
+        ≢ [] }
 {
     match command(alloc)?.try_get_matches_from(words) {
         Ok(matches) => Ok(matches),
@@ -117,8 +122,8 @@ impl Args {
     }
 
     /// Reads the words of `blockd --config FILE --image FILE --script FILE [--trace]`, the program's name first. Words
-    /// are refused exactly where `clap` finds a fault in them under this command: a file is missing, a file or the flag is
-    /// given twice, the flag has a value, a word is unknown or too many, or help is asked for.
+    /// are refused exactly where `clap` finds a fault in them under this command: a file is missing, a file or the flag
+    /// is given twice, the flag has a value, a word is unknown or too many, or help is asked for.
     pub fn read(alloc: Global, words: &[&str]) -> Result<Args, ArgsFault>
         ensures ok { IfOk result (AreGiven (map (λ word. word.now) words.now)) }
         ensures refused { result ≡ Err ArgsFault.Refused

@@ -1,5 +1,8 @@
-//! The configuration of a block server and of the model behind it: its values, the rules that they have to meet, and
-//! its text, a TOML document (this project's own format).
+//! Reads the configuration of a server and of its model from TOML, and checks it.
+//!
+//! The format is this project's own (docs/FORMATS.md). Of several faults the least kind is told,
+//! and a text has one least kind at most. `Config::check` is for values that were read from no
+//! text.
 #![tactic(auto)]
 
 ghost use Rattle.std.specs.Prelude.{◌≡◌};

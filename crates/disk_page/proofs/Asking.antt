@@ -10,7 +10,7 @@ use Rattle.hba_regs.specs.declared.reg.Reg.TheVariants.{Ghc, Px}
 use Rattle.hba_regs.specs.declared.reg.PortReg.TheVariants.{Ci, Sact}
 use Rattle.adapter.specs.Access.{Access, Does, Reads, Writes, Loads, counted}
 use Rattle.adapter.specs.Access.Access.{Reading, Writing, Loading, Storing}
-use Rattle.adapter.specs.Commands.{Meaning, command_of, is_ranged, pieces_moved, reads_memory}
+use Rattle.adapter.specs.Commands.{Meaning, command_of, is_ranged, pieces_moved}
 use Rattle.adapter.specs.Device.{Bases, Notes, PortState, Device}
 use Rattle.adapter.specs.Device.Halt.{NotHalted}
 use Rattle.adapter.specs.Kept.{Keeps, KeepsControls, KeepsPort}
@@ -90,10 +90,6 @@ own Errors = refl
 pub unranged : (page : Page) → is_ranged (operation_of page) ≡ false
 unranged Identity = refl
 unranged Errors = refl
-
-pub brings_in : (page : Page) → reads_memory (operation_of page) ≡ false
-brings_in Identity = refl
-brings_in Errors = refl
 
 pub one_piece : (page : Page) → pieces_moved (operation_of page) 0 ≡ 1
 one_piece Identity = refl

@@ -34,15 +34,17 @@ pub record MayAsk (port : ℕ) (d : Device) : Type 0 where
 abbrev pub SameButIssued : Notes → Notes → Type 0
 SameButIssued old new = new ≡ record old { last_ci = new.last_ci; command_count = new.command_count }
 
--- It stores slot 0's header, with PRDBC zero, or its table, reads PxCI, writes it with bit 0 alone, or loads the page from the scratch frame.
+-- It stores slot 0's header, with PRDBC zero, or its table, reads PxCI, writes it with bit 0 alone, or loads the page
+-- from the scratch frame.
 abbrev pub IsAsking : Port → Access → Type 0
 IsAsking port (Reading r v) = r ≡ Px port Ci
 IsAsking port (Writing r v) = (r ≡ Px port Ci) × (v ≡ 1)
 IsAsking port (Loading at bytes) = (at ≡ scratch_of port.0) × (length bytes ≡ 512)
 IsAsking port (Storing at bytes) = IsTableStore port.0 0 (Storing at bytes)
 
--- What asking leaves of the port: its controls and its addresses; every slot but slot 0, which has no command if it had none; all that readings
--- noted but of PxCI; the bits of PxSACT that were clear; and the record of its faults since ST was set.
+-- What asking leaves of the port: its controls and its addresses; every slot but slot 0, which has no command if it had
+-- none; all that readings noted but of PxCI; the bits of PxSACT that were clear; and the record of its faults since ST
+-- was set.
 pub record LeavesRunning (port : ℕ) (old new : Device) : Type 0 where
   pub controls : KeepsControls (old.port port) (new.port port)
   pub bases : (new.port port).bases ≡ (old.port port).bases
@@ -63,8 +65,8 @@ ShowsIssued port access = ⊥
 abbrev pub AreInVain : Port → ℕ → List Access → Type 0
 AreInVain port count accesses = (length accesses ≡ count) × All (ShowsIssued port) accesses
 
--- 64 of them were made in a row. (The count that stands beside the device's state goes on from earlier calls: it goes back at a write of PxSCTL
--- alone.)
+-- 64 of them were made in a row. (The count that stands beside the device's state goes on from earlier calls: it goes
+-- back at a write of PxSCTL alone.)
 pub record WaitsInVain (port : Port) (accesses : List Access) : Type 0 where
   pub before : List Access
   pub waits : List Access
@@ -72,14 +74,15 @@ pub record WaitsInVain (port : Port) (accesses : List Access) : Type 0 where
   pub here : accesses ≡ before ++ (waits ++ later)
   pub vain : AreInVain port 64 waits
 
--- What is said of the page: it is the last that the port's command of this operation has moved, the command came after the tape was so
--- long, and it is over.
+-- What is said of the page: it is the last that the port's command of this operation has moved, the command came after
+-- the tape was so long, and it is over.
 pub record Brings (port : ℕ) (o : Operation) (since : ℕ) (bytes : List ℕ) (d : Device) : Type 0 where
   pub brought : Brought d.memory d.tape port o since
   pub same : bytes ≡ brought.move.bytes.value
   pub clear : IsClear (d.port port) 0
 
--- The page came: slot 0 isn't used any more. Or 64 readings of PxCI showed its bit, as the accesses tell: then the command may be in slot 0 still.
+-- The page came: slot 0 isn't used any more. Or 64 readings of PxCI showed its bit, as the accesses tell: then the
+-- command may be in slot 0 still.
 abbrev pub Reads : Port → Operation → Option (List ℕ) → Device → Device → Type 0
 Reads port o (Some bytes) old new = Brings port.0 o (length old.tape) bytes new
     × IsFollowed (IsAsking port) (IsUnused port.0 0) old new

@@ -32,8 +32,8 @@ use Rattle.agreement.specs.Places.{scratch_of}
 
 -- ---- kinds of accesses
 
--- A page is asked for in slot 0, which isn't used; or it is awaited and loaded, whatever the slots are used for; or header and table of slot 0
--- are stored first.
+-- A page is asked for in slot 0, which isn't used; or it is awaited and loaded, whatever the slots are used for; or
+-- header and table of slot 0 are stored first.
 pub data Stretch : Type 0 where
   Asking : Port → Stretch
   Awaiting : Port → Stretch
@@ -53,45 +53,101 @@ fits_of (Storing port) = IsUnused port.0 0
 
 pub record Laws : Type 0 where
   -- accesses
-  pub seen_at : (port : Port) (r : PortReg) (v : ℕ) (old new : Device) → Reads (Px port r) v old new → old.hr ≡ false → SeenAt port.0 r v old new
-  pub put_at : (port : Port) (r : PortReg) (v : ℕ) (old new : Device) → Writes (Px port r) v old new → old.hr ≡ false → PutAt port.0 r v old new
+  pub seen_at : (port : Port) (r : PortReg) (v : ℕ) (old new : Device) → Reads (Px port r) v old new → old.hr ≡ false
+      → SeenAt port.0 r v old new
+  pub put_at : (port : Port) (r : PortReg) (v : ℕ) (old new : Device) → Writes (Px port r) v old new → old.hr ≡ false
+      → PutAt port.0 r v old new
   pub steps_keep : (old new : Device) → Steps old new → Keeps old new
   pub controls_none : (p : PortState) → KeepsControls p p
   pub controls_more : (old mid new : PortState) → KeepsControls old mid → KeepsControls mid new → KeepsControls old new
-  pub access_on : (access : Access) (old new : Device) → IsOn old → ((v : ℕ) → access ≡ Writing Ghc v → (bit v 31 ≡ true) × (bit v 0 ≡ false)) → Does access old new → IsOn new
+  pub access_on : (access : Access) (old new : Device) → IsOn old
+      → ((v : ℕ) → access ≡ Writing Ghc v → (bit v 31 ≡ true) × (bit v 0 ≡ false)) → Does access old new → IsOn new
   pub access_same : (access : Access) (old new : Device) → Does access old new → SameAdapter old new
-  pub access_clear : (port : Port) (slot : ℕ) (access : Access) (old new : Device) → ((v : ℕ) → access ≡ Writing (Px port Ci) v → bit v slot ≡ false) → ((v : ℕ) → access ≡ Writing (Px port Sact) v → bit v slot ≡ false) → Does access old new → IsClear (old.port port.0) slot → IsClear (new.port port.0) slot
-  pub steps_recorded : (port : ℕ) (old new : Device) → Steps old new → IsRecorded old.tape (old.port port) port → IsRecorded new.tape (new.port port) port
-  pub reads_recorded : (port : ℕ) (r : Reg) (v : ℕ) (old new : Device) → Reads r v old new → IsRecorded old.tape (old.port port) port → IsRecorded new.tape (new.port port) port
-  pub issues_recorded : (port : ℕ) (at : Port) (v : ℕ) (old new : Device) → Writes (Px at Ci) v old new → IsRecorded old.tape (old.port port) port → IsRecorded new.tape (new.port port) port
+  pub access_clear : (port : Port) (slot : ℕ) (access : Access) (old new : Device)
+      → ((v : ℕ) → access ≡ Writing (Px port Ci) v → bit v slot ≡ false)
+      → ((v : ℕ) → access ≡ Writing (Px port Sact) v → bit v slot ≡ false) → Does access old new
+      → IsClear (old.port port.0) slot → IsClear (new.port port.0) slot
+  pub steps_recorded : (port : ℕ) (old new : Device) → Steps old new → IsRecorded old.tape (old.port port) port
+      → IsRecorded new.tape (new.port port) port
+  pub reads_recorded : (port : ℕ) (r : Reg) (v : ℕ) (old new : Device) → Reads r v old new
+      → IsRecorded old.tape (old.port port) port → IsRecorded new.tape (new.port port) port
+  pub issues_recorded : (port : ℕ) (at : Port) (v : ℕ) (old new : Device) → Writes (Px at Ci) v old new
+      → IsRecorded old.tape (old.port port) port → IsRecorded new.tape (new.port port) port
   -- stores
   pub stores_any : (port : Port) (at slot : ℕ) (access : Access) → IsTableStore at slot access → IsOf port access
   pub stores_spare : (port slot : ℕ) (r : Reg) → NoneWrites (IsTableStore port slot) r
-  pub left : (port : Port) (q : ℕ) (old new : Device) → q ≢ port.0 → IsOn old → IsDrivenBy (IsOf port) old new → LeavesPort (old.port q) (new.port q)
+  pub left : (port : Port) (q : ℕ) (old new : Device) → q ≢ port.0 → IsOn old → IsDrivenBy (IsOf port) old new
+      → LeavesPort (old.port q) (new.port q)
   pub same_over : (old new : Device) → IsDrivenBy AnyAccess old new → SameAdapter old new
-  pub tape_over : (old new : Device) → IsDrivenBy AnyAccess old new → (gained : List Entry) × (new.tape ≡ old.tape ++ gained)
+  pub tape_over : (old new : Device) → IsDrivenBy AnyAccess old new → (gained : List Entry)
+      × (new.tape ≡ old.tape ++ gained)
   pub of_spares_ghc : (port : Port) (access : Access) → IsOf port access → SparesRegister Ghc access
   -- the page
-  pub own_is_permitted : (uses : Uses) (m : Machine) (d : Device) → IsReached m → Agrees uses m d → (port : Port) (o : Operation) (v : ℕ) → IsOn d → HasPort d port.0 → IsOwnPrepared uses d port.0 o v → Stays (MayWrite (Px port Ci) v) d
-  pub page_is_issued : (uses : Uses) (m : Machine) (port : Port) (o : Operation) (v : ℕ) (old new : Device) → IsReached m → Agrees uses m old → old.hr ≡ false → IsOwnPrepared uses old port.0 o v → Writes (Px port Ci) v old new → AwaitsPage (put uses port.0 0 (Own o)) port.0 o (length new.tape) new
-  pub access_waits : (uses : Uses) (m : Machine) (port : Port) (o : Operation) (since : ℕ) (access : Access) (old new : Device) → IsReached m → Agrees uses m old → ClearsNoStart port access → new.hr ≡ false → Does access old new → AwaitsPage uses port.0 o since old → AwaitsPage uses port.0 o since new
-  pub page_is_found : (uses : Uses) (m : Machine) (port : Port) (o : Operation) (since v : ℕ) (old new : Device) → IsReached m → Agrees uses m old → AwaitsPage uses port.0 o since old → Reads (Px port Ci) v old new → bit v 0 ≡ false → FindsPage uses m port.0 o old new × Brought new.memory new.tape port.0 o since
-  pub awaited_is_loaded : (uses : Uses) (m : Machine) (port : ℕ) (o : Operation) (since : ℕ) (bytes : List ℕ) (old new : Device) → IsReached m → Agrees uses m old → AwaitsPage uses port o since old → IsOver (old.port port) 0 → Loads (scratch_of port) bytes old new → length bytes ≡ 512 → (b : Brought new.memory new.tape port o since) × (bytes ≡ b.move.bytes.value)
-  pub page_is_free : (uses : Uses) (m : Machine) (d : Device) → IsReached m → Agrees uses m d → (port : ℕ) → port < 4 → scratch_of port + 512 ≤ d.size → IsOver (d.port port) 0 → Stays (IsFree (scratch_of port) 512) d
-  pub agrees_released : (uses : Uses) (port : ℕ) (o : Operation) (d : Device) → uses port 0 ≡ Free → IsOver (d.port port) 0 → IsAgreed (put uses port 0 (Own o)) d → IsAgreed uses d
-  pub halt_is_issued : (uses : Uses) (m : Machine) (port : Port) (o : Operation) (v : ℕ) (old new : Device) → IsReached m → Agrees uses m old → old.hr ≡ false → ((slot : ℕ) → slot ≢ 0 → uses port.0 slot ≡ Free) → IsOwnPrepared uses old port.0 o v → Writes (Px port Ci) v old new → EndsHalt (put uses port.0 0 (Own o)) port.0 new
-  pub access_ends_halt : (uses : Uses) (m : Machine) (port : Port) (access : Access) (old new : Device) → IsReached m → Agrees uses m old → ClearsNoStart port access → SparesRegister (Px port Sact) access → new.hr ≡ false → Does access old new → EndsHalt uses port.0 old → EndsHalt uses port.0 new
+  pub own_is_permitted : (uses : Uses) (m : Machine) (d : Device) → IsReached m → Agrees uses m d
+      → (port : Port) (o : Operation) (v : ℕ) → IsOn d → HasPort d port.0 → IsOwnPrepared uses d port.0 o v
+      → Stays (MayWrite (Px port Ci) v) d
+  pub page_is_issued : (uses : Uses) (m : Machine) (port : Port) (o : Operation) (v : ℕ) (old new : Device)
+      → IsReached m → Agrees uses m old → old.hr ≡ false → IsOwnPrepared uses old port.0 o v
+      → Writes (Px port Ci) v old new → AwaitsPage (put uses port.0 0 (Own o)) port.0 o (length new.tape) new
+  pub access_waits : (uses : Uses) (m : Machine) (port : Port) (o : Operation) (since : ℕ) (access : Access)
+      (old new : Device) → IsReached m → Agrees uses m old → ClearsNoStart port access → new.hr ≡ false
+      → Does access old new → AwaitsPage uses port.0 o since old → AwaitsPage uses port.0 o since new
+  pub page_is_found : (uses : Uses) (m : Machine) (port : Port) (o : Operation) (since v : ℕ) (old new : Device)
+      → IsReached m → Agrees uses m old → AwaitsPage uses port.0 o since old → Reads (Px port Ci) v old new
+      → bit v 0 ≡ false → FindsPage uses m port.0 o old new × Brought new.memory new.tape port.0 o since
+  pub awaited_is_loaded : (uses : Uses) (m : Machine) (port : ℕ) (o : Operation) (since : ℕ) (bytes : List ℕ)
+      (old new : Device) → IsReached m → Agrees uses m old → AwaitsPage uses port o since old → IsOver (old.port port) 0
+      → Loads (scratch_of port) bytes old new → length bytes ≡ 512 → (b : Brought new.memory new.tape port o since)
+      × (bytes ≡ b.move.bytes.value)
+  pub page_is_free : (uses : Uses) (m : Machine) (d : Device) → IsReached m → Agrees uses m d → (port : ℕ) → port < 4
+      → scratch_of port + 512 ≤ d.size → IsOver (d.port port) 0 → Stays (IsFree (scratch_of port) 512) d
+  pub agrees_released : (uses : Uses) (port : ℕ) (o : Operation) (d : Device) → uses port 0 ≡ Free
+      → IsOver (d.port port) 0 → IsAgreed (put uses port 0 (Own o)) d → IsAgreed uses d
+  pub halt_is_issued : (uses : Uses) (m : Machine) (port : Port) (o : Operation) (v : ℕ) (old new : Device)
+      → IsReached m → Agrees uses m old → old.hr ≡ false → ((slot : ℕ) → slot ≢ 0 → uses port.0 slot ≡ Free)
+      → IsOwnPrepared uses old port.0 o v → Writes (Px port Ci) v old new
+      → EndsHalt (put uses port.0 0 (Own o)) port.0 new
+  pub access_ends_halt : (uses : Uses) (m : Machine) (port : Port) (access : Access) (old new : Device) → IsReached m
+      → Agrees uses m old → ClearsNoStart port access → SparesRegister (Px port Sact) access → new.hr ≡ false
+      → Does access old new → EndsHalt uses port.0 old → EndsHalt uses port.0 new
   pub access_grows : (access : Access) (old new : Device) → Does access old new → Grows old new
-  pub access_pages : (uses : Uses) (m : Machine) (access : Access) (old new : Device) (port : ℕ) (o : Operation) (gained : List Entry) → IsReached m → Agrees uses m old → Does access old new → new.tape ≡ old.tape ++ gained → op_of o ≡ None → (uses port 0 ≡ Own o → IsOver (old.port port) 0) → All (λ e. IsMove port o e → ⊥) gained
-  pub silent_more : (port : ℕ) (o : Operation) (old mid new : Device) → SendsNone port o old mid → SendsNone port o mid new → SendsNone port o old new
-  pub put_others : (uses : Uses) (port slot : ℕ) (u : Use) (other_port other_slot : ℕ) → (other_port ≡ port → other_slot ≡ slot → ⊥) → put uses port slot u other_port other_slot ≡ uses other_port other_slot
+  pub access_pages : (uses : Uses) (m : Machine) (access : Access) (old new : Device) (port : ℕ) (o : Operation)
+      (gained : List Entry) → IsReached m → Agrees uses m old → Does access old new → new.tape ≡ old.tape ++ gained
+      → op_of o ≡ None → (uses port 0 ≡ Own o → IsOver (old.port port) 0) → All (λ e. IsMove port o e → ⊥) gained
+  pub silent_more : (port : ℕ) (o : Operation) (old mid new : Device) → SendsNone port o old mid
+      → SendsNone port o mid new → SendsNone port o old new
+  pub put_others : (uses : Uses) (port slot : ℕ) (u : Use) (other_port other_slot : ℕ)
+      → (other_port ≡ port → other_slot ≡ slot → ⊥) → put uses port slot u other_port other_slot ≡ uses other_port
+      other_slot
   -- this crate's kinds of accesses
   pub none : (kind : Stretch) (d : Device) → IsTold (λ made. made ≡ []) (may_of kind) (fits_of kind) d d
-  pub reads : (kind : Stretch) (r : Reg) (v : ℕ) (old new : Device) → may_of kind (Reading r v) → Reads r v old new → IsTold (λ made. made ≡ Reading r v ∷ []) (may_of kind) (fits_of kind) old new
-  pub loads : (kind : Stretch) (at : ℕ) (bytes : List ℕ) (old new : Device) → may_of kind (Loading at bytes) → Loads at bytes old new → IsTold (λ made. made ≡ Loading at bytes ∷ []) (may_of kind) (fits_of kind) old new
-  pub asks : (kind : Stretch) (port : Port) (o : Operation) (v : ℕ) (old new : Device) → may_of kind (Writing (Px port Ci) v) → old.hr ≡ false → ((uses : Uses) → fits_of kind uses → IsOwnPrepared uses old port.0 o v) → Writes (Px port Ci) v old new → IsFollowedTo (may_of kind) (fits_of kind) (λ uses. put uses port.0 0 (Own o)) old new
-  pub both : (kind then : Stretch) (first second : Uses → Uses) → ((access : Access) → may_of then access → may_of kind access) → ((uses : Uses) → fits_of kind uses → fits_of then (first uses)) → (old mid new : Device) → (a : IsFollowedTo (may_of kind) (fits_of kind) first old mid) → (b : IsFollowedTo (may_of then) (fits_of then) second mid new) → IsToldTo (λ made. made ≡ a.driven.accesses ++ b.driven.accesses) (may_of kind) (fits_of kind) (λ uses. second (first uses)) old new
-  pub wider : (kind more : Stretch) (next : Uses → Uses) → ((access : Access) → may_of kind access → may_of more access) → ((uses : Uses) → fits_of more uses → fits_of kind uses) → (old new : Device) → (a : IsFollowedTo (may_of kind) (fits_of kind) next old new) → IsToldTo (λ made. made ≡ a.driven.accesses) (may_of more) (fits_of more) next old new
-  pub over : (kind : Stretch) (port : Port) (o : Operation) (v : ℕ) (old new : Device) → may_of kind (Writing (Px port Ci) v) → ((uses : Uses) → fits_of kind uses → uses port.0 0 ≡ Free) → IsOver (new.port port.0) 0 → (a : IsFollowedTo (may_of kind) (fits_of kind) (λ uses. put uses port.0 0 (Own o)) old new) → IsTold (λ made. made ≡ a.driven.accesses) (may_of kind) (fits_of kind) old new
-  pub agreed : (kind : Stretch) (next : Uses → Uses) (uses : Uses) (old new : Device) → fits_of kind uses → IsFollowedTo (may_of kind) (fits_of kind) next old new → IsAgreed uses old → IsAgreed (next uses) new
-  pub silent : (kind : Stretch) (next : Uses → Uses) (uses : Uses) (port : Port) (o : Operation) (old new : Device) → fits_of kind uses → NoneWrites (may_of kind) (Px port Ci) → NoneWrites (may_of kind) (Px port Sact) → op_of o ≡ None → (uses port.0 0 ≡ Own o → ⊥) → IsFollowedTo (may_of kind) (fits_of kind) next old new → IsAgreed uses old → SendsNone port.0 o old new
+  pub reads : (kind : Stretch) (r : Reg) (v : ℕ) (old new : Device) → may_of kind (Reading r v) → Reads r v old new
+      → IsTold (λ made. made ≡ Reading r v ∷ []) (may_of kind) (fits_of kind) old new
+  pub loads : (kind : Stretch) (at : ℕ) (bytes : List ℕ) (old new : Device) → may_of kind (Loading at bytes)
+      → Loads at bytes old new → IsTold (λ made. made ≡ Loading at bytes ∷ []) (may_of kind) (fits_of kind) old new
+  pub asks : (kind : Stretch) (port : Port) (o : Operation) (v : ℕ) (old new : Device)
+      → may_of kind (Writing (Px port Ci) v) → old.hr ≡ false
+      → ((uses : Uses) → fits_of kind uses → IsOwnPrepared uses old port.0 o v) → Writes (Px port Ci) v old new
+      → IsFollowedTo (may_of kind) (fits_of kind) (λ uses. put uses port.0 0 (Own o)) old new
+  pub both : (kind then : Stretch) (first second : Uses → Uses)
+      → ((access : Access) → may_of then access → may_of kind access)
+      → ((uses : Uses) → fits_of kind uses → fits_of then (first uses)) → (old mid new : Device)
+      → (a : IsFollowedTo (may_of kind) (fits_of kind) first old mid)
+      → (b : IsFollowedTo (may_of then) (fits_of then) second mid new)
+      → IsToldTo (λ made. made ≡ a.driven.accesses ++ b.driven.accesses) (may_of kind) (fits_of kind)
+      (λ uses. second (first uses)) old new
+  pub wider : (kind more : Stretch) (next : Uses → Uses) → ((access : Access) → may_of kind access → may_of more access)
+      → ((uses : Uses) → fits_of more uses → fits_of kind uses) → (old new : Device)
+      → (a : IsFollowedTo (may_of kind) (fits_of kind) next old new)
+      → IsToldTo (λ made. made ≡ a.driven.accesses) (may_of more) (fits_of more) next old new
+  pub over : (kind : Stretch) (port : Port) (o : Operation) (v : ℕ) (old new : Device)
+      → may_of kind (Writing (Px port Ci) v) → ((uses : Uses) → fits_of kind uses → uses port.0 0 ≡ Free)
+      → IsOver (new.port port.0) 0
+      → (a : IsFollowedTo (may_of kind) (fits_of kind) (λ uses. put uses port.0 0 (Own o)) old new)
+      → IsTold (λ made. made ≡ a.driven.accesses) (may_of kind) (fits_of kind) old new
+  pub agreed : (kind : Stretch) (next : Uses → Uses) (uses : Uses) (old new : Device) → fits_of kind uses
+      → IsFollowedTo (may_of kind) (fits_of kind) next old new → IsAgreed uses old → IsAgreed (next uses) new
+  pub silent : (kind : Stretch) (next : Uses → Uses) (uses : Uses) (port : Port) (o : Operation) (old new : Device)
+      → fits_of kind uses → NoneWrites (may_of kind) (Px port Ci) → NoneWrites (may_of kind) (Px port Sact)
+      → op_of o ≡ None → (uses port.0 0 ≡ Own o → ⊥) → IsFollowedTo (may_of kind) (fits_of kind) next old new
+      → IsAgreed uses old → SendsNone port.0 o old new

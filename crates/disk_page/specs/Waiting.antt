@@ -10,8 +10,8 @@ use Rattle.agreement.specs.Driven.{IsAgreed, SendsNone}
 use Rattle.agreement.specs.Recovering.{EndsHalt}
 use Rattle.agreement.specs.Slots.{Free, Uses, op_of}
 
--- Slot 0 has the command, which was issued when the tape was so long; and some machine agrees. Where no other slot of the port is used, its end
--- ends a halt. No page of another command came since this device.
+-- Slot 0 has the command, which was issued when the tape was so long; and some machine agrees. Where no other slot of
+-- the port is used, its end ends a halt. No page of another command came since this device.
 pub record IsWaiting (port : Port) (o : Operation) (since : ℕ) (uses : Uses) (start d : Device) : Type 0 where
   pub on : IsOn d
   pub room : DRIVER_BYTES ≤ d.size

@@ -1,4 +1,8 @@
-//! Pages of 512 bytes that a disk sends to the driver itself: who it is, and what it logged of an error.
+//! Has a disk send a page to the driver: IDENTIFY DEVICE, or the log of errors.
+//!
+//! The command goes in slot 0, and its page to the port's scratch frame, whatever the other ports
+//! do. After `None` the command may be there still, and move its page later: a caller stops the
+//! port before it uses the slot again.
 #![tactic(auto)]
 
 ghost use Rattle.std.specs.Prelude.{◌≡◌, ◌≢◌, ◌≤◌, ◌<◌, ◌+◌, ◌*◌, true, false, None, ℕ, IfSome, List, length};
@@ -71,9 +75,11 @@ fn ask<A: Adapter>(adapter: &mut A, port: Port, page: Page)
     requires room { DRIVER_BYTES ≤ (A.device adapter.old).size }
     requires agreed { AgreesWith (IsUnused port.0 0) (A.device adapter.old) }
     requires may { MayAsk port.0 (A.device adapter.old) }
-    ensures followed { IsFollowedTo (IsAsking port) (IsUnused port.0 0) (λ uses. put uses port.0 0 (Own (operation_of page))) (A.device adapter.old) (A.device adapter.new) }
+    ensures followed { IsFollowedTo (IsAsking port) (IsUnused port.0 0)
+        (λ uses. put uses port.0 0 (Own (operation_of page))) (A.device adapter.old) (A.device adapter.new) }
     ensures waiting { (uses : Uses) → IsUnused port.0 0 uses → IsAgreed uses (A.device adapter.old)
-        → IsWaiting port (operation_of page) (length (A.device adapter.new).tape) (put uses port.0 0 (Own (operation_of page))) (A.device adapter.old) (A.device adapter.new) }
+        → IsWaiting port (operation_of page) (length (A.device adapter.new).tape)
+        (put uses port.0 0 (Own (operation_of page))) (A.device adapter.old) (A.device adapter.new) }
     ensures on { IsOn (A.device adapter.new) }
     ensures there { HasPort (A.device adapter.new) port.0 }
     ensures later { length (A.device adapter.old).tape ≤ length (A.device adapter.new).tape }
@@ -93,12 +99,14 @@ fn wait<A: Adapter>(adapter: &mut A, port: Port) -> bool
     requires det { ((A.device adapter.old).port port.0).sctl_det ≡ 0 }
     ensures followed { IsFollowed (IsAsking port) AnyUse (A.device adapter.old) (A.device adapter.new) }
     ensures on { IsOn (A.device adapter.new) }
-    ensures waiting { (o : Operation) (since : ℕ) (uses : Uses) (start : Device) → IsWaiting port o since uses start (A.device adapter.old)
+    ensures waiting { (o : Operation) (since : ℕ) (uses : Uses) (start : Device)
+        → IsWaiting port o since uses start (A.device adapter.old)
         → IsWaiting port o since uses start (A.device adapter.new) }
-    ensures over { result ≡ true → (o : Operation) (since : ℕ) (uses : Uses) (start : Device) → IsWaiting port o since uses start (A.device adapter.old)
-        → IsClear ((A.device adapter.new).port port.0) 0 }
+    ensures over { result ≡ true → (o : Operation) (since : ℕ) (uses : Uses) (start : Device)
+        → IsWaiting port o since uses start (A.device adapter.old) → IsClear ((A.device adapter.new).port port.0) 0 }
     ensures still { result ≡ false → ((A.device adapter.new).port port.0).notes.command_count ≡ 64 }
-    ensures vain { result ≡ false → IsTold (AreInVain port 64) (IsAsking port) AnyUse (A.device adapter.old) (A.device adapter.new) }
+    ensures vain { result ≡ false → IsTold (AreInVain port 64) (IsAsking port) AnyUse (A.device adapter.old)
+        (A.device adapter.new) }
 {
     laws_hold();
     for _reading in 0..READINGS {
@@ -110,9 +118,10 @@ fn wait<A: Adapter>(adapter: &mut A, port: Port) -> bool
     false
 }
 
-/// Has the disk send a page, and waits for it: `None` where 64 readings of PxCI showed the command issued still, which may then be
-/// taken, and may move its page later. The port runs with slot 0 unused; its other slots aren't touched. Where none of them is used, no
-/// fault halts the port once a page has come: the end of READ LOG EXT ends the halt of a queued fault. No page of another command comes.
+/// Has the disk send a page, and waits for it: `None` where 64 readings of PxCI showed the command issued still, which
+/// may then be taken, and may move its page later. The port runs with slot 0 unused; its other slots aren't touched.
+/// Where none of them is used, no fault halts the port once a page has come: the end of READ LOG EXT ends the halt of a
+/// queued fault. No page of another command comes.
 pub fn read_page<A: Adapter>(adapter: &mut A, port: Port, page: Page) -> Option<[u8; 512]>
     requires on { IsOn (A.device adapter.old) }
     requires there { HasPort (A.device adapter.old) port.0 }
@@ -126,7 +135,8 @@ pub fn read_page<A: Adapter>(adapter: &mut A, port: Port, page: Page) -> Option<
     ensures reads { Reads port (operation_of page) result (A.device adapter.old) (A.device adapter.new) }
     ensures running { IfSome result (λ _. AgreesWith (λ uses. AllFree uses port.0) (A.device adapter.old)
         → ((A.device adapter.new).port port.0).halt ≡ NotHalted) }
-    ensures silent { (o : Operation) → op_of o ≡ None → o ≢ operation_of page → SendsNone port.0 o (A.device adapter.old) (A.device adapter.new) }
+    ensures silent { (o : Operation) → op_of o ≡ None → o ≢ operation_of page
+        → SendsNone port.0 o (A.device adapter.old) (A.device adapter.new) }
 {
     laws_hold();
     ask(adapter, port, page);

@@ -242,9 +242,6 @@ module _ (laws : Laws) (port : Port) where
     plugged : Gains (IsPlugging port.0) old.device t.start ⊎ PlugsNone port.0 old.device t.start
     plugged = plugged_or_not port.0 old.device t.start first.grows
 
-    Plugs : Type 0
-    Plugs = Gains (IsPlugging port.0) old.device new
-
     -- what the port shows when its turn begins, it showed when the call began, or the call gained what it tells of
     changes : (old.device.port port.0).link_due ≡ false → ShowsChange (t.start.port port.0) → ShowsChange (old.device.port port.0) ⊎ Gains (IsPlugging port.0) old.device new
     changes undue shown = ⊎_elim (λ g. inr (before (IsPlugging port.0) g)) (λ none. inl (⊎_elim (n none) (x none) shown)) plugged

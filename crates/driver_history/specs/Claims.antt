@@ -20,20 +20,24 @@ use Rattle.driver_history.specs.Evidence.{IsFaultTold, IsLost, StaysHealthy}
 use Rattle.driver_history.specs.Histories.{CameBy, FindsIn, Issues, TellsPlainFaults}
 use Rattle.driver_history.specs.Trace.{LeavesEngine}
 
--- A call that made these accesses leaves a port alone: it is what it was, each answer there is Ok, and neither PxCMD nor PxSCTL of it is written.
-pub record IsSpared (old : Instant Device) (h : Happening Device DeviceStep) (accesses : List Access) (port : Port) : Type 0 where
+-- A call that made these accesses leaves a port alone: it is what it was, each answer there is Ok, and neither PxCMD
+-- nor PxSCTL of it is written.
+pub record IsSpared (old : Instant Device) (h : Happening Device DeviceStep) (accesses : List Access)
+    (port : Port) : Type 0 where
   pub same : SamePort old.moment.ports h.event.ports port
   pub told : (e : Pending) (o : Outcome) → Contains h.event.steps (Answer e o) → e.request.port ≡ port → o ≡ outcome.Ok
   pub engine : All (LeavesEngine port) accesses
 
--- What an answer of a call that made these accesses rests on, in the device's terms. Ok: the request was issued when the call began, the device has
--- moved all its sectors since its last issue, and ended it. DeviceError: the device told that fault, and the port was stopped. Aborted: four
--- issues, on a port that is ready. Unplugged: the port was lost. PortDead: its engine was awaited in vain, or the adapter isn't on.
+-- What an answer of a call that made these accesses rests on, in the device's terms. Ok: the request was issued when
+-- the call began, the device has moved all its sectors since its last issue, and ended it. DeviceError: the device told
+-- that fault, and the port was stopped. Aborted: four issues, on a port that is ready. Unplugged: the port was lost.
+-- PortDead: its engine was awaited in vain, or the adapter isn't on.
 abbrev pub AnswerRests : Instant Device → Happening Device DeviceStep → List Access → Pending → Outcome → Type 0
 AnswerRests old h accesses e outcome.Ok =
     WasIssued old.moment.machine e.request.id × (e.issued ≡ true) × AllTouched e × (e.ended ≡ true)
 AnswerRests old h accesses e (outcome.DeviceError status error) =
-    IsFaultTold old h.device accesses (record { id = e.request.id; status = status; error = error }) × Stops e.request.port accesses
+    IsFaultTold old h.device accesses (record { id = e.request.id; status = status; error = error })
+    × Stops e.request.port accesses
 AnswerRests old h accesses e outcome.Aborted = (e.issues ≡ 4) × (h.event.ports.state e.request.port ≡ Ready)
 AnswerRests old h accesses e outcome.Unplugged = IsLost e.request.port old h.event.ports h.device
 AnswerRests old h accesses e outcome.PortDead = (h.event.ports.state e.request.port ≡ Dead)
@@ -41,16 +45,16 @@ AnswerRests old h accesses e outcome.PortDead = (h.event.ports.state e.request.p
 
 -- ---- healthy calls
 
--- A call is healthy for a port that is ready, runs well when it begins, and on which nothing goes wrong meanwhile; it isn't a reset, nor a tick
--- that brings a request of the port to its age of three.
+-- A call is healthy for a port that is ready, runs well when it begins, and on which nothing goes wrong meanwhile; it
+-- isn't a reset, nor a tick that brings a request of the port to its age of three.
 pub record IsHealthyFor (old : Instant Device) (h : Happening Device DeviceStep) (port : Port) : Type 0 where
   pub ready : old.moment.ports.state port ≡ Ready
   pub healthy : StaysHealthy port.0 old.device h.device
   pub no_reset : h.event.ask ≢ Reset
   pub young : h.event.ask ≡ Tick → IsHung old.moment port → ⊥
 
--- Such a call goes well for it: the port is left alone, and runs well after it; a service has read the masks, and answered exactly what they show
--- done; and what is due is issued.
+-- Such a call goes well for it: the port is left alone, and runs well after it; a service has read the masks, and
+-- answered exactly what they show done; and what is due is issued.
 pub record GoesWellFor (old : Instant Device) (h : Happening Device DeviceStep) (port : Port) : Type 0 where
   pub accesses : List Access
   pub came : CameBy old.moment h.event.ask h.event.said accesses old.device h.device
@@ -61,9 +65,11 @@ pub record GoesWellFor (old : Instant Device) (h : Happening Device DeviceStep) 
 
 -- ---- failures
 
--- A service heeds the failure that a port showed when it began, a fault or a fatal error: what had ended on the port is answered Ok. The port was stopped, or got stuck, and none
--- of its requests that wait keeps its issue. One of them is told a fault at most, and none where a fatal error was shown. And where TFES alone was, with no fatal error in the call, and
--- no disk that goes or comes, a plain one that was outstanding, and hadn't ended, is told its fault, unless the port ends dead. So it isn't tried again.
+-- A service heeds the failure that a port showed when it began, a fault or a fatal error: what had ended on the port is
+-- answered Ok. The port was stopped, or got stuck, and none of its requests that wait keeps its issue. One of them is
+-- told a fault at most, and none where a fatal error was shown. And where TFES alone was, with no fatal error in the
+-- call, and no disk that goes or comes, a plain one that was outstanding, and hadn't ended, is told its fault, unless
+-- the port ends dead. So it isn't tried again.
 pub record HeedsFailure (port : Port) (old : Instant Device) (h : Happening Device DeviceStep) : Type 0 where
   pub ended : AnswersEnded old.moment.machine h.event.steps port
   pub stopped : IsInterrupted h.event.evidence port
@@ -74,8 +80,9 @@ pub record HeedsFailure (port : Port) (old : Instant Device) (h : Happening Devi
 
 -- ---- lost disks
 
--- A service heeds that a port showed when it began that its disk was lost: what had ended on the port is answered Ok, and each of its other requests is answered, too, all with
--- Unplugged, or all with PortDead. The port was stopped, or got stuck.
+-- A service heeds that a port showed when it began that its disk was lost: what had ended on the port is answered Ok,
+-- and each of its other requests is answered, too, all with Unplugged, or all with PortDead. The port was stopped, or
+-- got stuck.
 pub record HeedsLoss (port : Port) (old : Instant Device) (h : Happening Device DeviceStep) : Type 0 where
   pub ended : AnswersEnded old.moment.machine h.event.steps port
   pub emptied : (e : Pending) → Contains (moment_after old.moment h.event).machine.book e → e.request.port ≢ port

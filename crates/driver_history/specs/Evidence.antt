@@ -1,5 +1,5 @@
--- What stands behind the evidence that a call names: the device when it began, its accesses, and the device at its end (this project's own;
--- PxIS and PxSERR: AHCI 1.3.1, 3.3.5 and 3.3.12).
+-- What stands behind the evidence that a call names: the device when it began, its accesses, and the device at its end
+-- (this project's own; PxIS and PxSERR: AHCI 1.3.1, 3.3.5 and 3.3.12).
 use Rattle.std.specs.Prelude.{ℕ, true, false, ◌≡◌, ◌≢◌, ◌⊎◌, ◌++◌, List, All, Contains, Some, None}
 use Rattle.ata_types.specs.declared.Port.{Port}
 use Rattle.ata_types.specs.declared.PortState.TheVariants.{Ready, Dead}
@@ -48,9 +48,10 @@ ShowsFailure p = ShowsFatal p ⊎ (p.is 30 ≡ true)
 -- ---- a fault that is told of a request
 
 -- A plain request is the one of its port that is issued, and status and error are those of such a fault of its slot.
-pub record FailsPlain (old : Instant Device) (new : Device) (accesses : List Access) (e : Pending) (slot : ℕ) (told : Fault) : Type 0 where
-  pub alone : (other : Pending) → Contains old.moment.machine.book other → other.request.port ≡ e.request.port → other.issued ≡ true
-      → other.request.id ≡ e.request.id
+pub record FailsPlain (old : Instant Device) (new : Device) (accesses : List Access) (e : Pending) (slot : ℕ)
+    (told : Fault) : Type 0 where
+  pub alone : (other : Pending) → Contains old.moment.machine.book other → other.request.port ≡ e.request.port
+      → other.issued ≡ true → other.request.id ≡ e.request.id
   pub fault : tape_fault.Fault
   pub failed : HasFailed e.request.port accesses old.device new fault
   pub slot_is : fault.slot.0 ≡ slot
@@ -58,7 +59,8 @@ pub record FailsPlain (old : Instant Device) (new : Device) (accesses : List Acc
   pub error_is : fault.error ≡ told.error
 
 -- Of a queued one, such a fault of the port stands there, and the log's page names the slot, with status and error.
-pub record FailsQueued (old : Instant Device) (new : Device) (accesses : List Access) (e : Pending) (slot : ℕ) (told : Fault) : Type 0 where
+pub record FailsQueued (old : Instant Device) (new : Device) (accesses : List Access) (e : Pending) (slot : ℕ)
+    (told : Fault) : Type 0 where
   pub fault : tape_fault.Fault
   pub failed : HasFailed e.request.port accesses old.device new fault
   pub page : List ℕ
@@ -72,14 +74,15 @@ pub record IsFaultTold (old : Instant Device) (new : Device) (accesses : List Ac
   pub issued : pending.issued ≡ true
   pub id_is : pending.request.id ≡ told.id
   pub slot : ℕ
-  pub serves : ServesRequest old.moment.machine old.device.memory (old.device.port pending.request.port.0) pending.request.port.0 slot told.id
+  pub serves : ServesRequest old.moment.machine old.device.memory (old.device.port pending.request.port.0)
+      pending.request.port.0 slot told.id
   pub plain : is_queued serves.command.operation ≡ false → FailsPlain old new accesses pending slot told
   pub queued : is_queued serves.command.operation ≡ true → FailsQueued old new accesses pending slot told
 
 -- ---- ports
 
--- The port had told of a change, or showed no device, when the call began; a disk of it went or came in the call; or it ends the call neither
--- dead nor ready with serial and size as when it was last ready.
+-- The port had told of a change, or showed no device, when the call began; a disk of it went or came in the call; or it
+-- ends the call neither dead nor ready with serial and size as when it was last ready.
 abbrev pub IsLost : Port → Instant Device → Ports → Device → Type 0
 IsLost port old ports new =
     ShowsChange (old.device.port port.0)
@@ -123,25 +126,32 @@ IsStuckReset ask said = ⊥
 
 -- ---- the whole
 
--- What stands behind one port's items. `lost` and `stuck`: what is named is so. `gone`, `failed` and `fatal`: it is named where it showed that
--- when the call began, and only where it showed it then or had it in the call (what comes after the driver's look is nobody's to heed in that
--- call). `stopped`: it is named only where it was stopped; and where PxCMD or PxSCTL was written at all, it is stopped or stuck.
-pub record IsEvidencedOf (ask : Ask DeviceStep) (said : Said) (accesses : List Access) (old : Instant Device) (ports : Ports) (new : Device)
+-- What stands behind one port's items. `lost` and `stuck`: what is named is so. `gone`, `failed` and `fatal`: it is
+-- named where it showed that when the call began, and only where it showed it then or had it in the call (what comes
+-- after the driver's look is nobody's to heed in that call). `stopped`: it is named only where it was stopped; and
+-- where PxCMD or PxSCTL was written at all, it is stopped or stuck.
+pub record IsEvidencedOf (ask : Ask DeviceStep) (said : Said) (accesses : List Access) (old : Instant Device)
+    (ports : Ports) (new : Device)
     (evidence : Evidence) (port : Port) : Type 0 where
   pub lost : Contains evidence.lost port → IsLost port old ports new
   pub gone_all : old.moment.ports.state port ≡ Ready → ShowsLoss port old.device new → Contains evidence.gone port
   pub gone_only : Contains evidence.gone port → IsGone port old new
-  pub failed_all : old.moment.ports.state port ≡ Ready → ShowsFailure (old.device.port port.0) → Contains evidence.failed port
+  pub failed_all : old.moment.ports.state port ≡ Ready → ShowsFailure (old.device.port port.0)
+      → Contains evidence.failed port
   pub failed_only : Contains evidence.failed port → HasErrors port old new
-  pub fatal_all : old.moment.ports.state port ≡ Ready → ShowsFatal (old.device.port port.0) → Contains evidence.fatal port
+  pub fatal_all : old.moment.ports.state port ≡ Ready → ShowsFatal (old.device.port port.0)
+      → Contains evidence.fatal port
   pub fatal_only : Contains evidence.fatal port → HasFatalErrors port old new
   pub stopped_all : All (LeavesEngine port) accesses ⊎ IsInterrupted evidence port
-  pub stopped_only : Contains evidence.stopped port → Stops port accesses ⊎ (IsEndedReset ask said × (old.moment.ports.served port ≡ true))
+  pub stopped_only : Contains evidence.stopped port → Stops port accesses
+      ⊎ (IsEndedReset ask said × (old.moment.ports.served port ≡ true))
   pub stuck_only : Contains evidence.stuck port
-      → (Sticks port accesses × ((new.port port.0).notes.engine_count ≡ 64)) ⊎ (IsStuckReset ask said × (old.moment.ports.served port ≡ true))
+      → (Sticks port accesses × ((new.port port.0).notes.engine_count ≡ 64))
+      ⊎ (IsStuckReset ask said × (old.moment.ports.served port ≡ true))
 
 -- Each fault that is named was told by the device, and so it is with each port.
-pub record IsEvidenced (ask : Ask DeviceStep) (said : Said) (accesses : List Access) (old : Instant Device) (ports : Ports) (new : Device)
+pub record IsEvidenced (ask : Ask DeviceStep) (said : Said) (accesses : List Access) (old : Instant Device)
+    (ports : Ports) (new : Device)
     (evidence : Evidence) : Type 0 where
   pub faults : (told : Fault) → Contains evidence.faults told → IsFaultTold old new accesses told
   pub port : (port : Port) → IsEvidencedOf ask said accesses old ports new evidence port

@@ -40,9 +40,10 @@ use Rattle.driver_history.specs.Trace.{ReadsMasks, ResetsLink, IsServing, IsDriv
 
 -- ---- how a call came from the one device to the other
 
--- What issuing a request on the port is made of: stores in the driver's frames, of its header, table and block, and writes of PxSACT and PxCI.
--- (That these are the right bytes and bits is said by what holds after the call. In which slot a request goes, and that PxSACT is written first, no
--- history tells: the server's own contract does, and the adapter's rules ask for that order.)
+-- What issuing a request on the port is made of: stores in the driver's frames, of its header, table and block, and
+-- writes of PxSACT and PxCI. (That these are the right bytes and bits is said by what holds after the call. In which
+-- slot a request goes, and that PxSACT is written first, no history tells: the server's own contract does, and the
+-- adapter's rules ask for that order.)
 abbrev pub IssuesOn : Port → Access → Type 0
 IssuesOn port (Writing r v) = (r ≡ Px port Sact) ⊎ (r ≡ Px port Ci)
 IssuesOn port (Storing at bytes) = at + length bytes ≤ DRIVER_BYTES
@@ -60,11 +61,12 @@ TendsPort ports port = ServesPort ports port × (ports.state port ≢ Dead)
 abbrev pub IsOnAndTells : Device → Type 0
 IsOnAndTells d = IsOn d × (d.ie ≡ true)
 
--- What was done in a call. A device step is the device's own, with no access. A client's bytes are stored, or loaded, by one access. For a
--- request that is accepted requests of its port are issued, if any. A service, a tick and a reset make accesses: what the driver stores and
--- loads in them lies in its own frames, and of ports' registers they use those of served ports alone, a service of those that aren't dead, and a
--- tick of those that are hung. Neither a service nor a tick writes GHC. A reset that ends leaves the adapter on; of one that doesn't, no more is
--- seen than that (how often HR was read is the server's own contract). Each other call makes none, a refused one among them.
+-- What was done in a call. A device step is the device's own, with no access. A client's bytes are stored, or loaded,
+-- by one access. For a request that is accepted requests of its port are issued, if any. A service, a tick and a reset
+-- make accesses: what the driver stores and loads in them lies in its own frames, and of ports' registers they use
+-- those of served ports alone, a service of those that aren't dead, and a tick of those that are hung. Neither a
+-- service nor a tick writes GHC. A reset that ends leaves the adapter on; of one that doesn't, no more is seen than
+-- that (how often HR was read is the server's own contract). Each other call makes none, a refused one among them.
 abbrev pub CameBy : Moment → Ask DeviceStep → Said → List Access → Device → Device → Type 0
 CameBy now (Told step) (Stepped true) accesses old new = (accesses ≡ []) × Asked step old new
 CameBy now (Submit r) (Submitted (Ok id)) accesses old new =
@@ -73,10 +75,12 @@ CameBy now (StoreAt client frame offset bytes) (Stored None) accesses old new =
     DoesAll accesses old new × (accesses ≡ Storing (FRAME_BYTES * frame.0 + offset) bytes ∷ [])
 CameBy now (LoadAt client frame offset count) (Loaded (Ok bytes)) accesses old new =
     DoesAll accesses old new × (accesses ≡ Loading (FRAME_BYTES * frame.0 + offset) bytes ∷ [])
-CameBy now Service (Served replies) accesses old new = DoesAll accesses old new × All (IsServing (TendsPort now.ports)) accesses
+CameBy now Service (Served replies) accesses old new = DoesAll accesses old new
+    × All (IsServing (TendsPort now.ports)) accesses
 CameBy now Tick (Served replies) accesses old new = DoesAll accesses old new × All (IsServing (IsHung now)) accesses
 CameBy now Reset (WasReset (Some replies)) accesses old new =
-    DoesAll accesses old new × All IsDriversOwn accesses × All (IsOfPorts (ServesPort now.ports)) accesses × BeginsReset accesses
+    DoesAll accesses old new × All IsDriversOwn accesses × All (IsOfPorts (ServesPort now.ports)) accesses
+    × BeginsReset accesses
     × IsOnAndTells new
 CameBy now Reset (WasReset None) accesses old new = DoesAll accesses old new × AwaitsReset accesses
 CameBy now ask said accesses old new = (accesses ≡ []) × (new ≡ old)
@@ -85,12 +89,13 @@ CameBy now ask said accesses old new = (accesses ≡ []) × (new ≡ old)
 
 -- the book, were none of the requests issued that these steps issue
 abbrev pub unissued : List Step → List Unanswered → List Unanswered
-unissued steps book = map (λ (r : Unanswered). if list_any (issues_it r.id) steps then record r { issued = false } else r) book
+unissued steps book = map (λ (r : Unanswered). if list_any (issues_it r.id) steps then record r { issued = false }
+    else r) book
 
 -- Of the unanswered requests of a port the steps issue exactly those that are due once all else is done.
 abbrev pub IssuesDue : Mode → List Step → Machine → Port → Type 0
-IssuesDue mode steps later port = (r : Unanswered) → Contains (unissued steps (map unanswered later.book)) r → r.port ≡ port
-    → IsIssuedIn r.id steps ↔ IsDue mode (unissued steps (map unanswered later.book)) r
+IssuesDue mode steps later port = (r : Unanswered) → Contains (unissued steps (map unanswered later.book)) r
+    → r.port ≡ port → IsIssuedIn r.id steps ↔ IsDue mode (unissued steps (map unanswered later.book)) r
 
 -- So a submit, a service, a tick and a reset do on each port that is ready at their end.
 abbrev pub Issues : Ask DeviceStep → List Step → Machine → Ports → Port → Type 0
@@ -112,8 +117,8 @@ pub record IsIssuedOn (port : Port) (m : Machine) (e : Pending) : Type 0 where
   pub port_is : e.request.port ≡ port
   pub issued : e.issued ≡ true
 
--- The masks were read, at some time in the call; and of the port's requests that were issued then, exactly those are answered Ok whose bits were clear
--- in both.
+-- The masks were read, at some time in the call; and of the port's requests that were issued then, exactly those are
+-- answered Ok whose bits were clear in both.
 pub record FindsDone (port : Port) (accesses : List Access) (old : Instant Device) (steps : List Step) : Type 0 where
   pub ci : ℕ
   pub sact : ℕ
@@ -125,7 +130,8 @@ pub record FindsDone (port : Port) (accesses : List Access) (old : Instant Devic
 -- A service finds what is done on each port that was ready and has something issued; a tick does on each that is hung.
 abbrev pub FindsIn : Ask DeviceStep → List Access → Instant Device → List Step → Port → Type 0
 FindsIn Service accesses old steps port =
-    old.moment.ports.state port ≡ Ready → (e : Pending) → IsIssuedOn port old.moment.machine e → FindsDone port accesses old steps
+    old.moment.ports.state port ≡ Ready → (e : Pending) → IsIssuedOn port old.moment.machine e
+    → FindsDone port accesses old steps
 FindsIn Tick accesses old steps port = IsHung old.moment port → FindsDone port accesses old steps
 FindsIn ask accesses old steps port = Unit {0}
 
@@ -168,14 +174,16 @@ IsFreshOrUnshown p = (p.fresh ≡ true) ⊎ (p.ssts_det ≢ 3)
 abbrev pub IsUnfitOrForeign : Ports → Port → Type 0
 IsUnfitOrForeign ports port = (ports.state port ≡ Foreign) ⊎ ((cause : ℕ) × (ports.state port ≡ Unfit cause))
 
--- A service in which no disk of a served port comes boots what is there, unless the port ends dead: an absent port that shows a device, unless a disk of it goes in the call;
--- and an unfit or foreign one with X set, unless it ends absent. One of these without a device ends absent, or dead. Where the link was reset so, the disk's first FIS has
--- come when the call ends, or no device shows.
-pub record TriesDisk (accesses : List Access) (old : Instant Device) (ports : Ports) (new : Device) (port : Port) : Type 0 where
+-- A service in which no disk of a served port comes boots what is there, unless the port ends dead: an absent port that
+-- shows a device, unless a disk of it goes in the call; and an unfit or foreign one with X set, unless it ends absent.
+-- One of these without a device ends absent, or dead. Where the link was reset so, the disk's first FIS has come when
+-- the call ends, or no device shows.
+pub record TriesDisk (accesses : List Access) (old : Instant Device) (ports : Ports) (new : Device)
+    (port : Port) : Type 0 where
   pub shown : old.moment.ports.state port ≡ Absent → (old.device.port port.0).ssts_det ≡ 3
       → (ports.state port ≡ Dead) ⊎ (ResetsLink port accesses ⊎ Gains (IsPlugging port.0) old.device new)
-  pub absent : old.moment.ports.state port ≡ Absent → (old.device.port port.0).ssts_det ≡ 3 → (old.device.port port.0).fresh ≡ false
-      → (ports.state port ≡ Dead) ⊎ IsFreshOrUnshown (new.port port.0)
+  pub absent : old.moment.ports.state port ≡ Absent → (old.device.port port.0).ssts_det ≡ 3
+      → (old.device.port port.0).fresh ≡ false → (ports.state port ≡ Dead) ⊎ IsFreshOrUnshown (new.port port.0)
   pub missing : IsUnfitOrForeign old.moment.ports port → (old.device.port port.0).ssts_det ≢ 3
       → (ports.state port ≡ Absent) ⊎ (ports.state port ≡ Dead)
   pub changed : IsUnfitOrForeign old.moment.ports port → (old.device.port port.0).serr_x ≡ true
@@ -189,8 +197,9 @@ Tries ask accesses old ports new port = Unit {0}
 
 -- ---- boots are made anew
 
--- A reset that ends boots each served port, unless that gets stuck; so does a tick with each that is hung; and a service with each ready one that
--- showed a fatal error when the call began or has lost its disk, and with each that it shows anew, but as absent or dead.
+-- A reset that ends boots each served port, unless that gets stuck; so does a tick with each that is hung; and a
+-- service with each ready one that showed a fatal error when the call began or has lost its disk, and with each that it
+-- shows anew, but as absent or dead.
 abbrev pub BootsAnew : Ask DeviceStep → Said → List Access → Instant Device → Ports → Device → Port → Type 0
 BootsAnew Reset (WasReset (Some replies)) accesses old ports new port =
     old.moment.ports.served port ≡ true → (ports.state port ≡ Dead) ⊎ ResetsLink port accesses
@@ -205,33 +214,42 @@ BootsAnew ask said accesses old ports new port = Unit {0}
 
 -- ---- trouble is heeded, or shown still
 
--- Errors of a ready port, and changes of a served one that isn't dead, which were there when the call began, or came in it, are shown still at its
--- end, unless it stopped the port (or its engine got stuck). Whatever it did, on a port that is ready after it there is shown what came since ST was last
--- set: a fault, a fatal error, and a disk that went or came.
-pub record LosesNoTrouble (evidence : Evidence) (old : Instant Device) (ports : Ports) (new : Device) (port : Port) : Type 0 where
+-- Errors of a ready port, and changes of a served one that isn't dead, which were there when the call began, or came in
+-- it, are shown still at its end, unless it stopped the port (or its engine got stuck). Whatever it did, on a port that
+-- is ready after it there is shown what came since ST was last set: a fault, a fatal error, and a disk that went or
+-- came.
+pub record LosesNoTrouble (evidence : Evidence) (old : Instant Device) (ports : Ports) (new : Device)
+    (port : Port) : Type 0 where
   pub errors : old.moment.ports.state port ≡ Ready
-      → ShowsFailure (old.device.port port.0) ⊎ (Gains (IsFaultOf port.0) old.device new ⊎ Gains (IsFatalOf port.0) old.device new)
+      → ShowsFailure (old.device.port port.0)
+      ⊎ (Gains (IsFaultOf port.0) old.device new ⊎ Gains (IsFatalOf port.0) old.device new)
       → IsInterrupted evidence port ⊎ ShowsFailure (new.port port.0)
-  pub changes : TendsPort old.moment.ports port → ShowsChange (old.device.port port.0) ⊎ Gains (IsPlugging port.0) old.device new
+  pub changes : TendsPort old.moment.ports port → ShowsChange (old.device.port port.0)
+      ⊎ Gains (IsPlugging port.0) old.device new
       → IsInterrupted evidence port ⊎ ShowsChange (new.port port.0)
-  pub fault : ports.state port ≡ Ready → GainsRunning (IsFaultOf port.0) port.0 old.device new → (new.port port.0).is 30 ≡ true
-  pub fatal : ports.state port ≡ Ready → GainsRunning (IsFatalOf port.0) port.0 old.device new → ShowsFatal (new.port port.0)
-  pub disk : ports.state port ≡ Ready → GainsRunning (IsPlugging port.0) port.0 old.device new → (new.port port.0).serr_n ≡ true
+  pub fault : ports.state port ≡ Ready → GainsRunning (IsFaultOf port.0) port.0 old.device new
+      → (new.port port.0).is 30 ≡ true
+  pub fatal : ports.state port ≡ Ready → GainsRunning (IsFatalOf port.0) port.0 old.device new
+      → ShowsFatal (new.port port.0)
+  pub disk : ports.state port ≡ Ready → GainsRunning (IsPlugging port.0) port.0 old.device new
+      → (new.port port.0).serr_n ≡ true
 
--- Where a port was stopped and is ready after the call, its boot or its recovery has taken the trouble away, what came meanwhile too: it runs well, if
--- no disk went or came in the call, and no fault and no fatal error came since ST was last set; and if its link was reset, as a boot does, or its disk's first FIS had
--- come when the call began.
+-- Where a port was stopped and is ready after the call, its boot or its recovery has taken the trouble away, what came
+-- meanwhile too: it runs well, if no disk went or came in the call, and no fault and no fatal error came since ST was
+-- last set; and if its link was reset, as a boot does, or its disk's first FIS had come when the call began.
 abbrev pub RunsWellAnew : Evidence → List Access → Instant Device → Ports → Device → Port → Type 0
 RunsWellAnew evidence accesses old ports new port =
     IsInterrupted evidence port → ports.state port ≡ Ready → PlugsNone port.0 old.device new
-    → (GainsRunning (IsFaultOf port.0) port.0 old.device new → ⊥) → (GainsRunning (IsFatalOf port.0) port.0 old.device new → ⊥)
-    → ResetsLink port accesses ⊎ ((old.device.port port.0).fresh ≡ true) → RunsWell (new.port port.0)
+    → (GainsRunning (IsFaultOf port.0) port.0 old.device new → ⊥)
+    → (GainsRunning (IsFatalOf port.0) port.0 old.device new → ⊥) → ResetsLink port accesses
+    ⊎ ((old.device.port port.0).fresh ≡ true) → RunsWell (new.port port.0)
 
 -- ---- one port's part in a call, and the whole
 
--- What a call has done of a port, as far as it needs the device: what was found done, a plain request's fault, a disk that is there, boots, and
--- trouble. (That the call heeds what it finds of it, `Happens` has.)
-pub record TiesPort (old : Instant Device) (h : Happening Device DeviceStep) (accesses : List Access) (port : Port) : Type 0 where
+-- What a call has done of a port, as far as it needs the device: what was found done, a plain request's fault, a disk
+-- that is there, boots, and trouble. (That the call heeds what it finds of it, `Happens` has.)
+pub record TiesPort (old : Instant Device) (h : Happening Device DeviceStep) (accesses : List Access)
+    (port : Port) : Type 0 where
   pub finds : FindsIn h.event.ask accesses old h.event.steps port
   pub faults : TellsPlainFaults h.event.ask old h.event.ports h.device h.event.steps port
   pub tries : Tries h.event.ask accesses old h.event.ports h.device port
@@ -239,18 +257,21 @@ pub record TiesPort (old : Instant Device) (h : Happening Device DeviceStep) (ac
   pub trouble : LosesNoTrouble h.event.evidence old h.event.ports h.device port
   pub well : RunsWellAnew h.event.evidence accesses old h.event.ports h.device port
 
--- The device's part in a call. Its accesses led there, and the tape backs the machine's steps. What stands behind the evidence is so. It has
--- issued what is due. Of each port it has done its part. And after it there holds what holds at each instant.
+-- The device's part in a call. Its accesses led there, and the tape backs the machine's steps. What stands behind the
+-- evidence is so. It has issued what is due. Of each port it has done its part. And after it there holds what holds at
+-- each instant.
 pub record Ties (wanted : List Wanted) (old : Instant Device) (h : Happening Device DeviceStep) : Type 0 where
   pub accesses : List Access
   pub came : CameBy old.moment h.event.ask h.event.said accesses old.device h.device
   pub backed : IsBacked old.device h.device old.moment.machine h.event.steps
   pub evidenced : IsEvidenced h.event.ask h.event.said accesses old h.event.ports h.device h.event.evidence
-  pub issues : (port : Port) → Issues h.event.ask h.event.steps (moment_after old.moment h.event).machine h.event.ports port
+  pub issues : (port : Port) → Issues h.event.ask h.event.steps (moment_after old.moment h.event).machine h.event.ports
+      port
   pub port : (port : Port) → TiesPort old h accesses port
   pub holds : HoldsAt wanted (record { device = h.device; moment = moment_after old.moment h.event })
 
--- What a new server leaves is what holds at each instant, with the adapter on. (Its book is empty, since the machine is a start.)
+-- What a new server leaves is what holds at each instant, with the adapter on. (Its book is empty, since the machine is
+-- a start.)
 abbrev pub Begins : List Wanted → Instant Device → Type 0
 Begins wanted first = HoldsAt wanted first × IsOnAndTells first.device
 

@@ -29,8 +29,8 @@ use Rattle.port_control.specs.Ports.{programmed}
 
 -- ---- a ready port
 
--- How a port takes commands with this disk: queued where adapter and disk both do, and then in as many slots as adapter, disk and the tag's
--- 32 values allow; else one at a time (CAP: AHCI 1.3.1, 3.1.1).
+-- How a port takes commands with this disk: queued where adapter and disk both do, and then in as many slots as
+-- adapter, disk and the tag's 32 values allow; else one at a time (CAP: AHCI 1.3.1, 3.1.1).
 abbrev pub mode_of : ℕ → DiskInfo → Mode
 mode_of cap info =
     if bit cap 30 && info.ncq
@@ -44,9 +44,9 @@ pub record ShowsDiskInfo (ports : Ports) (port : Port) (cap : ℕ) (info : DiskI
   pub trims : ports.trims port ≡ info.trim
   pub mode : ports.mode port ≡ mode_of cap info
 
--- The engine of a port runs, with its command list and its received FIS area in their places; a device was seen since PxSCTL was written (the
--- count of PxSSTS stays at 64 from then on, whatever is read later); the record of its faults since ST was set is kept; and no link is due.
--- (Whether the device goes well, or is there still, is no part of it.)
+-- The engine of a port runs, with its command list and its received FIS area in their places; a device was seen since
+-- PxSCTL was written (the count of PxSSTS stays at 64 from then on, whatever is read later); the record of its faults
+-- since ST was set is kept; and no link is due. (Whether the device goes well, or is there still, is no part of it.)
 pub record Runs (port : ℕ) (d : Device) : Type 0 where
   pub st : (d.port port).st ≡ true
   pub cr : (d.port port).cr ≡ true
@@ -71,13 +71,14 @@ pub record IsOfKind (mode : Mode) (d : Device) (port slot : ℕ) (e : Pending) :
   pub told : Told d.memory (d.port port).bases.clb port slot command places
   pub kind : is_queued command.operation ≡ not (is_plain mode e.request.asked.op)
 
--- What the driver has in the slots of a port that runs: clients' requests alone, in usable slots, by commands of their kind (of one that has
--- ended nobody asks); a plain one is in slot 0, and alone. No request is parked.
+-- What the driver has in the slots of a port that runs: clients' requests alone, in usable slots, by commands of their
+-- kind (of one that has ended nobody asks); a plain one is in slot 0, and alone. No request is parked.
 pub record HasRequests (s : InSlots) (i : Instant Device) (port : Port) (mode : Mode) : Type 0 where
   pub clients : (slot : ℕ) → IsClients (s.uses port.0 slot)
   pub low : (slot : ℕ) → mode.usable ≤ slot → s.uses port.0 slot ≡ Free
   pub unparked : s.parked port.0 ≡ []
-  pub kinds : (slot : ℕ) (e : Pending) → ServesIn s i port slot e → e.ended ≡ false → IsOfKind mode i.device port.0 slot e
+  pub kinds : (slot : ℕ) (e : Pending) → ServesIn s i port slot e → e.ended ≡ false
+      → IsOfKind mode i.device port.0 slot e
   pub alone : (slot : ℕ) (e : Pending) → ServesIn s i port slot e → is_plain mode e.request.asked.op ≡ true
       → (slot ≡ 0) × ((other : ℕ) → other ≢ 0 → s.uses port.0 other ≡ Free)
 
@@ -90,8 +91,8 @@ pub record HasNothing (s : InSlots) (port : ℕ) : Type 0 where
 abbrev pub NoneWaits : Machine → Port → Type 0
 NoneWaits m port = (e : Pending) → Contains m.book e → e.request.port ≢ port
 
--- A ready port runs, and its disk's last page, which came after PxSCTL was last written, says what clients are told. Clients' requests are in
--- its slots, and no request is kept.
+-- A ready port runs, and its disk's last page, which came after PxSCTL was last written, says what clients are told.
+-- Clients' requests are in its slots, and no request is kept.
 pub record IsReadyAt (wanted : Wanted) (s : InSlots) (i : Instant Device) (port : Port) : Type 0 where
   pub on : IsOn i.device
   pub runs : Runs port.0 i.device
@@ -103,9 +104,10 @@ pub record IsReadyAt (wanted : Wanted) (s : InSlots) (i : Instant Device) (port 
 
 -- ---- the other states
 
--- An absent, unfit or foreign port is stopped, with nothing in its slots, and what was read last, or its disk's last page, says why. In one with a
--- disk a device shows, or none is in. Nobody waits for it, and no request is kept.
-pub record IsStoppedAt (wanted : Wanted) (s : InSlots) (i : Instant Device) (port : Port) (state : PortState) : Type 0 where
+-- An absent, unfit or foreign port is stopped, with nothing in its slots, and what was read last, or its disk's last
+-- page, says why. In one with a disk a device shows, or none is in. Nobody waits for it, and no request is kept.
+pub record IsStoppedAt (wanted : Wanted) (s : InSlots) (i : Instant Device) (port : Port)
+    (state : PortState) : Type 0 where
   pub on : IsOn i.device
   pub ends : EndsAs (serial_of wanted) state port.0 i.device
   pub shown : FoundBadDisk state → HasDeviceOrNone (i.device.port port.0)
@@ -113,8 +115,8 @@ pub record IsStoppedAt (wanted : Wanted) (s : InSlots) (i : Instant Device) (por
   pub waits : NoneWaits i.moment.machine port
   pub kept : NoneKept i.moment.machine port
 
--- A dead port: its engine was awaited in vain; or the adapter isn't on, since its last reset wasn't seen to end. Nobody waits for it, but
--- between such a reset and the service that tells it.
+-- A dead port: its engine was awaited in vain; or the adapter isn't on, since its last reset wasn't seen to end. Nobody
+-- waits for it, but between such a reset and the service that tells it.
 pub record IsDeadAt (wanted : Wanted) (i : Instant Device) (port : Port) : Type 0 where
   pub why : EndsAs (serial_of wanted) Dead port.0 i.device ⊎ (IsOn i.device → ⊥)
   pub waits : IsOn i.device → NoneWaits i.moment.machine port
@@ -138,11 +140,12 @@ HoldsOf wanted s i port true (Unfit cause) = IsStoppedAt wanted s i port (Unfit 
 
 -- ---- an instant
 
--- What holds at each instant of a history, of the device, the ports as clients see them, the machine, and what the driver has in its slots. (A
--- server has ports 0 to 3.)
+-- What holds at each instant of a history, of the device, the ports as clients see them, the machine, and what the
+-- driver has in its slots. (A server has ports 0 to 3.)
 pub record HoldsWith (wanted : List Wanted) (s : InSlots) (i : Instant Device) : Type 0 where
   pub knows : Knows i.moment.machine (at s i.device)
-  pub served : (port : Port) → port.0 < 4 → (i.moment.ports.served port ≡ true) ↔ IsServed (wanted_of wanted port.0) port.0 i.device
+  pub served : (port : Port) → port.0 < 4 → (i.moment.ports.served port ≡ true)
+      ↔ IsServed (wanted_of wanted port.0) port.0 i.device
   pub on : IsOn i.device ⊎ ((port : Port) → i.moment.ports.served port ≡ true → i.moment.ports.state port ≡ Dead)
   pub port : (port : Port) → port.0 < 4
       → HoldsOf (wanted_of wanted port.0) s i port (i.moment.ports.served port) (i.moment.ports.state port)

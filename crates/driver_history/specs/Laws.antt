@@ -21,49 +21,88 @@ use Rattle.port_boot.specs.States.{RunsOn}
 use Rattle.port_control.specs.Engines.{Falls, Sticks}
 
 pub record Laws : Type 0 where
-  pub left : (port : Port) (q : ℕ) (old new : Device) → q ≢ port.0 → IsOn old → IsDrivenBy (IsOf port) old new → LeavesPort (old.port q) (new.port q)
+  pub left : (port : Port) (q : ℕ) (old new : Device) → q ≢ port.0 → IsOn old → IsDrivenBy (IsOf port) old new
+      → LeavesPort (old.port q) (new.port q)
   pub left_none : (p : PortState) → LeavesPort p p
   pub left_more : (old mid new : PortState) → LeavesPort old mid → LeavesPort mid new → LeavesPort old new
-  pub spares : (port q : Port) (r : PortReg) → q.0 ≢ port.0 → (access : Access) → IsOf port access → SparesRegister (Px q r) access
+  pub spares : (port q : Port) (r : PortReg) → q.0 ≢ port.0 → (access : Access) → IsOf port access
+      → SparesRegister (Px q r) access
   pub on : (port : Port) (old new : Device) → IsOn old → IsDrivenBy (IsOf port) old new → IsOn new
   pub grows_none : (d : Device) → Grows d d
   pub grows_access : (access : Access) (old new : Device) → Does access old new → Grows old new
   pub grows_more : (old mid new : Device) → Grows old mid → Grows mid new → Grows old new
-  pub disks : (port : Port) (access : Access) (old new : Device) → old.hr ≡ false → (old.port port.0).link_due ≡ false → Does access old new → ChangesByDisks port.0 old new
+  pub disks : (port : Port) (access : Access) (old new : Device) → old.hr ≡ false → (old.port port.0).link_due ≡ false
+      → Does access old new → ChangesByDisks port.0 old new
   pub disks_none : (port : ℕ) (d : Device) → ChangesByDisks port d d
-  pub disks_more : (port : ℕ) (old mid new : Device) → Grows old mid → Grows mid new → ChangesByDisks port old mid → ChangesByDisks port mid new → ChangesByDisks port old new
-  pub undue : (port : Port) (access : Access) (old new : Device) → old.hr ≡ false → (old.port port.0).link_due ≡ false → SparesRegister (Px port Sctl) access → Does access old new → (new.port port.0).link_due ≡ false
+  pub disks_more : (port : ℕ) (old mid new : Device) → Grows old mid → Grows mid new → ChangesByDisks port old mid
+      → ChangesByDisks port mid new → ChangesByDisks port old new
+  pub undue : (port : Port) (access : Access) (old new : Device) → old.hr ≡ false → (old.port port.0).link_due ≡ false
+      → SparesRegister (Px port Sctl) access → Does access old new → (new.port port.0).link_due ≡ false
   pub errors : (port : Port) (access : Access) (old new : Device) → Does access old new → ChangesByErrors port.0 old new
-  pub fatal_parts : (port : ℕ) (old mid new : Device) (early late : List Entry) → mid.tape ≡ old.tape ++ early → new.tape ≡ mid.tape ++ late → NoneFatal port old new → NoneFatal port old mid × NoneFatal port mid new
-  pub fails_parts : (port : ℕ) (old mid new : Device) (early late : List Entry) → mid.tape ≡ old.tape ++ early → new.tape ≡ mid.tape ++ late → NoneFails port old new → NoneFails port old mid × NoneFails port mid new
-  pub comes_parts : (port : ℕ) (old mid new : Device) (early late : List Entry) → mid.tape ≡ old.tape ++ early → new.tape ≡ mid.tape ++ late → NoneComes port old new → NoneComes port old mid × NoneComes port mid new
-  pub plugs_parts : (port : ℕ) (old mid new : Device) (early late : List Entry) → mid.tape ≡ old.tape ++ early → new.tape ≡ mid.tape ++ late → PlugsNone port old new → PlugsNone port old mid × PlugsNone port mid new
+  pub fatal_parts : (port : ℕ) (old mid new : Device) (early late : List Entry) → mid.tape ≡ old.tape ++ early
+      → new.tape ≡ mid.tape ++ late → NoneFatal port old new → NoneFatal port old mid × NoneFatal port mid new
+  pub fails_parts : (port : ℕ) (old mid new : Device) (early late : List Entry) → mid.tape ≡ old.tape ++ early
+      → new.tape ≡ mid.tape ++ late → NoneFails port old new → NoneFails port old mid × NoneFails port mid new
+  pub comes_parts : (port : ℕ) (old mid new : Device) (early late : List Entry) → mid.tape ≡ old.tape ++ early
+      → new.tape ≡ mid.tape ++ late → NoneComes port old new → NoneComes port old mid × NoneComes port mid new
+  pub plugs_parts : (port : ℕ) (old mid new : Device) (early late : List Entry) → mid.tape ≡ old.tape ++ early
+      → new.tape ≡ mid.tape ++ late → PlugsNone port old new → PlugsNone port old mid × PlugsNone port mid new
   pub plugs_come : (port : ℕ) (old new : Device) → PlugsNone port old new → NoneComes port old new
-  pub link : (port : Port) (access : Access) (old new : Device) → old.hr ≡ false → SparesRegister (Px port Sctl) access → Does access old new → PlugsNone port.0 old new → LeavesLink (old.port port.0) (new.port port.0)
-  pub falls_then : (early late : List Access) (start running : ℕ) (port : Port) → Falls start running port early → Falls start running port (early ++ late)
-  pub falls_since : (early late : List Access) (start running : ℕ) (port : Port) → Falls start running port late → Falls start running port (early ++ late)
+  pub link : (port : Port) (access : Access) (old new : Device) → old.hr ≡ false → SparesRegister (Px port Sctl) access
+      → Does access old new → PlugsNone port.0 old new → LeavesLink (old.port port.0) (new.port port.0)
+  pub falls_then : (early late : List Access) (start running : ℕ) (port : Port) → Falls start running port early
+      → Falls start running port (early ++ late)
+  pub falls_since : (early late : List Access) (start running : ℕ) (port : Port) → Falls start running port late
+      → Falls start running port (early ++ late)
   pub sticks_then : (early late : List Access) (port : Port) → Sticks port early → Sticks port (early ++ late)
   pub sticks_since : (early late : List Access) (port : Port) → Sticks port late → Sticks port (early ++ late)
-  pub does_append : (early late : List Access) (old mid new : Device) → DoesAll early old mid → DoesAll late mid new → DoesAll (early ++ late) old new
+  pub does_append : (early late : List Access) (old mid new : Device) → DoesAll early old mid → DoesAll late mid new
+      → DoesAll (early ++ late) old new
   pub steps : (old new : Device) → Steps old new → Keeps old new
-  pub on_all : (accesses : List Access) (old new : Device) → IsOn old → All (SparesRegister Ghc) accesses → DoesAll accesses old new → IsOn new
+  pub on_all : (accesses : List Access) (old new : Device) → IsOn old → All (SparesRegister Ghc) accesses
+      → DoesAll accesses old new → IsOn new
   pub spares_host : (port : Port) (access : Access) → IsOf port access → SparesRegister Ghc access
-  pub faults_steps : (port : ℕ) (old new : Device) → old.hr ≡ false → Steps old new → (new.port port).is 30 ≡ false → ((old.port port).is 30 ≡ false) × NoneFails port old new
-  pub faults_access : (port : Port) (access : Access) (old new : Device) → old.hr ≡ false → SparesRegister (Px port Is) access → Does access old new → (new.port port.0).is 30 ≡ false → ((old.port port.0).is 30 ≡ false) × NoneFails port.0 old new
-  pub fatals_steps : (port : ℕ) (old new : Device) → old.hr ≡ false → Steps old new → ((place : ℕ) → 27 ≤ place → place ≤ 29 → (new.port port).is place ≡ false) → ((place : ℕ) → 27 ≤ place → place ≤ 29 → (old.port port).is place ≡ false) × NoneFatal port old new
-  pub fatals_access : (port : Port) (access : Access) (old new : Device) → old.hr ≡ false → SparesRegister (Px port Is) access → Does access old new → ((place : ℕ) → 27 ≤ place → place ≤ 29 → (new.port port.0).is place ≡ false) → ((place : ℕ) → 27 ≤ place → place ≤ 29 → (old.port port.0).is place ≡ false) × NoneFatal port.0 old new
-  pub disks_steps : (port : ℕ) (old new : Device) → old.hr ≡ false → Steps old new → (new.port port).serr_n ≡ false → ((old.port port).serr_n ≡ false) × PlugsNone port old new
-  pub disks_access : (port : Port) (access : Access) (old new : Device) → old.hr ≡ false → SparesRegister (Px port Serr) access → Does access old new → (new.port port.0).serr_n ≡ false → ((old.port port.0).serr_n ≡ false) × PlugsNone port.0 old new
-  pub changes_steps : (port : ℕ) (old new : Device) → old.hr ≡ false → Steps old new → KeepsErrors (old.port port) (new.port port)
-  pub changes_access : (port : Port) (access : Access) (old new : Device) → old.hr ≡ false → SparesRegister (Px port Serr) access → Does access old new
-      → ((old.port port.0).serr_n ≡ true → (new.port port.0).serr_n ≡ true) × ((old.port port.0).serr_x ≡ true → (new.port port.0).serr_x ≡ true)
+  pub faults_steps : (port : ℕ) (old new : Device) → old.hr ≡ false → Steps old new → (new.port port).is 30 ≡ false
+      → ((old.port port).is 30 ≡ false) × NoneFails port old new
+  pub faults_access : (port : Port) (access : Access) (old new : Device) → old.hr ≡ false
+      → SparesRegister (Px port Is) access → Does access old new → (new.port port.0).is 30 ≡ false
+      → ((old.port port.0).is 30 ≡ false) × NoneFails port.0 old new
+  pub fatals_steps : (port : ℕ) (old new : Device) → old.hr ≡ false → Steps old new
+      → ((place : ℕ) → 27 ≤ place → place ≤ 29 → (new.port port).is place ≡ false)
+      → ((place : ℕ) → 27 ≤ place → place ≤ 29 → (old.port port).is place ≡ false) × NoneFatal port old new
+  pub fatals_access : (port : Port) (access : Access) (old new : Device) → old.hr ≡ false
+      → SparesRegister (Px port Is) access → Does access old new
+      → ((place : ℕ) → 27 ≤ place → place ≤ 29 → (new.port port.0).is place ≡ false)
+      → ((place : ℕ) → 27 ≤ place → place ≤ 29 → (old.port port.0).is place ≡ false) × NoneFatal port.0 old new
+  pub disks_steps : (port : ℕ) (old new : Device) → old.hr ≡ false → Steps old new → (new.port port).serr_n ≡ false
+      → ((old.port port).serr_n ≡ false) × PlugsNone port old new
+  pub disks_access : (port : Port) (access : Access) (old new : Device) → old.hr ≡ false
+      → SparesRegister (Px port Serr) access → Does access old new → (new.port port.0).serr_n ≡ false
+      → ((old.port port.0).serr_n ≡ false) × PlugsNone port.0 old new
+  pub changes_steps : (port : ℕ) (old new : Device) → old.hr ≡ false → Steps old new
+      → KeepsErrors (old.port port) (new.port port)
+  pub changes_access : (port : Port) (access : Access) (old new : Device) → old.hr ≡ false
+      → SparesRegister (Px port Serr) access → Does access old new
+      → ((old.port port.0).serr_n ≡ true → (new.port port.0).serr_n ≡ true)
+      × ((old.port port.0).serr_x ≡ true → (new.port port.0).serr_x ≡ true)
   pub fatal_unless : (p : PortState) → (((place : ℕ) → 27 ≤ place → place ≤ 29 → p.is place ≡ false) → ⊥) → ShowsFatal p
-  pub controls : (port : Port) (access : Access) (old new : Device) → old.hr ≡ false → Does access old new → LeavesControls access port (old.port port.0) (new.port port.0)
-  pub command : (port : Port) (v : ℕ) (old new : Device) → Writes (Px port Cmd) v old new → ((new.port port.0).st ≡ bit v 0) × ((new.port port.0).fre ≡ bit v 4)
-  pub control_set : (port : Port) (v : ℕ) (old new : Device) → Writes (Px port Sctl) v old new → ((new.port port.0).sctl_det ≡ v % 16) × ((new.port port.0).notes.sctl_written_at ≡ length new.tape)
-  pub start : (port : Port) (v : ℕ) (old new : Device) → (old.port port.0).st ≡ false → bit v 0 ≡ true → Writes (Px port Cmd) v old new → ((new.port port.0).cr ≡ true) × ((new.port port.0).notes.st_set_at ≡ length new.tape)
-  pub calm_parts : (port : ℕ) (old mid new : Device) (early late : List Entry) → mid.tape ≡ old.tape ++ early → new.tape ≡ mid.tape ++ late → Undisturbed port old new → Undisturbed port old mid × Undisturbed port mid new
-  pub vacant : (port : Port) (access : Access) (old new : Device) → NoneComes port.0 old new → Does access old new → IsVacant (old.port port.0) → IsVacant (new.port port.0)
-  pub fresh : (port : Port) (access : Access) (old new : Device) → NoneComes port.0 old new → Does access old new → IsFreshIfShown (old.port port.0) → IsFreshIfShown (new.port port.0)
-  pub runs : (port : Port) (accesses : List Access) (old new : Device) → IsOn old → DoesAll accesses old new → All (SparesRegister Ghc) accesses → All (SparesRegister (Px port Sctl)) accesses → All (SparesRegister (Px port Cmd)) accesses → RunsOn port.0 old new
-  pub well : (port : ℕ) (old new : Device) → RunsOn port old new → Undisturbed port old new → RunsWell (old.port port) → RunsWell (new.port port)
+  pub controls : (port : Port) (access : Access) (old new : Device) → old.hr ≡ false → Does access old new
+      → LeavesControls access port (old.port port.0) (new.port port.0)
+  pub command : (port : Port) (v : ℕ) (old new : Device) → Writes (Px port Cmd) v old new
+      → ((new.port port.0).st ≡ bit v 0) × ((new.port port.0).fre ≡ bit v 4)
+  pub control_set : (port : Port) (v : ℕ) (old new : Device) → Writes (Px port Sctl) v old new
+      → ((new.port port.0).sctl_det ≡ v % 16) × ((new.port port.0).notes.sctl_written_at ≡ length new.tape)
+  pub start : (port : Port) (v : ℕ) (old new : Device) → (old.port port.0).st ≡ false → bit v 0 ≡ true
+      → Writes (Px port Cmd) v old new → ((new.port port.0).cr ≡ true)
+      × ((new.port port.0).notes.st_set_at ≡ length new.tape)
+  pub calm_parts : (port : ℕ) (old mid new : Device) (early late : List Entry) → mid.tape ≡ old.tape ++ early
+      → new.tape ≡ mid.tape ++ late → Undisturbed port old new → Undisturbed port old mid × Undisturbed port mid new
+  pub vacant : (port : Port) (access : Access) (old new : Device) → NoneComes port.0 old new → Does access old new
+      → IsVacant (old.port port.0) → IsVacant (new.port port.0)
+  pub fresh : (port : Port) (access : Access) (old new : Device) → NoneComes port.0 old new → Does access old new
+      → IsFreshIfShown (old.port port.0) → IsFreshIfShown (new.port port.0)
+  pub runs : (port : Port) (accesses : List Access) (old new : Device) → IsOn old → DoesAll accesses old new
+      → All (SparesRegister Ghc) accesses → All (SparesRegister (Px port Sctl)) accesses
+      → All (SparesRegister (Px port Cmd)) accesses → RunsOn port.0 old new
+  pub well : (port : ℕ) (old new : Device) → RunsOn port old new → Undisturbed port old new → RunsWell (old.port port)
+      → RunsWell (new.port port)

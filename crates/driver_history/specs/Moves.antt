@@ -15,9 +15,9 @@ use Rattle.block_machine.specs.Left.{after}
 use Rattle.block_machine.specs.State.{Machine}
 use Rattle.block_machine.specs.Steps.{Step}
 
--- Among a call's steps, the newest first, which followed these earlier ones of the run, the move is a touch. At that moment it goes between
--- a sector of a request that is issued or kept and that sector's place in a frame that is lent to the request, in the direction of its
--- operation; and the request was accepted, when it broke no rule.
+-- Among a call's steps, the newest first, which followed these earlier ones of the run, the move is a touch. At that
+-- moment it goes between a sector of a request that is issued or kept and that sector's place in a frame that is lent
+-- to the request, in the direction of its operation; and the request was accepted, when it broke no rule.
 pub record IsConfinedMove (start : Machine) (earlier steps : List Step) (op : Op) (move : tape_move.Move) : Type 0 where
   pub later : List Step
   pub step : Step
@@ -26,15 +26,16 @@ pub record IsConfinedMove (start : Machine) (earlier steps : List Step) (op : Op
   pub touch : IsTouch (after start (before ++ earlier)) op move (step ∷ [])
   pub confined : IsConfined start (before ++ earlier) touch.pending.request touch.number
 
--- A move by a read or a write of a client's is confined; any other, of a page or of a trim's block, goes to the scratch frame of its port
--- or comes from there.
+-- A move by a read or a write of a client's is confined; any other, of a page or of a trim's block, goes to the scratch
+-- frame of its port or comes from there.
 abbrev pub KeepsTo : Option Op → Machine → List Step → List Step → tape_move.Move → Type 0
 KeepsTo (Some Read) start earlier steps move = IsConfinedMove start earlier steps Read move
 KeepsTo (Some Write) start earlier steps move = IsConfinedMove start earlier steps Write move
 KeepsTo other start earlier steps move = move.address ≡ scratch_of move.port.0
 
--- Among a call's steps, which followed these earlier ones, the clear is of touches in a row. Before the first of them, its sectors are of a trim of its
--- port that is issued or kept, within the trim's own range; and the trim was accepted, when it broke no rule.
+-- Among a call's steps, which followed these earlier ones, the clear is of touches in a row. Before the first of them,
+-- its sectors are of a trim of its port that is issued or kept, within the trim's own range; and the trim was accepted,
+-- when it broke no rule.
 pub record IsConfinedClear (start : Machine) (earlier steps : List Step) (clear : tape_clear.Clear) : Type 0 where
   pub later : List Step
   pub touches : List Step
@@ -43,9 +44,12 @@ pub record IsConfinedClear (start : Machine) (earlier steps : List Step) (clear 
   pub clears : IsClear (after start (before ++ earlier)) clear touches
   pub accepted : WasAccepted start (before ++ earlier) clears.pending.request
 
--- The moves and clears that the tape has gained in a call of these steps, after these earlier ones, keep to their places.
+-- The moves and clears that the tape has gained in a call of these steps, after these earlier ones, keep to their
+-- places.
 pub record KeepsMoves (start : Machine) (earlier steps : List Step) (old new : Device) : Type 0 where
   pub gained : List Entry
   pub tape : new.tape ≡ old.tape ++ gained
-  pub moves : (move : tape_move.Move) → Contains gained (entry.Move move) → KeepsTo (op_of move.operation) start earlier steps move
-  pub clears : (clear : tape_clear.Clear) → Contains gained (entry.Clear clear) → IsConfinedClear start earlier steps clear
+  pub moves : (move : tape_move.Move) → Contains gained (entry.Move move)
+      → KeepsTo (op_of move.operation) start earlier steps move
+  pub clears : (clear : tape_clear.Clear) → Contains gained (entry.Clear clear)
+      → IsConfinedClear start earlier steps clear

@@ -14,7 +14,8 @@ use Rattle.driver_history.specs.Histories.{IsUnfitOrForeign}
 abbrev pub IsOfOther : Port → Access → Type 0
 IsOfOther port access = (other : Port) × (port.0 ≢ other.0) × IsOf other access
 
--- A call's accesses are those before the port's turn, those of the turn, and those after it. But for the turn's, they are of other ports.
+-- A call's accesses are those before the port's turn, those of the turn, and those after it. But for the turn's, they
+-- are of other ports.
 pub record HasTurnIn (port : Port) (old new : Device) : Type 0 where
   pub before : List Access
   pub turn : List Access
@@ -40,8 +41,9 @@ pub record NamesAlike (port : Port) (one other : Evidence) : Type 0 where
   pub stopped : Contains one.stopped port ↔ Contains other.stopped port
   pub stuck : Contains one.stuck port ↔ Contains other.stuck port
 
--- Where a port with a disk that isn't served showed X, and no disk of it came since, no link of it is due any more, unless it is absent or dead. (While one is
--- due, X rises when it comes up, and the tape tells of no disk.)
+-- Where a port with a disk that isn't served showed X, and no disk of it came since, no link of it is due any more,
+-- unless it is absent or dead. (While one is due, X rises when it comes up, and the tape tells of no disk.)
 abbrev pub EndsLinked : Port → Instant Device → Ports → Device → Type 0
-EndsLinked port old ports new = IsUnfitOrForeign old.moment.ports port → (old.device.port port.0).serr_x ≡ true → NoneComes port.0 old.device new
-    → (ports.state port ≡ Absent) ⊎ ((ports.state port ≡ Dead) ⊎ ((new.port port.0).link_due ≡ false))
+EndsLinked port old ports new = IsUnfitOrForeign old.moment.ports port → (old.device.port port.0).serr_x ≡ true
+    → NoneComes port.0 old.device new → (ports.state port ≡ Absent)
+    ⊎ ((ports.state port ≡ Dead) ⊎ ((new.port port.0).link_due ≡ false))

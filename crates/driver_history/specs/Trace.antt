@@ -43,21 +43,24 @@ IsServing Such access = IsDriversOwn access × SparesRegister Ghc access × IsOf
 
 -- ---- what the list shows
 
--- PxCI was read, and right after it PxSACT, at a moment when PxCMD hadn't been written: what both show is of commands that were not given up.
+-- PxCI was read, and right after it PxSACT, at a moment when PxCMD hadn't been written: what both show is of commands
+-- that were not given up.
 pub record ReadsMasks (port : Port) (ci sact : ℕ) (accesses : List Access) : Type 0 where
   pub before : List Access
   pub later : List Access
   pub here : accesses ≡ before ++ Reading (Px port Ci) ci ∷ Reading (Px port Sact) sact ∷ later
   pub running : All (LeavesCommand port) before
 
--- The port's link was reset by COMRESET: DET of PxSCTL was set to one, and then to zero, and PxSCTL wasn't written again (AHCI 1.3.1, 10.4.2).
+-- The port's link was reset by COMRESET: DET of PxSCTL was set to one, and then to zero, and PxSCTL wasn't written
+-- again (AHCI 1.3.1, 10.4.2).
 pub record ResetsLink (port : Port) (accesses : List Access) : Type 0 where
   pub before : List Access
   pub between : List Access
   pub later : List Access
   pub sending : ℕ
   pub ending : ℕ
-  pub here : accesses ≡ before ++ (Writing (Px port Sctl) sending ∷ (between ++ (Writing (Px port Sctl) ending ∷ later)))
+  pub here : accesses ≡ before
+      ++ (Writing (Px port Sctl) sending ∷ (between ++ (Writing (Px port Sctl) ending ∷ later)))
   pub sends : sending % 16 ≡ 1
   pub ends : ending % 16 ≡ 0
   pub held : All (SparesRegister (Px port Sctl)) between

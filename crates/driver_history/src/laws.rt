@@ -35,74 +35,82 @@ use agreement::facts::{frames_are_still, healthy_stays};
 use agreement::laws::disks_are_told;
 use port_boot::laws::a_port_runs_on;
 
-/// The calls of a history are a run of the block machine. So its laws on runs hold of them: each request that is
-/// issued was accepted and broke no rule, each touch is of an accepted request's own sector at a frame that is lent to it, and
+/// The calls of a history are a run of the block machine. So its laws on runs hold of them: each request that is issued
+/// was accepted and broke no rule, each touch is of an accepted request's own sector at a frame that is lent to it, and
 /// others.
 pub fn histories_are_runs()
-    ensures { (wanted : List Wanted) (first : Instant Device) (past : List (Happening Device DeviceStep)) → IsHistory wanted first past
-        → IsRun first.moment (events_of past) }
+    ensures { (wanted : List Wanted) (first : Instant Device) (past : List (Happening Device DeviceStep))
+        → IsHistory wanted first past → IsRun first.moment (events_of past) }
 {}
 
 /// The machine of a history is reached.
 pub fn histories_reach_their_machines()
-    ensures { (wanted : List Wanted) (first : Instant Device) (past : List (Happening Device DeviceStep)) → IsHistory wanted first past
-        → IsReached (now first past).moment.machine }
+    ensures { (wanted : List Wanted) (first : Instant Device) (past : List (Happening Device DeviceStep))
+        → IsHistory wanted first past → IsReached (now first past).moment.machine }
 {}
 
-/// Where the adapter's disks tell their sectors, each read of a history that was answered Ok has, at the end of the call that
-/// answered it, what was left.
+/// Where the adapter's disks tell their sectors, each read of a history that was answered Ok has, at the end of the
+/// call that answered it, what was left.
 pub fn reads_hold()
-    ensures { (wanted : List Wanted) (first : Instant Device) (past : List (Happening Device DeviceStep)) → IsHistory wanted first past
-        → first.device.telling ≡ true → EveryReadHolds first.moment (events_of past) }
+    ensures { (wanted : List Wanted) (first : Instant Device) (past : List (Happening Device DeviceStep))
+        → IsHistory wanted first past → first.device.telling ≡ true → EveryReadHolds first.moment (events_of past) }
 {}
 
-/// Each move of a client's data, of any call of a history, is of a sector of its own request's, at its place in a frame that is lent to that
-/// request then, in the direction of its operation; the request was accepted, when it broke no rule, and is issued or kept. Each other
-/// move stays in its port's scratch frame. And sectors are cleared by a trim alone that was accepted so, and is issued or kept: its own.
+/// Each move of a client's data, of any call of a history, is of a sector of its own request's, at its place in a frame
+/// that is lent to that request then, in the direction of its operation; the request was accepted, when it broke no
+/// rule, and is issued or kept. Each other move stays in its port's scratch frame. And sectors are cleared by a trim
+/// alone that was accepted so, and is issued or kept: its own.
 pub fn moves_keep_to_their_places()
-    ensures { (wanted : List Wanted) (first : Instant Device) (past : List (Happening Device DeviceStep)) (h : Happening Device DeviceStep)
+    ensures { (wanted : List Wanted) (first : Instant Device) (past : List (Happening Device DeviceStep))
+        (h : Happening Device DeviceStep)
         → IsHistory wanted first (h ∷ past)
         → KeepsMoves first.moment.machine (steps_of (events_of past)) h.event.steps (now first past).device h.device }
 {}
 
-/// At each instant of a history there holds what holds between two calls; and the ports are fit: at most four are served.
+/// At each instant of a history there holds what holds between two calls; and the ports are fit: at most four are
+/// served.
 pub fn each_instant_holds()
-    ensures holds { (wanted : List Wanted) (first : Instant Device) (past : List (Happening Device DeviceStep)) → IsHistory wanted first past
-        → HoldsAt wanted (now first past) }
-    ensures fit { (wanted : List Wanted) (first : Instant Device) (past : List (Happening Device DeviceStep)) → IsHistory wanted first past
-        → AreFit (now first past).moment.ports }
+    ensures holds { (wanted : List Wanted) (first : Instant Device) (past : List (Happening Device DeviceStep))
+        → IsHistory wanted first past → HoldsAt wanted (now first past) }
+    ensures fit { (wanted : List Wanted) (first : Instant Device) (past : List (Happening Device DeviceStep))
+        → IsHistory wanted first past → AreFit (now first past).moment.ports }
 {}
 
-/// At each instant of a history, a request that is issued on a ready port has a usable slot of that port, on which ST is one: the header and
-/// the table there say its command; and its bit of PxCI is set, or the device has taken the command, or the request has ended and the bits
-/// are clear. (Only where ST is zero may a command have been given up.)
+/// At each instant of a history, a request that is issued on a ready port has a usable slot of that port, on which ST
+/// is one: the header and the table there say its command; and its bit of PxCI is set, or the device has taken the
+/// command, or the request has ended and the bits are clear. (Only where ST is zero may a command have been given up.)
 pub fn issued_requests_have_their_slots()
     ensures { (wanted : List Wanted) (first : Instant Device) (past : List (Happening Device DeviceStep)) (e : Pending)
         → IsHistory wanted first past → (now first past).moment.ports.state e.request.port ≡ Ready
         → Contains (now first past).moment.machine.book e → e.issued ≡ true
         → (slot : ℕ) × (slot < ((now first past).moment.ports.mode e.request.port).usable)
-        × ServesRequest (now first past).moment.machine (now first past).device.memory ((now first past).device.port e.request.port.0)
+        × ServesRequest (now first past).moment.machine (now first past).device.memory
+        ((now first past).device.port e.request.port.0)
         e.request.port.0 slot e.request.id
         × (((now first past).device.port e.request.port.0).st ≡ true) }
 {}
 
-/// In a service a ready port that stays healthy is left alone: it is what it was, each answer there is Ok, and neither its PxCMD nor its PxSCTL
-/// is written.
+/// In a service a ready port that stays healthy is left alone: it is what it was, each answer there is Ok, and neither
+/// its PxCMD nor its PxSCTL is written.
 pub fn healthy_ports_are_left_alone()
-    ensures { (wanted : List Wanted) (first : Instant Device) (past : List (Happening Device DeviceStep)) (h : Happening Device DeviceStep)
-        (port : Port) → (history : IsHistory wanted first (h ∷ past)) → h.event.ask ≡ Service → (now first past).moment.ports.state port ≡ Ready
+    ensures { (wanted : List Wanted) (first : Instant Device) (past : List (Happening Device DeviceStep))
+        (h : Happening Device DeviceStep)
+        (port : Port) → (history : IsHistory wanted first (h ∷ past)) → h.event.ask ≡ Service
+        → (now first past).moment.ports.state port ≡ Ready
         → StaysHealthy port.0 (now first past).device h.device → IsSpared (now first past) h history.2.accesses port }
 {
     disks_are_told();
 }
 
-/// A port that is ready and stays healthy in a call runs well after it, unless the call is a reset, or a tick that brings a request of the port to
-/// its age of three.
+/// A port that is ready and stays healthy in a call runs well after it, unless the call is a reset, or a tick that
+/// brings a request of the port to its age of three.
 pub fn calls_leave_ports_well()
-    ensures { (wanted : List Wanted) (first : Instant Device) (past : List (Happening Device DeviceStep)) (h : Happening Device DeviceStep)
-        (port : Port) → IsHistory wanted first (h ∷ past) → (now first past).moment.ports.state port ≡ Ready → h.event.ask ≢ Reset
-        → (h.event.ask ≡ Tick → IsHung (now first past).moment port → ⊥) → StaysHealthy port.0 (now first past).device h.device
-        → RunsWell (h.device.port port.0) }
+    ensures { (wanted : List Wanted) (first : Instant Device) (past : List (Happening Device DeviceStep))
+        (h : Happening Device DeviceStep)
+        (port : Port) → IsHistory wanted first (h ∷ past) → (now first past).moment.ports.state port ≡ Ready
+        → h.event.ask ≢ Reset
+        → (h.event.ask ≡ Tick → IsHung (now first past).moment port → ⊥)
+        → StaysHealthy port.0 (now first past).device h.device → RunsWell (h.device.port port.0) }
 {
     disks_are_told();
     healthy_stays();
@@ -111,54 +119,69 @@ pub fn calls_leave_ports_well()
 
 /// Each answer of a history rests on what the device did and showed.
 pub fn answers_rest()
-    ensures { (wanted : List Wanted) (first : Instant Device) (past : List (Happening Device DeviceStep)) (h : Happening Device DeviceStep)
-        (history : IsHistory wanted first (h ∷ past)) → (e : Pending) (told : Outcome) → Contains h.event.steps (Answer e told)
+    ensures { (wanted : List Wanted) (first : Instant Device) (past : List (Happening Device DeviceStep))
+        (h : Happening Device DeviceStep)
+        (history : IsHistory wanted first (h ∷ past)) → (e : Pending) (told : Outcome)
+        → Contains h.event.steps (Answer e told)
         → AnswerRests (now first past) h history.2.accesses e told }
 {}
 
-/// A client's frame that isn't lent is one that the device uses no byte of, whatever it does next. (That holds between calls. Within one, a
-/// frame leaves a loan where its request has ended, or its port has stopped: see what each answer rests on.)
+/// A client's frame that isn't lent is one that the device uses no byte of, whatever it does next. (That holds between
+/// calls. Within one, a frame leaves a loan where its request has ended, or its port has stopped: see what each answer
+/// rests on.)
 pub fn unlent_frames_are_still()
-    ensures { (wanted : List Wanted) (first : Instant Device) (past : List (Happening Device DeviceStep)) (frame : Frame) → IsHistory wanted first past
-        → DRIVER_FRAMES ≤ frame.0 → (now first past).moment.machine.lent frame ≡ None → Stays (IsStill frame) (now first past).device }
+    ensures { (wanted : List Wanted) (first : Instant Device) (past : List (Happening Device DeviceStep))
+        (frame : Frame) → IsHistory wanted first past
+        → DRIVER_FRAMES ≤ frame.0 → (now first past).moment.machine.lent frame ≡ None
+        → Stays (IsStill frame) (now first past).device }
 {
     frames_are_still();
 }
 
-/// Unplugged is told of no request whose port had told of no change and showed a device when the call began, of which no disk went or came, and
-/// which ends the call dead, or ready with the same serial and size.
+/// Unplugged is told of no request whose port had told of no change and showed a device when the call began, of which
+/// no disk went or came, and which ends the call dead, or ready with the same serial and size.
 pub fn false_unplugged_is_refused()
-    ensures { (wanted : List Wanted) (first : Instant Device) (past : List (Happening Device DeviceStep)) (h : Happening Device DeviceStep)
-        (e : Pending) → IsHistory wanted first (h ∷ past) → (ShowsChange ((now first past).device.port e.request.port.0) → ⊥)
-        → ((now first past).device.port e.request.port.0).ssts_det ≡ 3 → PlugsNone e.request.port.0 (now first past).device h.device
-        → (h.event.ports.state e.request.port ≡ Dead) ⊎ ((h.event.ports.state e.request.port ≡ Ready)
+    ensures { (wanted : List Wanted) (first : Instant Device) (past : List (Happening Device DeviceStep))
+        (h : Happening Device DeviceStep)
+        (e : Pending) → IsHistory wanted first (h ∷ past) → (ShowsChange ((now first past).device.port e.request.port.0)
+        → ⊥)
+        → ((now first past).device.port e.request.port.0).ssts_det ≡ 3
+        → PlugsNone e.request.port.0 (now first past).device h.device → (h.event.ports.state e.request.port ≡ Dead)
+        ⊎ ((h.event.ports.state e.request.port ≡ Ready)
         × SameDisk (now first past).moment.ports h.event.ports e.request.port)
         → Contains h.event.steps (Answer e outcome.Unplugged) → ⊥ }
 {}
 
-/// A service answers each request of a ready port whose bits are clear when it begins, whether or not a command has failed there or its disk was lost.
+/// A service answers each request of a ready port whose bits are clear when it begins, whether or not a command has
+/// failed there or its disk was lost.
 pub fn seen_are_answered()
-    ensures { (wanted : List Wanted) (first : Instant Device) (past : List (Happening Device DeviceStep)) (h : Happening Device DeviceStep)
+    ensures { (wanted : List Wanted) (first : Instant Device) (past : List (Happening Device DeviceStep))
+        (h : Happening Device DeviceStep)
         (port : Port) (slot : ℕ) (id : RequestId) → IsHistory wanted first (h ∷ past) → h.event.ask ≡ Service
         → (now first past).moment.ports.state port ≡ Ready
-        → ServesRequest (now first past).moment.machine (now first past).device.memory ((now first past).device.port port.0) port.0 slot id
-        → ((now first past).device.port port.0).ci slot ≡ false → ((now first past).device.port port.0).sact slot ≡ false
+        → ServesRequest (now first past).moment.machine (now first past).device.memory
+        ((now first past).device.port port.0) port.0 slot id
+        → ((now first past).device.port port.0).ci slot ≡ false → ((now first past).device.port port.0).sact slot
+        ≡ false
         → (done : Pending) × (done.request.id ≡ id) × Contains h.event.steps (Answer done outcome.Ok) }
 {}
 
 /// A tick that brings a request of a port to its age of three leaves no unanswered request of the port its issue.
 pub fn ticks_end_issues()
-    ensures { (wanted : List Wanted) (first : Instant Device) (past : List (Happening Device DeviceStep)) (h : Happening Device DeviceStep)
+    ensures { (wanted : List Wanted) (first : Instant Device) (past : List (Happening Device DeviceStep))
+        (h : Happening Device DeviceStep)
         (port : Port) → IsHistory wanted first (h ∷ past) → h.event.ask ≡ Tick → IsHung (now first past).moment port
         → NoneKeepsIssue h.event.steps (now first (h ∷ past)).moment.machine port }
 {}
 
-/// Composition on healthy ports: each call of a history that is healthy for a port goes well for it, whatever was before. The port is left alone,
-/// with ST one, and each answer is Ok; a service answers exactly the issued requests whose bits are clear in the masks that it read; and a
-/// call issues exactly what is due.
+/// Composition on healthy ports: each call of a history that is healthy for a port goes well for it, whatever was
+/// before. The port is left alone, with ST one, and each answer is Ok; a service answers exactly the issued requests
+/// whose bits are clear in the masks that it read; and a call issues exactly what is due.
 pub fn healthy_calls_go_well()
-    ensures { (wanted : List Wanted) (first : Instant Device) (past : List (Happening Device DeviceStep)) (h : Happening Device DeviceStep)
-        (port : Port) → IsHistory wanted first (h ∷ past) → IsHealthyFor (now first past) h port → GoesWellFor (now first past) h port }
+    ensures { (wanted : List Wanted) (first : Instant Device) (past : List (Happening Device DeviceStep))
+        (h : Happening Device DeviceStep)
+        (port : Port) → IsHistory wanted first (h ∷ past) → IsHealthyFor (now first past) h port
+        → GoesWellFor (now first past) h port }
 {
     disks_are_told();
     healthy_stays();
@@ -167,21 +190,24 @@ pub fn healthy_calls_go_well()
 
 /// On a port that is ready at the end of a submit, a service, a tick or a reset, exactly what is due was issued.
 pub fn due_are_issued()
-    ensures { (wanted : List Wanted) (first : Instant Device) (past : List (Happening Device DeviceStep)) (h : Happening Device DeviceStep)
+    ensures { (wanted : List Wanted) (first : Instant Device) (past : List (Happening Device DeviceStep))
+        (h : Happening Device DeviceStep)
         (port : Port) → IsHistory wanted first (h ∷ past)
         → Issues h.event.ask h.event.steps (now first (h ∷ past)).moment.machine h.event.ports port }
 {}
 
-/// What stands behind a port's evidence in its own turn of a call stands behind it in the whole call, where the turn's and the call's evidence name the
-/// port in the same lists, and but for the turn the call's accesses are of other ports; of a ready port, and of one that is named as lost, no link may be due
-/// when the call begins. So it is with a fault that stood on the tape before the port was stopped, and with the last page of the log that its disk sent, where
-/// it sends none after the turn.
+/// What stands behind a port's evidence in its own turn of a call stands behind it in the whole call, where the turn's
+/// and the call's evidence name the port in the same lists, and but for the turn the call's accesses are of other
+/// ports; of a ready port, and of one that is named as lost, no link may be due when the call begins. So it is with a
+/// fault that stood on the tape before the port was stopped, and with the last page of the log that its disk sent,
+/// where it sends none after the turn.
 pub fn a_turns_evidence_is_the_calls()
-    ensures evidence { (port : Port) (old : Instant Device) (begun : Moment) (ended ports : Ports) (new : Device) (turn call : Evidence)
+    ensures evidence { (port : Port) (old : Instant Device) (begun : Moment) (ended ports : Ports) (new : Device)
+        (turn call : Evidence)
         (ask : Ask DeviceStep) (said : Said) → IsOn old.device
         → ((old.moment.ports.state port ≡ Ready) ⊎ Contains turn.lost port → (old.device.port port.0).link_due ≡ false)
-        → (t : HasTurnIn port old.device new) → IsOn t.end → SamePort old.moment.ports begun.ports port → SamePort ended ports port
-        → NamesAlike port turn call
+        → (t : HasTurnIn port old.device new) → IsOn t.end → SamePort old.moment.ports begun.ports port
+        → SamePort ended ports port → NamesAlike port turn call
         → IsEvidencedOf ask said t.turn (record { device = t.start; moment = begun }) ended t.end turn port
         → IsEvidencedOf ask said (all_of t) old ports new call port }
     ensures failed { (port : Port) (old new : Device) (fault : Fault) → IsOn old → (t : HasTurnIn port old new)
@@ -192,11 +218,13 @@ pub fn a_turns_evidence_is_the_calls()
     laws_hold();
 }
 
-/// Of a port that stays healthy in a call nothing is so for which trouble is named: it isn't gone, and has no errors. So there is no trouble that
-/// could be lost.
+/// Of a port that stays healthy in a call nothing is so for which trouble is named: it isn't gone, and has no errors.
+/// So there is no trouble that could be lost.
 pub fn healthy_ports_are_untroubled()
-    ensures gone { (port : Port) (old : Instant Device) (new : Device) → StaysHealthy port.0 old.device new → IsGone port old new → ⊥ }
-    ensures errors { (port : Port) (old : Instant Device) (new : Device) → StaysHealthy port.0 old.device new → HasErrors port old new → ⊥ }
+    ensures gone { (port : Port) (old : Instant Device) (new : Device) → StaysHealthy port.0 old.device new
+        → IsGone port old new → ⊥ }
+    ensures errors { (port : Port) (old : Instant Device) (new : Device) → StaysHealthy port.0 old.device new
+        → HasErrors port old new → ⊥ }
     ensures fatal { (port : Port) (old : Instant Device) (new : Device) → StaysHealthy port.0 old.device new
         → HasFatalErrors port old new → ⊥ }
     ensures trouble { (evidence : Evidence) (old : Instant Device) (ports : Ports) (new : Device) (port : Port)

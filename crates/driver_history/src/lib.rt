@@ -1,5 +1,10 @@
-//! Histories of a driver, for all that it is to do: what holds of each port between two calls, what stands behind the evidence of a call,
-//! and what ties the device to the block machine, call by call. It has definitions and laws, and no program code.
+//! What a history of a driver is: what ties its device to the block machine.
+//!
+//! `HoldsAt` says what holds of each port between two calls, `Evidence` what stands behind answers,
+//! `Ties` what a call owes, and `IsHistory` that calls did so, one after another. It is for the
+//! whole driver, and knows no book and no table of frames. What a call owes is said of one list of
+//! accesses, in which some that leave no trace may be missing. The laws say what follows of every
+//! history; those of `troubles` are on faults and lost disks. There is no program code.
 #![tactic(auto)]
 
 mod lawful;

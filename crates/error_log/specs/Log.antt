@@ -2,7 +2,8 @@
 use Rattle.std.specs.Prelude.{ℕ, ◌≡◌, ◌≢◌, ◌⊎◌, ◌%◌, List, length, sum, slice_index}
 use Rattle.std.specs.Int.{bit_at}
 
--- The page has a right checksum and names a queued command (NQ is clear): its tag, with status and error. No other byte is looked at.
+-- The page has a right checksum and names a queued command (NQ is clear): its tag, with status and error. No other byte
+-- is looked at.
 pub record TellsError (page : List ℕ) (tag status error : ℕ) : Type 0 where
   pub size : length page ≡ 512
   pub checksum : sum page % 256 ≡ 0

@@ -1,4 +1,7 @@
-//! The page of log 10h, by which a disk tells which of its queued commands failed (ACS-3, A.14).
+//! Reads the page of log 10h, by which a disk tells which queued command failed.
+//!
+//! (ACS-3, A.14.) It knows no port. A page may lie, so a caller has to see whether the command that
+//! it names is outstanding.
 #![tactic(auto)]
 
 ghost use Rattle.std.specs.Prelude.{◌≡◌, ◌↔◌, ◌+◌, ◌*◌, sum, Some, None};
@@ -35,11 +38,12 @@ fn sum_of(page: &[u8; 512]) -> u32
     total
 }
 
-/// Which queued command failed, with status and error, by the 512 bytes of page 0 of log 10h (ACS-3, A.14): bits 4:0 of byte 0 are its
-/// tag, byte 2 is the status and byte 3 the error. `None` where the bytes don't sum to 0 modulo 256, or NQ (bit 7 of byte 0) is one. No
-/// other byte is looked at but for the sum.
+/// Which queued command failed, with status and error, by the 512 bytes of page 0 of log 10h (ACS-3, A.14): bits 4:0 of
+/// byte 0 are its tag, byte 2 is the status and byte 3 the error. `None` where the bytes don't sum to 0 modulo 256, or
+/// NQ (bit 7 of byte 0) is one. No other byte is looked at but for the sum.
 pub fn parse_log(page: &[u8; 512]) -> Option<Failure>
-    ensures told { (failure : Failure) → result ≡ Some failure ↔ TellsError page.now failure.slot.0 failure.status failure.error }
+    ensures told { (failure : Failure) → result ≡ Some failure ↔ TellsError page.now failure.slot.0 failure.status
+        failure.error }
     ensures none { result ≡ None ↔ TellsNoError page.now }
 {
     if sum_of(page) % 256 != 0 || page[0] & NOT_QUEUED != 0 {

@@ -73,10 +73,6 @@ module _ (laws : Laws) where
   pub followed_commands : (fitting : Fitting) (port : Port) (old new : Device) → IsFollowed (IsControl WritesCommand port) (uses_of fitting port) old new → IsFollowed (IsRecovering port) (uses_of fitting port) old new
   followed_commands fitting port old new a = (told_commands (λ made. Unit {0}) fitting port old new (record { followed = a; tells = tt })).followed
 
-  pub followed_clears : (fitting : Fitting) (port : Port) (old new : Device) → IsFollowed (IsControl IsClearing port) (uses_of fitting port) old new → IsFollowed (IsRecovering port) (uses_of fitting port) old new
-  followed_clears fitting port old new a =
-      (told_wider (λ made. Unit {0}) (Controlling Clearing fitting port) (Recovering fitting port) (λ uses. uses) old new (clears_recover port) (λ uses fits. fits) (record { followed = a; tells = tt })).followed
-
   -- ---- what stays
 
   pub room_after : (May : Access → Type 0) (port : ℕ) (old new : Device) → IsDrivenBy May old new → IsOn new → HasRoom port old → HasRoom port new

@@ -26,7 +26,8 @@ pub record IsBeforeStop (port : Port) (accesses : List Access) (old at new : Dev
   pub first : DoesAll early old at
   pub rest : DoesAll late at new
 
--- A fault of the port stands on the tape since ST was last set before the call, by a moment at which PxCMD hadn't been written in it.
+-- A fault of the port stands on the tape since ST was last set before the call, by a moment at which PxCMD hadn't been
+-- written in it.
 pub record HasFailed (port : Port) (accesses : List Access) (old new : Device) (fault : tape_fault.Fault) : Type 0 where
   pub at : Device
   pub running : IsBeforeStop port accesses old at new
@@ -63,7 +64,8 @@ pub record ShowsFatal (p : PortState) : Type 0 where
   pub to : place ≤ 29
   pub set : p.is place ≡ true
 
--- What came since ST was set is shown: a fault by TFES, a fatal error by one of those three, and a disk that went or came by N.
+-- What came since ST was set is shown: a fault by TFES, a fatal error by one of those three, and a disk that went or
+-- came by N.
 pub record ShowsTrouble (port : ℕ) (old new : Device) : Type 0 where
   pub fault : GainsRunning (IsFaultOf port) port old new → (new.port port).is 30 ≡ true
   pub fatal : GainsRunning (IsFatalOf port) port old new → ShowsFatal (new.port port)

@@ -77,75 +77,151 @@ fits_of (Recovering fitting port) = uses_of fitting port
 
 pub record Laws : Type 0 where
   -- one access
-  pub access_on : (access : Access) (old new : Device) → IsOn old → ((v : ℕ) → access ≡ Writing Ghc v → (bit v 31 ≡ true) × (bit v 0 ≡ false)) → Does access old new → IsOn new
-  pub seen : (port : Port) (r : PortReg) (v : ℕ) (old new : Device) → Reads (Px port r) v old new → old.hr ≡ false → SeenAt port.0 r v old new
+  pub access_on : (access : Access) (old new : Device) → IsOn old
+      → ((v : ℕ) → access ≡ Writing Ghc v → (bit v 31 ≡ true) × (bit v 0 ≡ false)) → Does access old new → IsOn new
+  pub seen : (port : Port) (r : PortReg) (v : ℕ) (old new : Device) → Reads (Px port r) v old new → old.hr ≡ false
+      → SeenAt port.0 r v old new
   pub access_grows : (access : Access) (old new : Device) → Does access old new → Grows old new
   pub grows_none : (d : Device) → Grows d d
   pub grows_more : (old mid new : Device) → Grows old mid → Grows mid new → Grows old new
-  pub access_controls : (port : Port) (access : Access) (old new : Device) → old.hr ≡ false → Does access old new → LeavesControls access port (old.port port.0) (new.port port.0)
-  pub access_notes : (port : Port) (access : Access) (old new : Device) → Does access old new → LeavesNotes access port (old.port port.0).notes (new.port port.0).notes
-  pub access_recorded : (port : ℕ) (r : Reg) (v : ℕ) (old new : Device) → Reads r v old new → IsRecorded old.tape (old.port port) port → IsRecorded new.tape (new.port port) port
+  pub access_controls : (port : Port) (access : Access) (old new : Device) → old.hr ≡ false → Does access old new
+      → LeavesControls access port (old.port port.0) (new.port port.0)
+  pub access_notes : (port : Port) (access : Access) (old new : Device) → Does access old new
+      → LeavesNotes access port (old.port port.0).notes (new.port port.0).notes
+  pub access_recorded : (port : ℕ) (r : Reg) (v : ℕ) (old new : Device) → Reads r v old new
+      → IsRecorded old.tape (old.port port) port → IsRecorded new.tape (new.port port) port
   -- errors
-  pub access_change : (port : Port) (access : Access) (old new : Device) → old.hr ≡ false → (old.port port.0).link_due ≡ false → Does access old new → ChangesByDisks port.0 old new
-  pub access_undue : (port : Port) (access : Access) (old new : Device) → old.hr ≡ false → (old.port port.0).link_due ≡ false → SparesRegister (Px port Sctl) access → Does access old new → (new.port port.0).link_due ≡ false
+  pub access_change : (port : Port) (access : Access) (old new : Device) → old.hr ≡ false
+      → (old.port port.0).link_due ≡ false → Does access old new → ChangesByDisks port.0 old new
+  pub access_undue : (port : Port) (access : Access) (old new : Device) → old.hr ≡ false
+      → (old.port port.0).link_due ≡ false → SparesRegister (Px port Sctl) access → Does access old new
+      → (new.port port.0).link_due ≡ false
   pub change_none : (port : ℕ) (d : Device) → ChangesByDisks port d d
-  pub change_more : (port : ℕ) (old mid new : Device) → Grows old mid → Grows mid new → ChangesByDisks port old mid → ChangesByDisks port mid new → ChangesByDisks port old new
-  pub access_raises : (port : Port) (access : Access) (old new : Device) → Does access old new → ChangesByErrors port.0 old new
-  pub access_shows_fault : (port : Port) (access : Access) (old new : Device) → old.hr ≡ false → SparesRegister (Px port Is) access → Does access old new → (new.port port.0).is 30 ≡ false → ((old.port port.0).is 30 ≡ false) × NoneFails port.0 old new
-  pub access_shows_fatal : (port : Port) (access : Access) (old new : Device) → old.hr ≡ false → SparesRegister (Px port Is) access → Does access old new → ((place : ℕ) → 27 ≤ place → place ≤ 29 → (new.port port.0).is place ≡ false) → ((place : ℕ) → 27 ≤ place → place ≤ 29 → (old.port port.0).is place ≡ false) × NoneFatal port.0 old new
-  pub access_shows_disk : (port : Port) (access : Access) (old new : Device) → old.hr ≡ false → SparesRegister (Px port Serr) access → Does access old new → (new.port port.0).serr_n ≡ false → ((old.port port.0).serr_n ≡ false) × PlugsNone port.0 old new
+  pub change_more : (port : ℕ) (old mid new : Device) → Grows old mid → Grows mid new → ChangesByDisks port old mid
+      → ChangesByDisks port mid new → ChangesByDisks port old new
+  pub access_raises : (port : Port) (access : Access) (old new : Device) → Does access old new
+      → ChangesByErrors port.0 old new
+  pub access_shows_fault : (port : Port) (access : Access) (old new : Device) → old.hr ≡ false
+      → SparesRegister (Px port Is) access → Does access old new → (new.port port.0).is 30 ≡ false
+      → ((old.port port.0).is 30 ≡ false) × NoneFails port.0 old new
+  pub access_shows_fatal : (port : Port) (access : Access) (old new : Device) → old.hr ≡ false
+      → SparesRegister (Px port Is) access → Does access old new
+      → ((place : ℕ) → 27 ≤ place → place ≤ 29 → (new.port port.0).is place ≡ false)
+      → ((place : ℕ) → 27 ≤ place → place ≤ 29 → (old.port port.0).is place ≡ false) × NoneFatal port.0 old new
+  pub access_shows_disk : (port : Port) (access : Access) (old new : Device) → old.hr ≡ false
+      → SparesRegister (Px port Serr) access → Does access old new → (new.port port.0).serr_n ≡ false
+      → ((old.port port.0).serr_n ≡ false) × PlugsNone port.0 old new
   -- the link
-  pub access_linked : (port : Port) (access : Access) (old new : Device) → old.hr ≡ false → SparesRegister (Px port Sctl) access → PlugsNone port.0 old new → Does access old new → IsLinked (old.port port.0) → IsLinked (new.port port.0)
-  pub access_runs_linked : (port : Port) (access : Access) (old new : Device) → old.hr ≡ false → ClearsNoStart port access → SparesRegister (Px port Sctl) access → PlugsNone port.0 old new → NoneFatal port.0 old new → Does access old new → RunsLinked (old.port port.0) → RunsLinked (new.port port.0)
+  pub access_linked : (port : Port) (access : Access) (old new : Device) → old.hr ≡ false
+      → SparesRegister (Px port Sctl) access → PlugsNone port.0 old new → Does access old new
+      → IsLinked (old.port port.0) → IsLinked (new.port port.0)
+  pub access_runs_linked : (port : Port) (access : Access) (old new : Device) → old.hr ≡ false
+      → ClearsNoStart port access → SparesRegister (Px port Sctl) access → PlugsNone port.0 old new
+      → NoneFatal port.0 old new → Does access old new → RunsLinked (old.port port.0) → RunsLinked (new.port port.0)
   pub up_of : (p : PortState) → IsLinked p → WorksPlainly p → IsUp p
   pub well_of : (p : PortState) → IsStarted p → ShowsNoTrouble p → RunsWell p
-  pub runs_well : (p : PortState) → RunsLinked p → p.halt ≡ NotHalted → p.is 30 ≡ false → p.serr_n ≡ false → p.serr_x ≡ false → ((place : ℕ) → 27 ≤ place → place ≤ 29 → p.is place ≡ false) → RunsWell p
+  pub runs_well : (p : PortState) → RunsLinked p → p.halt ≡ NotHalted → p.is 30 ≡ false → p.serr_n ≡ false
+      → p.serr_x ≡ false → ((place : ℕ) → 27 ≤ place → place ≤ 29 → p.is place ≡ false) → RunsWell p
   -- what the tape tells
-  pub comes_parts : (port : ℕ) (old mid new : Device) (early late : List Entry) → mid.tape ≡ old.tape ++ early → new.tape ≡ mid.tape ++ late → NoneComes port old new → NoneComes port old mid × NoneComes port mid new
+  pub comes_parts : (port : ℕ) (old mid new : Device) (early late : List Entry) → mid.tape ≡ old.tape ++ early
+      → new.tape ≡ mid.tape ++ late → NoneComes port old new → NoneComes port old mid × NoneComes port mid new
   pub plugs_come : (port : ℕ) (old new : Device) → PlugsNone port old new → NoneComes port old new
   pub plugs_none : (port : ℕ) (d : Device) → PlugsNone port d d
-  pub plugs_more : (port : ℕ) (old mid new : Device) → PlugsNone port old mid → PlugsNone port mid new → PlugsNone port old new
-  pub plugs_parts : (port : ℕ) (old mid new : Device) (early late : List Entry) → mid.tape ≡ old.tape ++ early → new.tape ≡ mid.tape ++ late → PlugsNone port old new → PlugsNone port old mid × PlugsNone port mid new
+  pub plugs_more : (port : ℕ) (old mid new : Device) → PlugsNone port old mid → PlugsNone port mid new
+      → PlugsNone port old new
+  pub plugs_parts : (port : ℕ) (old mid new : Device) (early late : List Entry) → mid.tape ≡ old.tape ++ early
+      → new.tape ≡ mid.tape ++ late → PlugsNone port old new → PlugsNone port old mid × PlugsNone port mid new
   pub fatal_none : (port : ℕ) (d : Device) → NoneFatal port d d
-  pub fatal_more : (port : ℕ) (old mid new : Device) → NoneFatal port old mid → NoneFatal port mid new → NoneFatal port old new
-  pub fatal_parts : (port : ℕ) (old mid new : Device) (early late : List Entry) → mid.tape ≡ old.tape ++ early → new.tape ≡ mid.tape ++ late → NoneFatal port old new → NoneFatal port old mid × NoneFatal port mid new
+  pub fatal_more : (port : ℕ) (old mid new : Device) → NoneFatal port old mid → NoneFatal port mid new
+      → NoneFatal port old new
+  pub fatal_parts : (port : ℕ) (old mid new : Device) (early late : List Entry) → mid.tape ≡ old.tape ++ early
+      → new.tape ≡ mid.tape ++ late → NoneFatal port old new → NoneFatal port old mid × NoneFatal port mid new
   pub fails_none : (port : ℕ) (d : Device) → NoneFails port d d
-  pub fails_more : (port : ℕ) (old mid new : Device) → NoneFails port old mid → NoneFails port mid new → NoneFails port old new
+  pub fails_more : (port : ℕ) (old mid new : Device) → NoneFails port old mid → NoneFails port mid new
+      → NoneFails port old new
   -- the fault
-  pub fault_shown : (port : Port) (v : ℕ) (old new : Device) → old.hr ≡ false → (old.port port.0).st ≡ true → IsRecorded old.tape (old.port port.0) port.0 → IsFaulted (old.port port.0).halt → Reads (Px port Tfd) v old new → (s : ShowsFault (drop (new.port port.0).notes.st_set_at new.tape) (new.port port.0) port.0) × (v % 256 ≡ s.fault.status) × (v / 256 % 256 ≡ s.fault.error)
-  pub fault_sole : (uses : Uses) (m : Machine) (d : Device) (port slot : ℕ) (entries : List Entry) → Agrees uses m d → (s : ShowsFault entries (d.port port) port) → ((other : ℕ) → other ≢ slot → uses port other ≡ Free) → s.fault.slot.0 ≡ slot
+  pub fault_shown : (port : Port) (v : ℕ) (old new : Device) → old.hr ≡ false → (old.port port.0).st ≡ true
+      → IsRecorded old.tape (old.port port.0) port.0 → IsFaulted (old.port port.0).halt → Reads (Px port Tfd) v old new
+      → (s : ShowsFault (drop (new.port port.0).notes.st_set_at new.tape) (new.port port.0) port.0)
+      × (v % 256 ≡ s.fault.status) × (v / 256 % 256 ≡ s.fault.error)
+  pub fault_sole : (uses : Uses) (m : Machine) (d : Device) (port slot : ℕ) (entries : List Entry) → Agrees uses m d
+      → (s : ShowsFault entries (d.port port) port) → ((other : ℕ) → other ≢ slot → uses port other ≡ Free)
+      → s.fault.slot.0 ≡ slot
   -- pages and slots
-  pub silent_more : (port : ℕ) (o : Operation) (old mid new : Device) → SendsNone port o old mid → SendsNone port o mid new → SendsNone port o old new
-  pub controls_unmoving : (port : Port) (o : Operation) (old new : Device) → IsDrivenBy (IsControl (λ r. r ≢ Ci) port) old new → HasNoCommand (old.port port.0) → SendsNone port.0 o old new × HasNoCommand (new.port port.0)
-  pub given_up_halted : (k : Known) (m : Machine) (port : ℕ) → Knows m k → IsHalted (k.device.port port) → Knows m (parking_all k port)
+  pub silent_more : (port : ℕ) (o : Operation) (old mid new : Device) → SendsNone port o old mid
+      → SendsNone port o mid new → SendsNone port o old new
+  pub controls_unmoving : (port : Port) (o : Operation) (old new : Device)
+      → IsDrivenBy (IsControl (λ r. r ≢ Ci) port) old new → HasNoCommand (old.port port.0) → SendsNone port.0 o old new
+      × HasNoCommand (new.port port.0)
+  pub given_up_halted : (k : Known) (m : Machine) (port : ℕ) → Knows m k → IsHalted (k.device.port port)
+      → Knows m (parking_all k port)
   pub given_up_free : (k : Known) (port : ℕ) → AllFree (parking_all k port).uses port
-  pub given_up_others : (k : Known) (port other : ℕ) → other ≢ port → ((parking_all k port).uses other ≡ k.uses other) × ((parking_all k port).parked other ≡ k.parked other)
+  pub given_up_others : (k : Known) (port other : ℕ) → other ≢ port → ((parking_all k port).uses other ≡ k.uses other)
+      × ((parking_all k port).parked other ≡ k.parked other)
   pub put_here : (uses : Uses) (port slot : ℕ) (o : Operation) → put uses port slot (Own o) port slot ≡ Own o
   -- stretches
   pub same_any : (old new : Device) → IsDrivenBy AnyAccess old new → SameAdapter old new
   pub of_spares_ghc : (port : Port) (access : Access) → IsOf port access → SparesRegister Ghc access
-  pub of_spares : (port q : Port) (r : PortReg) → q.0 ≢ port.0 → (access : Access) → IsOf port access → SparesRegister (Px q r) access
+  pub of_spares : (port q : Port) (r : PortReg) → q.0 ≢ port.0 → (access : Access) → IsOf port access
+      → SparesRegister (Px q r) access
   pub asking_is_of : (port : Port) (access : Access) → IsAsking port access → IsOf port access
-  pub asked_none : (port : ℕ) (old new : Device) → LeavesRunning port old new → HasNoCommand (old.port port) → IsOver (new.port port) 0 → HasNoCommand (new.port port)
+  pub asked_none : (port : ℕ) (old new : Device) → LeavesRunning port old new → HasNoCommand (old.port port)
+      → IsOver (new.port port) 0 → HasNoCommand (new.port port)
   -- what is told of engines, and of waits
   pub failing_sticks : (port : Port) (accesses : List Access) → FailsToStop port accesses → Sticks port accesses
-  pub falls_then : (early late : List Access) (start running : ℕ) (port : Port) → Falls start running port early → Falls start running port (early ++ late)
-  pub falls_since : (early late : List Access) (start running : ℕ) (port : Port) → Falls start running port late → Falls start running port (early ++ late)
+  pub falls_then : (early late : List Access) (start running : ℕ) (port : Port) → Falls start running port early
+      → Falls start running port (early ++ late)
+  pub falls_since : (early late : List Access) (start running : ℕ) (port : Port) → Falls start running port late
+      → Falls start running port (early ++ late)
   pub sticks_since : (early late : List Access) (port : Port) → Sticks port late → Sticks port (early ++ late)
   pub vain_then : (port : Port) (early late : List Access) → WaitsInVain port early → WaitsInVain port (early ++ late)
   pub vain_since : (port : Port) (early late : List Access) → WaitsInVain port late → WaitsInVain port (early ++ late)
   -- this crate's kinds of accesses
-  pub control_of : (set : RegisterSet) (port : Port) (access : Access) → IsControl (registers_of set) port access → IsOf port access
-  pub control_spares : (set : RegisterSet) (port : Port) (r : PortReg) → (registers_of set r → ⊥) → (access : Access) → IsControl (registers_of set) port access → SparesRegister (Px port r) access
-  pub control_wider : (set more : RegisterSet) (port : Port) → ((r : PortReg) → registers_of set r → registers_of more r) → (access : Access) → IsControl (registers_of set) port access → IsControl (registers_of more) port access
+  pub control_of : (set : RegisterSet) (port : Port) (access : Access) → IsControl (registers_of set) port access
+      → IsOf port access
+  pub control_spares : (set : RegisterSet) (port : Port) (r : PortReg) → (registers_of set r → ⊥) → (access : Access)
+      → IsControl (registers_of set) port access → SparesRegister (Px port r) access
+  pub control_wider : (set more : RegisterSet) (port : Port)
+      → ((r : PortReg) → registers_of set r → registers_of more r) → (access : Access)
+      → IsControl (registers_of set) port access → IsControl (registers_of more) port access
   pub none : (kind : Stretch) (d : Device) → IsTold (λ made. made ≡ []) (may_of kind) (fits_of kind) d d
-  pub reads : (kind : Stretch) (r : Reg) (v : ℕ) (old new : Device) → may_of kind (Reading r v) → Reads r v old new → IsTold (λ made. made ≡ Reading r v ∷ []) (may_of kind) (fits_of kind) old new
-  pub writes : (kind : Stretch) (r : Reg) (v : ℕ) (old new : Device) → may_of kind (Writing r v) → Stays (MayWrite r v) old → ((uses : Uses) → fits_of kind uses → LeavesUses uses r v old) → Writes r v old new → IsTold (λ made. made ≡ Writing r v ∷ []) (may_of kind) (fits_of kind) old new
-  pub both : (kind then : Stretch) (first second : Uses → Uses) → ((access : Access) → may_of then access → may_of kind access) → ((uses : Uses) → fits_of kind uses → fits_of then (first uses)) → (old mid new : Device) → (a : IsFollowedTo (may_of kind) (fits_of kind) first old mid) → (b : IsFollowedTo (may_of then) (fits_of then) second mid new) → IsToldTo (λ made. made ≡ a.driven.accesses ++ b.driven.accesses) (may_of kind) (fits_of kind) (λ uses. second (first uses)) old new
-  pub wider : (kind more : Stretch) (next : Uses → Uses) → ((access : Access) → may_of kind access → may_of more access) → ((uses : Uses) → fits_of more uses → fits_of kind uses) → (old new : Device) → (a : IsFollowedTo (may_of kind) (fits_of kind) next old new) → IsToldTo (λ made. made ≡ a.driven.accesses) (may_of more) (fits_of more) next old new
-  pub over : (kind : Stretch) (port : Port) (o : Operation) (v : ℕ) (old new : Device) → may_of kind (Writing (Px port Ci) v) → ((uses : Uses) → fits_of kind uses → uses port.0 0 ≡ Free) → IsOver (new.port port.0) 0 → (a : IsFollowedTo (may_of kind) (fits_of kind) (λ uses. put uses port.0 0 (Own o)) old new) → IsTold (λ made. made ≡ a.driven.accesses) (may_of kind) (fits_of kind) old new
-  pub agreed : (kind : Stretch) (next : Uses → Uses) (uses : Uses) (old new : Device) → fits_of kind uses → IsFollowedTo (may_of kind) (fits_of kind) next old new → IsAgreed uses old → IsAgreed (next uses) new
-  pub silent : (kind : Stretch) (next : Uses → Uses) (uses : Uses) (port : Port) (o : Operation) (old new : Device) → fits_of kind uses → NoneWrites (may_of kind) (Px port Ci) → NoneWrites (may_of kind) (Px port Sact) → op_of o ≡ None → (uses port.0 0 ≡ Own o → ⊥) → IsFollowedTo (may_of kind) (fits_of kind) next old new → IsAgreed uses old → SendsNone port.0 o old new
-  pub plain : (kind : Stretch) (next : Uses → Uses) (uses : Uses) (port : Port) (old new : Device) → fits_of kind uses → NoneWrites (may_of kind) (Px port Sact) → IsFollowedTo (may_of kind) (fits_of kind) next old new → IsAgreed uses old → WorksPlainly (old.port port.0) → WorksPlainly (new.port port.0)
-  pub one : (kind : Stretch) (next : Uses → Uses) (old new : Device) → (a : IsFollowedTo (may_of kind) (fits_of kind) next old new) → Performs a.driven.accesses (λ s m. fits_of kind s.uses) (λ s. record s { uses = next s.uses }) ByDeviceAlone old new
-  pub giving_up : (kind then : Stretch) (next : Uses → Uses) (port : ℕ) (old mid new : Device) → (a : IsFollowed (may_of kind) (fits_of kind) old mid) → IsHalted (mid.port port) → ((uses : Uses) → AllFree uses port → fits_of then uses) → (b : IsFollowedTo (may_of then) (fits_of then) next mid new) → Performs (a.driven.accesses ++ b.driven.accesses) (λ s m. fits_of kind s.uses) (λ s. record (given_up port s) { uses = next (given_up port s).uses }) ByDeviceAlone old new
+  pub reads : (kind : Stretch) (r : Reg) (v : ℕ) (old new : Device) → may_of kind (Reading r v) → Reads r v old new
+      → IsTold (λ made. made ≡ Reading r v ∷ []) (may_of kind) (fits_of kind) old new
+  pub writes : (kind : Stretch) (r : Reg) (v : ℕ) (old new : Device) → may_of kind (Writing r v)
+      → Stays (MayWrite r v) old → ((uses : Uses) → fits_of kind uses → LeavesUses uses r v old) → Writes r v old new
+      → IsTold (λ made. made ≡ Writing r v ∷ []) (may_of kind) (fits_of kind) old new
+  pub both : (kind then : Stretch) (first second : Uses → Uses)
+      → ((access : Access) → may_of then access → may_of kind access)
+      → ((uses : Uses) → fits_of kind uses → fits_of then (first uses)) → (old mid new : Device)
+      → (a : IsFollowedTo (may_of kind) (fits_of kind) first old mid)
+      → (b : IsFollowedTo (may_of then) (fits_of then) second mid new)
+      → IsToldTo (λ made. made ≡ a.driven.accesses ++ b.driven.accesses) (may_of kind) (fits_of kind)
+      (λ uses. second (first uses)) old new
+  pub wider : (kind more : Stretch) (next : Uses → Uses) → ((access : Access) → may_of kind access → may_of more access)
+      → ((uses : Uses) → fits_of more uses → fits_of kind uses) → (old new : Device)
+      → (a : IsFollowedTo (may_of kind) (fits_of kind) next old new)
+      → IsToldTo (λ made. made ≡ a.driven.accesses) (may_of more) (fits_of more) next old new
+  pub over : (kind : Stretch) (port : Port) (o : Operation) (v : ℕ) (old new : Device)
+      → may_of kind (Writing (Px port Ci) v) → ((uses : Uses) → fits_of kind uses → uses port.0 0 ≡ Free)
+      → IsOver (new.port port.0) 0
+      → (a : IsFollowedTo (may_of kind) (fits_of kind) (λ uses. put uses port.0 0 (Own o)) old new)
+      → IsTold (λ made. made ≡ a.driven.accesses) (may_of kind) (fits_of kind) old new
+  pub agreed : (kind : Stretch) (next : Uses → Uses) (uses : Uses) (old new : Device) → fits_of kind uses
+      → IsFollowedTo (may_of kind) (fits_of kind) next old new → IsAgreed uses old → IsAgreed (next uses) new
+  pub silent : (kind : Stretch) (next : Uses → Uses) (uses : Uses) (port : Port) (o : Operation) (old new : Device)
+      → fits_of kind uses → NoneWrites (may_of kind) (Px port Ci) → NoneWrites (may_of kind) (Px port Sact)
+      → op_of o ≡ None → (uses port.0 0 ≡ Own o → ⊥) → IsFollowedTo (may_of kind) (fits_of kind) next old new
+      → IsAgreed uses old → SendsNone port.0 o old new
+  pub plain : (kind : Stretch) (next : Uses → Uses) (uses : Uses) (port : Port) (old new : Device) → fits_of kind uses
+      → NoneWrites (may_of kind) (Px port Sact) → IsFollowedTo (may_of kind) (fits_of kind) next old new
+      → IsAgreed uses old → WorksPlainly (old.port port.0) → WorksPlainly (new.port port.0)
+  pub one : (kind : Stretch) (next : Uses → Uses) (old new : Device)
+      → (a : IsFollowedTo (may_of kind) (fits_of kind) next old new)
+      → Performs a.driven.accesses (λ s m. fits_of kind s.uses) (λ s. record s { uses = next s.uses }) ByDeviceAlone old
+      new
+  pub giving_up : (kind then : Stretch) (next : Uses → Uses) (port : ℕ) (old mid new : Device)
+      → (a : IsFollowed (may_of kind) (fits_of kind) old mid) → IsHalted (mid.port port)
+      → ((uses : Uses) → AllFree uses port → fits_of then uses)
+      → (b : IsFollowedTo (may_of then) (fits_of then) next mid new) → Performs (a.driven.accesses ++ b.driven.accesses)
+      (λ s m. fits_of kind s.uses) (λ s. record (given_up port s) { uses = next (given_up port s).uses }) ByDeviceAlone
+      old new

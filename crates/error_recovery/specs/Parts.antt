@@ -43,8 +43,8 @@ pub record Begins (port : Port) (shown : ℕ) (accesses : List Access) : Type 0 
 abbrev pub ReadsAndStops : Port → ℕ → List Access → Type 0
 ReadsAndStops port shown accesses = Begins port shown accesses × Stops port accesses × IssueNone port accesses
 
--- The port's task file was read, the port was stopped, its errors were forgotten, and the task file was read again. It receives FISes, is quiet,
--- and tells nothing of before.
+-- The port's task file was read, the port was stopped, its errors were forgotten, and the task file was read again. It
+-- receives FISes, is quiet, and tells nothing of before.
 pub record Quiets (port : Port) (before after : ℕ) (old new : Device) : Type 0 where
   pub room : HasRoom port.0 new
   pub stopped : Device
@@ -72,7 +72,8 @@ pub record GetsStuck (port : Port) (old new : Device) : Type 0 where
 
 -- ---- a port that is started again
 
--- ST may be set: what was read last was a device with a link, neither busy nor asking for a transfer, and no slot of the port is used.
+-- ST may be set: what was read last was a device with a link, neither busy nor asking for a transfer, and no slot of
+-- the port is used.
 pub record MayGoOn (port : ℕ) (d : Device) : Type 0 where
   pub room : HasRoom port d
   pub receives : ReceivesFises port (d.port port)
@@ -81,8 +82,9 @@ pub record MayGoOn (port : ℕ) (d : Device) : Type 0 where
   pub quiet : IsQuiet (d.port port)
   pub agreed : AgreesWith (λ uses. AllFree uses port) d
 
--- It was set: the port runs with no command in a slot, and the record of its faults has begun. Where its link was up, it runs so; and it is started,
--- if no halt is left. What it told of trouble is as it was, but for disks that went or came.
+-- It was set: the port runs with no command in a slot, and the record of its faults has begun. Where its link was up,
+-- it runs so; and it is started, if no halt is left. What it told of trouble is as it was, but for disks that went or
+-- came.
 pub record GoesOn (port : Port) (old new : Device) : Type 0 where
   pub room : HasRoom port.0 new
   pub starts : IsFollowed (IsControl WritesCommand port) (λ uses. AllFree uses port.0) old new
@@ -108,7 +110,8 @@ pub record Resumes (port : Port) (outstanding : ℕ) (queued : Bool) (before aft
 
 -- ---- the log
 
--- The page of the log names an outstanding slot. Or no page came; or it names no command, or one that isn't outstanding.
+-- The page of the log names an outstanding slot. Or no page came; or it names no command, or one that isn't
+-- outstanding.
 abbrev pub ReadsLog : Port → ℕ → Option Failure → Device → Device → Type 0
 ReadsLog port outstanding (Some failed) old new = (page : List ℕ) × Reads port ReadLog (Some page) old new
     × TellsError page failed.slot.0 failed.status failed.error × (bit outstanding failed.slot.0 ≡ true)

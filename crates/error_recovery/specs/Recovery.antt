@@ -42,8 +42,8 @@ FitsFor queued port uses = queued ≡ false → (slot : ℕ) → slot ≢ 0 → 
 abbrev pub IsAloneIn : Bool → ℕ → Type 0
 IsAloneIn queued outstanding = queued ≡ false → (slot : ℕ) → slot < 32 → bit outstanding slot ≡ true → slot ≡ 0
 
--- A fault has halted the port, which runs with its areas in their places; a device with a link was seen last, no COMRESET is being sent, and the
--- faults since ST was set are on record.
+-- A fault has halted the port, which runs with its areas in their places; a device with a link was seen last, no
+-- COMRESET is being sent, and the faults since ST was set are on record.
 pub record MayRecover (port : ℕ) (d : Device) : Type 0 where
   pub st : (d.port port).st ≡ true
   pub cr : (d.port port).cr ≡ true
@@ -60,8 +60,8 @@ pub record MayRecover (port : ℕ) (d : Device) : Type 0 where
 abbrev pub IsRecovered : PortReg → Type 0
 IsRecovered r = WritesCommand r ⊎ IsClearing r
 
--- it reads a register of the port, writes one of these three, or asks for the log: by slot 0's header and table, bit 0 of PxCI, and a load of the
--- scratch frame
+-- it reads a register of the port, writes one of these three, or asks for the log: by slot 0's header and table, bit 0
+-- of PxCI, and a load of the scratch frame
 abbrev pub IsRecovering : Port → Access → Type 0
 IsRecovering port access = IsControl IsRecovered port access ⊎ IsAsking port access
 
@@ -69,8 +69,8 @@ IsRecovering port access = IsControl IsRecovered port access ⊎ IsAsking port a
 abbrev pub with_own : ℕ → Operation → InSlots → InSlots
 with_own port o s = record s { uses = put s.uses port 0 (Own o) }
 
--- Each slot of the port was given up once the port had stopped, and the requests that they served are parked; the device alone made steps. Of a
--- dead port the slots are as they were, or READ LOG EXT may be in slot 0 still.
+-- Each slot of the port was given up once the port had stopped, and the requests that they served are parked; the
+-- device alone made steps. Of a dead port the slots are as they were, or READ LOG EXT may be in slot 0 still.
 abbrev pub LeavesSlots : ℕ → Next → List Access → Device → Device → Type 0
 LeavesSlots port Dead accesses old new =
     Performs accesses AnySlots (λ s. s) ByDeviceAlone old new
@@ -96,7 +96,8 @@ pub record Parts (outstanding : ℕ) (failed : Option Failure) (again : ℕ) : T
   pub apart : (slot : ℕ) → slot < 32 → bit again slot ≡ true → (bit outstanding slot ≡ true) × (IsNamed failed slot → ⊥)
 
 -- A plain command that is named rests on a fault of its slot, with this status and error.
-pub record RestsOnFault (port : Port) (outstanding : ℕ) (accesses : List Access) (old new : Device) (failed : Failure) : Type 0 where
+pub record RestsOnFault (port : Port) (outstanding : ℕ) (accesses : List Access) (old new : Device)
+    (failed : Failure) : Type 0 where
   pub slot_is : failed.slot.0 ≡ 0
   pub among : bit outstanding 0 ≡ true
   pub fault : tape_fault.Fault
@@ -106,7 +107,8 @@ pub record RestsOnFault (port : Port) (outstanding : ℕ) (accesses : List Acces
   pub error_is : fault.error ≡ failed.error
 
 -- A queued one rests on a fault of the port, and on the last page of the log that the call brought, which names it.
-pub record RestsOnLog (port : Port) (outstanding : ℕ) (accesses : List Access) (old new : Device) (failed : Failure) : Type 0 where
+pub record RestsOnLog (port : Port) (outstanding : ℕ) (accesses : List Access) (old new : Device)
+    (failed : Failure) : Type 0 where
   pub small : failed.slot.0 < 32
   pub among : bit outstanding failed.slot.0 ≡ true
   pub fault : tape_fault.Fault
@@ -132,8 +134,9 @@ pub record NamesForeign (outstanding : ℕ) (page : List ℕ) : Type 0 where
 abbrev pub IssueNone : Port → List Access → Type 0
 IssueNone port accesses = All (SparesRegister (Px port Ci)) accesses
 
--- The port was stopped, which clears PxCI; and then 64 readings in a row showed slot 0's bit, of a command that was issued since. No later reading
--- showed it clear: the count of these readings, which stands beside the device's state, is 64 at the end.
+-- The port was stopped, which clears PxCI; and then 64 readings in a row showed slot 0's bit, of a command that was
+-- issued since. No later reading showed it clear: the count of these readings, which stands beside the device's state,
+-- is 64 at the end.
 pub record WaitsAnew (port : Port) (accesses : List Access) (new : Device) : Type 0 where
   pub early : List Access
   pub late : List Access
@@ -142,9 +145,9 @@ pub record WaitsAnew (port : Port) (accesses : List Access) (new : Device) : Typ
   pub vain : WaitsInVain port late
   pub still : (new.port port.0).notes.command_count ≡ 64
 
--- Why a port has to be booted: BSY or DRQ is what was read last of PxTFD, and no command was issued of which they could be. Or, where queued
--- commands are outstanding, the log named none of them: once the port had stopped, the last 64 readings showed READ LOG EXT issued, or its page
--- names no command, or one that isn't outstanding.
+-- Why a port has to be booted: BSY or DRQ is what was read last of PxTFD, and no command was issued of which they could
+-- be. Or, where queued commands are outstanding, the log named none of them: once the port had stopped, the last 64
+-- readings showed READ LOG EXT issued, or its page names no command, or one that isn't outstanding.
 abbrev pub MayRestart : Bool → Port → ℕ → List Access → Device → Device → Type 0
 MayRestart queued port outstanding accesses old new =
     (IssueNone port accesses × (ShowsIdle (new.port port.0).notes.last_tfd → ⊥))
@@ -153,10 +156,11 @@ MayRestart queued port outstanding accesses old new =
 
 -- ---- how it ends
 
--- The port runs, with its areas in their places and no command in a slot; ST was set in the call, so that the record of its faults has begun anew;
--- and the count of PxSSTS is as it was. After queued commands no fault halts it, and one that worked on plain commands alone does so; so none takes
--- READ LOG EXT alone. What came since ST was set is shown. And where the link was up, no disk went or came, and no fatal error came since ST was set, the port runs
--- well; one without queued commands, if it worked on plain ones alone.
+-- The port runs, with its areas in their places and no command in a slot; ST was set in the call, so that the record of
+-- its faults has begun anew; and the count of PxSSTS is as it was. After queued commands no fault halts it, and one
+-- that worked on plain commands alone does so; so none takes READ LOG EXT alone. What came since ST was set is shown.
+-- And where the link was up, no disk went or came, and no fatal error came since ST was set, the port runs well; one
+-- without queued commands, if it worked on plain ones alone.
 pub record RunsAgain (queued : Bool) (port : ℕ) (old new : Device) : Type 0 where
   pub runs : IsRunning port (new.port port)
   pub recorded : HasFaults new.tape (new.port port) port
@@ -166,8 +170,8 @@ pub record RunsAgain (queued : Bool) (port : ℕ) (old new : Device) : Type 0 wh
   pub plain : queued ≡ false → WorksPlainly (old.port port) → WorksPlainly (new.port port)
   pub unhalted : (queued ≡ false → WorksPlainly (old.port port)) → (new.port port).halt ≢ LogOnly
   pub shows : ShowsTrouble port old new
-  pub well : PlugsNone port old new → (GainsRunning (IsFatalOf port) port old new → ⊥) → IsLinked (old.port port) → (queued ≡ false → WorksPlainly (old.port port))
-      → RunsWell (new.port port)
+  pub well : PlugsNone port old new → (GainsRunning (IsFatalOf port) port old new → ⊥) → IsLinked (old.port port)
+      → (queued ≡ false → WorksPlainly (old.port port)) → RunsWell (new.port port)
 
 -- It is as `next` says: it runs; it is stopped, so that it can be booted; or its engine was awaited in vain.
 abbrev pub EndsIn : Bool → Port → Next → Device → Device → Type 0
@@ -183,32 +187,39 @@ pub record DoesRecovery (port : Port) (result : Recovered) (accesses : List Acce
   pub slots : LeavesSlots port.0 result.next accesses old new
   pub engine : TellsEngine port result.next accesses
 
--- What is told of the commands that were outstanding: who failed, on what that rests, and who goes again. Where the port is dead nobody is named, and where
--- queued commands are outstanding, nobody is named of a port that has to be booted.
-pub record TellsOutstanding (port : Port) (outstanding : ℕ) (queued : Bool) (result : Recovered) (accesses : List Access) (old new : Device) : Type 0 where
+-- What is told of the commands that were outstanding: who failed, on what that rests, and who goes again. Where the
+-- port is dead nobody is named, and where queued commands are outstanding, nobody is named of a port that has to be
+-- booted.
+pub record TellsOutstanding (port : Port) (outstanding : ℕ) (queued : Bool) (result : Recovered)
+    (accesses : List Access) (old new : Device) : Type 0 where
   pub parts : Parts outstanding result.failed result.again
   pub rests : Rests queued port outstanding accesses old new result.failed
   pub dead : result.next ≡ Dead → result.failed ≡ None
   pub unnamed : (token : stopped_token.Stopped) → queued ≡ true → result.next ≡ Restart token → result.failed ≡ None
 
--- What a recovery tells besides: whom it names, and why the port has to be booted. Where queued commands are outstanding, it runs only with one of them
--- named; an outstanding plain one is named unless the port is dead.
-pub record TellsRecovery (port : Port) (outstanding : ℕ) (queued : Bool) (result : Recovered) (accesses : List Access) (old new : Device) : Type 0 where
+-- What a recovery tells besides: whom it names, and why the port has to be booted. Where queued commands are
+-- outstanding, it runs only with one of them named; an outstanding plain one is named unless the port is dead.
+pub record TellsRecovery (port : Port) (outstanding : ℕ) (queued : Bool) (result : Recovered) (accesses : List Access)
+    (old new : Device) : Type 0 where
   pub named : (token : running_token.Running) → queued ≡ true → result.next ≡ Running token → result.failed ≢ None
   pub told : queued ≡ false → bit outstanding 0 ≡ true → result.next ≢ Dead → result.failed ≢ None
-  pub restarts : (token : stopped_token.Stopped) → result.next ≡ Restart token → MayRestart queued port outstanding accesses old new
+  pub restarts : (token : stopped_token.Stopped) → result.next ≡ Restart token
+      → MayRestart queued port outstanding accesses old new
 
--- What it leaves: the port as `next` says; DET of PxSCTL and when it was written, and PxIE, as they were. And where slot 0 had no IDENTIFY
--- DEVICE, the disk has sent no page of it; nor has another port's disk sent a page for a command that its slot 0 hadn't.
+-- What it leaves: the port as `next` says; DET of PxSCTL and when it was written, and PxIE, as they were. And where
+-- slot 0 had no IDENTIFY DEVICE, the disk has sent no page of it; nor has another port's disk sent a page for a command
+-- that its slot 0 hadn't.
 pub record LeavesRecovery (port : Port) (queued : Bool) (next : Next) (old new : Device) : Type 0 where
   pub ends : EndsIn queued port next old new
   pub det : (new.port port.0).sctl_det ≡ (old.port port.0).sctl_det
   pub written : (new.port port.0).notes.sctl_written_at ≡ (old.port port.0).notes.sctl_written_at
   pub enabled : (new.port port.0).ie ≡ (old.port port.0).ie
   pub silent : AgreesWith (λ uses. uses port.0 0 ≡ Own Identify → ⊥) old → SendsNone port.0 Identify old new
-  pub others : (q : Port) (o : Operation) → q.0 ≢ port.0 → op_of o ≡ None → AgreesWith (λ uses. uses q.0 0 ≡ Own o → ⊥) old → SendsNone q.0 o old new
+  pub others : (q : Port) (o : Operation) → q.0 ≢ port.0 → op_of o ≡ None
+      → AgreesWith (λ uses. uses q.0 0 ≡ Own o → ⊥) old → SendsNone q.0 o old new
 
--- What becomes of a port that had trouble: by one list of accesses it was stopped, and runs again, or has to be booted, or is dead.
+-- What becomes of a port that had trouble: by one list of accesses it was stopped, and runs again, or has to be booted,
+-- or is dead.
 pub record Mends (port : Port) (outstanding : ℕ) (queued : Bool) (result : Recovered) (old new : Device) : Type 0 where
   pub accesses : List Access
   pub does : DoesRecovery port result accesses old new
@@ -216,12 +227,14 @@ pub record Mends (port : Port) (outstanding : ℕ) (queued : Bool) (result : Rec
   pub leaves : LeavesRecovery port queued result.next old new
 
 -- All that recovery promises.
-pub record Recovers (port : Port) (outstanding : ℕ) (queued : Bool) (result : Recovered) (old new : Device) : Type 0 where
+pub record Recovers (port : Port) (outstanding : ℕ) (queued : Bool) (result : Recovered)
+    (old new : Device) : Type 0 where
   pub mends : Mends port outstanding queued result old new
   pub tells : TellsRecovery port outstanding queued result mends.accesses old new
 
 -- All that is promised of a port that is given up: PxCMD alone was accessed, nobody is named, and it doesn't run.
-pub record GivesUp (port : Port) (outstanding : ℕ) (queued : Bool) (result : Recovered) (old new : Device) : Type 0 where
+pub record GivesUp (port : Port) (outstanding : ℕ) (queued : Bool) (result : Recovered)
+    (old new : Device) : Type 0 where
   pub mends : Mends port outstanding queued result old new
   pub only : All (IsControl WritesCommand port) mends.accesses
   pub nobody : result.failed ≡ None

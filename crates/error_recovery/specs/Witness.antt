@@ -17,8 +17,8 @@ use Rattle.error_recovery.specs.Evidence.{ShowsFatal}
 use Rattle.error_recovery.specs.Recovery.{FitsFor, GivesUp, IsAloneIn, MayRecover}
 use Rattle.error_recovery.specs.declared.Next.TheVariants.{Restart}
 
--- Of port 0 all is so that recovery asks. A command has failed on it, a plain one in slot 0, or a queued one in slot 1, and has halted the port. Its slot
--- serves a request, and is outstanding.
+-- Of port 0 all is so that recovery asks. A command has failed on it, a plain one in slot 0, or a queued one in slot 1,
+-- and has halted the port. Its slot serves a request, and is outstanding.
 pub record MayBeAsked (queued : Bool) : Type 0 where
   pub device : Device
   pub on : IsOn device
@@ -35,8 +35,8 @@ pub record MayBeAsked (queued : Bool) : Type 0 where
   pub serves : (id : RequestId) × (agreed.0 0 fault.slot.0 ≡ Serves id)
   pub among : bit outstanding fault.slot.0 ≡ true
 
--- Of port 0 all is so that is asked where a port is given up: a fatal error has broken it, and slot 0 serves a request, which is outstanding. And what is
--- promised then can come: ST is cleared, CR falls, and the port has to be booted.
+-- Of port 0 all is so that is asked where a port is given up: a fatal error has broken it, and slot 0 serves a request,
+-- which is outstanding. And what is promised then can come: ST is cleared, CR falls, and the port has to be booted.
 pub record MayBeGivenUp : Type 0 where
   pub device : Device
   pub on : IsOn device
@@ -49,4 +49,6 @@ pub record MayBeGivenUp : Type 0 where
   pub among : bit outstanding 0 ≡ true
   pub stopped : Device
   pub token : stopped_token.Stopped
-  pub gives_up : (queued : Bool) → GivesUp (port_at 0) outstanding queued (record { failed = None; again = outstanding; next = Restart token }) device stopped
+  pub gives_up : (queued : Bool)
+      → GivesUp (port_at 0) outstanding queued (record { failed = None; again = outstanding; next = Restart token })
+      device stopped

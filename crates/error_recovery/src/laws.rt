@@ -23,29 +23,33 @@ use agreement::laws::{
 };
 use agreement::limits::a_fault_is_seen;
 
-/// Recovery touches no register of another port, nor another port's bit of IS: so what is said of such accesses (`IsOf`) is so of each of
-/// its own. They write no register of the adapter's own, and of the port's none but PxCMD, PxSERR, PxIS and PxCI: neither PxSCTL nor PxIE nor
-/// PxSACT. What they load and store lies in the driver's frames.
+/// Recovery touches no register of another port, nor another port's bit of IS: so what is said of such accesses
+/// (`IsOf`) is so of each of its own. They write no register of the adapter's own, and of the port's none but PxCMD,
+/// PxSERR, PxIS and PxCI: neither PxSCTL nor PxIE nor PxSACT. What they load and store lies in the driver's frames.
 pub fn recovery_is_of_its_port()
     ensures of { (port : Port) (access : Access) → IsRecovering port access → IsOf port access }
     ensures host { (port : Port) (access : Access) → IsRecovering port access → SparesRegister Ghc access }
     ensures link { (port : Port) (access : Access) → IsRecovering port access → SparesRegister (Px port Sctl) access }
-    ensures interrupts { (port : Port) (access : Access) → IsRecovering port access → SparesRegister (Px port Ie) access }
+    ensures interrupts { (port : Port) (access : Access) → IsRecovering port access
+        → SparesRegister (Px port Ie) access }
     ensures active { (port : Port) (access : Access) → IsRecovering port access → SparesRegister (Px port Sact) access }
-    ensures loads { (port : Port) (at : ℕ) (bytes : List ℕ) → port.0 < 4 → IsRecovering port (Loading at bytes) → at + length bytes ≤ DRIVER_BYTES }
-    ensures stores { (port : Port) (at : ℕ) (bytes : List ℕ) → port.0 < 4 → IsRecovering port (Storing at bytes) → at + length bytes ≤ DRIVER_BYTES }
+    ensures loads { (port : Port) (at : ℕ) (bytes : List ℕ) → port.0 < 4 → IsRecovering port (Loading at bytes)
+        → at + length bytes ≤ DRIVER_BYTES }
+    ensures stores { (port : Port) (at : ℕ) (bytes : List ℕ) → port.0 < 4 → IsRecovering port (Storing at bytes)
+        → at + length bytes ≤ DRIVER_BYTES }
 {
     laws_hold();
 }
 
-/// What stands behind a fault in a part of a call stands behind it in the whole: a fault on the tape, where PxCMD wasn't written before the part
-/// either; and the page of the log, where no other came after the part.
+/// What stands behind a fault in a part of a call stands behind it in the whole: a fault on the tape, where PxCMD
+/// wasn't written before the part either; and the page of the log, where no other came after the part.
 pub fn what_stands_behind_a_fault_stays()
-    ensures failed { (port : Port) (early part late : List Access) (start old new end : Device) (fault : Fault) → IsOn start
-        → All (SparesRegister Ghc) early → All (SparesRegister (Px port Cmd)) early → DoesAll early start old → DoesAll late new end
-        → HasFailed port part old new fault → HasFailed port (early ++ (part ++ late)) start end fault }
-    ensures log { (port : Port) (start old new end : Device) (page : List ℕ) → Grows start old → SendsNone port.0 ReadLog new end
-        → BringsLog port old new page → BringsLog port start end page }
+    ensures failed { (port : Port) (early part late : List Access) (start old new end : Device) (fault : Fault)
+        → IsOn start → All (SparesRegister Ghc) early → All (SparesRegister (Px port Cmd)) early
+        → DoesAll early start old → DoesAll late new end → HasFailed port part old new fault
+        → HasFailed port (early ++ (part ++ late)) start end fault }
+    ensures log { (port : Port) (start old new end : Device) (page : List ℕ) → Grows start old
+        → SendsNone port.0 ReadLog new end → BringsLog port old new page → BringsLog port start end page }
 {
     accesses_compose();
     laws_hold();
@@ -68,8 +72,8 @@ pub fn a_port_may_be_recovered()
     laws_hold();
 }
 
-/// What `give_up` asks can be met, and what it promises: there is a port that a fatal error has broken while a read is issued, and three
-/// accesses stop it.
+/// What `give_up` asks can be met, and what it promises: there is a port that a fatal error has broken while a read is
+/// issued, and three accesses stop it.
 pub fn a_port_may_be_given_up()
     ensures { MayBeGivenUp }
 {

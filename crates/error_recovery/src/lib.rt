@@ -1,5 +1,10 @@
-//! Recovery of a port that told the error of a command by TFES: which command failed, and how the port runs again without
-//! COMRESET, where it can; and how one that told a fatal error is stopped, to be booted (AHCI 1.3.1, 6.2.2; ACS-3, 7.24 and A.14).
+//! Finds out which command of a port failed, and has the port run again, or stops it.
+//!
+//! (AHCI 1.3.1, 6.2.2; ACS-3, 7.24 and A.14.) `recover` is for a port of which TFES, PxSSTS, PxCI
+//! and PxSACT were read, in this order. `give_up` stops one for any other trouble, by its PxCMD
+//! alone. Both give up all slots of the port, and park the requests that were there: the caller
+//! decides on these. Where `recover` says `Restart`, the port is stopped, and has to be booted. It
+//! knows no client and no book.
 #![tactic(auto)]
 
 ghost use Rattle.std.specs.Prelude.{ℕ, Bool, true, false, None, Some, ◌≡◌, ◌≢◌, ◌<◌, ◌≤◌, ◌%◌, ◌/◌, ◌+◌, ◌||◌, IfSome, IfNone};
@@ -66,7 +71,8 @@ fn quiet<A: Adapter>(adapter: &mut A, port: Port) -> Option<Quieted>
     requires agreed { AgreesWith AnyUse (A.device adapter.old) }
     ensures on { IsOn (A.device adapter.new) }
     ensures names { IfSome result (λ q. q.stopped.port ≡ port) }
-    ensures quiets { IfSome result (λ q. Quiets port q.fault.0 q.shown.0 (A.device adapter.old) (A.device adapter.new)) }
+    ensures quiets { IfSome result (λ q. Quiets port q.fault.0 q.shown.0 (A.device adapter.old)
+        (A.device adapter.new)) }
     ensures sticks { IfNone result (GetsStuck port (A.device adapter.old) (A.device adapter.new)) }
 {
     laws_hold();
@@ -149,12 +155,14 @@ fn others(outstanding: u32, failed: &Option<Failure>) -> u32
     }
 }
 
-/// Goes on with a port that was quieted: names the plain command that failed, if one is outstanding, and has the port run again, unless
-/// its disk is busy or asks for a transfer.
+/// Goes on with a port that was quieted: names the plain command that failed, if one is outstanding, and has the port
+/// run again, unless its disk is busy or asks for a transfer.
 fn finish_plain<A: Adapter>(adapter: &mut A, quieted: Quieted, outstanding: u32) -> Recovered
-    requires resumes { (old : Device) × Resumes quieted.stopped.port outstanding false quieted.fault.0 quieted.shown.0 old (A.device adapter.old) }
+    requires resumes { (old : Device) × Resumes quieted.stopped.port outstanding false quieted.fault.0 quieted.shown.0
+        old (A.device adapter.old) }
     ensures on { IsOn (A.device adapter.new) }
-    ensures recovers { (old : Device) → Resumes quieted.stopped.port outstanding false quieted.fault.0 quieted.shown.0 old (A.device adapter.old)
+    ensures recovers { (old : Device) → Resumes quieted.stopped.port outstanding false quieted.fault.0 quieted.shown.0
+        old (A.device adapter.old)
         → Recovers quieted.stopped.port outstanding false result old (A.device adapter.new) }
 {
     laws_hold();
@@ -176,12 +184,14 @@ fn finish_plain<A: Adapter>(adapter: &mut A, quieted: Quieted, outstanding: u32)
     }
 }
 
-/// Goes on with a port that was quieted: has it run again, unless its disk is busy or asks for a transfer, and asks the log which of the
-/// outstanding queued commands failed. Where it names none of them, the port is stopped again.
+/// Goes on with a port that was quieted: has it run again, unless its disk is busy or asks for a transfer, and asks the
+/// log which of the outstanding queued commands failed. Where it names none of them, the port is stopped again.
 fn finish_queued<A: Adapter>(adapter: &mut A, quieted: Quieted, outstanding: u32) -> Recovered
-    requires resumes { (old : Device) × Resumes quieted.stopped.port outstanding true quieted.fault.0 quieted.shown.0 old (A.device adapter.old) }
+    requires resumes { (old : Device) × Resumes quieted.stopped.port outstanding true quieted.fault.0 quieted.shown.0
+        old (A.device adapter.old) }
     ensures on { IsOn (A.device adapter.new) }
-    ensures recovers { (old : Device) → Resumes quieted.stopped.port outstanding true quieted.fault.0 quieted.shown.0 old (A.device adapter.old)
+    ensures recovers { (old : Device) → Resumes quieted.stopped.port outstanding true quieted.fault.0 quieted.shown.0
+        old (A.device adapter.old)
         → Recovers quieted.stopped.port outstanding true result old (A.device adapter.new) }
 {
     laws_hold();
@@ -217,16 +227,17 @@ fn unnamed(outstanding: u32, next: Next) -> Recovered
     }
 }
 
-/// Finds out which command of a port has failed, and has the port run again without COMRESET, where that can be (AHCI 1.3.1, 6.2.2).
-/// It is called once PxIS was read with TFES, and then PxSSTS with DET 3, PxCI and PxSACT. `outstanding` are the slots whose
-/// commands aren't done, bit k for slot k; `queued` says whether these are queued commands: a plain one is alone, in slot 0.
+/// Finds out which command of a port has failed, and has the port run again without COMRESET, where that can be (AHCI
+/// 1.3.1, 6.2.2). It is called once PxIS was read with TFES, and then PxSSTS with DET 3, PxCI and PxSACT. `outstanding`
+/// are the slots whose commands aren't done, bit k for slot k; `queued` says whether these are queued commands: a plain
+/// one is alone, in slot 0.
 ///
-/// PxTFD is read, the port is stopped, PxSERR and PxIS are cleared, and PxTFD is read again. A plain command failed with the
-/// status and error that the first reading showed. Where the second shows BSY or DRQ, the port is left stopped, and has to be
-/// booted; else ST is set. Of queued commands the disk's log of errors (READ LOG EXT, log 10h) names the one that failed. Where
-/// its page doesn't come in 64 readings of PxCI, is refused, or names a slot that isn't outstanding, the port is stopped again,
-/// nobody is named, and it has to be booted. Where an engine is stuck for 64 readings of PxCMD, the port is dead, and nobody is
-/// named.
+/// PxTFD is read, the port is stopped, PxSERR and PxIS are cleared, and PxTFD is read again. A plain command failed
+/// with the status and error that the first reading showed. Where the second shows BSY or DRQ, the port is left
+/// stopped, and has to be booted; else ST is set. Of queued commands the disk's log of errors (READ LOG EXT, log 10h)
+/// names the one that failed. Where its page doesn't come in 64 readings of PxCI, is refused, or names a slot that
+/// isn't outstanding, the port is stopped again, nobody is named, and it has to be booted. Where an engine is stuck for
+/// 64 readings of PxCMD, the port is dead, and nobody is named.
 pub fn recover<A: Adapter>(adapter: &mut A, port: Port, outstanding: u32, queued: bool) -> Recovered
     requires on { IsOn (A.device adapter.old) }
     requires there { HasPort (A.device adapter.old) port.0 }
@@ -248,15 +259,17 @@ pub fn recover<A: Adapter>(adapter: &mut A, port: Port, outstanding: u32, queued
     }
 }
 
-/// Stops a port that an error of its link or of the host's bus has broken, so that it can be booted with COMRESET (AHCI 1.3.1, 6.2.2 and 10.4.2); it may also be
-/// one whose device has gone. Of the port's registers PxCMD alone is accessed. `outstanding` are the slots whose commands aren't done, bit k for slot k. Nobody
-/// is named. Where its engine is stuck for 64 readings of PxCMD, the port is dead.
+/// Stops a port that an error of its link or of the host's bus has broken, so that it can be booted with COMRESET (AHCI
+/// 1.3.1, 6.2.2 and 10.4.2); it may also be one whose device has gone. Of the port's registers PxCMD alone is accessed.
+/// `outstanding` are the slots whose commands aren't done, bit k for slot k. Nobody is named. Where its engine is stuck
+/// for 64 readings of PxCMD, the port is dead.
 pub fn give_up<A: Adapter>(adapter: &mut A, port: Port, outstanding: u32) -> Recovered
     requires on { IsOn (A.device adapter.old) }
     requires there { HasPort (A.device adapter.old) port.0 }
     requires agreed { AgreesWith AnyUse (A.device adapter.old) }
     ensures on { IsOn (A.device adapter.new) }
-    ensures gives_up { (queued : Bool) → GivesUp port outstanding queued result (A.device adapter.old) (A.device adapter.new) }
+    ensures gives_up { (queued : Bool) → GivesUp port outstanding queued result (A.device adapter.old)
+        (A.device adapter.new) }
 {
     laws_hold();
     match stop(adapter, port) {

@@ -1,4 +1,5 @@
--- The bytes of each FIS that a device sends, by place (Serial ATA; AHCI 1.3.1, 4.2.1). A byte or a bit that no line names is zero.
+-- The bytes of each FIS that a device sends, by place (Serial ATA; AHCI 1.3.1, 4.2.1). A byte or a bit that no line
+-- names is zero.
 use Rattle.std.specs.Prelude.{◌≡◌, ◌<◌, ℕ, ◌+◌, ◌*◌, ◌^◌, Bool, if◌then◌else◌, List, length, slice_index}
 use Rattle.std.specs.Int.RustNames.{bit_and}
 use Rattle.byteorder.specs.Endian.{little_from}

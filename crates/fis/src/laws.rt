@@ -48,8 +48,12 @@ pub fn a_setup_comes_back(fis: &PioSetup) -> Option<PioSetup>
 
 /// No value has two spellings in bytes. This function does nothing.
 pub fn each_has_one_spelling()
-    ensures command { (c : Command) (a b : List ℕ) → AreBytes a → AreBytes b → SpellsCommand a c → SpellsCommand b c → a ≡ b }
-    ensures registers { (d : DeviceToHost) (a b : List ℕ) → AreBytes a → AreBytes b → SpellsDeviceToHost a d → SpellsDeviceToHost b d → a ≡ b }
-    ensures tags { (s : SetDeviceBits) (a b : List ℕ) → AreBytes a → AreBytes b → SpellsSetDeviceBits a s → SpellsSetDeviceBits b s → a ≡ b }
-    ensures setup { (p : PioSetup) (a b : List ℕ) → AreBytes a → AreBytes b → SpellsPioSetup a p → SpellsPioSetup b p → a ≡ b }
+    ensures command { (c : Command) (a b : List ℕ) → AreBytes a → AreBytes b → SpellsCommand a c → SpellsCommand b c
+        → a ≡ b }
+    ensures registers { (d : DeviceToHost) (a b : List ℕ) → AreBytes a → AreBytes b → SpellsDeviceToHost a d
+        → SpellsDeviceToHost b d → a ≡ b }
+    ensures tags { (s : SetDeviceBits) (a b : List ℕ) → AreBytes a → AreBytes b → SpellsSetDeviceBits a s
+        → SpellsSetDeviceBits b s → a ≡ b }
+    ensures setup { (p : PioSetup) (a b : List ℕ) → AreBytes a → AreBytes b → SpellsPioSetup a p → SpellsPioSetup b p
+        → a ≡ b }
 {}

@@ -1,5 +1,8 @@
-//! The frame information structures of Serial ATA that a host and a disk send: each value's one spelling in bytes, both ways.
-//! Reserved bytes and bits are zero, and a decoder takes nothing else there, and no other length (this project's own).
+//! The FISes that a host and a disk send: each value's one spelling in bytes, both ways.
+//!
+//! (Serial ATA.) Reserved bytes and bits are zero, and a decoder takes nothing else there, and no
+//! other length (this project's own). The server uses the encoder of commands alone, and the model
+//! those of what a disk sends.
 #![tactic(auto)]
 
 ghost use Rattle.std.specs.Prelude.{◌≡◌, ◌<◌, ◌≤◌, ◌^◌, ◌↔◌, IsTrue, IfSome, Some, length};
@@ -28,8 +31,8 @@ pub struct DeviceToHost {
     pub count: u16,
 }
 
-/// What a Set Device Bits FIS tells: the tags of the queued commands that ended, and a status without its bits 7 and 3, BSY and DRQ,
-/// which it doesn't set (Serial ATA; AHCI 1.3.1, 4.2.1).
+/// What a Set Device Bits FIS tells: the tags of the queued commands that ended, and a status without its bits 7 and 3,
+/// BSY and DRQ, which it doesn't set (Serial ATA; AHCI 1.3.1, 4.2.1).
 #[derive(Clone, Copy, PartialEq, Eq, Debug)]
 pub struct SetDeviceBits {
     pub interrupt: bool,

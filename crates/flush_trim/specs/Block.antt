@@ -1,4 +1,5 @@
--- How a range of sectors is cut into the 64 entries of a trim's block (ACS-3; that it is cut from its front is this project's own).
+-- How a range of sectors is cut into the 64 entries of a trim's block (ACS-3; that it is cut from its front is this
+-- project's own).
 use Rattle.std.specs.Prelude.{ℕ, ◌≡◌, ◌+◌, ◌*◌, ◌-◌, ◌<◌, min, nat_lt, if◌then◌else◌, List}
 use Rattle.byteorder.specs.Endian.{little_from}
 
@@ -19,4 +20,5 @@ first_of first count place = if nat_lt (65535 * place) count then first + 65535 
 -- each entry is so
 abbrev pub IsCut : List ℕ → ℕ → ℕ → Type 0
 IsCut block first count =
-    (place : ℕ) → place < 64 → (entry_first block place ≡ first_of first count place) × (entry_length block place ≡ length_of count place)
+    (place : ℕ) → place < 64 → (entry_first block place ≡ first_of first count place)
+    × (entry_length block place ≡ length_of count place)

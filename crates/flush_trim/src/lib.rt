@@ -1,5 +1,8 @@
-//! The plain commands that a port has alone, in slot 0: FLUSH CACHE EXT, and DATA SET MANAGEMENT with TRIM, whose block tells which sectors a
-//! disk is to forget (AHCI 1.3.1, 5.5; ACS-3).
+//! Issues the commands that a port has alone, in slot 0: a flush, or a trim.
+//!
+//! (AHCI 1.3.1, 5.5; ACS-3.) They meet the contract on issuing of `ncq` (`IssuesTask`). A trim's
+//! block names exactly the sectors of its range, in order, and stands at the head of the port's
+//! scratch frame.
 #![tactic(auto)]
 
 ghost use Rattle.std.specs.Prelude.{◌≡◌, ◌+◌, ◌^◌, ◌<◌, ◌≤◌, true, List};
@@ -65,8 +68,8 @@ fn entry_of(range: &Range, place: usize) -> [u8; ENTRY_BYTES]
     (first + (u64::from(length) << 48)).to_le_bytes()
 }
 
-/// The block of a trim of 4,194,240 sectors at most (64 entries of 65,535), each below 2^48. It names exactly them, in order; entries
-/// that aren't needed are zero. Where there is no sector, it is zeros, wherever the range begins.
+/// The block of a trim of 4,194,240 sectors at most (64 entries of 65,535), each below 2^48. It names exactly them, in
+/// order; entries that aren't needed are zero. Where there is no sector, it is zeros, wherever the range begins.
 pub fn trim_block(range: &Range) -> [u8; 512]
     requires count { range.now.count ≤ 4194240 }
     requires sectors { 0 < range.now.count → range.now.first.0 + range.now.count ≤ 2 ^ 48 }
@@ -107,8 +110,8 @@ fn trim_command() -> Command
     }
 }
 
-/// Has the disk of a port that runs write its cache back (FLUSH CACHE EXT), by slot 0, which is unused. A flush names no sectors, so the range
-/// of its request is any.
+/// Has the disk of a port that runs write its cache back (FLUSH CACHE EXT), by slot 0, which is unused. A flush names
+/// no sectors, so the range of its request is any.
 pub fn issue_flush<A: Adapter>(adapter: &mut A, port: Port)
     requires on { IsOn (A.device adapter.old) }
     requires there { HasPort (A.device adapter.old) port.0 }
@@ -116,8 +119,11 @@ pub fn issue_flush<A: Adapter>(adapter: &mut A, port: Port)
     requires agreed { AgreesWith (IsUnused port.0 0) (A.device adapter.old) }
     requires may { RunsItsList port.0 (A.device adapter.old) }
     ensures on { IsOn (A.device adapter.new) }
-    ensures issues { (range : Range) (frames : List Frame) → IssuesTask port 0 (flush_of range) frames (A.device adapter.old) (A.device adapter.new) }
-    ensures stored { (range : Range) (frames : List Frame) → IsStored (A.device adapter.new) port.0 0 (meaning_of (flush_of range)) (addresses_of port.0 Flush range.count frames) }
+    ensures issues { (range : Range) (frames : List Frame)
+        → IssuesTask port 0 (flush_of range) frames (A.device adapter.old) (A.device adapter.new) }
+    ensures stored { (range : Range) (frames : List Frame)
+        → IsStored (A.device adapter.new) port.0 0 (meaning_of (flush_of range))
+        (addresses_of port.0 Flush range.count frames) }
     ensures set { ((A.device adapter.new).port port.0).ci 0 ≡ true }
 {
     writing_issues();
@@ -126,8 +132,8 @@ pub fn issue_flush<A: Adapter>(adapter: &mut A, port: Port)
     adapter.write(Reg::Px(port, PortReg::Ci), own);
 }
 
-/// Has the disk of a port that runs forget these sectors (DATA SET MANAGEMENT with TRIM), by slot 0, which is unused: 4,194,240 of them at most, each
-/// below 2^48. The block that names them stands in the port's scratch frame.
+/// Has the disk of a port that runs forget these sectors (DATA SET MANAGEMENT with TRIM), by slot 0, which is unused:
+/// 4,194,240 of them at most, each below 2^48. The block that names them stands in the port's scratch frame.
 pub fn issue_trim<A: Adapter>(adapter: &mut A, port: Port, range: &Range)
     requires on { IsOn (A.device adapter.old) }
     requires there { HasPort (A.device adapter.old) port.0 }
@@ -137,8 +143,10 @@ pub fn issue_trim<A: Adapter>(adapter: &mut A, port: Port, range: &Range)
     requires count { range.now.count ≤ 4194240 }
     requires sectors { 0 < range.now.count → range.now.first.0 + range.now.count ≤ 2 ^ 48 }
     ensures on { IsOn (A.device adapter.new) }
-    ensures issues { (frames : List Frame) → IssuesTask port 0 (trim_of range.now) frames (A.device adapter.old) (A.device adapter.new) }
-    ensures stored { (frames : List Frame) → IsStored (A.device adapter.new) port.0 0 (meaning_of (trim_of range.now)) (addresses_of port.0 Trim range.now.count frames) }
+    ensures issues { (frames : List Frame) → IssuesTask port 0 (trim_of range.now) frames (A.device adapter.old)
+        (A.device adapter.new) }
+    ensures stored { (frames : List Frame) → IsStored (A.device adapter.new) port.0 0 (meaning_of (trim_of range.now))
+        (addresses_of port.0 Trim range.now.count frames) }
     ensures block { HasBlockOf Trim range.now port.0 (A.device adapter.new).memory }
     ensures set { ((A.device adapter.new).port port.0).ci 0 ≡ true }
 {

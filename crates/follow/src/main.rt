@@ -1,8 +1,10 @@
-//! `follow CONFIG SCRIPT TO FROM REGISTERS IMAGE..`: a script, played against a block server over an adapter that lines of text reach, and that the model follows.
+//! Plays a script over an adapter that lines of text reach, and that the model follows.
 //!
-//! TO is the file that takes a line for each access, and FROM the one that gives its answer; REGISTERS is where the adapter's registers begin, and the memory
-//! begins at 0. The disks of the model are the images, one to four, from port 0 on, which hold the same sectors as the adapter's own. What the lines answer is printed. Where the two stray,
-//! the access is told on standard error, and the run ends.
+//! `follow CONFIG SCRIPT TO FROM REGISTERS IMAGE..`. TO is the file that takes a line for each
+//! access, and FROM the one that gives its answer; REGISTERS is where the adapter's registers
+//! begin, and the memory begins at 0. The disks of the model are the images, one to four, from port
+//! 0 on, which hold the same sectors as the adapter's own. What the lines answer is printed. Where
+//! the two stray, the access is told on standard error, and the run ends.
 #![tactic(auto)]
 
 mod fault;

@@ -33,7 +33,8 @@ fn copied(alloc: Global, words: &[String]) -> Result<Vec<String>, Fault> {
 }
 
 impl Words {
-    /// The words of `follow CONFIG SCRIPT TO FROM REGISTERS IMAGE..`. REGISTERS is in hexadecimal digits, and there are one to four images.
+    /// The words of `follow CONFIG SCRIPT TO FROM REGISTERS IMAGE..`. REGISTERS is in hexadecimal digits, and there are
+    /// one to four images.
     pub fn read(rt: &(impl Env + AllocGlobal)) -> Result<Words, Fault> {
         // Words that are no text aren't a command line either.
         let words = env::args(rt).map_err(|error| unless_memory(&error, Fault::CommandLine))?;

@@ -8,7 +8,8 @@ use Rattle.hba_regs.specs.declared.reg.Reg.{Reg}
 use Rattle.hba_regs.specs.declared.reg.Reg.TheVariants.{Px}
 use Rattle.followed_adapter.specs.declared.followed.Differing.{Differing}
 
--- The device has gone on from the one state to the other by steps alone: whatever steps lead to the one, steps lead to the other.
+-- The device has gone on from the one state to the other by steps alone: whatever steps lead to the one, steps lead to
+-- the other.
 abbrev pub GoesOn : Device → Device → Type 0
 GoesOn old new = (start : Device) → Steps start old → Steps start new
 
@@ -19,10 +20,12 @@ slots_of (Px port Tfd) d = slice_index d.plain port.0
 slots_of (Px port r) d = slice_index d.failed port.0
 slots_of r d = 0
 
--- Of the slots that are noted by port, this one of this port is among the new ones if it was, or if it is added, and each other one if it was.
+-- Of the slots that are noted by port, this one of this port is among the new ones if it was, or if it is added, and
+-- each other one if it was.
 abbrev pub Adds : (is_added : Bool) (port slot : ℕ) (old new : List ℕ) → Type 0
 Adds is_added port slot old new =
-    (q k : ℕ) → q < 4 → k < 32 → bit (slice_index new q) k ≡ (bit (slice_index old q) k || (is_added && (nat_eq q port && nat_eq k slot)))
+    (q k : ℕ) → q < 4 → k < 32
+    → bit (slice_index new q) k ≡ (bit (slice_index old q) k || (is_added && (nat_eq q port && nat_eq k slot)))
 
 -- It is noted that a slot's command has failed, a queued one or a plain one, and nothing else.
 pub record NotesFailed (port slot : ℕ) (is_queued : Bool) (old new : Differing) : Type 0 where

@@ -6,28 +6,33 @@ use hba_regs::{PortReg, Reg};
 
 const ALL: u32 = 0xffff_ffff;
 
-/// A difference between the model and adapters that are about. They are all that is passed over. The server is told the model's bits: of most of these it makes nothing, and by
-/// those of `FailedSlots` and `UntakenSlots` it takes a request for done, so that an adapter without a model beside it has to show them as the model does.
+/// A difference between the model and adapters that are about. They are all that is passed over. The server is told the
+/// model's bits: of most of these it makes nothing, and by those of `FailedSlots` and `UntakenSlots` it takes a request
+/// for done, so that an adapter without a model beside it has to show them as the model does.
 #[derive(Clone, Copy, Debug, PartialEq, Eq)]
 pub enum Known {
-    /// CAP but for NCS and SNCQ: NP and what else an adapter can do. The server reads NCS, bits 12:8, and SNCQ, bit 30, alone (AHCI 1.3.1, 3.1.1).
+    /// CAP but for NCS and SNCQ: NP and what else an adapter can do. The server reads NCS, bits 12:8, and SNCQ, bit 30,
+    /// alone (AHCI 1.3.1, 3.1.1).
     OtherCapabilities,
     /// PI from bit 4 on: an adapter may have more ports than the four that the server looks for (AHCI 1.3.1, 3.1.4).
     FurtherPorts,
-    /// GHC.AE: where an adapter is AHCI alone (CAP.SAM) it reads as one always, also after a reset (AHCI 1.3.1, 3.1.2). The server writes it before it
-    /// uses the adapter, and never looks.
+    /// GHC.AE: where an adapter is AHCI alone (CAP.SAM) it reads as one always, also after a reset (AHCI 1.3.1, 3.1.2).
+    /// The server writes it before it uses the adapter, and never looks.
     AlwaysAhci,
-    /// DHRS, PSS and SDBS of PxIS: the server clears them and looks which slots' bits fell (AHCI 1.3.1, 5.5.3). The model ends a command when its slot is seen to
-    /// be clear, which may be after the write of PxIS that cleared its cause; and an adapter may tell of a Register FIS behind a page that came by PIO.
+    /// DHRS, PSS and SDBS of PxIS: the server clears them and looks which slots' bits fell (AHCI 1.3.1, 5.5.3). The
+    /// model ends a command when its slot is seen to be clear, which may be after the write of PxIS that cleared its
+    /// cause; and an adapter may tell of a Register FIS behind a page that came by PIO.
     Causes,
-    /// PxTFD but for BSY and DRQ, while no plain command has failed on the port: the server uses status and error of a failed plain command alone (AHCI 1.3.1,
-    /// 6.2.2); of a queued one it asks the log.
+    /// PxTFD but for BSY and DRQ, while no plain command has failed on the port: the server uses status and error of a
+    /// failed plain command alone (AHCI 1.3.1, 6.2.2); of a queued one it asks the log.
     StatusWithoutFault,
-    /// PxCI of a slot whose command has failed: it stays set until ST is zero (AHCI 1.3.1, 3.3.14), but an adapter may clear that of a plain one, and may set that of a queued one that
-    /// it has refused. A server that were told so would take a failed plain command for done.
+    /// PxCI of a slot whose command has failed: it stays set until ST is zero (AHCI 1.3.1, 3.3.14), but an adapter may
+    /// clear that of a plain one, and may set that of a queued one that it has refused. A server that were told so
+    /// would take a failed plain command for done.
     FailedSlots,
-    /// PxSACT of a slot that was issued, and not taken, when a queued command failed: an adapter may do its command all the same, and leave its bit of PxCI set. The
-    /// server takes a slot for done only where both bits are clear, and stops the port then.
+    /// PxSACT of a slot that was issued, and not taken, when a queued command failed: an adapter may do its command all
+    /// the same, and leave its bit of PxCI set. The server takes a slot for done only where both bits are clear, and
+    /// stops the port then.
     UntakenSlots,
 }
 
@@ -64,7 +69,8 @@ impl Known {
     }
 }
 
-/// The bits of a port's register that the definitions name: what a reading shows of the others is open, and the server doesn't use it.
+/// The bits of a port's register that the definitions name: what a reading shows of the others is open, and the server
+/// doesn't use it.
 fn named_of_port(r: PortReg) -> u32
     ensures { result ≡ named_of_port r }
 {
@@ -101,8 +107,8 @@ fn compared(r: Reg, slots: u32) -> u32
     }
 }
 
-/// Whether two values of a register agree, where these slots of its port are known to differ: those whose commands failed, of PxTFD the plain ones of these, and of PxSACT
-/// those that were not taken before a queued one failed.
+/// Whether two values of a register agree, where these slots of its port are known to differ: those whose commands
+/// failed, of PxTFD the plain ones of these, and of PxSACT those that were not taken before a queued one failed.
 pub fn agree(r: Reg, slots: u32, shown: u32, said: u32) -> bool
     ensures { IsTrue result ↔ Agrees r slots shown said }
 {

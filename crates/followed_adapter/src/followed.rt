@@ -22,7 +22,8 @@ const PORTS: usize = 4;
 
 const PAGE_BYTES: usize = 512;
 
-/// Looks at most at a peer that has a command failed, while others of the port may go on there, and how many alike in a row are taken to mean that none does.
+/// Looks at most at a peer that has a command failed, while others of the port may go on there, and how many alike in a
+/// row are taken to mean that none does.
 const LOOKS: u32 = 4096;
 
 const ALIKE: u32 = 32;
@@ -105,7 +106,8 @@ pub struct Followed<A, P> {
 }
 
 impl<A: Shown, P: Peer> Followed<A, P> {
-    /// A model and a peer that are as alike as they can be: idle, with the same disks, and with zeros for memory. No access is made.
+    /// A model and a peer that are as alike as they can be: idle, with the same disks, and with zeros for memory. No
+    /// access is made.
     pub fn new(model: A, peer: P) -> Followed<A, P>
         ensures model { result.model ≡ model }
         ensures begun { result.stray ≡ None }
@@ -234,12 +236,14 @@ impl<A: Shown, P: Peer> Followed<A, P> {
         }
     }
 
-    /// Has a slot's command of the model fail as the peer's has, which shows this task file. It is noted as a queued one where its bit of PxSACT was set.
+    /// Has a slot's command of the model fail as the peer's has, which shows this task file. It is noted as a queued
+    /// one where its bit of PxSACT was set.
     fn fail(&mut self, port: Port, slot: u32, task_file: TaskFile)
         requires port { port.0 < 4 }
         requires slot { slot < 32 }
         ensures goes { GoesOn (A.device self.old.model) (A.device self.new.model) }
-        ensures noted { NotesFailed port.0 slot (((A.device self.old.model).port port.0).sact slot) self.old.differing self.new.differing }
+        ensures noted { NotesFailed port.0 slot (((A.device self.old.model).port port.0).sact slot) self.old.differing
+            self.new.differing }
     {
         let step = Slot(slot as u8);
         let queued = is_set(self.model.shown(Reg::Px(port, PortReg::Sact)), slot);
@@ -306,8 +310,8 @@ impl<A: Shown, P: Peer> Followed<A, P> {
         }
     }
 
-    /// Which slots of the peer's port are in flight once a command has failed there: if it goes on with others, those are waited for, until so many looks have
-    /// shown the same.
+    /// Which slots of the peer's port are in flight once a command has failed there: if it goes on with others, those
+    /// are waited for, until so many looks have shown the same.
     fn settled(&mut self, port: Port) -> Option<u32>
         ensures { self.new.model ≡ self.old.model }
     {
@@ -328,7 +332,8 @@ impl<A: Shown, P: Peer> Followed<A, P> {
         Some(left)
     }
 
-    /// A command has failed: takes the queued ones that the peer has taken, ends those that fell clear, and fails the lowest of the others.
+    /// A command has failed: takes the queued ones that the peer has taken, ends those that fell clear, and fails the
+    /// lowest of the others.
     fn follow_fault(&mut self, port: Port)
         requires { port.0 < 4 }
         ensures { GoesOn (A.device self.old.model) (A.device self.new.model) }
@@ -488,7 +493,8 @@ impl<A: Shown, P: Peer> Followed<A, P> {
         }
     }
 
-    /// Before a reading: what the peer shows of the register, once the model has gone on by what that tells; `None` where they have strayed.
+    /// Before a reading: what the peer shows of the register, once the model has gone on by what that tells; `None`
+    /// where they have strayed.
     fn prepare_read(&mut self, r: Reg) -> Option<u32>
         ensures goes { GoesOn (A.device self.old.model) (A.device self.new.model) }
         ensures told { result ≡ None → is_some self.new.stray ≡ true }
@@ -513,7 +519,8 @@ impl<A: Shown, P: Peer> Followed<A, P> {
         }
     }
 
-    /// What is written to the peer's register: of PxCMD, ST and FRE as they are written, and its other bits as it showed them.
+    /// What is written to the peer's register: of PxCMD, ST and FRE as they are written, and its other bits as it
+    /// showed them.
     fn value_for_peer(&self, r: Reg, v: u32) -> u32 {
         match r {
             Reg::Px(port, PortReg::Cmd) if port.0 < 4 => {
@@ -610,7 +617,8 @@ fn lowest(slots: u32) -> Option<u32>
     (0..32).find(|slot| is_set(slots, *slot))
 }
 
-/// Whether two pages of IDENTIFY DEVICE, in a port's scratch frame, tell the server the same: it decides by what `identify` reads in them, and by nothing else.
+/// Whether two pages of IDENTIFY DEVICE, in a port's scratch frame, tell the server the same: it decides by what
+/// `identify` reads in them, and by nothing else.
 fn tell_same(address: u32, shown: &[u8], said: &[u8]) -> bool {
     if address >= DRIVER_BYTES || address % PORT_BYTES != SCRATCH {
         return false;
@@ -643,8 +651,9 @@ fn stray_of(address: u32, shown: &[u8], said: &[u8]) -> Option<Stray> {
 impl<A: Shown, P: Peer> Adapter for Followed<A, P> {
     ghost device = { λ f. A.device f.model };
 
-    /// What is answered is the model's. Unless the two have strayed, it agrees with what is noted as the peer's. (That this is what the peer showed, and that slots are known to differ only where a
-    /// command failed, no clause says: nothing is claimed of a peer.)
+    /// What is answered is the model's. Unless the two have strayed, it agrees with what is noted as the peer's. (That
+    /// this is what the peer showed, and that slots are known to differ only where a command failed, no clause says:
+    /// nothing is claimed of a peer.)
     fn read(&mut self, r: Reg) -> u32
         requires { MayRead r (A.device self.old.model) }
         ensures reads { Reads r result (A.device self.old.model) (A.device self.new.model) }
@@ -691,7 +700,8 @@ impl<A: Shown, P: Peer> Watched for Followed<A, P> {
 }
 
 impl<A: Shown, P: Peer> Stepped for Followed<A, P> {
-    /// A `Finish` waits until the peer has ended the slot's command, and then ends it in the model, too. Nothing else can be told.
+    /// A `Finish` waits until the peer has ended the slot's command, and then ends it in the model, too. Nothing else
+    /// can be told.
     fn step(&mut self, s: &DeviceStep) -> bool {
         match *s {
             DeviceStep::Finish(port, slot)

@@ -11,8 +11,8 @@ const CHUNK: usize = 64;
 /// Lines before an answer that tell of something else.
 const MOST_NOTICES: u32 = 65_536;
 
-/// A peer behind two files: one takes a line for each access, and the other gives a line for each. The registers begin at an address, and the memory at
-/// address 0.
+/// A peer behind two files: one takes a line for each access, and the other gives a line for each. The registers begin
+/// at an address, and the memory at address 0.
 #[derive(Drop)]
 pub struct LinePeer<R, W> {
     from: R,

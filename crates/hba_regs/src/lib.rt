@@ -1,5 +1,7 @@
-//! The registers of an AHCI adapter and of its ports: where they stand, and the bits and fields that they name
-//! (AHCI 1.3.1, section 3).
+//! The registers of an adapter and of its ports: where they stand, and their bits.
+//!
+//! (AHCI 1.3.1, section 3.) A method that reads a bit or a field gives that one; one that sets or
+//! clears a bit leaves the other 31. There is no access here.
 #![tactic(auto)]
 
 mod adapter_bits;

@@ -1,5 +1,5 @@
 -- The first witness's read is accepted and issued: the machine, and what holds before and after it.
-use Rattle.std.proofs.Common.{ℕ, zero, suc, ◌≡◌, ◌≤◌, ◌∙◌, true, false, List, [], ◌∷◌, None, inl, inr, ⊎_elim, refl, sym, ap, arith}
+use Rattle.std.proofs.Common.{ℕ, zero, suc, ◌≡◌, ◌≤◌, ◌∙◌, true, false, [], ◌∷◌, None, inl, inr, ⊎_elim, refl, sym, ap, arith}
 use Rattle.std.specs.Prelude.{count_by}
 use Rattle.std.proofs.lemmas.Bool.{le-ltb, true≢false}
 use Rattle.std.specs.List.{Contains}
@@ -21,7 +21,7 @@ use Rattle.block_machine.specs.Histories.{Happening, Instant}
 use Rattle.block_machine.specs.Left.{after}
 use Rattle.block_machine.specs.Ports.{Evidence, Ports, SamePort}
 use Rattle.block_machine.specs.State.{Machine, Pending, unanswered}
-use Rattle.block_machine.specs.Steps.{Step, Accept, Answer, Issue, May, newly_accepted}
+use Rattle.block_machine.specs.Steps.{Accept, Answer, Issue, May, newly_accepted}
 use Rattle.block_machine.specs.declared.due.Unanswered.{Unanswered}
 use Rattle.identify.specs.declared.wanted.Wanted.TheVariants.{Any}
 use Rattle.driver_history.specs.Histories.{IsIssuedOn, IssuesOn, Ties, TiesPort}
@@ -30,7 +30,7 @@ use Rattle.history_witnesses.specs.Begun.{ReadyPortHasBegun}
 use Rattle.history_witnesses.specs.Scene.{plain, running_port}
 use Rattle.history_witnesses.proofs.Command.{read_memory, told, zeros}
 use Rattle.history_witnesses.proofs.Holding.{IsUnnamed, first_slots, no_slots}
-use Rattle.history_witnesses.proofs.Issuing.{Submission, IsIssued, accepted_as, reading, submit_happens as happens_so, submit_part as part_of, submit_ties as ties_so}
+use Rattle.history_witnesses.proofs.Issuing.{Submission, IsIssued, reading, submit_happens as happens_so, submit_part as part_of, submit_ties as ties_so}
 use Rattle.history_witnesses.proofs.Issuing as issuing_on
 use Rattle.history_witnesses.proofs.Members.{nowhere, only}
 use Rattle.history_witnesses.proofs.Memory.{past_driver}
@@ -69,9 +69,6 @@ submission = record {
 
 abbrev waits : Pending
 waits = newly_accepted (issuing_on.accepted submission)
-
-abbrev submit_steps : List Step
-submit_steps = issuing_on.submit_steps submission
 
 abbrev pub issuing : Machine
 issuing = issuing_on.issuing submission

@@ -141,11 +141,6 @@ the_answer e o here = ⊎_elim
     (λ (same : Answer e o ≡ Release). absurd cc)
     (either answer Release (Answer e o) here)
 
-in_before : (n : ℕ) → unfit_ports.served (port_at n) ≡ true → issuing.present (port_at n) ≡ true
-in_before zero is = refl
-in_before (suc zero) is = refl
-in_before (suc (suc n)) is = absurd (true≢false (sym is))
-
 -- a port that isn't served is absent
 reboots : (n : ℕ) → IsRebooted submitted_at.moment evidence steps rebooted_at.moment (port_at n)
 reboots n = record {

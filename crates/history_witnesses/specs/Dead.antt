@@ -1,4 +1,5 @@
--- A history in which a reset of the adapter doesn't end, and a service then tells the dead ports (this project's own; AHCI 1.3.1, 10.4.3).
+-- A history in which a reset of the adapter doesn't end, and a service then tells the dead ports (this project's own;
+-- AHCI 1.3.1, 10.4.3).
 use Rattle.std.specs.Prelude.{◌≡◌, List, [], ◌∷◌, Contains, None, Ok}
 use Rattle.ata_types.specs.declared.Port.{Port}
 use Rattle.ata_types.specs.declared.PortState.TheVariants.{Dead}
@@ -21,8 +22,9 @@ use Rattle.driver_history.specs.Histories.{IsHistory, TiesPort}
 abbrev pub reset_accesses : List Access
 reset_accesses = Writing Ghc 0x80000001 ∷ Reading Ghc 0x80000001 ∷ []
 
--- A read of port 0 is accepted and issued; then a reset doesn't end, which leaves both ports dead and the read unanswered; and a service,
--- which makes no access, answers it PortDead: its frames are kept. Each port's part in these calls is done, whether it stays healthy or not.
+-- A read of port 0 is accepted and issued; then a reset doesn't end, which leaves both ports dead and the read
+-- unanswered; and a service, which makes no access, answers it PortDead: its frames are kept. Each port's part in these
+-- calls is done, whether it stays healthy or not.
 pub record DeathIsAHistory : Type 0 where
   pub first : Instant Device
   pub submit : Happening Device DeviceStep
@@ -36,7 +38,8 @@ pub record DeathIsAHistory : Type 0 where
       × (service.event.said ≡ Served (record { id = first_id; client = asked.client; outcome = PortDead } ∷ []))
   pub history : IsHistory (Any ∷ Any ∷ []) first (service ∷ reset ∷ submit ∷ [])
   pub kept : Pending
-  pub keeps : Contains (now first (service ∷ reset ∷ submit ∷ [])).moment.machine.kept kept × (kept.request.id ≡ first_id)
+  pub keeps : Contains (now first (service ∷ reset ∷ submit ∷ [])).moment.machine.kept kept
+      × (kept.request.id ≡ first_id)
   pub accesses : (history.0.2.accesses ≡ reset_accesses) × (history.2.accesses ≡ [])
   pub reset_parts : (port : Port) → TiesPort (now first (submit ∷ [])) reset history.0.2.accesses port
   pub service_parts : (port : Port) → TiesPort (now first (reset ∷ submit ∷ [])) service history.2.accesses port

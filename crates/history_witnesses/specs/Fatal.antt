@@ -1,4 +1,5 @@
--- A history in which a port meets a fatal error, and a service gives the port up, and boots it anew (this project's own; AHCI 1.3.1, 6.2.2).
+-- A history in which a port meets a fatal error, and a service gives the port up, and boots it anew (this project's
+-- own; AHCI 1.3.1, 6.2.2).
 use Rattle.std.specs.Prelude.{true, ◌≡◌, ◌++◌, List, [], ◌∷◌, Ok}
 use Rattle.ata_types.specs.declared.Port.{Port}
 use Rattle.ata_types.specs.declared.PortState.TheVariants.{Ready, Unfit}
@@ -28,7 +29,8 @@ use Rattle.history_witnesses.specs.Restart.{restart_evidence, restarting}
 -- PxIS shows IFS, and is cleared, and so is the port's bit of IS; PxSSTS shows a device
 abbrev pub looking : List Access
 looking =
-    Reading (Px (port_at 0) Is) 0x08000000 ∷ Writing (Px (port_at 0) Is) 0x08000000 ∷ Writing registers.Is 1 ∷ Reading (Px (port_at 0) Ssts) 3 ∷ []
+    Reading (Px (port_at 0) Is) 0x08000000 ∷ Writing (Px (port_at 0) Is) 0x08000000 ∷ Writing registers.Is 1
+    ∷ Reading (Px (port_at 0) Ssts) 3 ∷ []
 
 abbrev pub fatal_accesses : List Access
 fatal_accesses = looking ++ restarting
@@ -37,9 +39,10 @@ fatal_accesses = looking ++ restarting
 abbrev pub fatal_evidence : Evidence
 fatal_evidence = restart_evidence (port_at 0 ∷ [])
 
--- A read of port 0 is accepted and issued. The device is told to meet a fatal error of the port's link, and the port shows it. The service finds it, gives the
--- port up, and boots it anew, which finds no ATA disk: the port is unfit, and the read is answered Unplugged. The service's
--- accesses keep to the adapter's rules. Each port's part in the three calls is done, whether it stays healthy or not.
+-- A read of port 0 is accepted and issued. The device is told to meet a fatal error of the port's link, and the port
+-- shows it. The service finds it, gives the port up, and boots it anew, which finds no ATA disk: the port is unfit, and
+-- the read is answered Unplugged. The service's accesses keep to the adapter's rules. Each port's part in the three
+-- calls is done, whether it stays healthy or not.
 pub record FatalErrorIsAHistory : Type 0 where
   pub first : Instant Device
   pub submit : Happening Device DeviceStep

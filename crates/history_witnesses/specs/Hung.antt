@@ -1,5 +1,5 @@
--- A history in which a read is issued and never ends, and the tick that brings it to its age of three gives its port up, and boots it anew (this
--- project's own).
+-- A history in which a read is issued and never ends, and the tick that brings it to its age of three gives its port
+-- up, and boots it anew (this project's own).
 use Rattle.std.specs.Prelude.{◌≡◌, [], ◌∷◌, Ok}
 use Rattle.ata_types.specs.declared.Port.{Port}
 use Rattle.ata_types.specs.declared.PortState.TheVariants.{Ready, Unfit}
@@ -23,10 +23,11 @@ use Rattle.history_witnesses.specs.Restart.{restart_evidence, restarting}
 abbrev pub TellsNothing : Happening Device DeviceStep → Type 0
 TellsNothing tick = (tick.event.ask ≡ Tick) × (tick.event.said ≡ Served [])
 
--- A read of port 0 is accepted and issued, and the device never takes it, though the port runs well and shows no trouble. Two ticks make no
--- access, since no port is hung when they begin. When the third one begins, port 0 is, and no other. It reads the masks, which show the read
--- issued still, gives the port up, and boots it anew, which finds no ATA disk: the port is unfit, and the read is answered Unplugged. Nothing
--- failed. The tick's accesses keep to the adapter's rules. Each port's part in the four calls is done, whether it stays healthy or not.
+-- A read of port 0 is accepted and issued, and the device never takes it, though the port runs well and shows no
+-- trouble. Two ticks make no access, since no port is hung when they begin. When the third one begins, port 0 is, and
+-- no other. It reads the masks, which show the read issued still, gives the port up, and boots it anew, which finds no
+-- ATA disk: the port is unfit, and the read is answered Unplugged. Nothing failed. The tick's accesses keep to the
+-- adapter's rules. Each port's part in the four calls is done, whether it stays healthy or not.
 pub record HungPortIsAHistory : Type 0 where
   pub first : Instant Device
   pub submit : Happening Device DeviceStep

@@ -1,4 +1,5 @@
--- A history in which a service finds a read done on one port, and loses the disk of another meanwhile (this project's own).
+-- A history in which a service finds a read done on one port, and loses the disk of another meanwhile (this project's
+-- own).
 use Rattle.std.specs.Prelude.{true, ◌≡◌, ◌++◌, List, [], ◌∷◌, Ok}
 use Rattle.ata_types.specs.declared.Port.{Port}
 use Rattle.ata_types.specs.declared.PortState.TheVariants.{Absent, Ready}
@@ -28,7 +29,8 @@ finding_turn = Reading (Px (port_at 0) Ci) 0 ∷ Reading (Px (port_at 0) Sact) 0
 abbrev pub losing_turn : List Access
 losing_turn =
     Reading (Px (port_at 1) Ssts) 0 ∷ Reading (Px (port_at 1) Cmd) 0xc011 ∷ Writing (Px (port_at 1) Cmd) 0xc010
-    ∷ Reading (Px (port_at 1) Cmd) 0x4010 ∷ Writing (Px (port_at 1) Serr) 0xffffffff ∷ Reading (Px (port_at 1) Ssts) 0 ∷ []
+    ∷ Reading (Px (port_at 1) Cmd) 0x4010 ∷ Writing (Px (port_at 1) Serr) 0xffffffff ∷ Reading (Px (port_at 1) Ssts) 0
+    ∷ []
 
 -- what is named: port 1 lost its disk, which is gone, and was stopped
 abbrev pub loss_evidence : Evidence
@@ -42,9 +44,10 @@ loss_evidence = record {
   stuck = [];
 }
 
--- Both ports are ready when the history begins. A read of port 0 is accepted and issued. The service finds it done, and answers it Ok, while
--- the disk of port 1 is in; then that is taken out, and the service looks at port 1: it is stopped, and absent after the call. The
--- service's accesses keep to the adapter's rules. Each port's part in both calls is done, whether it stays healthy or not.
+-- Both ports are ready when the history begins. A read of port 0 is accepted and issued. The service finds it done, and
+-- answers it Ok, while the disk of port 1 is in; then that is taken out, and the service looks at port 1: it is
+-- stopped, and absent after the call. The service's accesses keep to the adapter's rules. Each port's part in both
+-- calls is done, whether it stays healthy or not.
 pub record LossIsAHistory : Type 0 where
   pub first : Instant Device
   pub ready : (first.moment.ports.state (port_at 0) ≡ Ready) × (first.moment.ports.state (port_at 1) ≡ Ready)

@@ -16,23 +16,27 @@ use Rattle.identify.specs.declared.wanted.Wanted.TheVariants.{Any}
 use Rattle.driver_history.specs.Histories.{IsHistory, TiesPort}
 use Rattle.history_witnesses.specs.Allowed.{AreAllowed}
 
--- A look at an unfit port shows that a disk went (PRCS), and no device; the port is given up: it is stopped already. No device shows, so it isn't booted.
+-- A look at an unfit port shows that a disk went (PRCS), and no device; the port is given up: it is stopped already. No
+-- device shows, so it isn't booted.
 abbrev pub looking : List Access
 looking =
     Reading (Px (port_at 0) Is) 0x400000 ∷ Reading (Px (port_at 0) Ssts) 0 ∷ Reading (Px (port_at 0) Cmd) 0x4010
-    ∷ Writing (Px (port_at 0) Cmd) 0x4010 ∷ Reading (Px (port_at 0) Cmd) 0x4010 ∷ Writing (Px (port_at 0) Serr) 0xffffffff
+    ∷ Writing (Px (port_at 0) Cmd) 0x4010 ∷ Reading (Px (port_at 0) Cmd) 0x4010 ∷ Writing (Px (port_at 0) Serr)
+    0xffffffff
     ∷ Reading (Px (port_at 0) Ssts) 0 ∷ []
 
 -- and one of the other unfit port shows nothing new
 abbrev pub passing : List Access
 passing = Reading (Px (port_at 1) Is) 0 ∷ Reading (Px (port_at 1) Ssts) 3 ∷ []
 
--- Two ports are unfit, since a reset found no ATA disk on them, and the disk of port 0 is taken out. The service that follows finds that out, and makes the port absent; it leaves the other
--- as it is. The service's accesses keep to the adapter's rules. Each port's part in both calls is done.
+-- Two ports are unfit, since a reset found no ATA disk on them, and the disk of port 0 is taken out. The service that
+-- follows finds that out, and makes the port absent; it leaves the other as it is. The service's accesses keep to the
+-- adapter's rules. Each port's part in both calls is done.
 pub record MissingDiskIsAHistory : Type 0 where
   pub first : Instant Device
   pub past : List (Happening Device DeviceStep)
-  pub unfit : ((now first past).moment.ports.state (port_at 0) ≡ Unfit 8) × ((now first past).moment.ports.state (port_at 1) ≡ Unfit 8)
+  pub unfit : ((now first past).moment.ports.state (port_at 0) ≡ Unfit 8)
+      × ((now first past).moment.ports.state (port_at 1) ≡ Unfit 8)
   pub unplug : Happening Device DeviceStep
   pub goes : (unplug.event.ask ≡ Told (asked.Unplug (port_at 0))) × (unplug.event.said ≡ Stepped true)
   pub unseen : unplug.event.ports.state (port_at 0) ≡ Unfit 8

@@ -1,4 +1,5 @@
--- A history with a service that tells a plain read's fault, and leaves its port ready and running (this project's own; AHCI 1.3.1, 6.2.2).
+-- A history with a service that tells a plain read's fault, and leaves its port ready and running (this project's own;
+-- AHCI 1.3.1, 6.2.2).
 use Rattle.agreement.specs.Facts.{RunsWell}
 use Rattle.std.specs.Prelude.{◌≡◌, List, [], ◌∷◌, Ok}
 use Rattle.ata_types.specs.declared.Port.{Port}
@@ -27,7 +28,8 @@ recovery_accesses =
     Reading (Px (port_at 0) Ci) 1 ∷ Reading (Px (port_at 0) Sact) 0 ∷ Reading (Px (port_at 0) Tfd) 0x4041
     ∷ Reading (Px (port_at 0) Cmd) 0xc011 ∷ Writing (Px (port_at 0) Cmd) 0xc010 ∷ Reading (Px (port_at 0) Cmd) 0x4010
     ∷ Writing (Px (port_at 0) Serr) 0xffffffff ∷ Writing (Px (port_at 0) Is) 0xffffffff
-    ∷ Reading (Px (port_at 0) Tfd) 0x4041 ∷ Reading (Px (port_at 0) Cmd) 0x4010 ∷ Writing (Px (port_at 0) Cmd) 0x4011 ∷ []
+    ∷ Reading (Px (port_at 0) Tfd) 0x4041 ∷ Reading (Px (port_at 0) Cmd) 0x4010 ∷ Writing (Px (port_at 0) Cmd) 0x4011
+    ∷ []
 
 -- what is named: request 1 failed, with status 41h and error 40h; port 0 failed, and was stopped
 abbrev pub told_fault : Fault
@@ -44,9 +46,9 @@ fault_evidence = record {
   stuck = [];
 }
 
--- A read of port 0 is accepted and issued. The device fails it before the service looks at the port; the service answers it with that fault,
--- and leaves the port ready: it runs well. The service's accesses keep to the adapter's rules. Each port's part in both calls is done, whether
--- it stays healthy or not.
+-- A read of port 0 is accepted and issued. The device fails it before the service looks at the port; the service
+-- answers it with that fault, and leaves the port ready: it runs well. The service's accesses keep to the adapter's
+-- rules. Each port's part in both calls is done, whether it stays healthy or not.
 pub record RecoveryTies : Type 0 where
   pub first : Instant Device
   pub submit : Happening Device DeviceStep
@@ -56,7 +58,8 @@ pub record RecoveryTies : Type 0 where
   pub ready : submit.event.ports.state (port_at 0) ≡ Ready
   pub service : Happening Device DeviceStep
   pub serves : (service.event.ask ≡ Service)
-      × (service.event.said ≡ Served (record { id = first_id; client = asked.client; outcome = DeviceError 0x41 0x40 } ∷ []))
+      × (service.event.said ≡ Served (record { id = first_id; client = asked.client; outcome = DeviceError 0x41 0x40 }
+      ∷ []))
   pub evidence : service.event.evidence ≡ fault_evidence
   pub still : service.event.ports.state (port_at 0) ≡ Ready
   pub well : RunsWell (service.device.port 0)

@@ -1,4 +1,5 @@
--- A history in which a reset of the adapter ends, and both ports are booted (this project's own; AHCI 1.3.1, 10.4.3, 10.1.2 and 10.4.2).
+-- A history in which a reset of the adapter ends, and both ports are booted (this project's own; AHCI 1.3.1, 10.4.3,
+-- 10.1.2 and 10.4.2).
 use Rattle.std.specs.Prelude.{ℕ, ◌≡◌, ◌++◌, List, [], ◌∷◌, Some, None, Ok}
 use Rattle.ata_types.specs.declared.Port.{Port}
 use Rattle.ata_types.specs.declared.PortState.TheVariants.{Unfit}
@@ -24,21 +25,26 @@ use Rattle.history_witnesses.specs.Allowed.{AreAllowed}
 abbrev pub adapter_reset : List Access
 adapter_reset = Writing Ghc 0x80000001 ∷ Reading Ghc 0 ∷ Writing Ghc 0x80000002 ∷ []
 
--- A stopped port gets its places, FRE, and COMRESET; the device shows, is idle, and has another signature than an ATA disk's.
+-- A stopped port gets its places, FRE, and COMRESET; the device shows, is idle, and has another signature than an ATA
+-- disk's.
 abbrev pub booting : ℕ → List Access
 booting port =
-    Reading (Px (port_at port) Cmd) 0 ∷ Writing (Px (port_at port) Clb) (list_of port) ∷ Writing (Px (port_at port) Clbu) 0
-    ∷ Writing (Px (port_at port) Fb) (received_of port) ∷ Writing (Px (port_at port) Fbu) 0 ∷ Reading (Px (port_at port) Cmd) 0
+    Reading (Px (port_at port) Cmd) 0 ∷ Writing (Px (port_at port) Clb) (list_of port)
+    ∷ Writing (Px (port_at port) Clbu) 0
+    ∷ Writing (Px (port_at port) Fb) (received_of port) ∷ Writing (Px (port_at port) Fbu) 0
+    ∷ Reading (Px (port_at port) Cmd) 0
     ∷ Writing (Px (port_at port) Cmd) 0x10 ∷ Writing (Px (port_at port) Sctl) 1 ∷ Writing (Px (port_at port) Sctl) 0
-    ∷ Reading (Px (port_at port) Ssts) 3 ∷ Writing (Px (port_at port) Serr) 0xffffffff ∷ Writing (Px (port_at port) Is) 0xffffffff
+    ∷ Reading (Px (port_at port) Ssts) 3 ∷ Writing (Px (port_at port) Serr) 0xffffffff ∷ Writing (Px (port_at port) Is)
+    0xffffffff
     ∷ Reading (Px (port_at port) Tfd) 0x77 ∷ Reading (Px (port_at port) Sig) 0xeb140101 ∷ []
 
 -- all of them, one after another
 abbrev pub rebooting : List Access
 rebooting = adapter_reset ++ (booting 0 ++ booting 1)
 
--- A read of port 0 is accepted and issued, and its frame is lent. Then the adapter is reset, and the reset ends: each port is booted, and no ATA disk is found. So both
--- are unfit, the read is answered Unplugged, and its frame is given back. The reset's accesses keep to the adapter's rules. Each port's part in both calls is done.
+-- A read of port 0 is accepted and issued, and its frame is lent. Then the adapter is reset, and the reset ends: each
+-- port is booted, and no ATA disk is found. So both are unfit, the read is answered Unplugged, and its frame is given
+-- back. The reset's accesses keep to the adapter's rules. Each port's part in both calls is done.
 pub record ResetIsAHistory : Type 0 where
   pub first : Instant Device
   pub submit : Happening Device DeviceStep

@@ -1,4 +1,5 @@
--- How a port with an issued read is given up and booted anew, when what it finds then is no ATA disk (this project's own; AHCI 1.3.1, 10.1.2 and 10.4.2).
+-- How a port with an issued read is given up and booted anew, when what it finds then is no ATA disk (this project's
+-- own; AHCI 1.3.1, 10.1.2 and 10.4.2).
 use Rattle.std.specs.Prelude.{◌++◌, List, [], ◌∷◌}
 use Rattle.ata_types.specs.declared.Port.{Port}
 use Rattle.hba_regs.specs.declared.reg.Reg.TheVariants.{Px}
@@ -14,13 +15,15 @@ asking = Reading (Px (port_at 0) Ci) 1 ∷ Reading (Px (port_at 0) Sact) 0 ∷ [
 
 -- the port is stopped
 abbrev pub stopping : List Access
-stopping = Reading (Px (port_at 0) Cmd) 0xc011 ∷ Writing (Px (port_at 0) Cmd) 0xc010 ∷ Reading (Px (port_at 0) Cmd) 0x4010 ∷ []
+stopping = Reading (Px (port_at 0) Cmd) 0xc011 ∷ Writing (Px (port_at 0) Cmd) 0xc010 ∷ Reading (Px (port_at 0) Cmd)
+    0x4010 ∷ []
 
 -- FRE is cleared; command list and received FIS area are put in their places; and FRE is set
 abbrev pub placing : List Access
 placing =
     Reading (Px (port_at 0) Cmd) 0x4010 ∷ Writing (Px (port_at 0) Cmd) 0x4000 ∷ Reading (Px (port_at 0) Cmd) 0
-    ∷ Writing (Px (port_at 0) Clb) 0 ∷ Writing (Px (port_at 0) Clbu) 0 ∷ Writing (Px (port_at 0) Fb) 0x400 ∷ Writing (Px (port_at 0) Fbu) 0
+    ∷ Writing (Px (port_at 0) Clb) 0 ∷ Writing (Px (port_at 0) Clbu) 0 ∷ Writing (Px (port_at 0) Fb) 0x400
+    ∷ Writing (Px (port_at 0) Fbu) 0
     ∷ Reading (Px (port_at 0) Cmd) 0 ∷ Writing (Px (port_at 0) Cmd) 0x10 ∷ []
 
 -- COMRESET is sent; the device shows, is idle, and has another signature than an ATA disk's

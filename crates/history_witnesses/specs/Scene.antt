@@ -20,8 +20,8 @@ use Rattle.port_control.specs.Ports.{programmed}
 
 -- ---- disks
 
--- The page of a disk with 256 sectors: word 83 is 6400h, and word 100 is 0100h. Word 75 tells a queue depth less one, and the high byte of
--- word 76 whether commands are queued. All else is zero.
+-- The page of a disk with 256 sectors: word 83 is 6400h, and word 100 is 0100h. Word 75 tells a queue depth less one,
+-- and the high byte of word 76 whether commands are queued. All else is zero.
 abbrev pub page_rest : List ℕ
 page_rest = 0x64 ∷ (replicate 33 0 ++ (1 ∷ replicate 310 0))
 
@@ -52,7 +52,8 @@ page_entry page port = entry.Move (page_move page port)
 
 -- ---- ports
 
--- The port runs with the disk of the first read, in its own places, and tells of its causes; a device was seen, and no command is in a slot.
+-- The port runs with the disk of the first read, in its own places, and tells of its causes; a device was seen, and no
+-- command is in a slot.
 abbrev pub running_port : ℕ → PortState
 running_port port = record reading_port {
   bases = programmed port;
@@ -71,7 +72,8 @@ queueing_cap = 0x40001f03
 
 -- the adapter of the first read, but for that, which tells of its causes, with this tape, this memory, and these ports
 abbrev pub device_with : List Entry → (ℕ → ℕ) → List PortState → Device
-device_with tape memory ports = record first_read { cap = queueing_cap; ie = true; tape = tape; memory = memory; port = having ports }
+device_with tape memory ports =
+    record first_read { cap = queueing_cap; ie = true; tape = tape; memory = memory; port = having ports }
 
 -- ---- what clients see
 

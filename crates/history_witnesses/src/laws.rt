@@ -14,48 +14,50 @@ pub fn a_ready_port_has_begun()
     ensures { ReadyPortHasBegun }
 {}
 
-/// There is a history with a service that answers a plain read with its fault, and leaves the port running well: all that is asked of its
-/// calls is met.
+/// There is a history with a service that answers a plain read with its fault, and leaves the port running well: all
+/// that is asked of its calls is met.
 pub fn a_recovery_ties()
     ensures { RecoveryTies }
 {}
 
-/// There is a history with a service that finds a read done on one port, and loses the disk of another: all that is asked of its calls is
-/// met.
+/// There is a history with a service that finds a read done on one port, and loses the disk of another: all that is
+/// asked of its calls is met.
 pub fn a_loss_is_a_history()
     ensures { LossIsAHistory }
 {}
 
-/// There is a history with a reset that doesn't end, and a service that tells its ports dead: all that is asked of its calls is met.
+/// There is a history with a reset that doesn't end, and a service that tells its ports dead: all that is asked of its
+/// calls is met.
 pub fn a_death_is_a_history()
     ensures { DeathIsAHistory }
 {}
 
-/// There is a history with two queued reads of one port, of which the second ends first, and is answered first: all that is asked of its
-/// calls is met.
+/// There is a history with two queued reads of one port, of which the second ends first, and is answered first: all
+/// that is asked of its calls is met.
 pub fn queued_requests_end_in_any_order()
     ensures { OrderIsFree }
 {}
 
-/// There is a history with a service that finds a fatal error on a port, gives the port up, and boots it anew: all that is asked of its
-/// calls is met.
+/// There is a history with a service that finds a fatal error on a port, gives the port up, and boots it anew: all that
+/// is asked of its calls is met.
 pub fn a_fatal_error_is_a_history()
     ensures { FatalErrorIsAHistory }
 {}
 
-/// There is a history with a read that never ends, and three ticks, of which the third finds its port hung, gives it up, and boots it anew: all
-/// that is asked of its calls is met.
+/// There is a history with a read that never ends, and three ticks, of which the third finds its port hung, gives it
+/// up, and boots it anew: all that is asked of its calls is met.
 pub fn a_hung_port_is_a_history()
     ensures { HungPortIsAHistory }
 {}
 
-/// There is a history with a reset that ends, which boots both ports, tells the read that was issued so, and gives its frame back: all that is asked of its
-/// calls is met.
+/// There is a history with a reset that ends, which boots both ports, tells the read that was issued so, and gives its
+/// frame back: all that is asked of its calls is met.
 pub fn an_ended_reset_is_a_history()
     ensures { ResetIsAHistory }
 {}
 
-/// There is a history in which an unfit disk is taken out, and the service that follows makes its port absent: all that is asked of its calls is met.
+/// There is a history in which an unfit disk is taken out, and the service that follows makes its port absent: all that
+/// is asked of its calls is met.
 pub fn a_missing_disk_is_a_history()
     ensures { MissingDiskIsAHistory }
 {}

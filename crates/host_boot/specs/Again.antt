@@ -19,8 +19,8 @@ use Rattle.host_boot.specs.declared.Booted.{Booted}
 use Rattle.host_boot.specs.declared.Found.{Found}
 use Rattle.host_boot.specs.declared.Found.TheVariants.{Unserved, Ready, Unready}
 
--- A boot that leaves the port ready: what stands behind that; PxSCTL was written in it; what it is to a machine that agrees; and its way, with what
--- the port shows of trouble; and what halts it is of a command that is taken.
+-- A boot that leaves the port ready: what stands behind that; PxSCTL was written in it; what it is to a machine that
+-- agrees; and its way, with what the port shows of trouble; and what halts it is of a command that is taken.
 pub record EndsReady (wanted : Wanted) (port : Port) (info : DiskInfo) (old new : Device) : Type 0 where
   pub ready : IsReady (serial_of wanted) port.0 new info
   pub since : length old.tape ≤ (new.port port.0).notes.sctl_written_at
@@ -55,8 +55,10 @@ pub record BootsAgain (wanted : Wanted) (port : Port) (booted : Booted) (old new
   pub slots : booted.slots ≡ new.cap / 256 % 32 + 1
   pub queued : booted.queued ≡ bit new.cap 30
 
--- A port is booted if a device shows. One did, as PxSSTS was read last before its boot; or none did, and that was all: the port is absent.
+-- A port is booted if a device shows. One did, as PxSSTS was read last before its boot; or none did, and that was all:
+-- the port is absent.
 abbrev pub BootsIfThere : Wanted → Port → Booted → Device → Device → Type 0
 BootsIfThere wanted port booted old new =
     ((b : BootsAgain wanted port booted old new) × ((b.asked.port port.0).ssts_det ≡ 3))
-    ⊎ ((booted.found ≡ Unready Absent) × IsFollowed (IsOfStart port) (λ uses. AllFree uses port.0) old new × EndsAs (serial_of wanted) Absent port.0 new)
+    ⊎ ((booted.found ≡ Unready Absent) × IsFollowed (IsOfStart port) (λ uses. AllFree uses port.0) old new
+    × EndsAs (serial_of wanted) Absent port.0 new)

@@ -49,8 +49,9 @@ uses_of AnyUses = AnyUse
 uses_of (PortUnused port) = λ uses. AllFree uses port.0
 uses_of (Only uses) = IsUse uses
 
--- a port is stopped, or booted, with none of its slots used; registers of the adapter's own are read and written, or CAP and PI alone are read; a port is
--- looked at, or all of this is done for its boot; or all ports are taken over; or the adapter is reset
+-- a port is stopped, or booted, with none of its slots used; registers of the adapter's own are read and written, or
+-- CAP and PI alone are read; a port is looked at, or all of this is done for its boot; or all ports are taken over; or
+-- the adapter is reset
 pub data Stretch : Type 0 where
   Commanding : Port → Stretch
   Booting : Port → Stretch
@@ -85,62 +86,112 @@ fits_of Resetting = AnyUse
 
 -- of what was found of a port: it goes on as long as the port isn't booted anew
 pub record FoundLaws : Type 0 where
-  pub disk_on : (wanted : Option (List ℕ)) (port : ℕ) (old new : Device) (info : DiskInfo) → SendsNone port Identify old new → (new.port port).sctl_det ≡ (old.port port).sctl_det → (new.port port).ie ≡ (old.port port).ie → (new.port port).notes.sctl_written_at ≡ (old.port port).notes.sctl_written_at → HasFitDisk wanted port old info → HasFitDisk wanted port new info
-  pub ready_on : (wanted : Option (List ℕ)) (port : ℕ) (old new : Device) (info : DiskInfo) → LeavesPort (old.port port) (new.port port) → SendsNone port Identify old new → IsReady wanted port old info → IsReady wanted port new info
-  pub ends_on : (wanted : Option (List ℕ)) (state : ShownState) (port : ℕ) (old new : Device) → LeavesPort (old.port port) (new.port port) → (state ≢ Dead → SendsNone port Identify old new) → EndsAs wanted state port old → EndsAs wanted state port new
+  pub disk_on : (wanted : Option (List ℕ)) (port : ℕ) (old new : Device) (info : DiskInfo)
+      → SendsNone port Identify old new → (new.port port).sctl_det ≡ (old.port port).sctl_det
+      → (new.port port).ie ≡ (old.port port).ie → (new.port port).notes.sctl_written_at
+      ≡ (old.port port).notes.sctl_written_at → HasFitDisk wanted port old info → HasFitDisk wanted port new info
+  pub ready_on : (wanted : Option (List ℕ)) (port : ℕ) (old new : Device) (info : DiskInfo)
+      → LeavesPort (old.port port) (new.port port) → SendsNone port Identify old new → IsReady wanted port old info
+      → IsReady wanted port new info
+  pub ends_on : (wanted : Option (List ℕ)) (state : ShownState) (port : ℕ) (old new : Device)
+      → LeavesPort (old.port port) (new.port port) → (state ≢ Dead → SendsNone port Identify old new)
+      → EndsAs wanted state port old → EndsAs wanted state port new
 
 pub record Laws : Type 0 where
   pub found : FoundLaws
   -- one access
   pub steps_keep : (old new : Device) → Steps old new → Keeps old new
-  pub access_on : (access : Access) (old new : Device) → IsOn old → ((v : ℕ) → access ≡ Writing Ghc v → (bit v 31 ≡ true) × (bit v 0 ≡ false)) → Does access old new → IsOn new
+  pub access_on : (access : Access) (old new : Device) → IsOn old
+      → ((v : ℕ) → access ≡ Writing Ghc v → (bit v 31 ≡ true) × (bit v 0 ≡ false)) → Does access old new → IsOn new
   pub access_same : (access : Access) (old new : Device) → Does access old new → SameAdapter old new
   pub access_grows : (access : Access) (old new : Device) → Does access old new → Grows old new
-  pub switches_on : (v : ℕ) (old new : Device) → old.hr ≡ false → bit v 31 ≡ true → bit v 0 ≡ false → Writes Ghc v old new → IsOn new
+  pub switches_on : (v : ℕ) (old new : Device) → old.hr ≡ false → bit v 31 ≡ true → bit v 0 ≡ false
+      → Writes Ghc v old new → IsOn new
   pub hr_begins : (v : ℕ) (old new : Device) → bit v 0 ≡ true → Writes Ghc v old new → new.hr ≡ true
   pub hr_told : (v : ℕ) (old new : Device) → Reads Ghc v old new → (new.hr ≡ bit v 0) × (new.ae ≡ bit v 31)
   pub reset_idle : (v : ℕ) (old new : Device) → old.hr ≡ true → Reads Ghc v old new → bit v 0 ≡ false → IsIdle new
-  pub keeps_device : (port : Port) (access : Access) (old new : Device) → old.hr ≡ false → SparesRegister (Px port Sctl) access → Does access old new → HasDeviceOrNone (old.port port.0) → HasDeviceOrNone (new.port port.0)
-  pub own_access : (port : ℕ) (access : Access) (old new : Device) → Does access old new → ShowsOwnDisk (old.port port) → ShowsOwnDisk (new.port port)
-  pub own_all : (port : ℕ) (accesses : List Access) (old new : Device) → DoesAll accesses old new → ShowsOwnDisk (old.port port) → ShowsOwnDisk (new.port port)
+  pub keeps_device : (port : Port) (access : Access) (old new : Device) → old.hr ≡ false
+      → SparesRegister (Px port Sctl) access → Does access old new → HasDeviceOrNone (old.port port.0)
+      → HasDeviceOrNone (new.port port.0)
+  pub own_access : (port : ℕ) (access : Access) (old new : Device) → Does access old new → ShowsOwnDisk (old.port port)
+      → ShowsOwnDisk (new.port port)
+  pub own_all : (port : ℕ) (accesses : List Access) (old new : Device) → DoesAll accesses old new
+      → ShowsOwnDisk (old.port port) → ShowsOwnDisk (new.port port)
   pub own_begins : (port : Port) (old new : Device) → GetsReady port old new → ShowsOwnDisk (new.port port.0)
-  pub shows_device : (port : Port) (v : ℕ) (old new : Device) → Reads (Px port Ssts) v old new → v % 16 ≡ 3 → HasDeviceOrNone (new.port port.0)
+  pub shows_device : (port : Port) (v : ℕ) (old new : Device) → Reads (Px port Ssts) v old new → v % 16 ≡ 3
+      → HasDeviceOrNone (new.port port.0)
   -- stretches
-  pub does_append : (early late : List Access) (old mid new : Device) → DoesAll early old mid → DoesAll late mid new → DoesAll (early ++ late) old new
+  pub does_append : (early late : List Access) (old mid new : Device) → DoesAll early old mid → DoesAll late mid new
+      → DoesAll (early ++ late) old new
   pub grows_more : (old mid new : Device) → Grows old mid → Grows mid new → Grows old new
-  pub undisturbed_parts : (port : ℕ) (old mid new : Device) (early late : List Entry) → mid.tape ≡ old.tape ++ early → new.tape ≡ mid.tape ++ late → Undisturbed port old new → Undisturbed port old mid × Undisturbed port mid new
+  pub undisturbed_parts : (port : ℕ) (old mid new : Device) (early late : List Entry) → mid.tape ≡ old.tape ++ early
+      → new.tape ≡ mid.tape ++ late → Undisturbed port old new → Undisturbed port old mid × Undisturbed port mid new
   pub same_refl : (d : Device) → SameAdapter d d
   pub same_more : (old mid new : Device) → SameAdapter old mid → SameAdapter mid new → SameAdapter old new
-  pub on_all : (accesses : List Access) (old new : Device) → IsOn old → All (SparesRegister Ghc) accesses → DoesAll accesses old new → IsOn new
-  pub left : (port : Port) (q : ℕ) (old new : Device) → q ≢ port.0 → IsOn old → IsDrivenBy (IsOf port) old new → LeavesPort (old.port q) (new.port q)
+  pub on_all : (accesses : List Access) (old new : Device) → IsOn old → All (SparesRegister Ghc) accesses
+      → DoesAll accesses old new → IsOn new
+  pub left : (port : Port) (q : ℕ) (old new : Device) → q ≢ port.0 → IsOn old → IsDrivenBy (IsOf port) old new
+      → LeavesPort (old.port q) (new.port q)
   pub leaves_more : (old mid new : PortState) → LeavesPort old mid → LeavesPort mid new → LeavesPort old new
-  pub of_spares : (port q : Port) (r : PortReg) → q.0 ≢ port.0 → (access : Access) → IsOf port access → SparesRegister (Px q r) access
+  pub of_spares : (port q : Port) (r : PortReg) → q.0 ≢ port.0 → (access : Access) → IsOf port access
+      → SparesRegister (Px q r) access
   pub of_spares_ghc : (port : Port) (access : Access) → IsOf port access → SparesRegister Ghc access
   pub same_any : (old new : Device) → IsDrivenBy AnyAccess old new → SameAdapter old new
-  pub tape_any : (old new : Device) → IsDrivenBy AnyAccess old new → (gained : List Entry) × (new.tape ≡ old.tape ++ gained)
+  pub tape_any : (old new : Device) → IsDrivenBy AnyAccess old new → (gained : List Entry)
+      × (new.tape ≡ old.tape ++ gained)
   pub idle_agrees : (d : Device) → IsIdle d → TellsDisks d → IsAgreed (λ port slot. Free) d
   pub put_same : (uses : Uses) (port slot : ℕ) (u : Use) → put uses port slot u port slot ≡ u
-  pub put_other : (uses : Uses) (port slot : ℕ) (u : Use) (other_port other_slot : ℕ) → (other_port ≡ port → other_slot ≡ slot → ⊥) → put uses port slot u other_port other_slot ≡ uses other_port other_slot
+  pub put_other : (uses : Uses) (port slot : ℕ) (u : Use) (other_port other_slot : ℕ)
+      → (other_port ≡ port → other_slot ≡ slot → ⊥) → put uses port slot u other_port other_slot ≡ uses other_port
+      other_slot
   -- a port
-  pub commanding : (port : Port) (access : Access) → IsControl WritesCommand port access → IsOf port access × SparesRegister (Px port Sctl) access
-  pub placing : (port : Port) (access : Access) → IsControl IsPlacing port access → IsOf port access × SparesRegister (Px port Sctl) access
+  pub commanding : (port : Port) (access : Access) → IsControl WritesCommand port access → IsOf port access
+      × SparesRegister (Px port Sctl) access
+  pub placing : (port : Port) (access : Access) → IsControl IsPlacing port access → IsOf port access
+      × SparesRegister (Px port Sctl) access
   pub failing_sticks : (port : Port) (accesses : List Access) → FailsToStop port accesses → Sticks port accesses
-  pub falls_then : (early late : List Access) (start running : ℕ) (port : Port) → Falls start running port early → Falls start running port (early ++ late)
-  pub falls_since : (early late : List Access) (start running : ℕ) (port : Port) → Falls start running port late → Falls start running port (early ++ late)
+  pub falls_then : (early late : List Access) (start running : ℕ) (port : Port) → Falls start running port early
+      → Falls start running port (early ++ late)
+  pub falls_since : (early late : List Access) (start running : ℕ) (port : Port) → Falls start running port late
+      → Falls start running port (early ++ late)
   pub sticks_then : (early late : List Access) (port : Port) → Sticks port early → Sticks port (early ++ late)
   pub sticks_since : (early late : List Access) (port : Port) → Sticks port late → Sticks port (early ++ late)
   pub of_boot : (port : Port) (access : Access) → IsOfBoot port access → IsOf port access
-  pub boots_driven : (port : Port) (state : ShownState) (old new : Device) → IsBootTo (StopsOnWay port state) port state old new → IsDrivenBy (IsOfBoot port) old new
-  pub stops_driven : (port : Port) (state : ShownState) (old new : Device) → IsBootTo (StopsBoth port) port state old new → IsDrivenBy (IsOfBoot port) old new
+  pub boots_driven : (port : Port) (state : ShownState) (old new : Device)
+      → IsBootTo (StopsOnWay port state) port state old new → IsDrivenBy (IsOfBoot port) old new
+  pub stops_driven : (port : Port) (state : ShownState) (old new : Device)
+      → IsBootTo (StopsBoth port) port state old new → IsDrivenBy (IsOfBoot port) old new
   pub command_of_boot : (port : Port) (access : Access) → IsControl WritesCommand port access → IsOfBoot port access
-  pub runs_over : (port : Port) (access : Access) (old new : Device) → IsOn old → SparesRegister (Px port Sctl) access → SparesRegister (Px port Cmd) access → Does access old new → RunsOn port.0 old new
-  pub runs_on : (port : Port) (accesses : List Access) (old new : Device) → IsOn old → DoesAll accesses old new → All (SparesRegister Ghc) accesses → All (SparesRegister (Px port Sctl)) accesses → All (SparesRegister (Px port Cmd)) accesses → RunsOn port.0 old new
-  pub well_on : (port : ℕ) (old new : Device) → RunsOn port old new → Undisturbed port old new → RunsWell (old.port port) → RunsWell (new.port port)
-  pub halts_acts : (port : Port) (acts : List Act) (k later : Known) (m : Machine) → IsReached m → Knows m k → AreDone acts k m later → All (SparesRegister (Px port Cmd)) (accesses_of acts) → IsHaltedAsTaken (k.device.port port.0) → IsHaltedAsTaken (later.device.port port.0)
+  pub runs_over : (port : Port) (access : Access) (old new : Device) → IsOn old → SparesRegister (Px port Sctl) access
+      → SparesRegister (Px port Cmd) access → Does access old new → RunsOn port.0 old new
+  pub runs_on : (port : Port) (accesses : List Access) (old new : Device) → IsOn old → DoesAll accesses old new
+      → All (SparesRegister Ghc) accesses → All (SparesRegister (Px port Sctl)) accesses
+      → All (SparesRegister (Px port Cmd)) accesses → RunsOn port.0 old new
+  pub well_on : (port : ℕ) (old new : Device) → RunsOn port old new → Undisturbed port old new
+      → RunsWell (old.port port) → RunsWell (new.port port)
+  pub halts_acts : (port : Port) (acts : List Act) (k later : Known) (m : Machine) → IsReached m → Knows m k
+      → AreDone acts k m later → All (SparesRegister (Px port Cmd)) (accesses_of acts)
+      → IsHaltedAsTaken (k.device.port port.0) → IsHaltedAsTaken (later.device.port port.0)
   -- this crate's kinds of accesses
-  pub reads : (kind : Stretch) (r : Reg) (v : ℕ) (old new : Device) → may_of kind (Reading r v) → Reads r v old new → IsTold (λ made. made ≡ Reading r v ∷ []) (may_of kind) (fits_of kind) old new
-  pub writes : (kind : Stretch) (r : Reg) (v : ℕ) (old new : Device) → may_of kind (Writing r v) → Stays (MayWrite r v) old → ((uses : Uses) → fits_of kind uses → LeavesUses uses r v old) → Writes r v old new → IsTold (λ made. made ≡ Writing r v ∷ []) (may_of kind) (fits_of kind) old new
-  pub both : (kind then : Stretch) (first second : Uses → Uses) → ((access : Access) → may_of then access → may_of kind access) → ((uses : Uses) → fits_of kind uses → fits_of then (first uses)) → (old mid new : Device) → (a : IsFollowedTo (may_of kind) (fits_of kind) first old mid) → (b : IsFollowedTo (may_of then) (fits_of then) second mid new) → IsToldTo (λ made. made ≡ a.driven.accesses ++ b.driven.accesses) (may_of kind) (fits_of kind) (λ uses. second (first uses)) old new
-  pub wider : (kind more : Stretch) (next : Uses → Uses) → ((access : Access) → may_of kind access → may_of more access) → ((uses : Uses) → fits_of more uses → fits_of kind uses) → (old new : Device) → (a : IsFollowedTo (may_of kind) (fits_of kind) next old new) → IsToldTo (λ made. made ≡ a.driven.accesses) (may_of more) (fits_of more) next old new
-  pub agreed : (kind : Stretch) (next : Uses → Uses) (uses : Uses) (old new : Device) → fits_of kind uses → IsFollowedTo (may_of kind) (fits_of kind) next old new → IsAgreed uses old → IsAgreed (next uses) new
-  pub silent : (kind : Stretch) (next : Uses → Uses) (uses : Uses) (port : Port) (o : Operation) (old new : Device) → fits_of kind uses → NoneWrites (may_of kind) (Px port Ci) → NoneWrites (may_of kind) (Px port Sact) → op_of o ≡ None → (uses port.0 0 ≡ Own o → ⊥) → IsFollowedTo (may_of kind) (fits_of kind) next old new → IsAgreed uses old → SendsNone port.0 o old new
+  pub reads : (kind : Stretch) (r : Reg) (v : ℕ) (old new : Device) → may_of kind (Reading r v) → Reads r v old new
+      → IsTold (λ made. made ≡ Reading r v ∷ []) (may_of kind) (fits_of kind) old new
+  pub writes : (kind : Stretch) (r : Reg) (v : ℕ) (old new : Device) → may_of kind (Writing r v)
+      → Stays (MayWrite r v) old → ((uses : Uses) → fits_of kind uses → LeavesUses uses r v old) → Writes r v old new
+      → IsTold (λ made. made ≡ Writing r v ∷ []) (may_of kind) (fits_of kind) old new
+  pub both : (kind then : Stretch) (first second : Uses → Uses)
+      → ((access : Access) → may_of then access → may_of kind access)
+      → ((uses : Uses) → fits_of kind uses → fits_of then (first uses)) → (old mid new : Device)
+      → (a : IsFollowedTo (may_of kind) (fits_of kind) first old mid)
+      → (b : IsFollowedTo (may_of then) (fits_of then) second mid new)
+      → IsToldTo (λ made. made ≡ a.driven.accesses ++ b.driven.accesses) (may_of kind) (fits_of kind)
+      (λ uses. second (first uses)) old new
+  pub wider : (kind more : Stretch) (next : Uses → Uses) → ((access : Access) → may_of kind access → may_of more access)
+      → ((uses : Uses) → fits_of more uses → fits_of kind uses) → (old new : Device)
+      → (a : IsFollowedTo (may_of kind) (fits_of kind) next old new)
+      → IsToldTo (λ made. made ≡ a.driven.accesses) (may_of more) (fits_of more) next old new
+  pub agreed : (kind : Stretch) (next : Uses → Uses) (uses : Uses) (old new : Device) → fits_of kind uses
+      → IsFollowedTo (may_of kind) (fits_of kind) next old new → IsAgreed uses old → IsAgreed (next uses) new
+  pub silent : (kind : Stretch) (next : Uses → Uses) (uses : Uses) (port : Port) (o : Operation) (old new : Device)
+      → fits_of kind uses → NoneWrites (may_of kind) (Px port Ci) → NoneWrites (may_of kind) (Px port Sact)
+      → op_of o ≡ None → (uses port.0 0 ≡ Own o → ⊥) → IsFollowedTo (may_of kind) (fits_of kind) next old new
+      → IsAgreed uses old → SendsNone port.0 o old new

@@ -41,8 +41,8 @@ AwaitsReset accesses = AwaitsHr true accesses
 
 -- ---- the whole
 
--- The adapter was reset: GHC was read 64 times at most, and HR was read 0 at last. It is idle: none of its slots has a command any more. A machine that agreed followed, by steps of the
--- device alone.
+-- The adapter was reset: GHC was read 64 times at most, and HR was read 0 at last. It is idle: none of its slots has a
+-- command any more. A machine that agreed followed, by steps of the device alone.
 pub record Resets (old new : Device) : Type 0 where
   pub followed : IsFollowed IsOfReset AnyUse old new
   pub awaited : AwaitsHr false followed.driven.accesses
@@ -50,7 +50,8 @@ pub record Resets (old new : Device) : Type 0 where
   pub idle : IsIdle new
   pub same : SameAdapter old new
 
--- The adapter didn't end its reset: GHC was read 64 times, at last with HR one, and it is one still. A machine that agreed followed.
+-- The adapter didn't end its reset: GHC was read 64 times, at last with HR one, and it is one still. A machine that
+-- agreed followed.
 pub record StaysReset (old new : Device) : Type 0 where
   pub followed : IsFollowed IsOfReset AnyUse old new
   pub awaited : AwaitsReset followed.driven.accesses

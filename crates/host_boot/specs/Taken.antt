@@ -1,5 +1,5 @@
--- An adapter that is taken over: which of its ports are served, and what stands behind what each was found to be (this project's own;
--- the way: AHCI 1.3.1, 10.1.2).
+-- An adapter that is taken over: which of its ports are served, and what stands behind what each was found to be (this
+-- project's own; the way: AHCI 1.3.1, 10.1.2).
 use Rattle.std.specs.Prelude.{ℕ, [], ◌∷◌, true, ◌≡◌, ◌≢◌, ◌+◌, ◌/◌, ◌%◌, ◌<◌, ◌≤◌, ◌⊎◌, List, length, slice_index_or}
 use Rattle.ata_types.specs.declared.Port.{Port}
 use Rattle.ata_types.specs.declared.PortState.{PortState as ShownState}
@@ -48,19 +48,21 @@ FoundBadDisk Foreign = Unit {0}
 FoundBadDisk (Unfit n) = Unit {0}
 FoundBadDisk _ = ⊥
 
--- What stands behind what a port was found to be. One that isn't served is as idle as it was; what stands behind the others is what
--- their boot found.
+-- What stands behind what a port was found to be. One that isn't served is as idle as it was; what stands behind the
+-- others is what their boot found.
 abbrev pub StandsBehind : Wanted → Found → ℕ → Device → Type 0
 StandsBehind wanted Unserved port d = (IsServed wanted port d → ⊥) × IsIdlePort (d.port port)
 StandsBehind wanted (Ready info) port d = IsServed wanted port d × IsReady (serial_of wanted) port d info
 StandsBehind wanted (Unready state) port d = IsServed wanted port d × EndsAs (serial_of wanted) state port d
 
--- What still stands behind it as long as the port isn't booted anew: behind a ready port, which takes commands, a disk that fits.
+-- What still stands behind it as long as the port isn't booted anew: behind a ready port, which takes commands, a disk
+-- that fits.
 abbrev pub StillStandsBehind : Wanted → Found → ℕ → Device → Type 0
 StillStandsBehind wanted (Ready info) port d = IsServed wanted port d × HasFitDisk (serial_of wanted) port d info
 StillStandsBehind wanted found port d = StandsBehind wanted found port d
 
--- What has to be left of a port for that: of a ready one, DET of PxSCTL, PxIE, and when PxSCTL was written; any other is left to the device.
+-- What has to be left of a port for that: of a ready one, DET of PxSCTL, PxIE, and when PxSCTL was written; any other
+-- is left to the device.
 abbrev pub LeavesFound : Found → PortState → PortState → Type 0
 LeavesFound (Ready info) old new =
     (new.sctl_det ≡ old.sctl_det) × (new.ie ≡ old.ie) × (new.notes.sctl_written_at ≡ old.notes.sctl_written_at)
@@ -76,8 +78,8 @@ WroteControl _ port since d = since ≤ (d.port port).notes.sctl_written_at
 abbrev pub HaltsFound : Found → ℕ → Device → Type 0
 HaltsFound found port d = (info : DiskInfo) → found ≡ Ready info → HaltsAsTaken (d.port port)
 
--- What accesses tell of the engines of a port that was found to be this: both fell, as was read after each was cleared. Of a dead port 64
--- readings in a row showed one that runs still; and one that isn't served wasn't stopped.
+-- What accesses tell of the engines of a port that was found to be this: both fell, as was read after each was cleared.
+-- Of a dead port 64 readings in a row showed one that runs still; and one that isn't served wasn't stopped.
 abbrev pub TellsEngines : Port → Found → List Access → Type 0
 TellsEngines port Unserved accesses = Unit {0}
 TellsEngines port (Unready Dead) accesses = Sticks port accesses
@@ -106,7 +108,8 @@ IsSurvey access = ⊥
 
 -- it is one of these, or one of the boot of a port in which a disk is wanted
 abbrev pub IsOfTaking : List Wanted → Access → Type 0
-IsOfTaking wanted access = IsOfHost access ⊎ ((port : Port) × (wanted_of wanted port.0 ≢ Nothing) × IsOfBoot port access)
+IsOfTaking wanted access = IsOfHost access ⊎ ((port : Port) × (wanted_of wanted port.0 ≢ Nothing)
+    × IsOfBoot port access)
 
 -- every port is left to the device
 abbrev pub LeavesPorts : Device → Device → Type 0
@@ -114,13 +117,15 @@ LeavesPorts old new = (port : ℕ) → LeavesPort (old.port port) (new.port port
 
 -- ---- the way
 
--- By accesses of a boot of this port alone 64 readings in a row showed one of its engines that was cleared, and runs still.
+-- By accesses of a boot of this port alone 64 readings in a row showed one of its engines that was cleared, and runs
+-- still.
 pub record SticksOnWay (port : Port) (old new : Device) : Type 0 where
   pub driven : IsDrivenBy (IsOfBoot port) old new
   pub sticks : Sticks port driven.accesses
 
--- The port was stopped, and then booted, by accesses of a boot of this port alone: it is ready, and each access of that is told, with what
--- it shows of trouble; or it isn't, and what was seen is told. Of each dead one the engine that is stuck is told.
+-- The port was stopped, and then booted, by accesses of a boot of this port alone: it is ready, and each access of that
+-- is told, with what it shows of trouble; or it isn't, and what was seen is told. Of each dead one the engine that is
+-- stuck is told.
 abbrev pub GoesThrough : Port → Found → Device → Device → Type 0
 GoesThrough port Unserved old new = new ≡ old
 GoesThrough port (Ready info) old new = (stopped : Device) × IsDrivenBy (IsControl WritesCommand port) old stopped
@@ -132,10 +137,11 @@ GoesThrough port (Unready state) old new = (stopped : Device) × IsDrivenBy (IsC
 -- so it was with these ports, one after another, of which the first has this number
 abbrev pub GoThrough : ℕ → List Found → Device → Device → Type 0
 GoThrough port [] old new = new ≡ old
-GoThrough port (found ∷ rest) old new = (mid : Device) × GoesThrough (port_at port) found old mid × GoThrough (port + 1) rest mid new
+GoThrough port (found ∷ rest) old new = (mid : Device) × GoesThrough (port_at port) found old mid
+    × GoThrough (port + 1) rest mid new
 
--- The adapter was switched on with interrupts off, and CAP and PI were read; then each port went its way, in rising number; and last of
--- all the adapter was let interrupt (AHCI 1.3.1, 3.1.2 and 10.1.2).
+-- The adapter was switched on with interrupts off, and CAP and PI were read; then each port went its way, in rising
+-- number; and last of all the adapter was let interrupt (AHCI 1.3.1, 3.1.2 and 10.1.2).
 pub record GoesOver (ports : List Found) (old new : Device) : Type 0 where
   pub switched : Device
   pub switches : Writes Ghc 0x80000000 old switched
@@ -156,8 +162,9 @@ abbrev pub IsLeft : List Found → Uses → ℕ → ℕ → Type 0
 IsLeft ports uses port slot = (uses port slot ≡ Free)
     ⊎ ((slot ≡ 0) × (uses port 0 ≡ Own Identify) × (found_of ports port ≡ Unready Dead))
 
--- An idle adapter was taken over: it is on, and may interrupt; what is told of it is so; each of its ports is as it was found, by a
--- COMRESET of this very call; what halts a ready one is of a command that is taken; and the machine followed, by steps of the device alone, over accesses that tell of each port's engines.
+-- An idle adapter was taken over: it is on, and may interrupt; what is told of it is so; each of its ports is as it was
+-- found, by a COMRESET of this very call; what halts a ready one is of a command that is taken; and the machine
+-- followed, by steps of the device alone, over accesses that tell of each port's engines.
 pub record TakesOver (wanted : List Wanted) (host : Host) (old new : Device) : Type 0 where
   pub on : IsOn new
   pub interrupts : new.ie ≡ true

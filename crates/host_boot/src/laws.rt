@@ -25,8 +25,9 @@ ghost use Rattle.port_boot.specs.States.{ShowsOwnDisk};
 
 use super::lawful::laws_hold;
 
-/// What stands behind what a port was found to be still stands as long as the port isn't booted anew. A boot begins it. It goes on where
-/// the adapter is the same, enough is left of the port, and its disk sends no page of IDENTIFY DEVICE, which a dead port's may.
+/// What stands behind what a port was found to be still stands as long as the port isn't booted anew. A boot begins it.
+/// It goes on where the adapter is the same, enough is left of the port, and its disk sends no page of IDENTIFY DEVICE,
+/// which a dead port's may.
 pub fn what_was_found_still_stands()
     ensures begins { (wanted : Wanted) (found : Found) (port : ℕ) (d : Device) → StandsBehind wanted found port d
         → StillStandsBehind wanted found port d }
@@ -45,13 +46,13 @@ pub fn the_device_leaves_ports()
     laws_hold();
 }
 
-/// A server may begin with what was taken over. The adapter has each port that is served. A port that was found ready has its command
-/// list in its place, with ST set; where nothing went wrong on it in the whole taking over, it runs well; and whatever went wrong, its
-/// faults since ST was set are on record; and a disk is in, if it shows one. A port that was found unfit or foreign shows a device, or has no
-/// disk in.
+/// A server may begin with what was taken over. The adapter has each port that is served. A port that was found ready
+/// has its command list in its place, with ST set; where nothing went wrong on it in the whole taking over, it runs
+/// well; and whatever went wrong, its faults since ST was set are on record; and a disk is in, if it shows one. A port
+/// that was found unfit or foreign shows a device, or has no disk in.
 pub fn what_was_taken_over_may_be_served()
-    ensures there { (wanted : List Wanted) (host : Host) (port : ℕ) (old new : Device) → TakesOver wanted host old new → port < 4
-        → found_of host.ports port ≢ Unserved → HasPort new port }
+    ensures there { (wanted : List Wanted) (host : Host) (port : ℕ) (old new : Device) → TakesOver wanted host old new
+        → port < 4 → found_of host.ports port ≢ Unserved → HasPort new port }
     ensures ready { (wanted : List Wanted) (host : Host) (port : ℕ) (info : DiskInfo) (old new : Device)
         → TakesOver wanted host old new → port < 4 → found_of host.ports port ≡ Ready info
         → ((new.port port).st ≡ true) × ((new.port port).bases.clb ≡ list_of port) × HasPort new port }
@@ -59,7 +60,8 @@ pub fn what_was_taken_over_may_be_served()
         → TakesOver wanted host old new → found_of host.ports port ≡ Ready info → Undisturbed port old new
         → RunsWell (new.port port) }
     ensures recorded { (wanted : List Wanted) (host : Host) (port : ℕ) (info : DiskInfo) (old new : Device) → IsIdle old
-        → TakesOver wanted host old new → found_of host.ports port ≡ Ready info → IsRecorded new.tape (new.port port) port }
+        → TakesOver wanted host old new → found_of host.ports port ≡ Ready info
+        → IsRecorded new.tape (new.port port) port }
     ensures shown { (wanted : List Wanted) (host : Host) (port : ℕ) (state : PortState) (old new : Device) → IsIdle old
         → TakesOver wanted host old new → FoundBadDisk state → found_of host.ports port ≡ Unready state
         → HasDeviceOrNone (new.port port) }
@@ -77,25 +79,30 @@ pub fn other_ports_run_well()
     laws_hold();
 }
 
-/// A server may go on with a port that was booted again. The accesses are of the port alone; what stands behind it is what was found; and one that was
-/// found unfit or foreign shows a device, or has no disk in. A port that does so still does after accesses of another port. The same is so of a port that was
-/// booted if a device showed; and so are the accesses of either of the port, one by one.
+/// A server may go on with a port that was booted again. The accesses are of the port alone; what stands behind it is
+/// what was found; and one that was found unfit or foreign shows a device, or has no disk in. A port that does so still
+/// does after accesses of another port. The same is so of a port that was booted if a device showed; and so are the
+/// accesses of either of the port, one by one.
 pub fn what_was_booted_again_may_be_served()
-    ensures driven { (wanted : Wanted) (port : Port) (booted : Booted) (old new : Device) → BootsAgain wanted port booted old new
-        → IsDrivenBy (IsOf port) old new }
-    ensures stands { (wanted : Wanted) (port : Port) (booted : Booted) (old new : Device) → BootsAgain wanted port booted old new
-        → IsServed wanted port.0 old → StandsBehind wanted booted.found port.0 new }
+    ensures driven { (wanted : Wanted) (port : Port) (booted : Booted) (old new : Device)
+        → BootsAgain wanted port booted old new → IsDrivenBy (IsOf port) old new }
+    ensures stands { (wanted : Wanted) (port : Port) (booted : Booted) (old new : Device)
+        → BootsAgain wanted port booted old new → IsServed wanted port.0 old
+        → StandsBehind wanted booted.found port.0 new }
     ensures shown { (wanted : Wanted) (port : Port) (booted : Booted) (state : PortState) (old new : Device) → IsOn old
-        → BootsAgain wanted port booted old new → FoundBadDisk state → booted.found ≡ Unready state → HasDeviceOrNone (new.port port.0) }
-    ensures there_driven { (wanted : Wanted) (port : Port) (booted : Booted) (old new : Device) → BootsIfThere wanted port booted old new
-        → IsDrivenBy (IsOf port) old new }
-    ensures there_stands { (wanted : Wanted) (port : Port) (booted : Booted) (old new : Device) → BootsIfThere wanted port booted old new
-        → IsServed wanted port.0 old → StandsBehind wanted booted.found port.0 new }
-    ensures there_shown { (wanted : Wanted) (port : Port) (booted : Booted) (state : PortState) (old new : Device) → IsOn old
-        → BootsIfThere wanted port booted old new → FoundBadDisk state → booted.found ≡ Unready state → HasDeviceOrNone (new.port port.0) }
+        → BootsAgain wanted port booted old new → FoundBadDisk state → booted.found ≡ Unready state
+        → HasDeviceOrNone (new.port port.0) }
+    ensures there_driven { (wanted : Wanted) (port : Port) (booted : Booted) (old new : Device)
+        → BootsIfThere wanted port booted old new → IsDrivenBy (IsOf port) old new }
+    ensures there_stands { (wanted : Wanted) (port : Port) (booted : Booted) (old new : Device)
+        → BootsIfThere wanted port booted old new → IsServed wanted port.0 old
+        → StandsBehind wanted booted.found port.0 new }
+    ensures there_shown { (wanted : Wanted) (port : Port) (booted : Booted) (state : PortState) (old new : Device)
+        → IsOn old → BootsIfThere wanted port booted old new → FoundBadDisk state → booted.found ≡ Unready state
+        → HasDeviceOrNone (new.port port.0) }
     ensures start_of { (port : Port) (access : Access) → IsOfStart port access → IsOf port access }
-    ensures beside { (port other : Port) (old new : Device) → port.0 ≢ other.0 → IsOn old → IsDrivenBy (IsOf other) old new
-        → HasDeviceOrNone (old.port port.0) → HasDeviceOrNone (new.port port.0) }
+    ensures beside { (port other : Port) (old new : Device) → port.0 ≢ other.0 → IsOn old
+        → IsDrivenBy (IsOf other) old new → HasDeviceOrNone (old.port port.0) → HasDeviceOrNone (new.port port.0) }
 {
     laws_hold();
 }

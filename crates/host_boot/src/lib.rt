@@ -1,5 +1,10 @@
-//! Taking a host adapter over: it is switched on, each of its ports that is wanted is booted, and then it may interrupt (AHCI 1.3.1,
-//! 10.1.2; which ports are served is this project's own). And resetting it, which makes it idle again (10.4.3).
+//! Takes an idle adapter over, resets it, and boots single ports anew.
+//!
+//! (AHCI 1.3.1, 10.1.2 and 10.4.3; which ports are served is this project's own.) `take_over` asks
+//! for an idle adapter with the driver's memory, and `reset` for nothing. `boot_again` and
+//! `boot_if_there` ask for a stopped port, no slot of which is used. Callers go by what stands
+//! behind each port that was found (`StillStandsBehind`), which stays until the port is booted
+//! anew.
 #![tactic(auto)]
 
 ghost use Rattle.std.specs.Prelude.{ℕ, ◌≡◌, ◌≢◌, ◌<◌, ◌≤◌, length, true};
@@ -146,8 +151,8 @@ fn enable_interrupts<A: Adapter>(adapter: &mut A)
     adapter.write(Reg::Ghc, GlobalControl::AE.0 | GlobalControl::IE.0);
 }
 
-/// Takes an idle adapter over: switches it on, boots each of the ports 0 to 3 that is wanted and that the adapter has, in rising
-/// number, and lets it interrupt. Ports that aren't served are left idle.
+/// Takes an idle adapter over: switches it on, boots each of the ports 0 to 3 that is wanted and that the adapter has,
+/// in rising number, and lets it interrupt. Ports that aren't served are left idle.
 pub fn take_over<A: Adapter>(adapter: &mut A, wanted: &[Wanted; PORTS]) -> Host
     requires idle { IsIdle (A.device adapter.old) }
     requires room { DRIVER_BYTES ≤ (A.device adapter.old).size }
@@ -169,8 +174,8 @@ pub fn take_over<A: Adapter>(adapter: &mut A, wanted: &[Wanted; PORTS]) -> Host
     }
 }
 
-/// Boots a port that was stopped, and no slot of which is used: as a port is booted when its adapter is taken over (AHCI 1.3.1, 10.1.2). CAP is read
-/// first, since its disk may be another, which takes commands in another way.
+/// Boots a port that was stopped, and no slot of which is used: as a port is booted when its adapter is taken over
+/// (AHCI 1.3.1, 10.1.2). CAP is read first, since its disk may be another, which takes commands in another way.
 pub fn boot_again<A: Adapter>(adapter: &mut A, stopped: Stopped, wanted: &Wanted) -> Booted
     requires bootable { IsBootable stopped.port (A.device adapter.old) }
     requires stopped { IsStopped ((A.device adapter.old).port stopped.port.0) }
@@ -187,8 +192,9 @@ pub fn boot_again<A: Adapter>(adapter: &mut A, stopped: Stopped, wanted: &Wanted
     }
 }
 
-/// Boots a port that was stopped since its device went or came, and no slot of which is used, if a device shows (PxSSTS, once PxSERR was cleared): as
-/// `boot_again` does. Else the port is absent. Since PxSCTL was last written a device was seen, or 64 readings of PxSSTS found none.
+/// Boots a port that was stopped since its device went or came, and no slot of which is used, if a device shows
+/// (PxSSTS, once PxSERR was cleared): as `boot_again` does. Else the port is absent. Since PxSCTL was last written a
+/// device was seen, or 64 readings of PxSSTS found none.
 pub fn boot_if_there<A: Adapter>(adapter: &mut A, stopped: Stopped, wanted: &Wanted) -> Booted
     requires bootable { IsBootable stopped.port (A.device adapter.old) }
     requires stopped { IsStopped ((A.device adapter.old).port stopped.port.0) }

@@ -11,8 +11,9 @@ use port_control::READINGS;
 #[derive(Clone, Copy, PartialEq, Eq, Debug)]
 pub struct AdapterStuck;
 
-/// Resets the adapter, and waits until the reset is done, for 64 readings of GHC at most (that many are this project's own). Once it is done the adapter is idle; `AdapterStuck` is told where HR is
-/// one still. It may be reset in whatever state it is, also while a reset is pending.
+/// Resets the adapter, and waits until the reset is done, for 64 readings of GHC at most (that many are this project's
+/// own). Once it is done the adapter is idle; `AdapterStuck` is told where HR is one still. It may be reset in whatever
+/// state it is, also while a reset is pending.
 pub fn reset<A: Adapter>(adapter: &mut A) -> Result<(), AdapterStuck>
     ensures reset { IfOk result (λ done. Resets (A.device adapter.old) (A.device adapter.new)) }
     ensures stuck { IfErr result (λ why. StaysReset (A.device adapter.old) (A.device adapter.new)) }

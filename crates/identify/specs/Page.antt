@@ -13,9 +13,9 @@ word page number = little_from (2 * number) 2 page
 abbrev pub sector_count : List ℕ → ℕ
 sector_count page = word page 100 + 2 ^ 16 * word page 101 + 2 ^ 32 * word page 102 + 2 ^ 48 * word page 103
 
--- When each fault applies. A page has a checksum where the low byte of word 255 is A5h; all its bytes then sum to 0 modulo 256.
--- Bits of word 83 hold where bits 15:14 are 01: 10 is the 48-bit Address feature set, 13 is FLUSH CACHE EXT. Where bits 15:14 of word
--- 106 are 01, its bit 12 tells of sectors with more than 256 words.
+-- When each fault applies. A page has a checksum where the low byte of word 255 is A5h; all its bytes then sum to 0
+-- modulo 256. Bits of word 83 hold where bits 15:14 are 01: 10 is the 48-bit Address feature set, 13 is FLUSH CACHE
+-- EXT. Where bits 15:14 of word 106 are 01, its bit 12 tells of sectors with more than 256 words.
 abbrev pub Applies : List ℕ → Unfit → Type 0
 Applies page BadChecksum = (word page 255 % 2 ^ 8 ≡ 0xa5) × (sum page % 2 ^ 8 ≢ 0)
 Applies page Word83 = word page 83 / 2 ^ 14 ≢ 1
@@ -46,15 +46,16 @@ pub record IsSerial (page serial : List ℕ) : Type 0 where
   pub high : (i : ℕ) → i < 10 → slice_index serial (2 * i) ≡ slice_index page (21 + 2 * i)
   pub low : (i : ℕ) → i < 10 → slice_index serial (2 * i + 1) ≡ slice_index page (20 + 2 * i)
 
--- The disk has the TRIM function of DATA SET MANAGEMENT, for one block at least, and what it trims always reads as zeros.
+-- The disk has the TRIM function of DATA SET MANAGEMENT, for one block at least, and what it trims always reads as
+-- zeros.
 pub record AllowsTrim (page : List ℕ) : Type 0 where
   pub trim : bit_at (word page 169) 0 ≡ 1
   pub deterministic : bit_at (word page 69) 14 ≡ 1
   pub zeros : bit_at (word page 69) 5 ≡ 1
   pub blocks : 1 ≤ word page 105
 
--- What the page tells of the disk: its serial number (words 10 to 19), queue depth (word 75 bits 4:0, plus one), native command
--- queuing (word 76 bit 8), sectors, and whether it may be trimmed.
+-- What the page tells of the disk: its serial number (words 10 to 19), queue depth (word 75 bits 4:0, plus one), native
+-- command queuing (word 76 bit 8), sectors, and whether it may be trimmed.
 pub record Describes (page : List ℕ) (info : DiskInfo) : Type 0 where
   pub serial : IsSerial page info.serial
   pub depth : info.depth ≡ word page 75 % 2 ^ 5 + 1

@@ -1,5 +1,7 @@
-//! The page that IDENTIFY DEVICE brings (ACS-3, 7.12.7): what it tells of a disk, or the first thing in it that makes the disk
-//! unfit.
+//! Reads the page of IDENTIFY DEVICE: what a disk is, or why it is unfit (ACS-3, 7.12.7).
+//!
+//! `parse` takes any 512 bytes, and tells the first of six causes. `Wanted` says which disk a port
+//! is to have.
 #![tactic(auto)]
 
 ghost use Rattle.std.specs.Prelude.{◌≡◌, ◌<◌, ◌↔◌, IsTrue, IfOk, IfErr, sum};
@@ -172,8 +174,8 @@ fn info_of(page: &[u8; 512]) -> DiskInfo
     }
 }
 
-/// What the 512 bytes of an IDENTIFY DEVICE page tell of the disk (ACS-3, 7.12.7). Where causes make it unfit for this server, the
-/// one with the lowest number is told (this project's own).
+/// What the 512 bytes of an IDENTIFY DEVICE page tell of the disk (ACS-3, 7.12.7). Where causes make it unfit for this
+/// server, the one with the lowest number is told (this project's own).
 pub fn parse(page: &[u8; 512]) -> Result<DiskInfo, Unfit>
     ensures unfit { IfErr result (IsFirstFault page.now) }
     ensures fit { IfOk result (λ _. HasNoFault page.now) }

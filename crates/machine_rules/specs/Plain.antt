@@ -52,5 +52,6 @@ SomeRowHas s r refusal = (row : GrantRow) × IsNamed s.rows r row × RowHas s r 
 pub record IsFirstNumbered (s : Situation) (r : Request) (number : ℕ) (found : Option Refusal) : Type 0 where
   pub applies : IfSome found (Applies s r)
   pub numbered : IfSome found (λ cause. (rank cause).0 ≡ number)
-  pub first : IfSome found (λ cause. (other : Refusal) → (rank other).0 ≡ number → (rank other).1 < (rank cause).1 → Applies s r other → ⊥)
+  pub first : IfSome found (λ cause. (other : Refusal) → (rank other).0 ≡ number → (rank other).1 < (rank cause).1
+      → Applies s r other → ⊥)
   pub none : IfNone found ((other : Refusal) → (rank other).0 ≡ number → Applies s r other → ⊥)

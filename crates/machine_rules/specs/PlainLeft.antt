@@ -18,7 +18,14 @@ abbrev pub accepted_of : Filled → Accepted
 accepted_of r = record {
   id = r.id;
   port = r.port;
-  asked = record { client = record { 0 = 0 }; grant = 0; op = r.op; first = r.range.first; count = r.range.count; frames = record { items = [] } };
+  asked = record {
+    client = record { 0 = 0 };
+    grant = 0;
+    op = r.op;
+    first = r.range.first;
+    count = r.range.count;
+    frames = record { items = [] };
+  };
   held = λ i b. byte_of r.fill i;
 }
 

@@ -23,7 +23,8 @@ pub struct Filled {
 pub enum Happened {
     /// A sector of a request was moved or cleared, by its number in the request.
     Touched(Filled, u32),
-    /// A disk was put in. With `fill` as the number here, it has the byte `fill` + k, modulo 256, in all places of sector k.
+    /// A disk was put in. With `fill` as the number here, it has the byte `fill` + k, modulo 256, in all places of
+    /// sector k.
     Plugged(Port, u8),
 }
 
@@ -126,8 +127,8 @@ fn later(old: Option<Filled>, new: Filled) -> Filled
     }
 }
 
-/// The last in order of acceptance of the writes and trims accepted before the read that touched the sector while the disk
-/// with this number was in.
+/// The last in order of acceptance of the writes and trims accepted before the read that touched the sector while the
+/// disk with this number was in.
 fn last_writer(read: &Filled, sector: u64, disk: usize, history: &[Happened]) -> Option<Filled>
     ensures { IsLastWriter read.now.port sector disk read.now.id.0 (history_of history.now) result }
 {
@@ -154,8 +155,8 @@ fn written(writer: Filled, sector: u64) -> u8
     }
 }
 
-/// What the writes and trims accepted before the read left on the sector, as the byte in all its places. The newest happening
-/// stands first, and the disks had the fill `start` before the first.
+/// What the writes and trims accepted before the read left on the sector, as the byte in all its places. The newest
+/// happening stands first, and the disks had the fill `start` before the first.
 pub fn left(start: u8, history: &[Happened], read: &Filled, sector: u64) -> u8
     ensures { (block : Block) × left.IsLeft (start_filled start) (history_of history.now)
         (accepted_of read.now) sector block

@@ -1,5 +1,7 @@
-//! The rules of the block machine as plain, slow programs: why a request is refused, which requests are due, and what is left
-//! on a sector. Each is proved to be its definition.
+//! The block machine's rules as plain, slow programs, proved to be the definitions.
+//!
+//! Why a request, or a client's access to a frame, is refused, which requests are due, and what is
+//! left on a sector. By these programs tests show what the definitions say.
 #![tactic(auto)]
 
 mod due;

@@ -1,5 +1,5 @@
-// Why a request, or a client's access to a frame, is refused, as a plain and slow program: each cause by itself, and then the
-// first that applies.
+// Why a request, or a client's access to a frame, is refused, as a plain and slow program: each cause by itself, and
+// then the first that applies.
 ghost use Rattle.std.specs.Prelude.{false, ◌≡◌, ◌⊎◌, ◌<◌, ◌≤◌, ◌↔◌, IsTrue, IfSome, IfNone, slice_get, count_by, ◌==◌};
 ghost use Rattle.ata_types.specs.Grant.{Allows, Covers};
 ghost use Rattle.block_machine.specs.Rules.{IsNamed, Names, IsCount, frames_for, Breaks, HasFault, BreaksNone, IsFirstBroken, rank};
@@ -35,8 +35,8 @@ impl Default for PortShown {
     }
 }
 
-/// What a request meets, in small tables. A frame past their ends is nobody's and lent to none, and a port past the end is
-/// absent.
+/// What a request meets, in small tables. A frame past their ends is nobody's and lent to none, and a port past the end
+/// is absent.
 #[derive(Debug, Drop)]
 pub struct Tables {
     pub rows: ArrayVec<GrantRow, 64>,

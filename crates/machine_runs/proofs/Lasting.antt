@@ -18,8 +18,7 @@ use Rattle.block_machine.proofs.Trace.{Seen, seen_touch, lives_one, runs_lives, 
 use Rattle.block_machine.proofs.Runs.{traced}
 use Rattle.block_machine.specs.Events.{Moment, Event, IsRun, steps_of}
 use Rattle.block_machine.proofs.EventLemmas.{IsWhole, AllWhole, run_starts, run_legal, run_whole}
-use Rattle.block_machine.proofs.HistoryLemmas.{history_is_run}
-use Rattle.block_machine.specs.Histories.{Instant, Happening, now, events_of, IsHistory}
+use Rattle.block_machine.specs.Histories.{now}
 
 -- the step puts a disk in at the port
 abbrev IsReplace : Step → Port → ℕ → ℕ → Disk → Type 0
@@ -477,7 +476,3 @@ every_plug_finds start (step ∷ past) s legal whole back = (every_plug_finds st
 -- a disk that comes back in a run has the writes that were flushed
 pub run_finds : {D : Type 0} (first : Moment) (run : List (Event D)) → IsRun first run → IsVolatile first.machine (steps_of run) → EveryPlugFinds first.machine (steps_of run)
 run_finds first run r back = every_plug_finds first.machine (steps_of run) (run_starts first run r) (run_legal first run r) (run_whole first run r) back
-
-pub history_finds : {D E : Type 0} (Begins : Instant D → Type 0) (Agrees : Instant D → Happening D E → Type 0) (first : Instant D) (past : List (Happening D E))
-    → IsHistory Begins Agrees first past → IsVolatile first.moment.machine (steps_of (events_of past)) → EveryPlugFinds first.moment.machine (steps_of (events_of past))
-history_finds Begins Agrees first past h back = run_finds first.moment (events_of past) (history_is_run Begins Agrees first past h) back

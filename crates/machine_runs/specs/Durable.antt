@@ -18,8 +18,8 @@ starts_lasting old port (End e) = e.request.port.0 == port.0 && is_flush e.reque
 starts_lasting old port (Replace p id size disk) = p.0 == port.0 && not (id == old.disk_ids port)
 starts_lasting old port _ = false
 
--- Sector k of the port's disk held this block at some moment since a flush was last ended on that disk, or since the disk
--- was first in.
+-- Sector k of the port's disk held this block at some moment since a flush was last ended on that disk, or since the
+-- disk was first in.
 abbrev pub HeldSince : Machine → Port → ℕ → Block → List Step → Type 0
 HeldSince start port k block [] = SameBytes block (start.disks port k)
 HeldSince start port k block (step ∷ past) =
@@ -60,7 +60,8 @@ WriteAccepted w (step ∷ past) = IsAccept step w ⊎ ((takes_out w.port step �
 -- and then it was answered Ok
 abbrev pub WriteAnswered : Accepted → List Step → Type 0
 WriteAnswered w [] = ⊥
-WriteAnswered w (step ∷ past) = (IsOk step w × WriteAccepted w past) ⊎ ((takes_out w.port step ≡ false) × WriteAnswered w past)
+WriteAnswered w (step ∷ past) = (IsOk step w × WriteAccepted w past)
+    ⊎ ((takes_out w.port step ≡ false) × WriteAnswered w past)
 
 -- and then this flush was accepted
 abbrev pub FlushAccepted : Accepted → Accepted → List Step → Type 0
@@ -82,8 +83,9 @@ pub record IsFlushed (start : Machine) (w flush : Accepted) (history : List Step
   pub port : flush.port ≡ w.port
   pub answered : FlushAnswered start w flush history
 
--- The block is what w, or a write or trim of its port accepted later, put on sector k of the disk that was in, whichever it was.
--- (The law is on flushed writes. Since such a write was accepted one disk alone was in at its port, maybe several times.)
+-- The block is what w, or a write or trim of its port accepted later, put on sector k of the disk that was in,
+-- whichever it was. (The law is on flushed writes. Since such a write was accepted one disk alone was in at its port,
+-- maybe several times.)
 pub record IsSince (w : Accepted) (k : ℕ) (history : List Step) (block : Block) : Type 0 where
   pub writer : Accepted
   pub writes : is_writer writer.asked.op ≡ true

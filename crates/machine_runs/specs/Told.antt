@@ -23,15 +23,18 @@ abbrev pub waits_again : RequestId → Step → Bool
 waits_again id (Again e) = e.request.id.0 == id.0
 waits_again id _ = false
 
--- In these steps the request was accepted and issued; and since its last issue each of its sectors was touched, and it was ended.
+-- In these steps the request was accepted and issued; and since its last issue each of its sectors was touched, and it
+-- was ended.
 pub record WasServed (start : Machine) (steps : List Step) (r : Accepted) : Type 0 where
   pub accepted : WasAccepted start steps r
   pub issued : 1 ≤ count_by (issues_it r.id) steps
   pub touched : (i : ℕ) → i < r.asked.count → HasTouchedSince r (sector_of r i) steps
   pub ended : HasEndedSince r steps
 
--- A call of a run answers the request Ok, which is as far as this then. Before that it was served; and a read has, at the call's end, what is left.
-pub record IsAnsweredOk {D : Type 0} (first : Moment) (past : List (Event D)) (event : Event D) (e : Pending) : Type 0 where
+-- A call of a run answers the request Ok, which is as far as this then. Before that it was served; and a read has, at
+-- the call's end, what is left.
+pub record IsAnsweredOk {D : Type 0} (first : Moment) (past : List (Event D)) (event : Event D)
+    (e : Pending) : Type 0 where
   pub late : List Step
   pub early : List Step
   pub answered : event.steps ≡ late ++ Answer e outcome.Ok ∷ early
@@ -39,7 +42,8 @@ pub record IsAnsweredOk {D : Type 0} (first : Moment) (past : List (Event D)) (e
   pub holds : e.request.asked.op ≡ Read
       → HoldsLeft first.machine (early ++ steps_of past) (moment_of first (event ∷ past)).machine.memory e.request
 
--- An unanswered request was there before these steps; and where it is issued, it was issued then, or these steps issue it.
+-- An unanswered request was there before these steps; and where it is issued, it was issued then, or these steps issue
+-- it.
 pub record CameFrom (old : Machine) (steps : List Step) (e : Pending) : Type 0 where
   pub before : Pending
   pub here : Contains old.book before

@@ -15,15 +15,17 @@ use Rattle.block_machine.specs.Events.{Moment, Event, Service, Tick, Reset, Devi
 
 -- the disk that was last in at the port is put in again after this run, with these bytes
 abbrev pub same_again : Moment → List (Event (Unit {0})) → Port → Disk → Step
-same_again first run port disk = Replace port ((moment_of first run).machine.disk_ids port) ((moment_of first run).machine.sizes port) disk
+same_again first run port disk = Replace port ((moment_of first run).machine.disk_ids port)
+    ((moment_of first run).machine.sizes port) disk
 
 -- with a volatile cache it may come back so
 abbrev pub MayComeBack : Moment → List (Event (Unit {0})) → Port → Disk → Type 0
 MayComeBack first run port disk = ComesBack first.machine (steps_of run) (same_again first run port disk)
 
--- The run goes on: the disk is put in again with these bytes, a service boots the port, and a read of the first sector of
--- the two writes is answered Ok. Its frame then has the bytes of the one, or those of the other.
-pub record ReadsOneOf (first : Moment) (run : List (Event (Unit {0}))) (disk : Disk) (one other : Accepted) : Type 0 where
+-- The run goes on: the disk is put in again with these bytes, a service boots the port, and a read of the first sector
+-- of the two writes is answered Ok. Its frame then has the bytes of the one, or those of the other.
+pub record ReadsOneOf (first : Moment) (run : List (Event (Unit {0}))) (disk : Disk)
+    (one other : Accepted) : Type 0 where
   pub plug : Event (Unit {0})
   pub service : Event (Unit {0})
   pub late : List (Event (Unit {0}))
@@ -44,9 +46,10 @@ pub record ReadsOneOf (first : Moment) (run : List (Event (Unit {0}))) (disk : D
   pub found : SameBytes (block_of memory read.request.asked.frames.items 0) (one.held 0)
       ⊎ SameBytes (block_of memory read.request.asked.frames.items 0) (other.held 0)
 
--- In a run of calls a write of one sector is answered Ok and flushed. A later write of it, of other bytes, is answered Ok too,
--- and not flushed. The disk is taken out, and a service notices. Whatever the disk holds when it comes back, as one with a
--- volatile cache may, a read then finds the bytes of the one write or of the other; and it may come back with either.
+-- In a run of calls a write of one sector is answered Ok and flushed. A later write of it, of other bytes, is answered
+-- Ok too, and not flushed. The disk is taken out, and a service notices. Whatever the disk holds when it comes back, as
+-- one with a volatile cache may, a read then finds the bytes of the one write or of the other; and it may come back
+-- with either.
 pub record FindsTheFlushed : Type 0 where
   pub first : Moment
   pub early : List (Event (Unit {0}))
@@ -67,12 +70,16 @@ pub record FindsTheFlushed : Type 0 where
   pub goes : unplug.steps ≡ Unplug write.port ∷ []
   pub serves : service.ask ≡ Service
   pub notices : (moment_of first (service ∷ unplug ∷ early)).ports.state write.port ≡ Absent
-  pub finds : (disk : Disk) → MayComeBack first (service ∷ unplug ∷ early) write.port disk → ReadsOneOf first (service ∷ unplug ∷ early) disk write later
-  pub kept : (disk : Disk) × MayComeBack first (service ∷ unplug ∷ early) write.port disk × SameBytes (disk (sector_of write 0)) (later.held 0)
-  pub lost : (disk : Disk) × MayComeBack first (service ∷ unplug ∷ early) write.port disk × SameBytes (disk (sector_of write 0)) (write.held 0)
+  pub finds : (disk : Disk) → MayComeBack first (service ∷ unplug ∷ early) write.port disk
+      → ReadsOneOf first (service ∷ unplug ∷ early) disk write later
+  pub kept : (disk : Disk) × MayComeBack first (service ∷ unplug ∷ early) write.port disk
+      × SameBytes (disk (sector_of write 0)) (later.held 0)
+  pub lost : (disk : Disk) × MayComeBack first (service ∷ unplug ∷ early) write.port disk
+      × SameBytes (disk (sector_of write 0)) (write.held 0)
 
--- In a run of calls two requests are unanswered at once: one is issued, and the other waits for it. One call then answers the
--- one and issues the other. The device is told to end that, and a service then finds it ended and answers it too.
+-- In a run of calls two requests are unanswered at once: one is issued, and the other waits for it. One call then
+-- answers the one and issues the other. The device is told to end that, and a service then finds it ended and answers
+-- it too.
 pub record WaitsItsTurn : Type 0 where
   pub first : Moment
   pub run : List (Event (Unit {0}))
@@ -106,8 +113,9 @@ pub record WaitsItsTurn : Type 0 where
   pub serves : service.ask ≡ Service
   pub answered : Contains service.steps (Answer last Ok)
 
--- In a run of calls three ticks go by after a request was issued, and the third issues it again. A reset is then stuck, and a
--- service answers the request PortDead: it is kept, and its frame stays lent. A reset that ends gives the frame back.
+-- In a run of calls three ticks go by after a request was issued, and the third issues it again. A reset is then stuck,
+-- and a service answers the request PortDead: it is kept, and its frame stays lent. A reset that ends gives the frame
+-- back.
 pub record EndsWithAReset : Type 0 where
   pub first : Moment
   pub asked : List (Event (Unit {0}))
@@ -135,12 +143,13 @@ pub record EndsWithAReset : Type 0 where
   pub lent : (moment_of first (service ∷ stuck ∷ three ∷ two ∷ one ∷ asked)).machine.lent frame ≡ Some again.request.id
   pub ends : reset.said ≡ WasReset (Some [])
   pub freed : (moment_of first (reset ∷ service ∷ stuck ∷ three ∷ two ∷ one ∷ asked)).machine.lent frame ≡ None
-  pub ready : (moment_of first (reset ∷ service ∷ stuck ∷ three ∷ two ∷ one ∷ asked)).ports.state again.request.port ≡ Ready
+  pub ready : (moment_of first (reset ∷ service ∷ stuck ∷ three ∷ two ∷ one ∷ asked)).ports.state again.request.port
+      ≡ Ready
 
--- In a run of calls four requests are issued, one on one port and three on another. One of the three ends, and the first port's
--- disk is taken out. One service then answers the first port's request Unplugged, and, since the other port failed too, answers
--- what had ended there Ok, tells the fault of one request, and issues the last anew. That fails with its port each time, and is
--- aborted after its fourth issue.
+-- In a run of calls four requests are issued, one on one port and three on another. One of the three ends, and the
+-- first port's disk is taken out. One service then answers the first port's request Unplugged, and, since the other
+-- port failed too, answers what had ended there Ok, tells the fault of one request, and issues the last anew. That
+-- fails with its port each time, and is aborted after its fourth issue.
 pub record MeetsTrouble : Type 0 where
   pub first : Moment
   pub asked : List (Event (Unit {0}))
@@ -163,7 +172,8 @@ pub record MeetsTrouble : Type 0 where
   pub goes : Contains (steps_of asked) (Unplug lost.request.port)
   pub serves : (service.ask ≡ Service) × (third.ask ≡ Service) × (fourth.ask ≡ Service) × (last.ask ≡ Service)
   -- the failed port's answers first, since its number is lower
-  pub tells : service.said ≡ Served (reply_of (failed, DeviceError 65 64) ∷ reply_of (ended, Ok) ∷ reply_of (lost, Unplugged) ∷ [])
+  pub tells : service.said ≡ Served (reply_of (failed, DeviceError 65 64) ∷ reply_of (ended, Ok)
+      ∷ reply_of (lost, Unplugged) ∷ [])
   pub requeues : Contains service.steps (Again again)
   pub absent : (moment_of first (service ∷ asked)).ports.state lost.request.port ≡ Absent
   pub ready : (moment_of first (service ∷ asked)).ports.state failed.request.port ≡ Ready
@@ -180,8 +190,8 @@ pub record MeetsTrouble : Type 0 where
   pub its : again.request.asked.frames.items ≡ frame ∷ []
   pub freed : (moment_of first (last ∷ fourth ∷ third ∷ service ∷ asked)).machine.lent frame ≡ None
 
--- In a run of calls a request is two ticks old, and the device is told to end it. The third tick finds its port hung, and answers
--- the request Ok.
+-- In a run of calls a request is two ticks old, and the device is told to end it. The third tick finds its port hung,
+-- and answers the request Ok.
 pub record EndsAtATick : Type 0 where
   pub first : Moment
   pub early : List (Event (Unit {0}))
@@ -200,8 +210,9 @@ pub record EndsAtATick : Type 0 where
   pub answers : tick.said ≡ Served (reply_of (ended, Ok) ∷ [])
   pub none_left : (moment_of first (tick ∷ ending ∷ early)).machine.book ≡ []
 
--- In a run of calls two requests are unanswered, one issued two ticks ago and one that waits for it, and their disk is taken out. No
--- service notices, but the third tick, which finds the port hung: it answers both Unplugged, and the port is absent then.
+-- In a run of calls two requests are unanswered, one issued two ticks ago and one that waits for it, and their disk is
+-- taken out. No service notices, but the third tick, which finds the port hung: it answers both Unplugged, and the port
+-- is absent then.
 pub record IsTakenOutBeforeATick : Type 0 where
   pub first : Moment
   pub early : List (Event (Unit {0}))
@@ -224,8 +235,8 @@ pub record IsTakenOutBeforeATick : Type 0 where
   pub lent : (moment_of first (going ∷ early)).machine.lent frame ≡ Some issued.request.id
   pub freed : (moment_of first (tick ∷ going ∷ early)).machine.lent frame ≡ None
 
--- In a run of calls two requests are unanswered, one issued and one that waits for it, and the server is reset four times, with
--- success. Three resets issue the one anew. The fourth aborts it, and issues the other.
+-- In a run of calls two requests are unanswered, one issued and one that waits for it, and the server is reset four
+-- times, with success. Three resets issue the one anew. The fourth aborts it, and issues the other.
 pub record GoesAgainInResets : Type 0 where
   pub first : Moment
   pub asked : List (Event (Unit {0}))
@@ -250,8 +261,8 @@ pub record GoesAgainInResets : Type 0 where
   pub after_four : (moment_of first (four ∷ three ∷ two ∷ one ∷ asked)).machine.book ≡ turn ∷ []
   pub issues : (turn.request ≡ waits.request) × (turn.issued ≡ true)
 
--- In a run of calls two requests are issued on a port that meets a fatal error. A service stops it and boots it, and it gets stuck
--- in that. So the requests are answered PortDead, and their frames stay lent.
+-- In a run of calls two requests are issued on a port that meets a fatal error. A service stops it and boots it, and it
+-- gets stuck in that. So the requests are answered PortDead, and their frames stay lent.
 pub record DiesInAService : Type 0 where
   pub first : Moment
   pub asked : List (Event (Unit {0}))

@@ -1,5 +1,6 @@
-//! Laws over whole histories and runs, and that such runs exist. The clause of each function is the law; the functions do
-//! nothing, and nothing calls them. `D` are the steps that a device can be told to do: a law on runs holds for any device.
+//! Laws over whole histories and runs, and that such runs exist. The clause of each function is the law; the functions
+//! do nothing, and nothing calls them. `D` are the steps that a device can be told to do: a law on runs holds for any
+//! device.
 
 ghost use Rattle.std.specs.Prelude.{◌≡◌, ◌≢◌, ◌⊎◌, ◌+◌, ◌<◌, ◌≤◌, ◌==◌, ℕ, true, List, ◌∷◌, ◌++◌, cond, count_by, Contains};
 ghost use Rattle.ata_types.specs.declared.Port.{Port};
@@ -39,8 +40,8 @@ pub fn left_is_one()
         → IsLeft start history read sector other → one ≡ other }
 {}
 
-/// What is left for a read that was answered stays what it is: no write or trim accepted before it touches the sector any
-/// more, however long the run goes on.
+/// What is left for a read that was answered stays what it is: no write or trim accepted before it touches the sector
+/// any more, however long the run goes on.
 pub fn left_stays()
     ensures { (start : Machine) (history : List Step) (step : Step) (read : Accepted)
         (sector disk : ℕ) (block : Block)
@@ -49,10 +50,10 @@ pub fn left_stays()
         → IsLeft start history read sector block → IsLeft start (step ∷ history) read sector block }
 {}
 
-/// Over every run of calls on disks with volatile caches that keep what was flushed: where a write was answered Ok before a
-/// flush of its port was accepted, the flush was answered Ok, and no disk was taken out between, the same disk has the write's
-/// bytes or later ones each time that it comes back. That the disks are such is a premise: a machine's disk of the same name may
-/// come back with any bytes.
+/// Over every run of calls on disks with volatile caches that keep what was flushed: where a write was answered Ok
+/// before a flush of its port was accepted, the flush was answered Ok, and no disk was taken out between, the same disk
+/// has the write's bytes or later ones each time that it comes back. That the disks are such is a premise: a machine's
+/// disk of the same name may come back with any bytes.
 pub fn every_plug_finds<D>()
     ensures { (first : Moment) (run : List (Event D)) → IsRun first run
         → IsVolatile first.machine (steps_of run)
@@ -118,8 +119,8 @@ pub fn replied_was_asked<D>()
         × (e.request.asked.client ≡ reply.client) × WasAsked e.request past }
 {}
 
-/// An unanswered request was there before the last call of a run, which issues it where it is issued, and wasn't before; or that call is the submit which
-/// asked for it.
+/// An unanswered request was there before the last call of a run, which issues it where it is issued, and wasn't
+/// before; or that call is the submit which asked for it.
 pub fn unanswered_came_from<D>()
     ensures { (first : Moment) (past : List (Event D)) (event : Event D) (e : Pending)
         → IsRun first (event ∷ past) → Contains (moment_of first (event ∷ past)).machine.book e
@@ -127,8 +128,8 @@ pub fn unanswered_came_from<D>()
         ⊎ AsksFor e.request event }
 {}
 
-/// What a call of a run answers Ok was served before: it was accepted and issued, its sectors were touched, and it was ended. And where
-/// each read of the run holds what is left, a read that is answered so has it at the call's end.
+/// What a call of a run answers Ok was served before: it was accepted and issued, its sectors were touched, and it was
+/// ended. And where each read of the run holds what is left, a read that is answered so has it at the call's end.
 pub fn ok_was_served<D>()
     ensures { (first : Moment) (past : List (Event D)) (event : Event D) (e : Pending)
         → IsRun first (event ∷ past) → EveryReadHolds first (event ∷ past)
@@ -151,8 +152,8 @@ pub fn answers_are_lawful<D>()
         → IsLawful (moment_of first past) event.evidence event.ports e outcome }
 {}
 
-/// A port that is dead after a call was dead when it began, or its engine or the adapter got stuck in it. So this stands behind each
-/// request that is answered PortDead.
+/// A port that is dead after a call was dead when it began, or its engine or the adapter got stuck in it. So this
+/// stands behind each request that is answered PortDead.
 pub fn dead_ports_were_stuck<D>()
     ensures { (old : Moment) (event : Event D) (port : Port) → Happens old event → event.ports.state port ≡ Dead
         → (old.ports.state port ≡ Dead) ⊎ Contains event.evidence.stuck port }
@@ -174,13 +175,14 @@ pub fn ok_was_ended<D>()
         → HasEndedSince e.request early }
 {}
 
-/// After every history an unanswered request was issued as often as it says: where it is issued, once more than it was made to wait again, and else as
-/// often.
+/// After every history an unanswered request was issued as often as it says: where it is issued, once more than it was
+/// made to wait again, and else as often.
 pub fn issues_are_counted()
     ensures { (start : Machine) (history : List Step) (e : Pending) → IsStart start → IsLegal start history
         → Contains (after start history).book e
         → (count_by (issues_it e.request.id) history ≡ e.issues)
-        × (count_by (issues_it e.request.id) history ≡ count_by (waits_again e.request.id) history + cond e.issued 1 0) }
+        × (count_by (issues_it e.request.id) history ≡ count_by (waits_again e.request.id) history + cond e.issued 1
+        0) }
 {}
 
 /// A call issues a request once at most.
@@ -195,15 +197,15 @@ pub fn none_due_between<D>()
         → AllIssued (moment_of first run) }
 {}
 
-/// At each moment of a run the age of an issued request is two at most: the tick that would bring it to three restarts its
-/// port.
+/// At each moment of a run the age of an issued request is two at most: the tick that would bring it to three restarts
+/// its port.
 pub fn ages_are_bounded<D>()
     ensures { (first : Moment) (run : List (Event D)) (e : Pending) → IsRun first run
         → Contains (moment_of first run).machine.book e → e.issued ≡ true → e.age ≤ 2 }
 {}
 
-/// At each moment of a run an unanswered request is on a port that is ready, or on one that is dead since a reset that was
-/// stuck.
+/// At each moment of a run an unanswered request is on a port that is ready, or on one that is dead since a reset that
+/// was stuck.
 pub fn unanswered_where_ready<D>()
     ensures { (first : Moment) (run : List (Event D)) (e : Pending) → IsRun first run
         → Contains (moment_of first run).machine.book e
@@ -241,12 +243,14 @@ pub fn sectors_change_by()
         → MayChangeSector step port sector }
 {}
 
-/// Of two requests that conflict, the later one may be moved only once the earlier one is neither unanswered nor kept: so the device writes no sector
-/// for a request while an earlier trim of the sector may clear it, and clears none that a write accepted after the trim has written.
+/// Of two requests that conflict, the later one may be moved only once the earlier one is neither unanswered nor kept:
+/// so the device writes no sector for a request while an earlier trim of the sector may clear it, and clears none that
+/// a write accepted after the trim has written.
 pub fn conflicting_requests_take_turns()
     ensures { (start : Machine) (history : List Step) (earlier later : Pending) → IsStart start → IsLegal start history
-        → IsLiving (after start history) earlier → MayMove (after start history) later → earlier.request.id.0 < later.request.id.0
-        → conflict (waiting earlier.request) (waiting later.request) ≡ true → ⊥ }
+        → IsLiving (after start history) earlier → MayMove (after start history) later
+        → earlier.request.id.0 < later.request.id.0 → conflict (waiting earlier.request) (waiting later.request) ≡ true
+        → ⊥ }
 {}
 
 /// A machine to begin with exists.
@@ -254,8 +258,8 @@ pub fn a_start_exists()
     ensures { (m : Machine) × IsStart m }
 {}
 
-/// A run exists in which a read finds a flushed write or a later one, whichever the disk kept while it was out: so the laws
-/// on reads and on flushed writes have something to say.
+/// A run exists in which a read finds a flushed write or a later one, whichever the disk kept while it was out: so the
+/// laws on reads and on flushed writes have something to say.
 pub fn a_worked_run_exists()
     ensures { FindsTheFlushed }
 {}
@@ -265,8 +269,8 @@ pub fn a_waiting_run_exists()
     ensures { WaitsItsTurn }
 {}
 
-/// A run exists in which two ports serve requests, the one fails and the other loses its disk, and a fault, an unplugged
-/// request, one that is issued anew and one that is aborted are told as they have to be.
+/// A run exists in which two ports serve requests, the one fails and the other loses its disk, and a fault, an
+/// unplugged request, one that is issued anew and one that is aborted are told as they have to be.
 pub fn a_troubled_run_exists()
     ensures { MeetsTrouble }
 {}
@@ -276,12 +280,14 @@ pub fn a_ticked_run_exists()
     ensures { EndsAtATick }
 {}
 
-/// A run exists in which a tick finds a port hung whose disk was taken out, and tells its requests Unplugged, issued or not.
+/// A run exists in which a tick finds a port hung whose disk was taken out, and tells its requests Unplugged, issued or
+/// not.
 pub fn an_unplugged_run_exists()
     ensures { IsTakenOutBeforeATick }
 {}
 
-/// A run exists in which resets issue a request anew, abort it after its fourth issue, and issue one that waited for it.
+/// A run exists in which resets issue a request anew, abort it after its fourth issue, and issue one that waited for
+/// it.
 pub fn a_rebooted_run_exists()
     ensures { GoesAgainInResets }
 {}

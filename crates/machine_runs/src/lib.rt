@@ -1,5 +1,8 @@
-//! What runs of the block machine come to: laws over whole histories and runs that no server stands on, and the runs that
-//! show that the laws speak of something.
+//! Laws on whole runs of the block machine, and runs of which they speak.
+//!
+//! No server stands on them; `server_examples` uses some. `every_plug_finds` says what a flush
+//! makes lasting, of disks that keep what was flushed: nothing in the project supplies that
+//! premise. There is no program code.
 #![tactic(auto)]
 
 pub mod laws;

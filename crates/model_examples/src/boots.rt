@@ -1,4 +1,5 @@
-// Models that are taken over: what port 0 is found to be, what a register shows then, and the page that its disk has sent.
+// Models that are taken over: what port 0 is found to be, what a register shows then, and the page that its disk has
+// sent.
 ghost use Rattle.std.specs.Prelude.{◌≡◌, ◌≤◌, IfOk};
 ghost use Rattle.adapter.specs.Idle.{IsIdle};
 
@@ -158,8 +159,8 @@ const CASES: [Case; 12] = [
     },
 ];
 
-/// A byte of the page of disk 0 with 256 sectors: "IMAGEDISK", sectors, a queue of 32, queued commands and trims (ACS-3, 7.12.7). The first
-/// 511 bytes sum to 1466, or 186 modulo 256, and 256 - 186 is 70.
+/// A byte of the page of disk 0 with 256 sectors: "IMAGEDISK", sectors, a queue of 32, queued commands and trims
+/// (ACS-3, 7.12.7). The first 511 bytes sum to 1466, or 186 modulo 256, and 256 - 186 is 70.
 fn page_byte(at: usize) -> u8 {
     match at {
         20..40 => b"MIGADESI K          "[at - 20],
@@ -328,7 +329,8 @@ fn models_are_found_as_they_are(rt: HostRuntime) -> Result<(), Fail> {
     for case in &CASES {
         assert!(rt; holds(rt.alloc(), case)?, "{}", case.what);
     }
-    // A device that takes or moves the page of itself goes on by itself, and one that is held for so many accesses is waited for.
+    // A device that takes or moves the page of itself goes on by itself, and one that is held for so many accesses is
+    // waited for.
     for access in 1..60 {
         let taken = [
             (access, DeviceStep::Fetch(Port(0), Slot(0))),
@@ -343,8 +345,8 @@ fn models_are_found_as_they_are(rt: HostRuntime) -> Result<(), Fail> {
             assert!(rt; holds(rt.alloc(), &case)?, "before access {access}");
         }
     }
-    // IDENTIFY DEVICE fails as it is told before one access alone, at which it is issued and not taken yet: the first reading of PxCI. Its bit
-    // stays set, and no page comes.
+    // IDENTIFY DEVICE fails as it is told before one access alone, at which it is issued and not taken yet: the first
+    // reading of PxCI. Its bit stays set, and no page comes.
     let mut has_failed = false;
     for access in 1..60 {
         let queued = [

@@ -14,8 +14,8 @@ struct Case {
 }
 
 const CASES: [Case; 4] = [
-    // A disk of 70,000 sectors (11170h). The serial number's bytes sum to 654 and eleven spaces to 352, the others to 589: 1595, or 59
-    // modulo 256. The last byte is 256 - 59.
+    // A disk of 70,000 sectors (11170h). The serial number's bytes sum to 654 and eleven spaces to 352, the others to
+    // 589: 1595, or 59 modulo 256. The last byte is 256 - 59.
     Case {
         what: "all abilities",
         serial: b"IMAGEDISK",
@@ -84,8 +84,8 @@ const CASES: [Case; 4] = [
             (511, 53),
         ],
     },
-    // A serial number of 20 characters fills its words: 525 for the digits and 695 for the letters, and 330 for the others: 1550, or 14
-    // modulo 256.
+    // A serial number of 20 characters fills its words: 525 for the digits and 695 for the letters, and 330 for the
+    // others: 1550, or 14 modulo 256.
     Case {
         what: "a long serial number",
         serial: b"0123456789ABCDEFGHIJ",

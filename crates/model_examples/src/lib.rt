@@ -1,5 +1,7 @@
-//! Worked examples of the modelled adapter and of the pages that disks send: values, bytes and answers from outside, through public
-//! calls alone. There is no other code here.
+//! Tests of the modelled adapter, and of the pages that disks send.
+//!
+//! Values, bytes and answers come from outside, and public calls alone are made. There is no other
+//! code, and nothing uses it.
 #![tactic(auto)]
 
 #[cfg(test)]

@@ -1,4 +1,5 @@
-// What a new model does when it is told, and before an access. It isn't switched on, so that GHC alone is read and written.
+// What a new model does when it is told, and before an access. It isn't switched on, so that GHC alone is read and
+// written.
 use adapter::{Adapter, DeviceStep, DiskNumber, DiskPage, Entry, FatalError, Stepped};
 use ata_types::{Port, Slot};
 use device_model::{Model, ModelConfig, NoMemory, Trim};

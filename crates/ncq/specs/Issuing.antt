@@ -14,9 +14,11 @@ use Rattle.command_table.specs.Written.{IsUnused}
 use Rattle.ncq.specs.Tasks.{Arms, HasBlockOf, IsStoreFor, IssuesTask, RunsItsList, addresses_of, meaning_of}
 use Rattle.ncq.specs.declared.Task.{Task}
 
--- A task's command might be issued in the slot, queued if the task is, and a trim's in slot 0; what it needs was stored: header and table, which say
--- it, and a trim's block, which names its sectors; and the slot's bit of PxSACT was set for a queued command.
-pub record IsArmedFor (port : Port) (slot : ℕ) (r : Task) (frames : List Frame) (own : ℕ) (old armed : Device) : Type 0 where
+-- A task's command might be issued in the slot, queued if the task is, and a trim's in slot 0; what it needs was
+-- stored: header and table, which say it, and a trim's block, which names its sectors; and the slot's bit of PxSACT was
+-- set for a queued command.
+pub record IsArmedFor (port : Port) (slot : ℕ) (r : Task) (frames : List Frame) (own : ℕ)
+    (old armed : Device) : Type 0 where
   pub on : IsOn old
   pub there : HasPort old port.0
   pub small : slot < 32

@@ -22,21 +22,23 @@ abbrev pub IsFinding : Port → Access → Type 0
 IsFinding port (Reading r v) = (r ≡ Px port Ci) ⊎ (r ≡ Px port Sact)
 IsFinding port access = ⊥
 
--- The device alone makes steps, and each slot goes on as it is used. Where ST was one, the command of each slot that is done and serves a
--- request is over, and the request has ended. And no request of the port was kept meanwhile.
-pub record FindsEnds (port : Port) (done : ℕ) (old new : Device) (s : InSlots) (m : Machine) (acts : List Act) : Type 0 where
+-- The device alone makes steps, and each slot goes on as it is used. Where ST was one, the command of each slot that is
+-- done and serves a request is over, and the request has ended. And no request of the port was kept meanwhile.
+pub record FindsEnds (port : Port) (done : ℕ) (old new : Device) (s : InSlots) (m : Machine)
+    (acts : List Act) : Type 0 where
   pub device : AllDevices (steps_of acts)
   pub used : All (λ act. act.later.uses ≡ s.uses) acts
-  pub ended : (old.port port.0).st ≡ true → (slot : ℕ) (id : RequestId) → slot < 32 → bit done slot ≡ true → s.uses port.0 slot ≡ Serves id
-      → IsOver (new.port port.0) slot × EndedIn (after m (steps_of acts)) port id
+  pub ended : (old.port port.0).st ≡ true → (slot : ℕ) (id : RequestId) → slot < 32 → bit done slot ≡ true
+      → s.uses port.0 slot ≡ Serves id → IsOver (new.port port.0) slot × EndedIn (after m (steps_of acts)) port id
   pub kept : NoneKept m port → NoneKept (after m (steps_of acts)) port
 
 -- the bits of the mask that are clear in what was read of PxCI and of PxSACT
 abbrev pub AreClear : ℕ → ℕ → ℕ → ℕ → Type 0
-AreClear mask issued active done = (slot : ℕ) → slot < 32 → bit done slot ≡ bit mask slot && not (bit issued slot) && not (bit active slot)
+AreClear mask issued active done = (slot : ℕ) → slot < 32 → bit done slot ≡ bit mask slot && not (bit issued slot) &&
+    not (bit active slot)
 
--- PxCI is read, and then PxSACT, and nothing else is done. A slot of the mask is done where its bits were clear in both. And each machine
--- that agrees follows.
+-- PxCI is read, and then PxSACT, and nothing else is done. A slot of the mask is done where its bits were clear in
+-- both. And each machine that agrees follows.
 pub record ReadsDone (port : Port) (mask done : ℕ) (old new : Device) : Type 0 where
   pub issued : ℕ
   pub active : ℕ
@@ -47,5 +49,5 @@ pub record ReadsDone (port : Port) (mask done : ℕ) (old new : Device) : Type 0
 
 -- a slot of the mask whose bits were clear when the call began is done
 abbrev pub SeesClear : Port → ℕ → ℕ → Device → Type 0
-SeesClear port mask done old = (slot : ℕ) → slot < 32 → bit mask slot ≡ true → (old.port port.0).ci slot ≡ false → (old.port port.0).sact slot ≡ false
-    → bit done slot ≡ true
+SeesClear port mask done old = (slot : ℕ) → slot < 32 → bit mask slot ≡ true → (old.port port.0).ci slot ≡ false
+    → (old.port port.0).sact slot ≡ false → bit done slot ≡ true

@@ -1,5 +1,5 @@
--- What the command of a slot is to do for a request, and how it is issued (AHCI 1.3.1, 3.3.13, 3.3.14 and 5.5; ACS-3: READ DMA EXT, WRITE DMA
--- EXT, READ FPDMA QUEUED, WRITE FPDMA QUEUED, DATA SET MANAGEMENT with TRIM, FLUSH CACHE EXT).
+-- What the command of a slot is to do for a request, and how it is issued (AHCI 1.3.1, 3.3.13, 3.3.14 and 5.5; ACS-3:
+-- READ DMA EXT, WRITE DMA EXT, READ FPDMA QUEUED, WRITE FPDMA QUEUED, DATA SET MANAGEMENT with TRIM, FLUSH CACHE EXT).
 use Rattle.std.specs.Prelude.{ℕ, Bool, true, false, not, ◌≡◌, ◌⊎◌, ◌<◌, ◌≤◌, ◌+◌, ◌/◌, ◌^◌, ◌++◌, List, [], ◌∷◌, length, All}
 use Rattle.ata_types.specs.declared.Port.{Port}
 use Rattle.ata_types.specs.declared.range.Range.{Range}
@@ -36,7 +36,8 @@ use Rattle.ncq.specs.declared.Task.{Task}
 abbrev pub IsTransfer : Op → Type 0
 IsTransfer op = (op ≡ Read) ⊎ (op ≡ Write)
 
--- A read or a write of 1 to 256 sectors, the first of them below 2^48, and the frames that they need, eight sectors to a frame.
+-- A read or a write of 1 to 256 sectors, the first of them below 2^48, and the frames that they need, eight sectors to
+-- a frame.
 pub record IsFit (r : Task) (frames : List Frame) : Type 0 where
   pub transfers : IsTransfer r.op
   pub some : 1 ≤ r.range.count
@@ -62,9 +63,15 @@ in_fis Flush n = 0
 
 -- what the task's command says
 abbrev pub meaning_of : Task → Meaning
-meaning_of r = record { operation = operation_of r.queued r.op; first = in_fis r.op r.range.first.0; count = in_fis r.op r.range.count }
+meaning_of r = record {
+  operation = operation_of r.queued r.op;
+  first = in_fis r.op r.range.first.0;
+  count = in_fis r.op
+      r.range.count;
+}
 
--- The addresses that the slot's bytes say, on this port: a transfer's sectors are in its frames, and a trim's block is in the scratch frame.
+-- The addresses that the slot's bytes say, on this port: a transfer's sectors are in its frames, and a trim's block is
+-- in the scratch frame.
 abbrev pub addresses_of : ℕ → Op → ℕ → List Frame → List ℕ
 addresses_of port Read count frames = places_of frames count
 addresses_of port Write count frames = places_of frames count
@@ -73,10 +80,12 @@ addresses_of port Flush count frames = []
 
 -- a trim's block stands in the port's scratch frame, and names its sectors (ACS-3)
 abbrev pub HasBlockOf : Op → Range → ℕ → (ℕ → ℕ) → Type 0
-HasBlockOf Trim range port memory = trim_sectors (bytes_at memory (scratch_of port) 512) ≡ consecutive range.first.0 range.count
+HasBlockOf Trim range port memory = trim_sectors (bytes_at memory (scratch_of port) 512) ≡ consecutive range.first.0
+    range.count
 HasBlockOf _ range port memory = Unit {0}
 
--- The request is this task, on this port, and its mode asks for this kind of command. The slot is usable, and a plain one's is slot 0.
+-- The request is this task, on this port, and its mode asks for this kind of command. The slot is usable, and a plain
+-- one's is slot 0.
 pub record IsTaskOf (port : Port) (slot : ℕ) (r : Task) (frames : List Frame) (mode : Mode) (e : Pending) : Type 0 where
   pub port_is : e.request.port ≡ port
   pub operation : e.request.asked.op ≡ r.op
@@ -135,19 +144,21 @@ with_serving port slot id s = record s { uses = put s.uses port.0 slot (Serves i
 abbrev pub IsOnItsWay : RequestId → Use → Type 0
 IsOnItsWay id u = (u ≡ Free) ⊎ ((u ≡ Armed) ⊎ (u ≡ Serves id))
 
--- The device makes steps, and last of all the request is issued. The slot is put to no other use meanwhile, and each other one is used after
--- each act as before the first.
-pub record IssuesLast (port : Port) (slot : ℕ) (mode : Mode) (e : Pending) (uses : Uses) (acts : List Act) : Type 0 where
+-- The device makes steps, and last of all the request is issued. The slot is put to no other use meanwhile, and each
+-- other one is used after each act as before the first.
+pub record IssuesLast (port : Port) (slot : ℕ) (mode : Mode) (e : Pending) (uses : Uses)
+    (acts : List Act) : Type 0 where
   pub before : List Step
   pub device : AllDevices before
   pub last : steps_of acts ≡ Issue mode e ∷ before
   pub own : All (λ act. IsOnItsWay e.request.id (act.later.uses port.0 slot)) acts
   pub others : (q k : ℕ) → (q ≡ port.0 → k ≡ slot → ⊥) → All (λ act. act.later.uses q k ≡ uses q k) acts
 
--- Such accesses led there, in this order. And from each machine that agrees with the slot free, and on which a request that is this task is
--- due, acts with these accesses lead to one that agrees with a driver whose slot serves it.
+-- Such accesses led there, in this order. And from each machine that agrees with the slot free, and on which a request
+-- that is this task is due, acts with these accesses lead to one that agrees with a driver whose slot serves it.
 pub record IssuesTask (port : Port) (slot : ℕ) (r : Task) (frames : List Frame) (old new : Device) : Type 0 where
   pub driven : IsDrivenBy (IsIssuing port slot) old new
   pub order : IsInOrder port slot r driven.accesses
   pub comes : (mode : Mode) (e : Pending) → IsTaskOf port slot r frames mode e
-      → ComesWith driven.accesses (MayServe port slot mode e) (with_serving port slot e.request.id) (λ s m. IssuesLast port slot mode e s.uses) old new
+      → ComesWith driven.accesses (MayServe port slot mode e) (with_serving port slot e.request.id)
+      (λ s m. IssuesLast port slot mode e s.uses) old new

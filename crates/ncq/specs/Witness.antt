@@ -13,8 +13,9 @@ use Rattle.agreement.specs.Witness.{prepared_read}
 use Rattle.ncq.specs.Tasks.{IsFit, IsTaskOf, RunsItsList}
 use Rattle.ncq.specs.declared.Task.{Task}
 
--- What is asked of the adapter before a transfer is issued holds of port 0 of the first read's, before its bit of PxCI was written: with
--- a machine that agrees where no slot is used, and on which a request of that port is due that is a plain transfer, which slot 0 may take.
+-- What is asked of the adapter before a transfer is issued holds of port 0 of the first read's, before its bit of PxCI
+-- was written: with a machine that agrees where no slot is used, and on which a request of that port is due that is a
+-- plain transfer, which slot 0 may take.
 pub record FirstMayBeIssued : Type 0 where
   pub on : IsOn prepared_read
   pub there : HasPort prepared_read 0

@@ -34,13 +34,15 @@ use agreement::readying::{readied_is_issued, readied_stays};
 use agreement::stretches::other_ports_are_left;
 use block_machine::laws::issue_was_accepted;
 
-/// No call touches a register of another port, nor another port's bit of IS: so what is said of such accesses (`IsOf`) is so of each.
+/// No call touches a register of another port, nor another port's bit of IS: so what is said of such accesses (`IsOf`)
+/// is so of each.
 pub fn calls_are_of_one_port()
     ensures issuing { (port : Port) (slot : ℕ) (access : Access) → IsIssuing port slot access → IsOf port access }
     ensures finding { (port : Port) (access : Access) → IsFinding port access → IsOf port access }
 {}
 
-/// Once all is stored that a task's command needs, and its slot is armed, the slot's bit of PxCI may be written, and that issues the command.
+/// Once all is stored that a task's command needs, and its slot is armed, the slot's bit of PxCI may be written, and
+/// that issues the command.
 pub fn writing_issues()
     ensures { (port : Port) (slot : ℕ) (r : Task) (frames : List Frame) (own : ℕ) (old armed : Device)
         → IsArmedFor port slot r frames own old armed → Stays (MayWrite (Px port Ci) own) armed
@@ -64,23 +66,32 @@ pub fn writing_issues()
     what_is_told_is_left();
 }
 
-/// Issuing a task is a part of a call, in the one form of all. From a machine that agrees with the slot free, and on which a request that is
-/// the task is due: by its two ends it is the device's steps, and then the request's issue; some machine agrees then; and no
-/// disk sends a page meanwhile, but to a slot 0 that has a command of the driver's own.
+/// Issuing a task is a part of a call, in the one form of all. From a machine that agrees with the slot free, and on
+/// which a request that is the task is due: by its two ends it is the device's steps, and then the request's issue;
+/// some machine agrees then; and no disk sends a page meanwhile, but to a slot 0 that has a command of the driver's
+/// own.
 pub fn issuing_performs()
-    ensures performs { (port : Port) (slot : ℕ) (r : Task) (frames : List Frame) (mode : Mode) (e : Pending) (old new : Device)
+    ensures performs { (port : Port) (slot : ℕ) (r : Task) (frames : List Frame) (mode : Mode) (e : Pending)
+        (old new : Device)
         → (i : IssuesTask port slot r frames old new) → IsTaskOf port slot r frames mode e
         → Performs i.driven.accesses (MayServe port slot mode e) (with_serving port slot e.request.id)
         (λ s m. IssuesLast port slot mode e s.uses) old new }
-    ensures ends { (port : Port) (slot : ℕ) (r : Task) (frames : List Frame) (mode : Mode) (e : Pending) (old new : Device)
-        (s : InSlots) (m : Machine) → IssuesTask port slot r frames old new → IsTaskOf port slot r frames mode e → IsReached m
+    ensures ends { (port : Port) (slot : ℕ) (r : Task) (frames : List Frame) (mode : Mode) (e : Pending)
+        (old new : Device)
+        (s : InSlots) (m : Machine) → IssuesTask port slot r frames old new → IsTaskOf port slot r frames mode e
+        → IsReached m
         → Knows m (at s old) → MayServe port slot mode e s m
         → EndsWith (at s old) m (Issue mode e) (at (with_serving port slot e.request.id s) new) }
-    ensures agrees { (port : Port) (slot : ℕ) (r : Task) (frames : List Frame) (mode : Mode) (e : Pending) (old new : Device)
-        (s : InSlots) (m : Machine) → IssuesTask port slot r frames old new → IsTaskOf port slot r frames mode e → IsReached m
-        → Knows m (at s old) → MayServe port slot mode e s m → IsAgreed (with_serving port slot e.request.id s).uses new }
-    ensures silent { (port : Port) (slot : ℕ) (r : Task) (frames : List Frame) (mode : Mode) (e : Pending) (old new : Device)
-        (s : InSlots) (m : Machine) → IssuesTask port slot r frames old new → IsTaskOf port slot r frames mode e → IsReached m
+    ensures agrees { (port : Port) (slot : ℕ) (r : Task) (frames : List Frame) (mode : Mode) (e : Pending)
+        (old new : Device)
+        (s : InSlots) (m : Machine) → IssuesTask port slot r frames old new → IsTaskOf port slot r frames mode e
+        → IsReached m
+        → Knows m (at s old) → MayServe port slot mode e s m → IsAgreed (with_serving port slot e.request.id s).uses
+        new }
+    ensures silent { (port : Port) (slot : ℕ) (r : Task) (frames : List Frame) (mode : Mode) (e : Pending)
+        (old new : Device)
+        (s : InSlots) (m : Machine) → IssuesTask port slot r frames old new → IsTaskOf port slot r frames mode e
+        → IsReached m
         → Knows m (at s old) → MayServe port slot mode e s m → (q : ℕ) (o : Operation) → op_of o ≡ None
         → (s.uses q 0 ≡ Own o → ⊥) → SendsNone q o old new }
 {
@@ -94,7 +105,8 @@ pub fn finding_is_followed()
         → IsFollowed (IsFinding port) AnyUse old new }
 {}
 
-/// There is an adapter on which a plain transfer may be issued in slot 0, so that the clauses on issuing speak of something.
+/// There is an adapter on which a plain transfer may be issued in slot 0, so that the clauses on issuing speak of
+/// something.
 pub fn a_transfer_may_be_issued()
     ensures { FirstMayBeIssued }
 {

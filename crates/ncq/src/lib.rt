@@ -1,5 +1,10 @@
-//! Transfers in any slot of a port, by queued commands (native command queuing) or plain ones: they are issued, and found done
-//! (AHCI 1.3.1, 5.5; ACS-3). Each call is of one port, whatever the others do.
+//! Issues reads and writes in any slot of a port, and finds out which are done.
+//!
+//! (Native command queuing, or plain commands; AHCI 1.3.1, 5.5; ACS-3.) Each call is of one port,
+//! whatever the others do. The contract on issuing is of a `Task`, which may be a trim or a flush
+//! as well. Clear bits tell that a request has ended only while ST is one, since clearing ST clears
+//! them, too. What issuing leaves of the port beside its slot follows from the kinds of its
+//! accesses, by laws of `agreement`. It knows no client and no book.
 #![tactic(auto)]
 
 ghost use Rattle.std.specs.Prelude.{◌≡◌, ◌≤◌, ◌<◌, ◌*◌, ◌/◌, ◌%◌, true, false};
@@ -58,12 +63,14 @@ pub struct Task {
     pub queued: bool,
 }
 
-/// The command of a transfer in a slot (ACS-3): of a queued one, the features field has the sectors, and the count field the tag.
+/// The command of a transfer in a slot (ACS-3): of a queued one, the features field has the sectors, and the count
+/// field the tag.
 fn command(transfer: &Task, slot: Slot) -> Command
     requires transfers { IsTransfer transfer.now.op }
     requires few { transfer.now.range.count ≤ 256 }
     requires slot { slot.0 < 32 }
-    ensures { result ≡ command_of (operation_of transfer.now.queued transfer.now.op) slot.0 transfer.now.range.first.0 transfer.now.range.count }
+    ensures { result ≡ command_of (operation_of transfer.now.queued transfer.now.op) slot.0 transfer.now.range.first.0
+        transfer.now.range.count }
 {
     let sectors = transfer.range.count as u16;
     let reads = transfer.op == Op::Read;
@@ -108,7 +115,8 @@ fn arm<A: Adapter>(adapter: &mut A, port: Port, own: u32, queued: bool)
     }
 }
 
-/// Stores header and table of the slot, so that they say the transfer, and arms the slot. The slot's bit, alone, is the result.
+/// Stores header and table of the slot, so that they say the transfer, and arms the slot. The slot's bit, alone, is the
+/// result.
 fn prepare<A: Adapter>(
     adapter: &mut A,
     port: Port,
@@ -140,8 +148,8 @@ fn prepare<A: Adapter>(
     own
 }
 
-/// Issues a transfer, eight sectors to a frame, in an unused slot of a port that runs: a queued one as READ or WRITE FPDMA QUEUED, for which
-/// the slot's bit of PxSACT is set first, and a plain one as READ or WRITE DMA EXT.
+/// Issues a transfer, eight sectors to a frame, in an unused slot of a port that runs: a queued one as READ or WRITE
+/// FPDMA QUEUED, for which the slot's bit of PxSACT is set first, and a plain one as READ or WRITE DMA EXT.
 pub fn issue<A: Adapter>(adapter: &mut A, port: Port, slot: Slot, transfer: &Task, frames: &[Frame])
     requires on { IsOn (A.device adapter.old) }
     requires there { HasPort (A.device adapter.old) port.0 }
@@ -153,7 +161,8 @@ pub fn issue<A: Adapter>(adapter: &mut A, port: Port, slot: Slot, transfer: &Tas
     requires fits { IsFit transfer.now frames.now }
     ensures on { IsOn (A.device adapter.new) }
     ensures issues { IssuesTask port slot.0 transfer.now frames.now (A.device adapter.old) (A.device adapter.new) }
-    ensures stored { IsStored (A.device adapter.new) port.0 slot.0 (meaning_of transfer.now) (addresses_of port.0 transfer.now.op transfer.now.range.count frames.now) }
+    ensures stored { IsStored (A.device adapter.new) port.0 slot.0 (meaning_of transfer.now)
+        (addresses_of port.0 transfer.now.op transfer.now.range.count frames.now) }
     ensures set { ((A.device adapter.new).port port.0).ci slot.0 ≡ true }
     ensures active { transfer.now.queued ≡ true → ((A.device adapter.new).port port.0).sact slot.0 ≡ true }
 {
@@ -169,8 +178,9 @@ fn clear_in_both(mask: u32, issued: u32, active: u32) -> u32
     mask & !(issued | active)
 }
 
-/// The slots of the mask whose bits are clear in both PxCI and PxSACT, which are read in this order, once each; where one has a command, that is
-/// done. Bit k is slot k. While ST is one, the device alone clears these bits; a queued command leaves PxCI when it is taken, and PxSACT when it ends.
+/// The slots of the mask whose bits are clear in both PxCI and PxSACT, which are read in this order, once each; where
+/// one has a command, that is done. Bit k is slot k. While ST is one, the device alone clears these bits; a queued
+/// command leaves PxCI when it is taken, and PxSACT when it ends.
 pub fn done<A: Adapter>(adapter: &mut A, port: Port, mask: u32) -> u32
     requires on { IsOn (A.device adapter.old) }
     requires there { HasPort (A.device adapter.old) port.0 }

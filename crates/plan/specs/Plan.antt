@@ -10,8 +10,8 @@ use Rattle.identify.specs.declared.wanted.Wanted.{Wanted}
 use Rattle.identify.specs.declared.wanted.Wanted.TheVariants.{Nothing}
 use Rattle.plan.specs.Parts.{run_of, row_of, AreWantedOf}
 
--- What a plan says: how many frames of memory there are, who owns which of them, the grants, and the disk that is wanted in each
--- port.
+-- What a plan says: how many frames of memory there are, who owns which of them, the grants, and the disk that is
+-- wanted in each port.
 pub record PlanView : Type 0 where
   pub frames : ℕ
   pub owners : List Run
@@ -43,8 +43,8 @@ pub record AreRuns (frames : ℕ) (runs : List Run) : Type 0 where
   pub within : All (HasClientFrames frames) runs
   pub apart : AllPairs AreApart runs
 
--- A grant that a server can serve where these disks are wanted: of a client 1 to 8, under a number of 63 or less, on one of the
--- ports 0 to 3 in which a disk is wanted, of one sector at least, all of them below 2^48.
+-- A grant that a server can serve where these disks are wanted: of a client 1 to 8, under a number of 63 or less, on
+-- one of the ports 0 to 3 in which a disk is wanted, of one sector at least, all of them below 2^48.
 pub record IsServedGrant (wanted : List Wanted) (row : GrantRow) : Type 0 where
   pub client : IsClient row.client
   pub number : row.number ≤ 63
@@ -63,8 +63,8 @@ pub record IsPlan (p : PlanView) : Type 0 where
 
 -- ---- what a configuration stands for
 
--- The plan has the configuration's memory, a run for each of its clients and a row for each of its grants, in their order, and
--- the disks that its ports ask for.
+-- The plan has the configuration's memory, a run for each of its clients and a row for each of its grants, in their
+-- order, and the disks that its ports ask for.
 pub record IsPlanOf (c : Config) (p : PlanView) : Type 0 where
   pub frames : p.frames ≡ c.frames
   pub owners : p.owners ≡ map run_of c.client.items

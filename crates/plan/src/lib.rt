@@ -1,4 +1,7 @@
-//! What a server serves, from its configuration.
+//! Makes of a configuration what a server serves: owners, grants and wanted disks.
+//!
+//! It knows no register, and takes no memory. Each plan may be given to `FrameTable::new` and
+//! `Grants::from_rows` as it is.
 #![tactic(auto)]
 
 ghost use Rattle.std.specs.Prelude.{◌≡◌, ◌≤◌, OnOk, IfOk, IfErr, All, AllPairs, length, map, option_map, string_bytes};

@@ -55,6 +55,7 @@ abbrev pub trace_text : Bool → ℕ → List Entry → List ℕ
 trace_text true shown tape = gained_text (drop shown tape)
 trace_text false shown tape = []
 
--- what is printed of a call: with a trace, what the tape has gained past the entries that were shown before, and then what the call said
+-- what is printed of a call: with a trace, what the tape has gained past the entries that were shown before, and then
+-- what the call said
 abbrev pub call_text : Bool → ℕ → List Entry → Said → List ℕ
 call_text trace shown tape one = trace_text trace shown tape ++ said_text one

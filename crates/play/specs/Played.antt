@@ -48,25 +48,29 @@ pub record IsSetBy (config : Config) (settings : ModelConfig) : Type 0 where
   pub trim : word_of settings.trim ≡ string_bytes config.trim
 
 -- The model is new and as the configuration says, with these disks.
-pub record IsModelWith {S : Type 0} (size : S → ℕ) (told : S → Option (ℕ → List ℕ)) (config : Config) (disks : Disks S) (m : Model S) : Type 0 where
+pub record IsModelWith {S : Type 0} (size : S → ℕ) (told : S → Option (ℕ → List ℕ)) (config : Config) (disks : Disks S)
+    (m : Model S) : Type 0 where
   pub settings : ModelConfig
   pub set : IsSetBy config settings
   pub made : IsNewModel size told settings disks m
 
 -- the image is disk 0 of port 0, which is in it, and the blank disk is its disk 1; no other port has disks
-abbrev pub IsModelOf : {S : Type 0} → (S → ℕ) → (S → Option (ℕ → List ℕ)) → Config → (image blank : S) → Model S → Type 0
+abbrev pub IsModelOf : {S : Type 0} → (S → ℕ) → (S → Option (ℕ → List ℕ)) → Config → (image blank : S) → Model S
+    → Type 0
 IsModelOf size told config image blank m = IsModelWith size told config (port_0_alone image blank) m
 
 -- ---- the calls
 
 -- a new server, of this configuration, and of such a model
-pub record IsStarted {S : Type 0} (size : S → ℕ) (told : S → Option (ℕ → List ℕ)) (config : Config) (image blank : S) (server : ServerView (Model S)) : Type 0 where
+pub record IsStarted {S : Type 0} (size : S → ℕ) (told : S → Option (ℕ → List ℕ)) (config : Config) (image blank : S)
+    (server : ServerView (Model S)) : Type 0 where
   pub model : Model S
   pub modelled : IsModelOf size told config image blank model
   pub made : IsNew (device_at size told) config model server
 
--- What these calls answered, from this server to that one, keeps the server's promise. The history begins where a new server stands, of this
--- configuration and of a model of image and blank disk; and where both disks tell their sectors, the adapter's disks do.
+-- What these calls answered, from this server to that one, keeps the server's promise. The history begins where a new
+-- server stands, of this configuration and of a model of image and blank disk; and where both disks tell their sectors,
+-- the adapter's disks do.
 pub record AreAnswers {S : Type 0} (size : S → ℕ) (told : S → Option (ℕ → List ℕ)) (config : Config) (image blank : S)
     (server last : ServerView (Model S)) (events : List Event) (said : List Said) : Type 0 where
   pub started : IsStarted size told config image blank server
@@ -75,19 +79,24 @@ pub record AreAnswers {S : Type 0} (size : S → ℕ) (told : S → Option (ℕ 
   pub telling : IsSome (told image) → IsSome (told blank) → first.device.telling ≡ true
   pub promise : KeepsPromise (device_at size told) first [] server last events said
 
--- These calls lead from the old server to the new one, say this in turn, and keep the server's promise each; none is made of an adapter that is starved. The text of the last
--- call stands by itself, after that of those before it; where there is none, both are empty. So many entries of the tape count as shown
--- then: all, once a call was made.
+-- These calls lead from the old server to the new one, say this in turn, and keep the server's promise each; none is
+-- made of an adapter that is starved. The text of the last call stands by itself, after that of those before it; where
+-- there is none, both are empty. So many entries of the tape count as shown then: all, once a call was made.
 pub data Prints {A : Type 0} (device : A → Device) (starved : A → Bool) (trace : Bool) (old : ServerView A)
     : ServerView A → ℕ → List Event → List Said → List ℕ → List ℕ → Type 0 where
   none : Prints device starved trace old old 0 [] [] [] []
-  call : {mid new : ServerView A} {shown : ℕ} {events : List Event} {event : Event} {said : List Said} {one : Said} {before last : List ℕ}
-      → Prints device starved trace old mid shown events said before last → starved mid.adapter ≡ false → Simulates device mid new (event ∷ []) (one ∷ [])
-      → Prints device starved trace old new (length (device new.adapter).tape) (events ++ event ∷ []) (said ++ one ∷ []) (before ++ last)
+  call : {mid new : ServerView A} {shown : ℕ} {events : List Event} {event : Event} {said : List Said} {one : Said}
+      {before last : List ℕ}
+      → Prints device starved trace old mid shown events said before last → starved mid.adapter ≡ false
+      → Simulates device mid new (event ∷ []) (one ∷ [])
+      → Prints device starved trace old new (length (device new.adapter).tape) (events ++ event ∷ []) (said ++ one ∷ [])
+      (before ++ last)
       (call_text trace shown (device new.adapter).tape one)
 
--- A call was made, which keeps the server's promise, and of what is printed of it a part was, from its beginning on: nothing, where it starved the adapter.
-pub record PrintsPart {A : Type 0} (device : A → Device) (starved : A → Bool) (trace : Bool) (shown : ℕ) (event : Event) (old new : ServerView A)
+-- A call was made, which keeps the server's promise, and of what is printed of it a part was, from its beginning on:
+-- nothing, where it starved the adapter.
+pub record PrintsPart {A : Type 0} (device : A → Device) (starved : A → Bool) (trace : Bool) (shown : ℕ) (event : Event)
+    (old new : ServerView A)
     (before after : Option (List ℕ)) : Type 0 where
   pub one : Said
   pub keeps : Simulates device old new (event ∷ []) (one ∷ [])
@@ -99,9 +108,11 @@ pub record PrintsPart {A : Type 0} (device : A → Device) (starved : A → Bool
 
 -- ---- the whole
 
--- Of a script the first lines were played, which lead from the old server to the new one, and the rest were not. Each of them was printed but
--- for the last one, of whose text a part was, from its beginning on: nothing, where it starved the adapter.
-pub record Ran {A : Type 0} (device : A → Device) (starved : A → Bool) (trace : Bool) (script : List ℕ) (old new : ServerView A)
+-- Of a script the first lines were played, which lead from the old server to the new one, and the rest were not. Each
+-- of them was printed but for the last one, of whose text a part was, from its beginning on: nothing, where it starved
+-- the adapter.
+pub record Ran {A : Type 0} (device : A → Device) (starved : A → Bool) (trace : Bool) (script : List ℕ)
+    (old new : ServerView A)
     (before after : Option (List ℕ)) : Type 0 where
   pub played : List Line
   pub rest : List Line
@@ -116,16 +127,19 @@ pub record Ran {A : Type 0} (device : A → Device) (starved : A → Bool) (trac
   pub silent : starved new.adapter ≡ true → part ≡ 0
 
 -- all of it was played and printed, and nothing was left out
-pub record IsWhole {A : Type 0} {device : A → Device} {starved : A → Bool} {trace : Bool} {script : List ℕ} {old new : ServerView A}
+pub record IsWhole {A : Type 0} {device : A → Device} {starved : A → Bool} {trace : Bool} {script : List ℕ}
+    {old new : ServerView A}
     {before after : Option (List ℕ)} (ran : Ran device starved trace script old new before after) : Type 0 where
   pub played : ran.rest ≡ []
   pub printed : length ran.last ≤ ran.part
   pub fed : starved new.adapter ≡ false
 
--- The configuration's text and the whole script were read. A new server was asked what the first lines ask, and of what they print all was printed
--- but for a part of the last one's. At first nothing of the tape counts as shown: so with a trace, what moved while the server was made
--- stands before the first answer. What the last of these lines left the model as, the run gives back: so the disks are as it left them.
-pub record Played {S : Type 0} (size : S → ℕ) (told : S → Option (ℕ → List ℕ)) (config script : List ℕ) (image blank : S) (trace : Bool)
+-- The configuration's text and the whole script were read. A new server was asked what the first lines ask, and of what
+-- they print all was printed but for a part of the last one's. At first nothing of the tape counts as shown: so with a
+-- trace, what moved while the server was made stands before the first answer. What the last of these lines left the
+-- model as, the run gives back: so the disks are as it left them.
+pub record Played {S : Type 0} (size : S → ℕ) (told : S → Option (ℕ → List ℕ)) (config script : List ℕ)
+    (image blank : S) (trace : Bool)
     (old new : Option (List ℕ)) (model : Model S) : Type 0 where
   pub values : Config
   pub read : IsReadFrom config values
@@ -149,13 +163,15 @@ abbrev pub ended_by_stop : Stop → Ended
 ended_by_stop stop.NoMemory = NoMemory
 ended_by_stop stop.Unwritten = Unwritten
 
--- What is so where a run stopped at its last line, of whether the adapter is starved and how much of that line's text was printed: where want of
--- memory is told, nothing was; where an output that failed is told, the adapter isn't starved.
+-- What is so where a run stopped at its last line, of whether the adapter is starved and how much of that line's text
+-- was printed: where want of memory is told, nothing was; where an output that failed is told, the adapter isn't
+-- starved.
 abbrev pub IsWhy : Bool → ℕ → Stop → Type 0
 IsWhy starved part stop.NoMemory = part ≡ 0
 IsWhy starved part stop.Unwritten = starved ≡ false
 
--- Why nothing is played: the configuration has a fault, or it has none and the script has a bad line, or memory was refused.
+-- Why nothing is played: the configuration has a fault, or it has none and the script has a bad line, or memory was
+-- refused.
 abbrev pub IsRefused : List ℕ → List ℕ → Ended → Type 0
 IsRefused config script (BadConfig kind) = IsToldOf config kind
 IsRefused config script (BadLine number) = (values : Config) × IsReadFrom config values × IsFirstBad script number
@@ -163,11 +179,12 @@ IsRefused config script NoMemory = Unit {0}
 IsRefused config script Done = ⊥
 IsRefused config script Unwritten = ⊥
 
--- How it ended, with what the output was and is, and the model that it gives back. With one, lines were played: it is done where all of them were,
--- and printed; else the first ones were, and why it stopped is told. Where the output failed, the model isn't starved; where memory was refused,
--- nothing of the last line is printed, and the model says whether the memory was refused to it. Without a model nothing is printed.
-abbrev pub Ends : {S : Type 0} → (S → ℕ) → (S → Option (ℕ → List ℕ)) → List ℕ → List ℕ → S → S → Bool → Option (List ℕ) → Option (List ℕ) → Ended
-    → Option (Model S) → Type 0
+-- How it ended, with what the output was and is, and the model that it gives back. With one, lines were played: it is
+-- done where all of them were, and printed; else the first ones were, and why it stopped is told. Where the output
+-- failed, the model isn't starved; where memory was refused, nothing of the last line is printed, and the model says
+-- whether the memory was refused to it. Without a model nothing is printed.
+abbrev pub Ends : {S : Type 0} → (S → ℕ) → (S → Option (ℕ → List ℕ)) → List ℕ → List ℕ → S → S → Bool → Option (List ℕ)
+    → Option (List ℕ) → Ended → Option (Model S) → Type 0
 Ends size told config script image blank trace old new Done (Some model) =
     (played : Played size told config script image blank trace old new model) × IsWhole played.ran
 Ends size told config script image blank trace old new Unwritten (Some model) =

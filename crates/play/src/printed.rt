@@ -31,7 +31,9 @@ impl Unwritten {
 
 /// Prints a line for each reply.
 fn print_each<W: io::Write>(out: &mut W, replies: &[Reply]) -> io::Result<()>
-    ensures { OnOk result (Appends (W.contents out.old) (W.contents out.new) (flat_map (λ r. answer_line (Answer.Replied r)) replies.now)) }
+    ensures { OnOk result
+        (Appends (W.contents out.old) (W.contents out.new)
+        (flat_map (λ r. answer_line (Answer.Replied r)) replies.now)) }
 {
     for reply in replies {
         Answer::Replied(*reply).print(out)?;
@@ -59,7 +61,8 @@ fn print_reset<W: io::Write>(out: &mut W, replies: &[Reply]) -> io::Result<()>
 
 /// Prints what a call said, of which the replies of a service, a tick or a reset stand in a list.
 fn print_told<W: io::Write>(out: &mut W, told: &Told, replies: &[Reply]) -> io::Result<()>
-    ensures { OnOk result (Appends (W.contents out.old) (W.contents out.new) (said_text (with_replies told.now replies.now))) }
+    ensures { OnOk result
+        (Appends (W.contents out.old) (W.contents out.new) (said_text (with_replies told.now replies.now))) }
 {
     match told {
         Told::Submitted(Ok(id)) => Answer::Accepted(*id).print(out),
@@ -108,8 +111,9 @@ fn print_trace<W: io::Write>(
     print_gained(out, tape.get(shown..).unwrap_or_default())
 }
 
-/// Writes what is printed of a call, in place of what the text had: with a trace, what the tape gained past so many entries, and then what the
-/// call said, of which the replies of a service, a tick or a reset stand in a list. It fails where memory is refused.
+/// Writes what is printed of a call, in place of what the text had: with a trace, what the tape gained past so many
+/// entries, and then what the call said, of which the replies of a service, a tick or a reset stand in a list. It fails
+/// where memory is refused.
 pub fn print_call(
     text: &mut Vec<u8>,
     trace: bool,
@@ -125,10 +129,11 @@ pub fn print_call(
     print_told(text, told, replies)
 }
 
-/// Writes bytes. Where the output fails, it has taken a beginning of them, which may be nothing; and never is it that a signal interrupted a write, which is made
-/// again then.
+/// Writes bytes. Where the output fails, it has taken a beginning of them, which may be nothing; and never is it that a
+/// signal interrupted a write, which is made again then.
 pub fn write_out<W: io::Write>(out: &mut W, bytes: &[u8]) -> Result<(), Unwritten>
-    ensures written { (part : ℕ) × Appends (W.contents out.old) (W.contents out.new) (take part bytes.now) × OnOk result (length bytes.now ≤ part) }
+    ensures written { (part : ℕ) × Appends (W.contents out.old) (W.contents out.new) (take part bytes.now)
+        × OnOk result (length bytes.now ≤ part) }
     ensures failed { IfErr result (λ unwritten. unwritten.kind ≢ Interrupted) }
 {
     let mut written = 0;

@@ -36,10 +36,12 @@ pub enum Ended {
     Config(Kind),
     /// The first line of the script that is spelled as none has this number. Nothing is printed.
     Line(u64),
-    /// Memory was refused. Without a model, it was before the first line, and nothing is printed. With one, what the lines before printed
-    /// stays printed, and of the line that wanted memory nothing is; the model says whether it was refused to it, or for the line's text.
+    /// Memory was refused. Without a model, it was before the first line, and nothing is printed. With one, what the
+    /// lines before printed stays printed, and of the line that wanted memory nothing is; the model says whether it was
+    /// refused to it, or for the line's text.
     NoMemory,
-    /// The output failed. Of what the last line that was played prints, a part may be missing at its end; no line after it was played.
+    /// The output failed. Of what the last line that was played prints, a part may be missing at its end; no line after
+    /// it was played.
     Unwritten,
 }
 
@@ -47,7 +49,8 @@ pub enum Ended {
 #[derive(Drop)]
 pub struct Finished<S: SectorStore> {
     pub ended: Ended,
-    /// The model, with its disks, as the last line that was played left it. There is none where the run had no server to ask.
+    /// The model, with its disks, as the last line that was played left it. There is none where the run had no server
+    /// to ask.
     pub model: Option<Model<S>>,
 }
 
@@ -140,8 +143,8 @@ fn closed<A: Adapter>(server: Box<Server<A>>) -> A
     Box::into_inner(server).close()
 }
 
-/// A new server of a new model, both as the configuration says. It is on the heap, since it is large: so what is needed to make it has left
-/// the stack when a line is played.
+/// A new server of a new model, both as the configuration says. It is on the heap, since it is large: so what is needed
+/// to make it has left the stack when a line is played.
 #[inline(never)]
 fn start<S: SectorStore>(
     alloc: Global,
@@ -172,8 +175,9 @@ fn make_call<A: Stepped>(server: &mut Server<A>, event: Event, said: &mut Saying
     let _done = server.run(&[event], said);
 }
 
-/// Plays a line: makes its call, and prints of it what the tape gained past so many entries, with a trace, and what it said. Gives how many
-/// entries the tape has then. Where it fails, a beginning of that text is printed, which may be nothing.
+/// Plays a line: makes its call, and prints of it what the tape gained past so many entries, with a trace, and what it
+/// said. Gives how many entries the tape has then. Where it fails, a beginning of that text is printed, which may be
+/// nothing.
 fn play_line<A: Watched, W: io::Write>(
     server: &mut Server<A>,
     line: Line,
@@ -185,7 +189,8 @@ fn play_line<A: Watched, W: io::Write>(
     requires fed { A.ended server.old.adapter ≡ false }
     requires room { 1 ≤ vec_capacity room.old.said.earlier }
     ensures room { 1 ≤ vec_capacity room.new.said.earlier }
-    ensures printed { (p : PrintsPart A.device A.ended trace shown (event_of line) server.old server.new (W.contents out.old) (W.contents out.new))
+    ensures printed { (p : PrintsPart A.device A.ended trace shown (event_of line) server.old server.new
+        (W.contents out.old) (W.contents out.new))
         × OnOk result (length p.text ≤ p.part) × IfErr result (IsWhy (A.ended server.new.adapter) p.part) }
     ensures fed { OnOk result (A.ended server.new.adapter ≡ false) }
     ensures shown { IfOk result (λ count. count ≡ length (A.device server.new.adapter).tape) }
@@ -213,8 +218,9 @@ fn play_line<A: Watched, W: io::Write>(
     Ok(tape.len())
 }
 
-/// Asks a server what the lines of a script ask, one after another, and prints of each at once what the tape gained, with a trace, and what it
-/// said. Where memory is refused, to the model too, or the output fails, it stops at that line: no later one is played.
+/// Asks a server what the lines of a script ask, one after another, and prints of each at once what the tape gained,
+/// with a trace, and what it said. Where memory is refused, to the model too, or the output fails, it stops at that
+/// line: no later one is played.
 #[inline(never)]
 fn perform<A: Watched, W: io::Write>(
     alloc: Global,
@@ -224,7 +230,8 @@ fn perform<A: Watched, W: io::Write>(
     out: &mut W,
 ) -> Result<(), Stop>
     requires good { (lines : List Line) × IsScript script.now lines }
-    ensures { (ran : Ran A.device A.ended trace script.now server.old server.new (W.contents out.old) (W.contents out.new))
+    ensures { (ran : Ran A.device A.ended trace script.now server.old server.new (W.contents out.old)
+        (W.contents out.new))
         × OnOk result (IsWhole ran) × IfErr result (IsWhy (A.ended server.new.adapter) ran.part) }
 {
     if server.adapter().has_ended() {
@@ -261,9 +268,10 @@ fn unbegun<S: SectorStore>(ended: Ended) -> Finished<S>
     Finished { ended, model: None }
 }
 
-/// Plays a script against a new server of this configuration over this adapter, and prints at once what each line answers. The adapter comes back as the last line
-/// that was played left it; or as it was, with nothing printed, where no server could be made of it for want of memory. It doesn't come back where there was no memory to
-/// keep the server in: nothing is printed then either. Where it can't go on, `NoMemory` is told, too.
+/// Plays a script against a new server of this configuration over this adapter, and prints at once what each line
+/// answers. The adapter comes back as the last line that was played left it; or as it was, with nothing printed, where
+/// no server could be made of it for want of memory. It doesn't come back where there was no memory to keep the server
+/// in: nothing is printed then either. Where it can't go on, `NoMemory` is told, too.
 pub fn play_over<A: Watched + Drop, W: io::Write>(
     alloc: Global,
     config: &Config,
@@ -275,8 +283,11 @@ pub fn play_over<A: Watched + Drop, W: io::Write>(
     requires sound { IsSound config.now }
     requires good { (lines : List Line) × IsScript script.now lines }
     requires ready { IsReadyFor config.now (A.device adapter) }
-    ensures left { IfSome result.1 (λ left. ((left ≡ adapter) × (result.0 ≡ Err Stop.NoMemory) × (W.contents out.new ≡ W.contents out.old)) ⊎ ((server last : ServerView A) × IsNew A.device config.now adapter server
-        × (left ≡ last.adapter) × (ran : Ran A.device A.ended trace script.now server last (W.contents out.old) (W.contents out.new))
+    ensures left { IfSome result.1 (λ left. ((left ≡ adapter) × (result.0 ≡ Err Stop.NoMemory)
+        × (W.contents out.new ≡ W.contents out.old))
+        ⊎ ((server last : ServerView A) × IsNew A.device config.now adapter server
+        × (left ≡ last.adapter)
+        × (ran : Ran A.device A.ended trace script.now server last (W.contents out.old) (W.contents out.new))
         × OnOk result.0 (IsWhole ran) × IfErr result.0 (IsWhy (A.ended last.adapter) ran.part))) }
     ensures none { result.1 ≡ None → (result.0 ≡ Err Stop.NoMemory) × (W.contents out.new ≡ W.contents out.old) }
 {
@@ -294,13 +305,14 @@ pub fn play_over<A: Watched + Drop, W: io::Write>(
 
 /// Plays a script against a new server over a modelled adapter, and prints at once what each line answers.
 ///
-/// The text of the configuration is read first, and then the whole script; the first fault that is found ends it. Then each line is read
-/// again when it is played. Disk 0 of port 0 is the image, and disk 1 the blank one. With a trace, the moves and clears that the tape has
-/// gained stand before a line's own answers; before the first line's also those since the model was made.
+/// The text of the configuration is read first, and then the whole script; the first fault that is found ends it. Then
+/// each line is read again when it is played. Disk 0 of port 0 is the image, and disk 1 the blank one. With a trace,
+/// the moves and clears that the tape has gained stand before a line's own answers; before the first line's also those
+/// since the model was made.
 ///
-/// Where the output fails, or memory is refused, the line that it happens at was the last one that was played, and those before it were
-/// printed. What the output has of that line then is a beginning of its text: nothing, where memory was refused. The model is given back as
-/// that line left it.
+/// Where the output fails, or memory is refused, the line that it happens at was the last one that was played, and
+/// those before it were printed. What the output has of that line then is a beginning of its text: nothing, where
+/// memory was refused. The model is given back as that line left it.
 pub fn play<S: SectorStore, W: io::Write>(
     alloc: Global,
     config: &[u8],
@@ -310,7 +322,8 @@ pub fn play<S: SectorStore, W: io::Write>(
     trace: bool,
     out: &mut W,
 ) -> Finished<S>
-    ensures { Ends S.size S.told config.now script.now image blank trace (W.contents out.old) (W.contents out.new) result.ended result.model }
+    ensures { Ends S.size S.told config.now script.now image blank trace (W.contents out.old) (W.contents out.new)
+        result.ended result.model }
 {
     let values = match read(alloc, config, script) {
         Ok(values) => values,

@@ -25,8 +25,8 @@ fn trim_of(word: &str) -> Trim
     }
 }
 
-/// A new modelled adapter as the configuration says. The image is disk 0 of port 0, which is in it, and the blank disk is disk 1, which can be put
-/// in for it.
+/// A new modelled adapter as the configuration says. The image is disk 0 of port 0, which is in it, and the blank disk
+/// is disk 1, which can be put in for it.
 #[inline(never)]
 pub fn new_model<S: SectorStore>(
     alloc: Global,

@@ -23,7 +23,7 @@ use Rattle.agreement.specs.Links.{SameAdapter}
 use Rattle.agreement.specs.Driver.{AllFree}
 use Rattle.agreement.specs.Slots.{Own, Uses, put as used, IsMove, IsOver}
 use Rattle.command_table.specs.Written.{IsUnused}
-use Rattle.disk_page.specs.Asking.{IsAsking, LeavesRunning, Brings, Reads, MayAsk}
+use Rattle.disk_page.specs.Asking.{IsAsking, LeavesRunning, Brings, Reads}
 use Rattle.identify.specs.declared.DiskInfo.{DiskInfo}
 use Rattle.port_control.specs.Engines.{FailsToStop, FailsToStopReceiving, Stops, StopsReceiving, Sticks}
 use Rattle.port_control.specs.Ports.{WritesCommand, IsPlacing, IsRunning, HasStopped, SawDevice}
@@ -93,15 +93,6 @@ module _ (port : Port) (start old mid : Device) (up : IsBroughtUp port start old
         last = brought.last;
         bytes = b.same;
       }
-
--- what may be asked of a port that was brought up
-pub may_ask : (port : Port) (start old : Device) → IsBroughtUp port start old → MayAsk port.0 old
-may_ask port start old up = record {
-  started = up.runs.st;
-  list = ap (λ (b : device.Bases). b.clb) up.runs.bases;
-  det = up.det;
-  known = up.known;
-}
 
 command_quiet : WritesCommand Ci → ⊥
 command_quiet e = absurd (let k : Ci ≡ Cmd = e in cc)

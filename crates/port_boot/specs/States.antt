@@ -1,5 +1,5 @@
--- What a port's state rests on after a boot: what was read last, and the page that its disk sent last (this project's own; IDENTIFY
--- DEVICE: ACS-3, 7.12).
+-- What a port's state rests on after a boot: what was read last, and the page that its disk sent last (this project's
+-- own; IDENTIFY DEVICE: ACS-3, 7.12).
 use Rattle.std.specs.Prelude.{ℕ, true, false, ◌≡◌, ◌≢◌, ◌≤◌, ◌<◌, ◌⊎◌, ◌++◌, List, ◌∷◌, Option, None, Some, All, length}
 use Rattle.ata_types.specs.declared.Port.{Port}
 use Rattle.ata_types.specs.declared.PortState.{PortState}
@@ -74,8 +74,8 @@ Judges wanted _ page = ⊥
 
 -- ---- the states
 
--- Why a disk is unfit: 7, it stayed busy; 8, its signature is no ATA disk's; 9, the command for its page didn't end; else its page's
--- first fault.
+-- Why a disk is unfit: 7, it stayed busy; 8, its signature is no ATA disk's; 9, the command for its page didn't end;
+-- else its page's first fault.
 abbrev pub IsUnfit : ℕ → ℕ → Device → Type 0
 IsUnfit n port d = ((n ≡ 7) × Shows Busy (d.port port).notes)
     ⊎ ((n ≡ 8) × ((signature : ℕ) × Shows (NotAta signature) (d.port port).notes))
@@ -89,8 +89,8 @@ TellsFault state Busy = state ≡ Unfit 7
 TellsFault state EngineStuck = state ≡ Dead
 TellsFault state (NotAta signature) = state ≡ Unfit 8
 
--- What stands behind each state of a port that a boot leaves, but Ready: Absent, Unfit and Foreign ports are stopped, with no command
--- issued, active or taken; a Dead one was to stop.
+-- What stands behind each state of a port that a boot leaves, but Ready: Absent, Unfit and Foreign ports are stopped,
+-- with no command issued, active or taken; a Dead one was to stop.
 abbrev pub EndsAs : Option (List ℕ) → PortState → ℕ → Device → Type 0
 EndsAs wanted Absent port d = IsStopped (d.port port) × Shows NoDevice (d.port port).notes
 EndsAs wanted (Unfit n) port d = IsStopped (d.port port) × IsUnfit n port d
@@ -98,12 +98,13 @@ EndsAs wanted Foreign port d = IsStopped (d.port port) × ((page : List ℕ) × 
 EndsAs wanted Dead port d = ((d.port port).st ≡ false) × Shows EngineStuck (d.port port).notes
 EndsAs wanted Ready port d = ⊥
 
--- The causes that a ready port tells of by interrupts: DHRS, PSS, SDBS, PCS, PRCS, IFS, HBDS, HBFS and TFES (PxIE: AHCI 1.3.1, 3.3.6).
+-- The causes that a ready port tells of by interrupts: DHRS, PSS, SDBS, PCS, PRCS, IFS, HBDS, HBFS and TFES (PxIE: AHCI
+-- 1.3.1, 3.3.6).
 abbrev pub told_causes : ℕ
 told_causes = 0x7840004b
 
--- What stands behind a ready port as long as it isn't booted anew: no COMRESET is being sent, it tells of these causes, and the last page is
--- of a disk that fits.
+-- What stands behind a ready port as long as it isn't booted anew: no COMRESET is being sent, it tells of these causes,
+-- and the last page is of a disk that fits.
 pub record HasFitDisk (wanted : Option (List ℕ)) (port : ℕ) (d : Device) (info : DiskInfo) : Type 0 where
   pub det : (d.port port).sctl_det ≡ 0
   pub tells : (d.port port).ie ≡ told_causes
@@ -127,22 +128,23 @@ IsBooting r = IsPlacing r ⊎ (IsResetting r ⊎ (r ≡ Ie))
 abbrev pub IsOfBoot : Port → Access → Type 0
 IsOfBoot port access = IsControl IsBooting port access ⊎ IsAsking port access
 
--- What a boot is to each machine that agrees with a driver that uses no slot of the port: steps of the device alone, after which none is
--- used; and so much is told of its accesses.
+-- What a boot is to each machine that agrees with a driver that uses no slot of the port: steps of the device alone,
+-- after which none is used; and so much is told of its accesses.
 abbrev pub IsBoot : (List Access → Type 0) → Port → Device → Device → Type 0
 IsBoot Tells port old new = IsTold Tells (IsOfBoot port) (λ uses. AllFree uses port.0) old new
 
--- So it is of a boot to this state. Where the port is dead, 64 readings are told in place of that, which showed an engine that is stuck;
--- and its slot 0 may have IDENTIFY DEVICE.
+-- So it is of a boot to this state. Where the port is dead, 64 readings are told in place of that, which showed an
+-- engine that is stuck; and its slot 0 may have IDENTIFY DEVICE.
 abbrev pub IsBootTo : (List Access → Type 0) → Port → PortState → Device → Device → Type 0
 IsBootTo Tells port Dead old new = IsBoot (Sticks port) port old new
-    ⊎ IsToldTo (Sticks port) (IsOfBoot port) (λ uses. AllFree uses port.0) (λ uses. put uses port.0 0 (Own Identify)) old new
+    ⊎ IsToldTo (Sticks port) (IsOfBoot port) (λ uses. AllFree uses port.0) (λ uses. put uses port.0 0 (Own Identify))
+    old new
 IsBootTo Tells port _ old new = IsBoot Tells port old new
 
 -- ---- how a boot goes
 
--- The areas of a stopped port were put in their places. Then COMRESET was sent, and an ATA disk was found that was idle. Then ST was set,
--- last of all (AHCI 1.3.1, 10.1.2).
+-- The areas of a stopped port were put in their places. Then COMRESET was sent, and an ATA disk was found that was
+-- idle. Then ST was set, last of all (AHCI 1.3.1, 10.1.2).
 pub record GetsUp (port : Port) (old new : Device) : Type 0 where
   pub placed : Device
   pub places : IsDrivenBy (IsControl IsPlacing port) old placed
@@ -157,15 +159,16 @@ pub record GetsAsked (port : Port) (old new : Device) : Type 0 where
   pub asks : IsDrivenBy (IsAsking port) old asked
   pub tells : Writes (Px port Ie) told_causes asked new
 
--- The whole way to a port that is ready. It runs well where no disk went or came on the way, and nothing went wrong since ST was set.
+-- The whole way to a port that is ready. It runs well where no disk went or came on the way, and nothing went wrong
+-- since ST was set.
 pub record GetsReady (port : Port) (old new : Device) : Type 0 where
   pub up : Device
   pub first : GetsUp port old up
   pub then : GetsAsked port up new
   pub well : PlugsNone port.0 old new → Undisturbed port.0 up new → RunsWell (new.port port.0)
 
--- The port wasn't started: after COMRESET it was looked at, with this fault. Where no disk came, its link is up if PxSSTS shows one. But
--- for a missing device, PxSERR and PxIS were cleared.
+-- The port wasn't started: after COMRESET it was looked at, with this fault. Where no disk came, its link is up if
+-- PxSSTS shows one. But for a missing device, PxSERR and PxIS were cleared.
 pub record EndsEarly (port : Port) (state : PortState) (old new : Device) : Type 0 where
   pub fault : PortFault
   pub told : TellsFault state fault
@@ -187,16 +190,16 @@ IsLate Foreign = Unit {0}
 IsLate (Unfit n) = (n ≢ 7) × (n ≢ 8)
 IsLate _ = ⊥
 
--- What the accesses of a boot to a state that isn't Dead tell of the port's engines: the one that receives FISes fell; and where the port
--- was started, so did the other.
+-- What the accesses of a boot to a state that isn't Dead tell of the port's engines: the one that receives FISes fell;
+-- and where the port was started, so did the other.
 abbrev pub StopsOnWay : Port → PortState → List Access → Type 0
 StopsOnWay port state accesses = StopsReceiving port accesses × (IsLate state → Stops port accesses)
 
 -- ---- what a port shows of trouble after a boot
 
--- Nothing of what was before COMRESET: N of PxSERR tells a disk that went or came since, and X one that came; IFS, HBDS and HBFS of PxIS
--- tell a fatal error since, and TFES a fault. Faults since ST was set are on record, so that no link is due. And where none of these is on
--- the tape, the port runs well.
+-- Nothing of what was before COMRESET: N of PxSERR tells a disk that went or came since, and X one that came; IFS, HBDS
+-- and HBFS of PxIS tell a fatal error since, and TFES a fault. Faults since ST was set are on record, so that no link
+-- is due. And where none of these is on the tape, the port runs well.
 pub record ShowsNews (port : ℕ) (old new : Device) : Type 0 where
   pub clear : HasClearErrors port old new
   pub fatal : NoneFatal port old new → (place : ℕ) → 27 ≤ place → place ≤ 29 → (new.port port).is place ≡ false
@@ -222,15 +225,17 @@ pub record EndsLate (port : Port) (old new : Device) : Type 0 where
 
 -- ---- the parts of a boot
 
--- The adapter is on and has the port and memory for the driver's frames; some machine agrees with a driver that uses no slot of the port.
+-- The adapter is on and has the port and memory for the driver's frames; some machine agrees with a driver that uses no
+-- slot of the port.
 pub record IsBootable (port : Port) (d : Device) : Type 0 where
   pub on : IsOn d
   pub there : HasPort d port.0
   pub room : DRIVER_BYTES ≤ d.size
   pub agreed : AgreesWith (λ uses. AllFree uses port.0) d
 
--- The port was brought up: it runs, with no command in a slot; COMRESET was sent since, and a device seen. PxIS is clear, PxSERR tells no
--- disk of before, the record of faults begins, and where no disk went or came, the port is started with its link up.
+-- The port was brought up: it runs, with no command in a slot; COMRESET was sent since, and a device seen. PxIS is
+-- clear, PxSERR tells no disk of before, the record of faults begins, and where no disk went or came, the port is
+-- started with its link up.
 pub record IsBroughtUp (port : Port) (old new : Device) : Type 0 where
   pub bootable : IsBootable port new
   pub runs : IsRunning port.0 (new.port port.0)
@@ -245,14 +250,15 @@ pub record IsBroughtUp (port : Port) (old new : Device) : Type 0 where
   pub recorded : IsRecorded new.tape (new.port port.0) port.0
   pub well : PlugsNone port.0 old new → IsStarted (new.port port.0)
 
--- What goes on while PxSCTL isn't written and no link is due: no link gets due, N and X rise by disks alone, and the trouble that PxIS
--- tells by errors alone.
+-- What goes on while PxSCTL isn't written and no link is due: no link gets due, N and X rise by disks alone, and the
+-- trouble that PxIS tells by errors alone.
 pub record HasCauses (port : ℕ) (old new : Device) : Type 0 where
   pub undue : (old.port port).link_due ≡ false → (new.port port).link_due ≡ false
   pub disks : (old.port port).link_due ≡ false → ChangesByDisks port old new
   pub errors : ChangesByErrors port old new
 
--- and while ST isn't cleared either: a port that was started is so still where nothing went wrong, and the record of faults goes on
+-- and while ST isn't cleared either: a port that was started is so still where nothing went wrong, and the record of
+-- faults goes on
 pub record RunsOn (port : ℕ) (old new : Device) : Type 0 where
   pub goes : HasCauses port old new
   pub started : Undisturbed port old new → IsStarted (old.port port) → IsStarted (new.port port)

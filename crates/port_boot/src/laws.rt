@@ -20,16 +20,18 @@ ghost use Rattle.port_control.specs.Ports.{WritesCommand};
 
 use super::lawful::laws_hold;
 
-/// What a boot found of a port goes on as long as the port isn't booted anew. The last page is the last one still where the disk has sent
-/// none since, and PxSCTL wasn't written; so the disk that fits is still there where DET of PxSCTL and PxIE are as they were, too. A port that is left
-/// to the device stays ready, or goes on to end as it did; where it is dead, its disk may send a page.
+/// What a boot found of a port goes on as long as the port isn't booted anew. The last page is the last one still where
+/// the disk has sent none since, and PxSCTL wasn't written; so the disk that fits is still there where DET of PxSCTL
+/// and PxIE are as they were, too. A port that is left to the device stays ready, or goes on to end as it did; where it
+/// is dead, its disk may send a page.
 pub fn what_was_found_goes_on()
     ensures page { (port : ℕ) (old new : Device) (page : List ℕ) → SendsNone port Identify old new
         → (new.port port).notes.sctl_written_at ≡ (old.port port).notes.sctl_written_at → HasPage port old page
         → HasPage port new page }
-    ensures disk { (wanted : Option (List ℕ)) (port : ℕ) (old new : Device) (info : DiskInfo) → SendsNone port Identify old new
-        → (new.port port).sctl_det ≡ (old.port port).sctl_det → (new.port port).ie ≡ (old.port port).ie
-        → (new.port port).notes.sctl_written_at ≡ (old.port port).notes.sctl_written_at → HasFitDisk wanted port old info
+    ensures disk { (wanted : Option (List ℕ)) (port : ℕ) (old new : Device) (info : DiskInfo)
+        → SendsNone port Identify old new → (new.port port).sctl_det ≡ (old.port port).sctl_det
+        → (new.port port).ie ≡ (old.port port).ie → (new.port port).notes.sctl_written_at
+        ≡ (old.port port).notes.sctl_written_at → HasFitDisk wanted port old info
         → HasFitDisk wanted port new info }
     ensures ready { (wanted : Option (List ℕ)) (port : ℕ) (old new : Device) (info : DiskInfo)
         → LeavesPort (old.port port) (new.port port) → SendsNone port Identify old new → IsReady wanted port old info
@@ -48,8 +50,8 @@ pub fn a_boot_is_of_its_port()
 
 /// A boot, to whatever state, was made by its accesses; and those of a stop are among them.
 pub fn boots_are_driven()
-    ensures boots { (port : Port) (state : PortState) (old new : Device) → IsBootTo (StopsOnWay port state) port state old new
-        → IsDrivenBy (IsOfBoot port) old new }
+    ensures boots { (port : Port) (state : PortState) (old new : Device)
+        → IsBootTo (StopsOnWay port state) port state old new → IsDrivenBy (IsOfBoot port) old new }
     ensures stops { (port : Port) (state : PortState) (old new : Device) → IsBootTo (StopsBoth port) port state old new
         → IsDrivenBy (IsOfBoot port) old new }
     ensures commanding { (port : Port) (access : Access) → IsControl WritesCommand port access → IsOfBoot port access }
@@ -57,26 +59,28 @@ pub fn boots_are_driven()
     laws_hold();
 }
 
-/// A port that runs does so still after an access that writes neither its PxCMD nor its PxSCTL, and after several that don't write GHC
-/// either. Where it ran well, and nothing went wrong on it, it runs well.
+/// A port that runs does so still after an access that writes neither its PxCMD nor its PxSCTL, and after several that
+/// don't write GHC either. Where it ran well, and nothing went wrong on it, it runs well.
 pub fn a_port_runs_on()
     ensures over { (port : Port) (access : Access) (old new : Device) → IsOn old → SparesRegister (Px port Sctl) access
         → SparesRegister (Px port Cmd) access → Does access old new → RunsOn port.0 old new }
     ensures runs { (port : Port) (accesses : List Access) (old new : Device) → IsOn old → DoesAll accesses old new
         → All (SparesRegister Ghc) accesses → All (SparesRegister (Px port Sctl)) accesses
         → All (SparesRegister (Px port Cmd)) accesses → RunsOn port.0 old new }
-    ensures well { (port : ℕ) (old new : Device) → RunsOn port old new → Undisturbed port old new → RunsWell (old.port port)
-        → RunsWell (new.port port) }
+    ensures well { (port : ℕ) (old new : Device) → RunsOn port old new → Undisturbed port old new
+        → RunsWell (old.port port) → RunsWell (new.port port) }
 {
     laws_hold();
 }
 
-/// Where a port shows a device, a disk is in: this goes on, whatever the device does, and over each access, also one that resets the
-/// adapter. And a boot that leaves its port ready begins it, since COMRESET has a port show no device until its link comes up.
+/// Where a port shows a device, a disk is in: this goes on, whatever the device does, and over each access, also one
+/// that resets the adapter. And a boot that leaves its port ready begins it, since COMRESET has a port show no device
+/// until its link comes up.
 pub fn a_disk_is_in_where_one_shows()
-    ensures steps { (port : ℕ) (old new : Device) → Steps old new → ShowsOwnDisk (old.port port) → ShowsOwnDisk (new.port port) }
-    ensures access { (port : ℕ) (access : Access) (old new : Device) → Does access old new → ShowsOwnDisk (old.port port)
+    ensures steps { (port : ℕ) (old new : Device) → Steps old new → ShowsOwnDisk (old.port port)
         → ShowsOwnDisk (new.port port) }
+    ensures access { (port : ℕ) (access : Access) (old new : Device) → Does access old new
+        → ShowsOwnDisk (old.port port) → ShowsOwnDisk (new.port port) }
     ensures accesses { (port : ℕ) (accesses : List Access) (old new : Device) → DoesAll accesses old new
         → ShowsOwnDisk (old.port port) → ShowsOwnDisk (new.port port) }
     ensures begins { (port : Port) (old new : Device) → GetsReady port old new → ShowsOwnDisk (new.port port.0) }

@@ -1,5 +1,8 @@
-//! The boot of a port: what its disk is, by COMRESET and IDENTIFY DEVICE (AHCI 1.3.1, 10.1.2 and 10.4.2; ACS-3, 7.12; which states
-//! there are, and the steps' order, are this project's own).
+//! Boots a stopped port: finds out what its disk is, by COMRESET and IDENTIFY DEVICE.
+//!
+//! (AHCI 1.3.1, 10.1.2 and 10.4.2; ACS-3, 7.12; which states there are, and the steps' order, are
+//! this project's own.) A caller stops the port, and gives up its slots, before. What stands behind
+//! the state that is told goes on until the port is booted anew (law `what_was_found_goes_on`).
 #![tactic(auto)]
 
 ghost use Rattle.std.specs.Prelude.{ℕ, List, Option, ◌≡◌, ◌≢◌, ◌≤◌, ◌⊎◌, ◌↔◌, IsTrue, length, IfOk, IfErr, OnOk, OnErr};
@@ -70,19 +73,24 @@ fn judge(page: &[u8; 512], wanted: &Option<[u8; 20]>) -> Result<DiskInfo, PortSt
     }
 }
 
-/// Has a stopped port receive FISes, sends COMRESET, and starts the port where it finds an ATA disk that is idle; else the state
-/// that tells what was found.
+/// Has a stopped port receive FISes, sends COMRESET, and starts the port where it finds an ATA disk that is idle; else
+/// the state that tells what was found.
 fn bring_up<A: Adapter>(adapter: &mut A, stopped: Stopped) -> Result<Running, PortState>
     requires bootable { IsBootable stopped.port (A.device adapter.old) }
     requires stopped { IsStopped ((A.device adapter.old).port stopped.port.0) }
     ensures on { IsOn (A.device adapter.new) }
-    ensures boots { OnOk result (IsTold (StopsReceiving stopped.port) (IsControl IsBooting stopped.port) (λ uses. AllFree uses stopped.port.0) (A.device adapter.old) (A.device adapter.new)) }
-    ensures boots_to { IfErr result (λ state. IsBootTo (StopsOnWay stopped.port state) stopped.port state (A.device adapter.old) (A.device adapter.new)) }
+    ensures boots { OnOk result (IsTold (StopsReceiving stopped.port) (IsControl IsBooting stopped.port)
+        (λ uses. AllFree uses stopped.port.0) (A.device adapter.old) (A.device adapter.new)) }
+    ensures boots_to { IfErr result (λ state. IsBootTo (StopsOnWay stopped.port state) stopped.port state
+        (A.device adapter.old) (A.device adapter.new)) }
     ensures names { IfOk result (λ running. running.port ≡ stopped.port) }
     ensures up { OnOk result (IsBroughtUp stopped.port (A.device adapter.old) (A.device adapter.new)) }
-    ensures ended { IfErr result (λ state. (wanted : Option (List ℕ)) → EndsAs wanted state stopped.port.0 (A.device adapter.new)) }
-    ensures since { IfErr result (λ state. state ≢ PortState.Dead → length (A.device adapter.old).tape ≤ ((A.device adapter.new).port stopped.port.0).notes.sctl_written_at) }
-    ensures early { IfErr result (λ state. (state ≡ PortState.Dead) ⊎ EndsEarly stopped.port state (A.device adapter.old) (A.device adapter.new)) }
+    ensures ended { IfErr result (λ state. (wanted : Option (List ℕ))
+        → EndsAs wanted state stopped.port.0 (A.device adapter.new)) }
+    ensures since { IfErr result (λ state. state ≢ PortState.Dead → length (A.device adapter.old).tape
+        ≤ ((A.device adapter.new).port stopped.port.0).notes.sctl_written_at) }
+    ensures early { IfErr result (λ state. (state ≡ PortState.Dead)
+        ⊎ EndsEarly stopped.port state (A.device adapter.old) (A.device adapter.new)) }
 {
     laws_hold();
     let Ok(receiving) = receive(adapter, stopped) else {
@@ -113,7 +121,8 @@ fn halt<A: Adapter>(adapter: &mut A, port: Port, state: PortState) -> PortState
     }
 }
 
-/// The causes of which a port tells by interrupts: TFES, HBFS, HBDS, IFS, PRCS, PCS, SDBS, PSS and DHRS (AHCI 1.3.1, 3.3.6).
+/// The causes of which a port tells by interrupts: TFES, HBFS, HBDS, IFS, PRCS, PCS, SDBS, PSS and DHRS (AHCI 1.3.1,
+/// 3.3.6).
 fn causes() -> u32
     ensures { result ≡ told_causes }
 {
@@ -130,9 +139,12 @@ fn identify_disk<A: Adapter>(
     ensures on { IsOn (A.device adapter.new) }
     ensures ready { IfOk result (IsReady wanted.now port.0 (A.device adapter.new)) }
     ensures ended { IfErr result (λ state. EndsAs wanted.now state port.0 (A.device adapter.new)) }
-    ensures written { ((A.device adapter.new).port port.0).notes.sctl_written_at ≡ ((A.device adapter.old).port port.0).notes.sctl_written_at }
-    ensures boots { OnOk result (IsFollowed (IsOfBoot port) (λ uses. AllFree uses port.0) (A.device adapter.old) (A.device adapter.new)) }
-    ensures boots_to { IfErr result (λ state. IsBootTo (Stops port) port state (A.device adapter.old) (A.device adapter.new)) }
+    ensures written { ((A.device adapter.new).port port.0).notes.sctl_written_at
+        ≡ ((A.device adapter.old).port port.0).notes.sctl_written_at }
+    ensures boots { OnOk result (IsFollowed (IsOfBoot port) (λ uses. AllFree uses port.0) (A.device adapter.old)
+        (A.device adapter.new)) }
+    ensures boots_to { IfErr result (λ state. IsBootTo (Stops port) port state (A.device adapter.old)
+        (A.device adapter.new)) }
     ensures asked { OnOk result (GetsAsked port (A.device adapter.old) (A.device adapter.new)) }
     ensures halts { OnOk result (HaltsAsTaken ((A.device adapter.new).port port.0)) }
     ensures runs_on { OnOk result (RunsOn port.0 (A.device adapter.old) (A.device adapter.new)) }
@@ -152,12 +164,13 @@ fn identify_disk<A: Adapter>(
     }
 }
 
-/// Boots a stopped port, no slot of which is used: has it receive FISes, sends COMRESET, looks for an ATA disk that is idle, asks it
-/// for its page by IDENTIFY DEVICE, and, where the page is of a disk with the serial number that is named (20 characters, filled with
-/// spaces; any will do where none is), has the port tell of interrupts' causes, and leaves it running. What halts it then is of a command that is
-/// taken.
+/// Boots a stopped port, no slot of which is used: has it receive FISes, sends COMRESET, looks for an ATA disk that is
+/// idle, asks it for its page by IDENTIFY DEVICE, and, where the page is of a disk with the serial number that is named
+/// (20 characters, filled with spaces; any will do where none is), has the port tell of interrupts' causes, and leaves
+/// it running. What halts it then is of a command that is taken.
 ///
-/// Else the state: `Absent`, `Unfit(1)` to `Unfit(9)` or `Foreign`, and the port is stopped; or `Dead` where an engine is stuck.
+/// Else the state: `Absent`, `Unfit(1)` to `Unfit(9)` or `Foreign`, and the port is stopped; or `Dead` where an engine
+/// is stuck.
 pub fn boot<A: Adapter>(
     adapter: &mut A,
     stopped: Stopped,
@@ -168,15 +181,21 @@ pub fn boot<A: Adapter>(
     ensures on { IsOn (A.device adapter.new) }
     ensures ready { IfOk result (IsReady wanted.now stopped.port.0 (A.device adapter.new)) }
     ensures ended { IfErr result (λ state. EndsAs wanted.now state stopped.port.0 (A.device adapter.new)) }
-    ensures since { OnOk result (length (A.device adapter.old).tape ≤ ((A.device adapter.new).port stopped.port.0).notes.sctl_written_at) }
-    ensures since_ended { IfErr result (λ state. state ≢ PortState.Dead → length (A.device adapter.old).tape ≤ ((A.device adapter.new).port stopped.port.0).notes.sctl_written_at) }
-    ensures boots { OnOk result (IsBoot (StopsReceiving stopped.port) stopped.port (A.device adapter.old) (A.device adapter.new)) }
-    ensures boots_to { IfErr result (λ state. IsBootTo (StopsOnWay stopped.port state) stopped.port state (A.device adapter.old) (A.device adapter.new)) }
+    ensures since { OnOk result (length (A.device adapter.old).tape
+        ≤ ((A.device adapter.new).port stopped.port.0).notes.sctl_written_at) }
+    ensures since_ended { IfErr result (λ state. state ≢ PortState.Dead → length (A.device adapter.old).tape
+        ≤ ((A.device adapter.new).port stopped.port.0).notes.sctl_written_at) }
+    ensures boots { OnOk result (IsBoot (StopsReceiving stopped.port) stopped.port (A.device adapter.old)
+        (A.device adapter.new)) }
+    ensures boots_to { IfErr result (λ state. IsBootTo (StopsOnWay stopped.port state) stopped.port state
+        (A.device adapter.old) (A.device adapter.new)) }
     ensures way { OnOk result (GetsReady stopped.port (A.device adapter.old) (A.device adapter.new)) }
     ensures news { OnOk result (ShowsNews stopped.port.0 (A.device adapter.old) (A.device adapter.new)) }
     ensures halts { OnOk result (HaltsAsTaken ((A.device adapter.new).port stopped.port.0)) }
-    ensures early { IfErr result (λ state. IsEarly state → EndsEarly stopped.port state (A.device adapter.old) (A.device adapter.new)) }
-    ensures late { IfErr result (λ state. IsLate state → EndsLate stopped.port (A.device adapter.old) (A.device adapter.new)) }
+    ensures early { IfErr result (λ state. IsEarly state → EndsEarly stopped.port state (A.device adapter.old)
+        (A.device adapter.new)) }
+    ensures late { IfErr result (λ state. IsLate state
+        → EndsLate stopped.port (A.device adapter.old) (A.device adapter.new)) }
 {
     laws_hold();
     let running = bring_up(adapter, stopped)?;

@@ -1,5 +1,5 @@
--- What accesses tell of a port's two engines: the one that works on the command list (ST and CR of PxCMD), and the one that receives
--- FISes (FRE and FR; AHCI 1.3.1, 3.3.7, 10.3.1 and 10.3.2).
+-- What accesses tell of a port's two engines: the one that works on the command list (ST and CR of PxCMD), and the one
+-- that receives FISes (FRE and FR; AHCI 1.3.1, 3.3.7, 10.3.1 and 10.3.2).
 use Rattle.std.specs.Prelude.{ℕ, true, false, ◌≡◌, ◌⊎◌, ◌++◌, List, ◌∷◌, All, length}
 use Rattle.ata_types.specs.declared.Port.{Port}
 use Rattle.hba_regs.specs.Bits.{bit}
@@ -9,8 +9,8 @@ use Rattle.adapter.specs.Access.{Access}
 use Rattle.adapter.specs.Access.Access.{Reading, Writing}
 use Rattle.agreement.specs.Links.{SparesRegister}
 
--- An engine fell: the bit that starts it was written 0, and the bit that shows it running was read 0 after that, with PxCMD not
--- written between.
+-- An engine fell: the bit that starts it was written 0, and the bit that shows it running was read 0 after that, with
+-- PxCMD not written between.
 pub record Falls (start running : ℕ) (port : Port) (accesses : List Access) : Type 0 where
   pub before : List Access
   pub cleared : ℕ
@@ -47,8 +47,8 @@ abbrev pub ReadsCommand : (ℕ → Type 0) → Port → Access → Type 0
 ReadsCommand Shown port (Reading r v) = (r ≡ Px port Cmd) × Shown v
 ReadsCommand Shown port access = ⊥
 
--- An engine is awaited: the bit that starts it was written 0, and so many readings of PxCMD since, and nothing else, showed that it runs
--- still.
+-- An engine is awaited: the bit that starts it was written 0, and so many readings of PxCMD since, and nothing else,
+-- showed that it runs still.
 pub record Awaits (start running : ℕ) (port : Port) (count : ℕ) (accesses : List Access) : Type 0 where
   pub before : List Access
   pub cleared : ℕ

@@ -62,84 +62,174 @@ fits_of (Starting port) = λ uses. AllFree uses port.0
 
 pub record Laws : Type 0 where
   -- one access
-  pub seen : (port : Port) (r : PortReg) (v : ℕ) (old new : Device) → Reads (Px port r) v old new → old.hr ≡ false → SeenAt port.0 r v old new
-  pub put : (port : Port) (r : PortReg) (v : ℕ) (old new : Device) → Writes (Px port r) v old new → old.hr ≡ false → PutAt port.0 r v old new
-  pub does_append : (early late : List Access) (old mid new : Device) → DoesAll early old mid → DoesAll late mid new → DoesAll (early ++ late) old new
+  pub seen : (port : Port) (r : PortReg) (v : ℕ) (old new : Device) → Reads (Px port r) v old new → old.hr ≡ false
+      → SeenAt port.0 r v old new
+  pub put : (port : Port) (r : PortReg) (v : ℕ) (old new : Device) → Writes (Px port r) v old new → old.hr ≡ false
+      → PutAt port.0 r v old new
+  pub does_append : (early late : List Access) (old mid new : Device) → DoesAll early old mid → DoesAll late mid new
+      → DoesAll (early ++ late) old new
   pub steps_keep : (old new : Device) → Steps old new → Keeps old new
-  pub access_on : (access : Access) (old new : Device) → IsOn old → ((v : ℕ) → access ≡ Writing Ghc v → (bit v 31 ≡ true) × (bit v 0 ≡ false)) → Does access old new → IsOn new
-  pub write_stays : (r : Reg) (v : ℕ) (d : Device) → ((port : Port) → r ≢ Px port Ci) → MayWrite r v d → Stays (MayWrite r v) d
-  pub list_may : (d : Device) (port : Port) → IsOn d → HasPort d port.0 → (d.port port.0).st ≡ false → (d.port port.0).cr ≡ false → list_of port.0 + LIST_BYTES ≤ d.size → Stays (MayWrite (Px port Clb) (list_of port.0)) d
-  pub list_upper_may : (d : Device) (port : Port) → IsOn d → HasPort d port.0 → (d.port port.0).st ≡ false → (d.port port.0).cr ≡ false → Stays (MayWrite (Px port Clbu) 0) d
-  pub received_may : (d : Device) (port : Port) → IsOn d → HasPort d port.0 → (d.port port.0).fre ≡ false → (d.port port.0).fr ≡ false → received_of port.0 + RECEIVED_BYTES ≤ d.size → Stays (MayWrite (Px port Fb) (received_of port.0)) d
-  pub received_upper_may : (d : Device) (port : Port) → IsOn d → HasPort d port.0 → (d.port port.0).fre ≡ false → (d.port port.0).fr ≡ false → Stays (MayWrite (Px port Fbu) 0) d
-  pub starting_may : (port : Port) (was v : ℕ) (d : Device) → IsOn d → HasPort d port.0 → (d.port port.0).notes.last_cmd ≡ was → MayStart (d.port port.0) → IsWrittenBack true true was v → Stays (MayWrite (Px port Cmd) v) d
-  pub stopping_may : (port : Port) (was v : ℕ) (d : Device) → IsOn d → HasPort d port.0 → (d.port port.0).notes.last_cmd ≡ was → IsWrittenBack false (d.port port.0).fre was v → Stays (MayWrite (Px port Cmd) v) d
-  pub receiving_may : (port : Port) (was v : ℕ) (d : Device) → IsOn d → HasPort d port.0 → (d.port port.0).notes.last_cmd ≡ was → MayReceive (d.port port.0) → IsWrittenBack (d.port port.0).st true was v → Stays (MayWrite (Px port Cmd) v) d
-  pub no_receiving_may : (port : Port) (was v : ℕ) (d : Device) → IsOn d → HasPort d port.0 → (d.port port.0).notes.last_cmd ≡ was → MayStopReceiving (d.port port.0) → IsWrittenBack false false was v → Stays (MayWrite (Px port Cmd) v) d
+  pub access_on : (access : Access) (old new : Device) → IsOn old
+      → ((v : ℕ) → access ≡ Writing Ghc v → (bit v 31 ≡ true) × (bit v 0 ≡ false)) → Does access old new → IsOn new
+  pub write_stays : (r : Reg) (v : ℕ) (d : Device) → ((port : Port) → r ≢ Px port Ci) → MayWrite r v d
+      → Stays (MayWrite r v) d
+  pub list_may : (d : Device) (port : Port) → IsOn d → HasPort d port.0 → (d.port port.0).st ≡ false
+      → (d.port port.0).cr ≡ false → list_of port.0 + LIST_BYTES ≤ d.size
+      → Stays (MayWrite (Px port Clb) (list_of port.0)) d
+  pub list_upper_may : (d : Device) (port : Port) → IsOn d → HasPort d port.0 → (d.port port.0).st ≡ false
+      → (d.port port.0).cr ≡ false → Stays (MayWrite (Px port Clbu) 0) d
+  pub received_may : (d : Device) (port : Port) → IsOn d → HasPort d port.0 → (d.port port.0).fre ≡ false
+      → (d.port port.0).fr ≡ false → received_of port.0 + RECEIVED_BYTES ≤ d.size
+      → Stays (MayWrite (Px port Fb) (received_of port.0)) d
+  pub received_upper_may : (d : Device) (port : Port) → IsOn d → HasPort d port.0 → (d.port port.0).fre ≡ false
+      → (d.port port.0).fr ≡ false → Stays (MayWrite (Px port Fbu) 0) d
+  pub starting_may : (port : Port) (was v : ℕ) (d : Device) → IsOn d → HasPort d port.0 → (d.port port.0).notes.last_cmd
+      ≡ was → MayStart (d.port port.0) → IsWrittenBack true true was v → Stays (MayWrite (Px port Cmd) v) d
+  pub stopping_may : (port : Port) (was v : ℕ) (d : Device) → IsOn d → HasPort d port.0 → (d.port port.0).notes.last_cmd
+      ≡ was → IsWrittenBack false (d.port port.0).fre was v → Stays (MayWrite (Px port Cmd) v) d
+  pub receiving_may : (port : Port) (was v : ℕ) (d : Device) → IsOn d → HasPort d port.0
+      → (d.port port.0).notes.last_cmd ≡ was → MayReceive (d.port port.0) → IsWrittenBack (d.port port.0).st true was v
+      → Stays (MayWrite (Px port Cmd) v) d
+  pub no_receiving_may : (port : Port) (was v : ℕ) (d : Device) → IsOn d → HasPort d port.0
+      → (d.port port.0).notes.last_cmd ≡ was → MayStopReceiving (d.port port.0) → IsWrittenBack false false was v
+      → Stays (MayWrite (Px port Cmd) v) d
   -- what it notes and sets
-  pub command_noted : (port : Port) (v : ℕ) (old new : Device) → Reads (Px port Cmd) v old new → (new.port port.0).notes.last_cmd ≡ v
-  pub notes_read : (port : Port) (r : PortReg) (v : ℕ) (old new : Device) → old.hr ≡ false → Reads (Px port r) v old new → (new.port port.0).notes ≡ note r v (old.port port.0)
-  pub shown_after : (port : Port) (r : PortReg) (v : ℕ) (old new : Device) → old.hr ≡ false → Reads (Px port r) v old new → PortShows r v (new.port port.0)
-  pub access_notes : (port : Port) (access : Access) (old new : Device) → Does access old new → LeavesNotes access port (old.port port.0).notes (new.port port.0).notes
-  pub written_notes : (port : Port) (r : PortReg) (v : ℕ) (old new : Device) → r ≢ Sctl → r ≢ Is → (r ≡ Cmd → bit v 0 ≡ false) → Writes (Px port r) v old new → (new.port port.0).notes ≡ (old.port port.0).notes
-  pub command_written_notes : (port : Port) (v : ℕ) (old new : Device) → Writes (Px port Cmd) v old new → (new.port port.0).notes ≡ record (old.port port.0).notes { st_set_at = (new.port port.0).notes.st_set_at }
-  pub access_controls : (port : Port) (access : Access) (old new : Device) → old.hr ≡ false → Does access old new → LeavesControls access port (old.port port.0) (new.port port.0)
-  pub command_set : (port : Port) (v : ℕ) (old new : Device) → Writes (Px port Cmd) v old new → ((new.port port.0).st ≡ bit v 0) × ((new.port port.0).fre ≡ bit v 4)
-  pub start_set : (port : Port) (v : ℕ) (old new : Device) → (old.port port.0).st ≡ false → bit v 0 ≡ true → Writes (Px port Cmd) v old new → ((new.port port.0).cr ≡ true) × ((new.port port.0).notes.st_set_at ≡ length new.tape)
-  pub control_set : (port : Port) (v : ℕ) (old new : Device) → Writes (Px port Sctl) v old new → ((new.port port.0).sctl_det ≡ v % 16) × ((new.port port.0).notes.sctl_written_at ≡ length new.tape)
-  pub errors_cleared : (port : Port) (v : ℕ) (old new : Device) → Writes (Px port Serr) v old new → (bit v 16 ≡ true → (new.port port.0).serr_n ≡ false) × (bit v 26 ≡ true → (new.port port.0).serr_x ≡ false)
-  pub causes_cleared : (port : Port) (v : ℕ) (old new : Device) → Writes (Px port Is) v old new → (place : ℕ) → bit v place ≡ true → (new.port port.0).is place ≡ false
-  pub access_clear : (port : Port) (place : ℕ) (access : Access) (old new : Device) → (old.port port.0).cr ≡ false → Does access old new → (old.port port.0).is place ≡ false → (new.port port.0).is place ≡ false
-  pub halted_writes : (port : Port) (r : Reg) (v : ℕ) (old new : Device) → Stays (MayWrite r v) old → (r ≡ Px port Cmd → bit v 0 ≡ false) → Writes r v old new → IsHalted (old.port port.0) → IsHalted (new.port port.0)
-  pub stop_is_found : (uses : Uses) (m : Machine) (port : Port) (v : ℕ) (old new : Device) → IsReached m → Agrees uses m old → (old.port port.0).st ≡ false → Reads (Px port Cmd) v old new → bit v 15 ≡ false → IsHalted (new.port port.0)
-  pub reset_writes : (port : Port) (r : Reg) (v : ℕ) (old new : Device) → Stays (MayWrite r v) old → (r ≡ Px port Cmd → (bit v 0 ≡ false) × (bit v 4 ≡ false)) → Writes r v old new → IsAfterReset (old.port port.0) → IsAfterReset (new.port port.0)
-  pub bits_clear : (uses : Uses) (m : Machine) (d : Device) (port slot : ℕ) → Agrees uses m d → (d.port port).st ≡ false → ((d.port port).ci slot ≡ false) × ((d.port port).sact slot ≡ false)
-  pub writes_clear : (port : Port) (slot : ℕ) (r : Reg) (v : ℕ) (old new : Device) → (r ≡ Px port Sact → bit v slot ≡ false) → Writes r v old new → (old.port port.0).sact slot ≡ false → (new.port port.0).sact slot ≡ false
-  pub free_unarmed : (uses : Uses) (m : Machine) (d : Device) → Agrees uses m d → (port slot : ℕ) → uses port slot ≡ Free → (d.port port).sact slot ≡ false
+  pub command_noted : (port : Port) (v : ℕ) (old new : Device) → Reads (Px port Cmd) v old new
+      → (new.port port.0).notes.last_cmd ≡ v
+  pub notes_read : (port : Port) (r : PortReg) (v : ℕ) (old new : Device) → old.hr ≡ false → Reads (Px port r) v old new
+      → (new.port port.0).notes ≡ note r v (old.port port.0)
+  pub shown_after : (port : Port) (r : PortReg) (v : ℕ) (old new : Device) → old.hr ≡ false
+      → Reads (Px port r) v old new → PortShows r v (new.port port.0)
+  pub access_notes : (port : Port) (access : Access) (old new : Device) → Does access old new
+      → LeavesNotes access port (old.port port.0).notes (new.port port.0).notes
+  pub written_notes : (port : Port) (r : PortReg) (v : ℕ) (old new : Device) → r ≢ Sctl → r ≢ Is
+      → (r ≡ Cmd → bit v 0 ≡ false) → Writes (Px port r) v old new → (new.port port.0).notes ≡ (old.port port.0).notes
+  pub command_written_notes : (port : Port) (v : ℕ) (old new : Device) → Writes (Px port Cmd) v old new
+      → (new.port port.0).notes ≡ record (old.port port.0).notes { st_set_at = (new.port port.0).notes.st_set_at }
+  pub access_controls : (port : Port) (access : Access) (old new : Device) → old.hr ≡ false → Does access old new
+      → LeavesControls access port (old.port port.0) (new.port port.0)
+  pub command_set : (port : Port) (v : ℕ) (old new : Device) → Writes (Px port Cmd) v old new
+      → ((new.port port.0).st ≡ bit v 0) × ((new.port port.0).fre ≡ bit v 4)
+  pub start_set : (port : Port) (v : ℕ) (old new : Device) → (old.port port.0).st ≡ false → bit v 0 ≡ true
+      → Writes (Px port Cmd) v old new → ((new.port port.0).cr ≡ true)
+      × ((new.port port.0).notes.st_set_at ≡ length new.tape)
+  pub control_set : (port : Port) (v : ℕ) (old new : Device) → Writes (Px port Sctl) v old new
+      → ((new.port port.0).sctl_det ≡ v % 16) × ((new.port port.0).notes.sctl_written_at ≡ length new.tape)
+  pub errors_cleared : (port : Port) (v : ℕ) (old new : Device) → Writes (Px port Serr) v old new
+      → (bit v 16 ≡ true → (new.port port.0).serr_n ≡ false) × (bit v 26 ≡ true → (new.port port.0).serr_x ≡ false)
+  pub causes_cleared : (port : Port) (v : ℕ) (old new : Device) → Writes (Px port Is) v old new → (place : ℕ)
+      → bit v place ≡ true → (new.port port.0).is place ≡ false
+  pub access_clear : (port : Port) (place : ℕ) (access : Access) (old new : Device) → (old.port port.0).cr ≡ false
+      → Does access old new → (old.port port.0).is place ≡ false → (new.port port.0).is place ≡ false
+  pub halted_writes : (port : Port) (r : Reg) (v : ℕ) (old new : Device) → Stays (MayWrite r v) old
+      → (r ≡ Px port Cmd → bit v 0 ≡ false) → Writes r v old new → IsHalted (old.port port.0)
+      → IsHalted (new.port port.0)
+  pub stop_is_found : (uses : Uses) (m : Machine) (port : Port) (v : ℕ) (old new : Device) → IsReached m
+      → Agrees uses m old → (old.port port.0).st ≡ false → Reads (Px port Cmd) v old new → bit v 15 ≡ false
+      → IsHalted (new.port port.0)
+  pub reset_writes : (port : Port) (r : Reg) (v : ℕ) (old new : Device) → Stays (MayWrite r v) old
+      → (r ≡ Px port Cmd → (bit v 0 ≡ false) × (bit v 4 ≡ false)) → Writes r v old new → IsAfterReset (old.port port.0)
+      → IsAfterReset (new.port port.0)
+  pub bits_clear : (uses : Uses) (m : Machine) (d : Device) (port slot : ℕ) → Agrees uses m d → (d.port port).st ≡ false
+      → ((d.port port).ci slot ≡ false) × ((d.port port).sact slot ≡ false)
+  pub writes_clear : (port : Port) (slot : ℕ) (r : Reg) (v : ℕ) (old new : Device)
+      → (r ≡ Px port Sact → bit v slot ≡ false) → Writes r v old new → (old.port port.0).sact slot ≡ false
+      → (new.port port.0).sact slot ≡ false
+  pub free_unarmed : (uses : Uses) (m : Machine) (d : Device) → Agrees uses m d → (port slot : ℕ)
+      → uses port slot ≡ Free → (d.port port).sact slot ≡ false
   -- the link
-  pub comreset_begins : (port : Port) (v : ℕ) (old new : Device) → (old.port port.0).cr ≡ false → v % 16 ≡ 1 → Writes (Px port Sctl) v old new → IsAwaited (new.port port.0)
-  pub writes_awaited : (port : ℕ) (r : Reg) (v : ℕ) (old new : Device) → Stays (MayWrite r v) old → Stays (KeepsRecord r v) old → Writes r v old new → IsAwaited (old.port port) → IsAwaited (new.port port)
-  pub reads_awaited : (port : ℕ) (r : Reg) (v : ℕ) (old new : Device) → Reads r v old new → IsAwaited (old.port port) → IsAwaited (new.port port)
-  pub access_awaited : (port : Port) (access : Access) (old new : Device) → SparesRegister (Px port Cmd) access → SparesRegister (Px port Sctl) access → Does access old new → IsAwaited (old.port port.0) → IsAwaited (new.port port.0)
-  pub comreset_comes : (port : Port) (v : ℕ) (old new : Device) → (old.port port.0).cr ≡ false → v % 16 ≡ 1 → Writes (Px port Sctl) v old new → IsComingUp (new.port port.0)
-  pub access_coming : (port : Port) (access : Access) (old new : Device) → SetsNoStart port access → Does access old new → NoneComes port.0 old new → IsComingUp (old.port port.0) → IsComingUp (new.port port.0)
-  pub access_up : (port : Port) (access : Access) (old new : Device) → old.hr ≡ false → (old.port port.0).cr ≡ false → SetsNoStart port access → SparesRegister (Px port Sctl) access → PlugsNone port.0 old new → Does access old new → IsUp (old.port port.0) → IsUp (new.port port.0)
-  pub up_is_found : (port : Port) (v : ℕ) (old new : Device) → NoneComes port.0 old new → Reads (Px port Ssts) v old new → v % 16 ≡ 3 → IsComingUp (old.port port.0) → IsUp (new.port port.0)
-  pub start_is_made : (port : Port) (v : ℕ) (old new : Device) → old.hr ≡ false → (old.port port.0).st ≡ false → (old.port port.0).cr ≡ false → bit v 0 ≡ true → Writes (Px port Cmd) v old new → IsUp (old.port port.0) → PlugsNone port.0 old new → IsStarted (new.port port.0)
-  pub access_linked : (port : Port) (access : Access) (old new : Device) → old.hr ≡ false → SparesRegister (Px port Sctl) access → PlugsNone port.0 old new → Does access old new → IsLinked (old.port port.0) → IsLinked (new.port port.0)
-  pub start_runs_linked : (port : Port) (v : ℕ) (old new : Device) → old.hr ≡ false → (old.port port.0).st ≡ false → (old.port port.0).cr ≡ false → bit v 0 ≡ true → PlugsNone port.0 old new → Writes (Px port Cmd) v old new → IsLinked (old.port port.0) → RunsLinked (new.port port.0)
-  pub file_noted : (port : Port) (v : ℕ) (old new : Device) → Reads (Px port Tfd) v old new → (new.port port.0).notes.last_tfd ≡ v
-  pub quiet_is_found : (port : Port) (v : ℕ) (old new : Device) → IsAwaited (old.port port.0) → IsUnflagged (old.port port.0) → Reads (Px port Tfd) v old new → bit v 3 ≡ false → IsQuiet (new.port port.0)
+  pub comreset_begins : (port : Port) (v : ℕ) (old new : Device) → (old.port port.0).cr ≡ false → v % 16 ≡ 1
+      → Writes (Px port Sctl) v old new → IsAwaited (new.port port.0)
+  pub writes_awaited : (port : ℕ) (r : Reg) (v : ℕ) (old new : Device) → Stays (MayWrite r v) old
+      → Stays (KeepsRecord r v) old → Writes r v old new → IsAwaited (old.port port) → IsAwaited (new.port port)
+  pub reads_awaited : (port : ℕ) (r : Reg) (v : ℕ) (old new : Device) → Reads r v old new → IsAwaited (old.port port)
+      → IsAwaited (new.port port)
+  pub access_awaited : (port : Port) (access : Access) (old new : Device) → SparesRegister (Px port Cmd) access
+      → SparesRegister (Px port Sctl) access → Does access old new → IsAwaited (old.port port.0)
+      → IsAwaited (new.port port.0)
+  pub comreset_comes : (port : Port) (v : ℕ) (old new : Device) → (old.port port.0).cr ≡ false → v % 16 ≡ 1
+      → Writes (Px port Sctl) v old new → IsComingUp (new.port port.0)
+  pub access_coming : (port : Port) (access : Access) (old new : Device) → SetsNoStart port access → Does access old new
+      → NoneComes port.0 old new → IsComingUp (old.port port.0) → IsComingUp (new.port port.0)
+  pub access_up : (port : Port) (access : Access) (old new : Device) → old.hr ≡ false → (old.port port.0).cr ≡ false
+      → SetsNoStart port access → SparesRegister (Px port Sctl) access → PlugsNone port.0 old new → Does access old new
+      → IsUp (old.port port.0) → IsUp (new.port port.0)
+  pub up_is_found : (port : Port) (v : ℕ) (old new : Device) → NoneComes port.0 old new → Reads (Px port Ssts) v old new
+      → v % 16 ≡ 3 → IsComingUp (old.port port.0) → IsUp (new.port port.0)
+  pub start_is_made : (port : Port) (v : ℕ) (old new : Device) → old.hr ≡ false → (old.port port.0).st ≡ false
+      → (old.port port.0).cr ≡ false → bit v 0 ≡ true → Writes (Px port Cmd) v old new → IsUp (old.port port.0)
+      → PlugsNone port.0 old new → IsStarted (new.port port.0)
+  pub access_linked : (port : Port) (access : Access) (old new : Device) → old.hr ≡ false
+      → SparesRegister (Px port Sctl) access → PlugsNone port.0 old new → Does access old new
+      → IsLinked (old.port port.0) → IsLinked (new.port port.0)
+  pub start_runs_linked : (port : Port) (v : ℕ) (old new : Device) → old.hr ≡ false → (old.port port.0).st ≡ false
+      → (old.port port.0).cr ≡ false → bit v 0 ≡ true → PlugsNone port.0 old new → Writes (Px port Cmd) v old new
+      → IsLinked (old.port port.0) → RunsLinked (new.port port.0)
+  pub file_noted : (port : Port) (v : ℕ) (old new : Device) → Reads (Px port Tfd) v old new
+      → (new.port port.0).notes.last_tfd ≡ v
+  pub quiet_is_found : (port : Port) (v : ℕ) (old new : Device) → IsAwaited (old.port port.0)
+      → IsUnflagged (old.port port.0) → Reads (Px port Tfd) v old new → bit v 3 ≡ false → IsQuiet (new.port port.0)
   pub steps_quiet : (port : ℕ) (old new : Device) → Steps old new → IsQuiet (old.port port) → IsQuiet (new.port port)
-  pub reads_quiet : (port : ℕ) (r : Reg) (v : ℕ) (old new : Device) → Reads r v old new → IsQuiet (old.port port) → IsQuiet (new.port port)
-  pub writes_quiet : (port : Port) (r : Reg) (v : ℕ) (old new : Device) → (r ≡ Px port Cmd → bit v 0 ≡ false) → (r ≡ Px port Sctl → v % 16 ≢ 1) → Writes r v old new → IsQuiet (old.port port.0) → IsQuiet (new.port port.0)
-  pub reads_unflagged : (port : ℕ) (r : Reg) (v : ℕ) (old new : Device) → Reads r v old new → IsUnflagged (old.port port) → IsUnflagged (new.port port)
+  pub reads_quiet : (port : ℕ) (r : Reg) (v : ℕ) (old new : Device) → Reads r v old new → IsQuiet (old.port port)
+      → IsQuiet (new.port port)
+  pub writes_quiet : (port : Port) (r : Reg) (v : ℕ) (old new : Device) → (r ≡ Px port Cmd → bit v 0 ≡ false)
+      → (r ≡ Px port Sctl → v % 16 ≢ 1) → Writes r v old new → IsQuiet (old.port port.0) → IsQuiet (new.port port.0)
+  pub reads_unflagged : (port : ℕ) (r : Reg) (v : ℕ) (old new : Device) → Reads r v old new
+      → IsUnflagged (old.port port) → IsUnflagged (new.port port)
   -- what the tape tells
   pub grows_none : (d : Device) → Grows d d
   pub grows_more : (old mid new : Device) → Grows old mid → Grows mid new → Grows old new
   pub access_grows : (access : Access) (old new : Device) → Does access old new → Grows old new
-  pub comes_parts : (port : ℕ) (old mid new : Device) (early late : List Entry) → mid.tape ≡ old.tape ++ early → new.tape ≡ mid.tape ++ late → NoneComes port old new → NoneComes port old mid × NoneComes port mid new
+  pub comes_parts : (port : ℕ) (old mid new : Device) (early late : List Entry) → mid.tape ≡ old.tape ++ early
+      → new.tape ≡ mid.tape ++ late → NoneComes port old new → NoneComes port old mid × NoneComes port mid new
   pub plugs_come : (port : ℕ) (old new : Device) → PlugsNone port old new → NoneComes port old new
-  pub plugs_parts : (port : ℕ) (old mid new : Device) (early late : List Entry) → mid.tape ≡ old.tape ++ early → new.tape ≡ mid.tape ++ late → PlugsNone port old new → PlugsNone port old mid × PlugsNone port mid new
+  pub plugs_parts : (port : ℕ) (old mid new : Device) (early late : List Entry) → mid.tape ≡ old.tape ++ early
+      → new.tape ≡ mid.tape ++ late → PlugsNone port old new → PlugsNone port old mid × PlugsNone port mid new
   pub change_none : (port : ℕ) (d : Device) → ChangesByDisks port d d
-  pub change_more : (port : ℕ) (old mid new : Device) → Grows old mid → Grows mid new → ChangesByDisks port old mid → ChangesByDisks port mid new → ChangesByDisks port old new
-  pub access_change : (port : Port) (access : Access) (old new : Device) → old.hr ≡ false → (old.port port.0).link_due ≡ false → Does access old new → ChangesByDisks port.0 old new
-  pub access_undue : (port : Port) (access : Access) (old new : Device) → old.hr ≡ false → (old.port port.0).link_due ≡ false → SparesRegister (Px port Sctl) access → Does access old new → (new.port port.0).link_due ≡ false
+  pub change_more : (port : ℕ) (old mid new : Device) → Grows old mid → Grows mid new → ChangesByDisks port old mid
+      → ChangesByDisks port mid new → ChangesByDisks port old new
+  pub access_change : (port : Port) (access : Access) (old new : Device) → old.hr ≡ false
+      → (old.port port.0).link_due ≡ false → Does access old new → ChangesByDisks port.0 old new
+  pub access_undue : (port : Port) (access : Access) (old new : Device) → old.hr ≡ false
+      → (old.port port.0).link_due ≡ false → SparesRegister (Px port Sctl) access → Does access old new
+      → (new.port port.0).link_due ≡ false
   pub stopped_recorded : (tape : List Entry) (p : PortState) (port : ℕ) → p.st ≡ false → IsRecorded tape p port
-  pub writes_recorded : (port : ℕ) (r : Reg) (v : ℕ) (old new : Device) → Stays (MayWrite r v) old → Stays (KeepsRecord r v) old → Writes r v old new → IsRecorded old.tape (old.port port) port → IsRecorded new.tape (new.port port) port
+  pub writes_recorded : (port : ℕ) (r : Reg) (v : ℕ) (old new : Device) → Stays (MayWrite r v) old
+      → Stays (KeepsRecord r v) old → Writes r v old new → IsRecorded old.tape (old.port port) port
+      → IsRecorded new.tape (new.port port) port
   -- stretches
   pub of_on : (port : Port) (old new : Device) → IsOn old → IsDrivenBy (IsOf port) old new → IsOn new
   pub same_over : (old new : Device) → IsDrivenBy AnyAccess old new → SameAdapter old new
-  pub tape_over : (old new : Device) → IsDrivenBy AnyAccess old new → (gained : List Entry) × (new.tape ≡ old.tape ++ gained)
+  pub tape_over : (old new : Device) → IsDrivenBy AnyAccess old new → (gained : List Entry)
+      × (new.tape ≡ old.tape ++ gained)
   pub of_spares_ghc : (port : Port) (access : Access) → IsOf port access → SparesRegister Ghc access
   -- this crate's kinds of accesses
-  pub control_either : (set : RegisterSet) (port : Port) (access : Access) → IsControl (registers_of set) port access → ((r : PortReg) × (v : ℕ) × (access ≡ Reading (Px port r) v)) ⊎ ((r : PortReg) × (v : ℕ) × (access ≡ Writing (Px port r) v) × registers_of set r)
-  pub control_of : (set : RegisterSet) (port : Port) (access : Access) → IsControl (registers_of set) port access → IsOf port access
-  pub control_spares : (set : RegisterSet) (port : Port) (r : PortReg) → (registers_of set r → ⊥) → (access : Access) → IsControl (registers_of set) port access → SparesRegister (Px port r) access
-  pub control_wider : (set more : RegisterSet) (port : Port) → ((r : PortReg) → registers_of set r → registers_of more r) → (access : Access) → IsControl (registers_of set) port access → IsControl (registers_of more) port access
+  pub control_either : (set : RegisterSet) (port : Port) (access : Access) → IsControl (registers_of set) port access
+      → ((r : PortReg) × (v : ℕ) × (access ≡ Reading (Px port r) v))
+      ⊎ ((r : PortReg) × (v : ℕ) × (access ≡ Writing (Px port r) v) × registers_of set r)
+  pub control_of : (set : RegisterSet) (port : Port) (access : Access) → IsControl (registers_of set) port access
+      → IsOf port access
+  pub control_spares : (set : RegisterSet) (port : Port) (r : PortReg) → (registers_of set r → ⊥) → (access : Access)
+      → IsControl (registers_of set) port access → SparesRegister (Px port r) access
+  pub control_wider : (set more : RegisterSet) (port : Port)
+      → ((r : PortReg) → registers_of set r → registers_of more r) → (access : Access)
+      → IsControl (registers_of set) port access → IsControl (registers_of more) port access
   pub none : (kind : Stretch) (d : Device) → IsTold (λ made. made ≡ []) (may_of kind) (fits_of kind) d d
-  pub reads : (kind : Stretch) (r : Reg) (v : ℕ) (old new : Device) → may_of kind (Reading r v) → Reads r v old new → IsTold (λ made. made ≡ Reading r v ∷ []) (may_of kind) (fits_of kind) old new
-  pub writes : (kind : Stretch) (r : Reg) (v : ℕ) (old new : Device) → may_of kind (Writing r v) → Stays (MayWrite r v) old → ((uses : Uses) → fits_of kind uses → LeavesUses uses r v old) → Writes r v old new → IsTold (λ made. made ≡ Writing r v ∷ []) (may_of kind) (fits_of kind) old new
-  pub both : (kind then : Stretch) (first second : Uses → Uses) → ((access : Access) → may_of then access → may_of kind access) → ((uses : Uses) → fits_of kind uses → fits_of then (first uses)) → (old mid new : Device) → (a : IsFollowedTo (may_of kind) (fits_of kind) first old mid) → (b : IsFollowedTo (may_of then) (fits_of then) second mid new) → IsToldTo (λ made. made ≡ a.driven.accesses ++ b.driven.accesses) (may_of kind) (fits_of kind) (λ uses. second (first uses)) old new
-  pub wider : (kind more : Stretch) (next : Uses → Uses) → ((access : Access) → may_of kind access → may_of more access) → ((uses : Uses) → fits_of more uses → fits_of kind uses) → (old new : Device) → (a : IsFollowedTo (may_of kind) (fits_of kind) next old new) → IsToldTo (λ made. made ≡ a.driven.accesses) (may_of more) (fits_of more) next old new
-  pub agreed : (kind : Stretch) (next : Uses → Uses) (uses : Uses) (old new : Device) → fits_of kind uses → IsFollowedTo (may_of kind) (fits_of kind) next old new → IsAgreed uses old → IsAgreed (next uses) new
+  pub reads : (kind : Stretch) (r : Reg) (v : ℕ) (old new : Device) → may_of kind (Reading r v) → Reads r v old new
+      → IsTold (λ made. made ≡ Reading r v ∷ []) (may_of kind) (fits_of kind) old new
+  pub writes : (kind : Stretch) (r : Reg) (v : ℕ) (old new : Device) → may_of kind (Writing r v)
+      → Stays (MayWrite r v) old → ((uses : Uses) → fits_of kind uses → LeavesUses uses r v old) → Writes r v old new
+      → IsTold (λ made. made ≡ Writing r v ∷ []) (may_of kind) (fits_of kind) old new
+  pub both : (kind then : Stretch) (first second : Uses → Uses)
+      → ((access : Access) → may_of then access → may_of kind access)
+      → ((uses : Uses) → fits_of kind uses → fits_of then (first uses)) → (old mid new : Device)
+      → (a : IsFollowedTo (may_of kind) (fits_of kind) first old mid)
+      → (b : IsFollowedTo (may_of then) (fits_of then) second mid new)
+      → IsToldTo (λ made. made ≡ a.driven.accesses ++ b.driven.accesses) (may_of kind) (fits_of kind)
+      (λ uses. second (first uses)) old new
+  pub wider : (kind more : Stretch) (next : Uses → Uses) → ((access : Access) → may_of kind access → may_of more access)
+      → ((uses : Uses) → fits_of more uses → fits_of kind uses) → (old new : Device)
+      → (a : IsFollowedTo (may_of kind) (fits_of kind) next old new)
+      → IsToldTo (λ made. made ≡ a.driven.accesses) (may_of more) (fits_of more) next old new
+  pub agreed : (kind : Stretch) (next : Uses → Uses) (uses : Uses) (old new : Device) → fits_of kind uses
+      → IsFollowedTo (may_of kind) (fits_of kind) next old new → IsAgreed uses old → IsAgreed (next uses) new

@@ -162,7 +162,8 @@ pub record FindsLink (port : Port) (old new : Device) : Type 0 where
   pub sees : ReadsUntil port Ssts HasLink old seen
   pub clears : ClearsErrors port seen new
 
--- After that PxTFD was read until it showed neither BSY nor DRQ, and PxSIG showed this signature.
+-- After that PxTFD was read until it showed neither BSY nor DRQ, and PxSIG showed this signature. A bit that is clear
+-- and is cleared again leaves no trace, so it isn't told.
 pub record FindsSignature (port : Port) (signature : ℕ) (old new : Device) : Type 0 where
   pub linked : Device
   pub links : FindsLink port old linked
@@ -194,8 +195,8 @@ pub record WasReset (port : Port) (Then : Device → Device → Type 0) (old new
   pub since : length old.tape ≤ (new.port port.0).notes.sctl_written_at
   pub marked : (new.port port.0).notes.sctl_written_at ≤ length new.tape
 
--- PxSERR shows N only where a disk of the port went or came since, and X only where one came: nothing is left of what was
--- before (AHCI 1.3.1, 3.3.12).
+-- PxSERR shows N only where a disk of the port went or came since, and X only where one came: nothing is left of what
+-- was before (AHCI 1.3.1, 3.3.12).
 pub record HasClearErrors (port : ℕ) (old new : Device) : Type 0 where
   pub serr_n : PlugsNone port old new → (new.port port).serr_n ≡ false
   pub serr_x : NoneComes port old new → (new.port port).serr_x ≡ false
@@ -218,8 +219,8 @@ pub record FindsAwaited (port : ℕ) (old new : Device) : Type 0 where
   pub up : PlugsNone port old new → IsComingUp (old.port port) → IsUp (new.port port)
   pub quiet : IsAwaited (old.port port) → bit (new.port port).notes.last_tfd 3 ≡ false → IsQuiet (new.port port)
 
--- Each bit of PxSERR and PxIS was cleared, and PxTFD was read with this value. The port receives FISes still; nothing of before is told, nor
--- would be at the next start; and what was read last of PxSSTS is as it was.
+-- Each bit of PxSERR and PxIS was cleared, and PxTFD was read with this value. The port receives FISes still; nothing
+-- of before is told, nor would be at the next start; and what was read last of PxSSTS is as it was.
 pub record Forgets (port : Port) (shown : ℕ) (old new : Device) : Type 0 where
   pub cleared : Device
   pub clears : ClearsErrors port old cleared
@@ -253,8 +254,8 @@ pub record Receives (port : Port) (old new : Device) : Type 0 where
   pub told : IsTold (StopsReceiving port) (IsControl IsPlacing port) AnyUse old new
   pub receives : ReceivesFises port.0 (new.port port.0)
 
--- A stopped port was to receive FISes, and FR didn't fall in 64 readings, the last of the accesses. FRE is 0, and the addresses are as
--- they were.
+-- A stopped port was to receive FISes, and FR didn't fall in 64 readings, the last of the accesses. FRE is 0, and the
+-- addresses are as they were.
 pub record FailsToReceive (port : Port) (old new : Device) : Type 0 where
   pub told : IsTold (FailsToStopReceiving port) (IsControl IsPlacing port) AnyUse old new
   pub stuck : Shows EngineStuck (new.port port.0).notes

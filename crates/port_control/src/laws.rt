@@ -11,11 +11,12 @@ ghost use Rattle.port_control.specs.Ports.{IsPlacing, IsResetting, WritesCommand
 
 use super::lawful::laws_hold;
 
-/// What accesses tell of a port's engines, they tell with others after them, and with others before them. Those of a call that failed to
-/// stop one show that it is stuck.
+/// What accesses tell of a port's engines, they tell with others after them, and with others before them. Those of a
+/// call that failed to stop one show that it is stuck.
 pub fn what_is_told_of_engines_stays()
     ensures fails { (port : Port) (accesses : List Access) → FailsToStop port accesses → Sticks port accesses }
-    ensures fails_receiving { (port : Port) (accesses : List Access) → FailsToStopReceiving port accesses → Sticks port accesses }
+    ensures fails_receiving { (port : Port) (accesses : List Access) → FailsToStopReceiving port accesses
+        → Sticks port accesses }
     ensures falls_then { (early late : List Access) (start running : ℕ) (port : Port) → Falls start running port early
         → Falls start running port (early ++ late) }
     ensures falls_since { (early late : List Access) (start running : ℕ) (port : Port) → Falls start running port late
@@ -24,8 +25,8 @@ pub fn what_is_told_of_engines_stays()
     ensures sticks_since { (early late : List Access) (port : Port) → Sticks port late → Sticks port (early ++ late) }
 {}
 
-/// No call touches a register of another port, nor another port's bit of IS: so what is said of such accesses (`IsOf`) is so of each. Those
-/// that stop and start, and those that receive FISes, don't write PxSCTL.
+/// No call touches a register of another port, nor another port's bit of IS: so what is said of such accesses (`IsOf`)
+/// is so of each. Those that stop and start, and those that receive FISes, don't write PxSCTL.
 pub fn calls_are_of_one_port()
     ensures commanding { (port : Port) (access : Access) → IsControl WritesCommand port access
         → IsOf port access × SparesRegister (Px port Sctl) access }

@@ -1,5 +1,9 @@
-//! A port's command engine and its link: stopping the engine, receiving FISes, sending COMRESET, and starting it
-//! (AHCI 1.3.1, 10.1.2, 10.3 and 10.4.2). Each call is of one port, and leaves the others alone.
+//! Stops a port's engine, has it receive FISes, sends COMRESET, and starts it.
+//!
+//! (AHCI 1.3.1, 10.1.2, 10.3 and 10.4.2.) Each call is of one port, and leaves the others to the
+//! device (law `other_ports_are_left` of `agreement`). `Stopped`, `Receiving` and `Running` are
+//! tokens of a port's state. Each call tells what its very accesses showed: so a wait that is given
+//! up had 64 readings. `start` doesn't fail. It knows no client and no command.
 #![tactic(auto)]
 
 ghost use Rattle.std.specs.Prelude.{ℕ, ◌≡◌, ◌≢◌, ◌<◌, ◌≤◌, ◌%◌, ◌||◌, true, false, length, IfOk, IfErr, OnOk, OnErr, IsOk};
@@ -87,7 +91,8 @@ pub enum PortFault {
     NotAta(u32),
 }
 
-/// Whether the device is busy or asks for a transfer, BSY or DRQ, so that ST may not be set (AHCI 1.3.1, 3.3.8 and 10.3.1).
+/// Whether the device is busy or asks for a transfer, BSY or DRQ, so that ST may not be set (AHCI 1.3.1, 3.3.8 and
+/// 10.3.1).
 pub fn is_occupied(task_file: TaskFile) -> bool
     ensures { result ≡ (bit task_file.0 7 || bit task_file.0 3) }
 {
@@ -181,8 +186,8 @@ fn start_receiving<A: Adapter>(adapter: &mut A, port: Port)
 }
 
 /// Has a stopped port receive FISes: clears FRE, waits until FR is 0, puts the command list at `PORT_BYTES` times the
-/// port's number and the received FIS area `RECEIVED` bytes after it, and sets FRE (AHCI 1.3.1, 10.1.2 and 10.3.2). The other bits
-/// of PxCMD are written as they were read.
+/// port's number and the received FIS area `RECEIVED` bytes after it, and sets FRE (AHCI 1.3.1, 10.1.2 and 10.3.2). The
+/// other bits of PxCMD are written as they were read.
 ///
 /// `EngineStuck` where 64 readings find FR set: FRE is 0 then, and the addresses are as they were.
 pub fn receive<A: Adapter>(
@@ -269,8 +274,9 @@ fn clear_errors<A: Adapter>(adapter: &mut A, port: Port)
     adapter.write(Reg::Px(port, PortReg::Is), ALL_ONES);
 }
 
-/// Has a stopped port that receives FISes forget what it told of errors: clears each bit of PxSERR, and then of PxIS; and
-/// reads what its device shows then, PxTFD (AHCI 1.3.1, 6.2.2). No COMRESET may be under way, so that no link is due.
+/// Has a stopped port that receives FISes forget what it told of errors: clears each bit of PxSERR, and then of PxIS;
+/// and reads what its device shows then, PxTFD (AHCI 1.3.1, 6.2.2). No COMRESET may be under way, so that no link is
+/// due.
 pub fn forget_errors<A: Adapter>(adapter: &mut A, port: Port) -> TaskFile
     requires on { IsOn (A.device adapter.old) }
     requires there { HasPort (A.device adapter.old) port.0 }
@@ -287,8 +293,8 @@ pub fn forget_errors<A: Adapter>(adapter: &mut A, port: Port) -> TaskFile
     TaskFile(adapter.read(Reg::Px(port, PortReg::Tfd)))
 }
 
-/// Whether a device with a link shows in a port, as where a device went or came: clears each bit of PxSERR, and reads PxSSTS (AHCI 1.3.1, 3.3.10 and 3.3.12).
-/// A stopped port stays stopped.
+/// Whether a device with a link shows in a port, as where a device went or came: clears each bit of PxSERR, and reads
+/// PxSSTS (AHCI 1.3.1, 3.3.10 and 3.3.12). A stopped port stays stopped.
 pub fn shows_device<A: Adapter>(adapter: &mut A, port: Port) -> bool
     requires on { IsOn (A.device adapter.old) }
     requires there { HasPort (A.device adapter.old) port.0 }
@@ -299,7 +305,8 @@ pub fn shows_device<A: Adapter>(adapter: &mut A, port: Port) -> bool
     ensures clear { ((A.device adapter.old).port port.0).link_due ≡ false → HasClearErrors port.0
         (A.device adapter.old) (A.device adapter.new) }
     ensures there { result ≡ true → ((A.device adapter.new).port port.0).ssts_det ≡ 3 }
-    ensures none { result ≡ false → ((A.device adapter.old).port port.0).notes.link_count ≡ 64 → Shows PortFault.NoDevice
+    ensures none { result ≡ false → ((A.device adapter.old).port port.0).notes.link_count ≡ 64
+        → Shows PortFault.NoDevice
         ((A.device adapter.new).port port.0).notes }
 {
     laws_hold();

@@ -1,4 +1,5 @@
--- A look at a port that isn't ready: what it reads, and what that tells; nothing is cleared (AHCI 1.3.1, 3.3.5, 3.3.10 and 3.3.12).
+-- A look at a port that isn't ready: what it reads, and what that tells; nothing is cleared (AHCI 1.3.1, 3.3.5, 3.3.10
+-- and 3.3.12).
 use Rattle.std.specs.Prelude.{ℕ, Bool, not, ◌≡◌, ◌||◌, ◌==◌, ◌%◌}
 use Rattle.ata_types.specs.declared.Port.{Port}
 use Rattle.hba_regs.specs.Bits.{bit}
@@ -13,7 +14,8 @@ pub record FindsDevice (port : Port) (result : Bool) (old new : Device) : Type 0
   pub reads : Reads (Px port Ssts) status old new
   pub tells : result ≡ (status % 16 == 3)
 
--- PxIS was read, and then PxSSTS. The device went, or its link came up, since PxSERR was cleared, if PRCS or PCS is set; and it isn't there if DET isn't 3.
+-- PxIS was read, and then PxSSTS. The device went, or its link came up, since PxSERR was cleared, if PRCS or PCS is
+-- set; and it isn't there if DET isn't 3.
 pub record FindsChange (port : Port) (result : Bool) (old new : Device) : Type 0 where
   pub causes : ℕ
   pub seen : Device

@@ -43,83 +43,139 @@ pub record Laws : Type 0 where
   -- one access
   pub steps_none : (d : Device) → Steps d d
   pub steps_keep : (old new : Device) → Steps old new → Keeps old new
-  pub put : (port : Port) (r : PortReg) (v : ℕ) (old new : Device) → Writes (Px port r) v old new → old.hr ≡ false → PutAt port.0 r v old new
+  pub put : (port : Port) (r : PortReg) (v : ℕ) (old new : Device) → Writes (Px port r) v old new → old.hr ≡ false
+      → PutAt port.0 r v old new
   pub store_leaves : (at : ℕ) (bytes : List ℕ) (old new : Device) → Stores at bytes old new
-      → (mid : Device) × Steps old mid × ((port : ℕ) → new.port port ≡ mid.port port) × (new.tape ≡ mid.tape) × (new.hr ≡ mid.hr)
-  pub access_on : (access : Access) (old new : Device) → IsOn old → ((v : ℕ) → access ≡ Writing Ghc v → (bit v 31 ≡ true) × (bit v 0 ≡ false)) → Does access old new → IsOn new
+      → (mid : Device) × Steps old mid × ((port : ℕ) → new.port port ≡ mid.port port) × (new.tape ≡ mid.tape)
+      × (new.hr ≡ mid.hr)
+  pub access_on : (access : Access) (old new : Device) → IsOn old
+      → ((v : ℕ) → access ≡ Writing Ghc v → (bit v 31 ≡ true) × (bit v 0 ≡ false)) → Does access old new → IsOn new
   pub access_same : (access : Access) (old new : Device) → Does access old new → SameAdapter old new
-  pub access_controls : (port : Port) (access : Access) (old new : Device) → old.hr ≡ false → Does access old new → LeavesControls access port (old.port port.0) (new.port port.0)
-  pub shown_after : (port : Port) (r : PortReg) (v : ℕ) (old new : Device) → old.hr ≡ false → Reads (Px port r) v old new → PortShows r v (new.port port.0)
+  pub access_controls : (port : Port) (access : Access) (old new : Device) → old.hr ≡ false → Does access old new
+      → LeavesControls access port (old.port port.0) (new.port port.0)
+  pub shown_after : (port : Port) (r : PortReg) (v : ℕ) (old new : Device) → old.hr ≡ false
+      → Reads (Px port r) v old new → PortShows r v (new.port port.0)
   -- what may be written
-  pub write_stays : (r : Reg) (v : ℕ) (d : Device) → ((port : Port) → r ≢ Px port Ci) → MayWrite r v d → Stays (MayWrite r v) d
-  pub acknowledging_may : (port : Port) (v : ℕ) (old new : Device) → IsOn old → Writes (Px port Is) v old new → (ports : ℕ)
-      → ((q : ℕ) → q < 32 → bit ports q ≡ true → (q ≡ port.0) ⊎ ((old.port q).notes.acknowledged ≡ true)) → Stays (MayWrite registers.Is ports) new
+  pub write_stays : (r : Reg) (v : ℕ) (d : Device) → ((port : Port) → r ≢ Px port Ci) → MayWrite r v d
+      → Stays (MayWrite r v) d
+  pub acknowledging_may : (port : Port) (v : ℕ) (old new : Device) → IsOn old → Writes (Px port Is) v old new
+      → (ports : ℕ) → ((q : ℕ) → q < 32 → bit ports q ≡ true → (q ≡ port.0) ⊎ ((old.port q).notes.acknowledged ≡ true))
+      → Stays (MayWrite registers.Is ports) new
   -- bits of PxSACT that are clear
-  pub steps_clear : (port slot : ℕ) (old new : Device) → Steps old new → (old.port port).sact slot ≡ false → (new.port port).sact slot ≡ false
-  pub reads_clear : (port slot : ℕ) (r : Reg) (v : ℕ) (old new : Device) → Reads r v old new → (old.port port).sact slot ≡ false → (new.port port).sact slot ≡ false
-  pub writes_clear : (port : Port) (slot : ℕ) (r : Reg) (v : ℕ) (old new : Device) → (r ≡ Px port Sact → bit v slot ≡ false) → Writes r v old new → (old.port port.0).sact slot ≡ false → (new.port port.0).sact slot ≡ false
+  pub steps_clear : (port slot : ℕ) (old new : Device) → Steps old new → (old.port port).sact slot ≡ false
+      → (new.port port).sact slot ≡ false
+  pub reads_clear : (port slot : ℕ) (r : Reg) (v : ℕ) (old new : Device) → Reads r v old new
+      → (old.port port).sact slot ≡ false → (new.port port).sact slot ≡ false
+  pub writes_clear : (port : Port) (slot : ℕ) (r : Reg) (v : ℕ) (old new : Device)
+      → (r ≡ Px port Sact → bit v slot ≡ false) → Writes r v old new → (old.port port.0).sact slot ≡ false
+      → (new.port port.0).sact slot ≡ false
   -- a port that runs well
-  pub access_started : (port : Port) (access : Access) (old new : Device) → old.hr ≡ false → ClearsNoStart port access → SparesRegister (Px port Sctl) access → Undisturbed port.0 old new → Does access old new
+  pub access_started : (port : Port) (access : Access) (old new : Device) → old.hr ≡ false → ClearsNoStart port access
+      → SparesRegister (Px port Sctl) access → Undisturbed port.0 old new → Does access old new
       → IsStarted (old.port port.0) → IsStarted (new.port port.0)
   pub well_of : (p : PortState) → IsStarted p → ShowsNoTrouble p → RunsWell p
   pub started_well : (p : PortState) → RunsWell p → IsStarted p
-  pub access_clear : (port : Port) (access : Access) (old new : Device) → old.hr ≡ false → (old.port port.0).link_due ≡ false → Undisturbed port.0 old new → Does access old new → StaysClear (old.port port.0) (new.port port.0)
+  pub access_clear : (port : Port) (access : Access) (old new : Device) → old.hr ≡ false
+      → (old.port port.0).link_due ≡ false → Undisturbed port.0 old new → Does access old new
+      → StaysClear (old.port port.0) (new.port port.0)
   pub shows_still : (p new : PortState) → StaysClear p new → ShowsNoTrouble p → ShowsNoTrouble new
-  pub healthy_reads : (port : ℕ) (r : Reg) (v : ℕ) (old new : Device) → old.hr ≡ false → Reads r v old new → Undisturbed port old new → RunsWell (old.port port) → RunsWell (new.port port)
+  pub healthy_reads : (port : ℕ) (r : Reg) (v : ℕ) (old new : Device) → old.hr ≡ false → Reads r v old new
+      → Undisturbed port old new → RunsWell (old.port port) → RunsWell (new.port port)
   -- trouble
-  pub reads_show : (port : ℕ) (r : Reg) (v : ℕ) (old new : Device) → old.hr ≡ false → Reads r v old new → ShowsNoTrouble (new.port port) → ShowsNoTrouble (old.port port) × Undisturbed port old new
-  pub told_calm : (port : Port) (v : ℕ) (old new : Device) → old.hr ≡ false → Reads (Px port Is) v old new → TellsNoTrouble v → ShowsNoTrouble (new.port port.0)
-  pub calm_told : (port : Port) (v : ℕ) (old new : Device) → old.hr ≡ false → Reads (Px port Is) v old new → ShowsNoTrouble (new.port port.0) → TellsNoTrouble v
+  pub reads_show : (port : ℕ) (r : Reg) (v : ℕ) (old new : Device) → old.hr ≡ false → Reads r v old new
+      → ShowsNoTrouble (new.port port) → ShowsNoTrouble (old.port port) × Undisturbed port old new
+  pub told_calm : (port : Port) (v : ℕ) (old new : Device) → old.hr ≡ false → Reads (Px port Is) v old new
+      → TellsNoTrouble v → ShowsNoTrouble (new.port port.0)
+  pub calm_told : (port : Port) (v : ℕ) (old new : Device) → old.hr ≡ false → Reads (Px port Is) v old new
+      → ShowsNoTrouble (new.port port.0) → TellsNoTrouble v
   pub changes_told : (port : Port) (v : ℕ) (old new : Device) → old.hr ≡ false → Reads (Px port Is) v old new
       → ((old.port port.0).serr_n ≡ true → bit v 22 ≡ true) × ((old.port port.0).serr_x ≡ true → bit v 6 ≡ true)
-  pub access_causes : (port : Port) (access : Access) (old new : Device) → old.hr ≡ false → SparesRegister (Px port Is) access → Does access old new → (place : ℕ) → (old.port port.0).is place ≡ true → (new.port port.0).is place ≡ true
-  pub access_news : (port : Port) (access : Access) (old new : Device) → old.hr ≡ false → SparesRegister (Px port Serr) access → Does access old new
-      → ((old.port port.0).serr_n ≡ true → (new.port port.0).serr_n ≡ true) × ((old.port port.0).serr_x ≡ true → (new.port port.0).serr_x ≡ true)
-  pub access_change : (port : Port) (access : Access) (old new : Device) → old.hr ≡ false → (old.port port.0).link_due ≡ false → Does access old new → ChangesByDisks port.0 old new
-  pub access_undue : (port : Port) (access : Access) (old new : Device) → old.hr ≡ false → (old.port port.0).link_due ≡ false → SparesRegister (Px port Sctl) access → Does access old new → (new.port port.0).link_due ≡ false
-  pub access_recorded : (port : Port) (access : Access) (old new : Device) → SparesRegister (Px port Cmd) access → SparesRegister (Px port Sctl) access → Does access old new
-      → IsRecorded old.tape (old.port port.0) port.0 → IsRecorded new.tape (new.port port.0) port.0
-  pub access_errors : (port : Port) (access : Access) (old new : Device) → Does access old new → ChangesByErrors port.0 old new
-  pub access_link : (port : Port) (access : Access) (old new : Device) → old.hr ≡ false → SparesRegister (Px port Sctl) access → Does access old new → PlugsNone port.0 old new
+  pub access_causes : (port : Port) (access : Access) (old new : Device) → old.hr ≡ false
+      → SparesRegister (Px port Is) access → Does access old new → (place : ℕ) → (old.port port.0).is place ≡ true
+      → (new.port port.0).is place ≡ true
+  pub access_news : (port : Port) (access : Access) (old new : Device) → old.hr ≡ false
+      → SparesRegister (Px port Serr) access → Does access old new
+      → ((old.port port.0).serr_n ≡ true → (new.port port.0).serr_n ≡ true)
+      × ((old.port port.0).serr_x ≡ true → (new.port port.0).serr_x ≡ true)
+  pub access_change : (port : Port) (access : Access) (old new : Device) → old.hr ≡ false
+      → (old.port port.0).link_due ≡ false → Does access old new → ChangesByDisks port.0 old new
+  pub access_undue : (port : Port) (access : Access) (old new : Device) → old.hr ≡ false
+      → (old.port port.0).link_due ≡ false → SparesRegister (Px port Sctl) access → Does access old new
+      → (new.port port.0).link_due ≡ false
+  pub access_recorded : (port : Port) (access : Access) (old new : Device) → SparesRegister (Px port Cmd) access
+      → SparesRegister (Px port Sctl) access → Does access old new → IsRecorded old.tape (old.port port.0) port.0
+      → IsRecorded new.tape (new.port port.0) port.0
+  pub access_errors : (port : Port) (access : Access) (old new : Device) → Does access old new
+      → ChangesByErrors port.0 old new
+  pub access_link : (port : Port) (access : Access) (old new : Device) → old.hr ≡ false
+      → SparesRegister (Px port Sctl) access → Does access old new → PlugsNone port.0 old new
       → LeavesLink (old.port port.0) (new.port port.0)
-  pub changes_lost : (port : Port) (v : ℕ) (old new : Device) → old.hr ≡ false → (old.port port.0).link_due ≡ false → Reads (Px port Is) v old new → (bit v 22 ≡ true) ⊎ (bit v 6 ≡ true)
-      → ((old.port port.0).serr_n ≡ true) ⊎ (((old.port port.0).serr_x ≡ true) ⊎ (PlugsNone port.0 old new → ⊥))
-  pub link_lost : (port : Port) (v : ℕ) (old new : Device) → old.hr ≡ false → (old.port port.0).link_due ≡ false → Reads (Px port Ssts) v old new → v % 16 ≢ 3
-      → ((old.port port.0).ssts_det ≢ 3) ⊎ (PlugsNone port.0 old new → ⊥)
+  pub changes_lost : (port : Port) (v : ℕ) (old new : Device) → old.hr ≡ false → (old.port port.0).link_due ≡ false
+      → Reads (Px port Is) v old new → (bit v 22 ≡ true) ⊎ (bit v 6 ≡ true) → ((old.port port.0).serr_n ≡ true)
+      ⊎ (((old.port port.0).serr_x ≡ true) ⊎ (PlugsNone port.0 old new → ⊥))
+  pub link_lost : (port : Port) (v : ℕ) (old new : Device) → old.hr ≡ false → (old.port port.0).link_due ≡ false
+      → Reads (Px port Ssts) v old new → v % 16 ≢ 3 → ((old.port port.0).ssts_det ≢ 3) ⊎ (PlugsNone port.0 old new → ⊥)
   -- a fault
-  pub steps_unfailed : (port : ℕ) (old new : Device) → old.hr ≡ false → Steps old new → (new.port port).is 30 ≡ false → ((old.port port).is 30 ≡ false) × NoneFails port old new
-  pub access_unfailed : (port : Port) (access : Access) (old new : Device) → old.hr ≡ false → SparesRegister (Px port Is) access → Does access old new → (new.port port.0).is 30 ≡ false
+  pub steps_unfailed : (port : ℕ) (old new : Device) → old.hr ≡ false → Steps old new → (new.port port).is 30 ≡ false
+      → ((old.port port).is 30 ≡ false) × NoneFails port old new
+  pub access_unfailed : (port : Port) (access : Access) (old new : Device) → old.hr ≡ false
+      → SparesRegister (Px port Is) access → Does access old new → (new.port port.0).is 30 ≡ false
       → ((old.port port.0).is 30 ≡ false) × NoneFails port.0 old new
   -- a fatal error, and a disk
   pub steps_unbroken : (port : ℕ) (old new : Device) → old.hr ≡ false → Steps old new → ShowsFatals port old new
-  pub access_unbroken : (port : Port) (access : Access) (old new : Device) → old.hr ≡ false → SparesRegister (Px port Is) access → Does access old new → ShowsFatals port.0 old new
-  pub access_undisturbed : (port : Port) (access : Access) (old new : Device) → old.hr ≡ false → SparesRegister (Px port Serr) access → Does access old new → ShowsDisks port.0 old new
+  pub access_unbroken : (port : Port) (access : Access) (old new : Device) → old.hr ≡ false
+      → SparesRegister (Px port Is) access → Does access old new → ShowsFatals port.0 old new
+  pub access_undisturbed : (port : Port) (access : Access) (old new : Device) → old.hr ≡ false
+      → SparesRegister (Px port Serr) access → Does access old new → ShowsDisks port.0 old new
   pub fatal_none : (port : ℕ) (d : Device) → NoneFatal port d d
-  pub fatal_more : (port : ℕ) (old mid new : Device) → NoneFatal port old mid → NoneFatal port mid new → NoneFatal port old new
+  pub fatal_more : (port : ℕ) (old mid new : Device) → NoneFatal port old mid → NoneFatal port mid new
+      → NoneFatal port old new
   pub plugs_none : (port : ℕ) (d : Device) → PlugsNone port d d
-  pub plugs_more : (port : ℕ) (old mid new : Device) → PlugsNone port old mid → PlugsNone port mid new → PlugsNone port old new
-  pub fault_told : (port : Port) (v : ℕ) (old new : Device) → old.hr ≡ false → (old.port port.0).st ≡ true → IsRecorded old.tape (old.port port.0) port.0 → Reads (Px port Is) v old new → bit v 30 ≡ true → IsFaulted (new.port port.0).halt
-  pub fault_reads : (port : ℕ) (r : Reg) (v : ℕ) (old new : Device) → old.hr ≡ false → (old.port port).st ≡ true → IsRecorded old.tape (old.port port) port → IsFaulted (old.port port).halt → Reads r v old new → IsFaulted (new.port port).halt
-  pub fault_writes : (port : ℕ) (r : Reg) (v : ℕ) (old new : Device) → old.hr ≡ false → (old.port port).st ≡ true → IsRecorded old.tape (old.port port) port → IsFaulted (old.port port).halt → Writes r v old new → IsFaulted (new.port port).halt
-  pub link_seen : (port : Port) (v : ℕ) (old new : Device) → Reads (Px port Ssts) v old new → (new.port port.0).notes.last_ssts ≡ v
-  pub access_notes : (port : Port) (access : Access) (old new : Device) → Does access old new → LeavesNotes access port (old.port port.0).notes (new.port port.0).notes
+  pub plugs_more : (port : ℕ) (old mid new : Device) → PlugsNone port old mid → PlugsNone port mid new
+      → PlugsNone port old new
+  pub fault_told : (port : Port) (v : ℕ) (old new : Device) → old.hr ≡ false → (old.port port.0).st ≡ true
+      → IsRecorded old.tape (old.port port.0) port.0 → Reads (Px port Is) v old new → bit v 30 ≡ true
+      → IsFaulted (new.port port.0).halt
+  pub fault_reads : (port : ℕ) (r : Reg) (v : ℕ) (old new : Device) → old.hr ≡ false → (old.port port).st ≡ true
+      → IsRecorded old.tape (old.port port) port → IsFaulted (old.port port).halt → Reads r v old new
+      → IsFaulted (new.port port).halt
+  pub fault_writes : (port : ℕ) (r : Reg) (v : ℕ) (old new : Device) → old.hr ≡ false → (old.port port).st ≡ true
+      → IsRecorded old.tape (old.port port) port → IsFaulted (old.port port).halt → Writes r v old new
+      → IsFaulted (new.port port).halt
+  pub link_seen : (port : Port) (v : ℕ) (old new : Device) → Reads (Px port Ssts) v old new
+      → (new.port port.0).notes.last_ssts ≡ v
+  pub access_notes : (port : Port) (access : Access) (old new : Device) → Does access old new
+      → LeavesNotes access port (old.port port.0).notes (new.port port.0).notes
   -- what the tape tells
   pub grows_none : (d : Device) → Grows d d
   pub grows_more : (old mid new : Device) → Grows old mid → Grows mid new → Grows old new
   pub access_grows : (access : Access) (old new : Device) → Does access old new → Grows old new
-  pub calm_parts : (port : ℕ) (old mid new : Device) (early late : List Entry) → mid.tape ≡ old.tape ++ early → new.tape ≡ mid.tape ++ late → Undisturbed port old new → Undisturbed port old mid × Undisturbed port mid new
-  pub comes_parts : (port : ℕ) (old mid new : Device) (early late : List Entry) → mid.tape ≡ old.tape ++ early → new.tape ≡ mid.tape ++ late → NoneComes port old new → NoneComes port old mid × NoneComes port mid new
-  pub plugs_parts : (port : ℕ) (old mid new : Device) (early late : List Entry) → mid.tape ≡ old.tape ++ early → new.tape ≡ mid.tape ++ late → PlugsNone port old new → PlugsNone port old mid × PlugsNone port mid new
-  pub fatal_parts : (port : ℕ) (old mid new : Device) (early late : List Entry) → mid.tape ≡ old.tape ++ early → new.tape ≡ mid.tape ++ late → NoneFatal port old new → NoneFatal port old mid × NoneFatal port mid new
+  pub calm_parts : (port : ℕ) (old mid new : Device) (early late : List Entry) → mid.tape ≡ old.tape ++ early
+      → new.tape ≡ mid.tape ++ late → Undisturbed port old new → Undisturbed port old mid × Undisturbed port mid new
+  pub comes_parts : (port : ℕ) (old mid new : Device) (early late : List Entry) → mid.tape ≡ old.tape ++ early
+      → new.tape ≡ mid.tape ++ late → NoneComes port old new → NoneComes port old mid × NoneComes port mid new
+  pub plugs_parts : (port : ℕ) (old mid new : Device) (early late : List Entry) → mid.tape ≡ old.tape ++ early
+      → new.tape ≡ mid.tape ++ late → PlugsNone port old new → PlugsNone port old mid × PlugsNone port mid new
+  pub fatal_parts : (port : ℕ) (old mid new : Device) (early late : List Entry) → mid.tape ≡ old.tape ++ early
+      → new.tape ≡ mid.tape ++ late → NoneFatal port old new → NoneFatal port old mid × NoneFatal port mid new
   pub fails_none : (port : ℕ) (d : Device) → NoneFails port d d
-  pub fails_more : (port : ℕ) (old mid new : Device) → NoneFails port old mid → NoneFails port mid new → NoneFails port old new
+  pub fails_more : (port : ℕ) (old mid new : Device) → NoneFails port old mid → NoneFails port mid new
+      → NoneFails port old new
   -- stretches
-  pub other_left : (port : Port) (q : ℕ) (old new : Device) → q ≢ port.0 → IsOn old → IsDrivenBy (IsOf port) old new → LeavesPort (old.port q) (new.port q)
+  pub other_left : (port : Port) (q : ℕ) (old new : Device) → q ≢ port.0 → IsOn old → IsDrivenBy (IsOf port) old new
+      → LeavesPort (old.port q) (new.port q)
   pub same_over : (old new : Device) → IsDrivenBy AnyAccess old new → SameAdapter old new
-  pub reads : (kind : Stretch) (r : Reg) (v : ℕ) (old new : Device) → may_of kind (Reading r v) → Reads r v old new → IsTold (λ made. made ≡ Reading r v ∷ []) (may_of kind) (fits_of kind) old new
-  pub writes : (kind : Stretch) (r : Reg) (v : ℕ) (old new : Device) → may_of kind (Writing r v) → Stays (MayWrite r v) old → ((uses : Uses) → fits_of kind uses → LeavesUses uses r v old) → Writes r v old new
+  pub reads : (kind : Stretch) (r : Reg) (v : ℕ) (old new : Device) → may_of kind (Reading r v) → Reads r v old new
+      → IsTold (λ made. made ≡ Reading r v ∷ []) (may_of kind) (fits_of kind) old new
+  pub writes : (kind : Stretch) (r : Reg) (v : ℕ) (old new : Device) → may_of kind (Writing r v)
+      → Stays (MayWrite r v) old → ((uses : Uses) → fits_of kind uses → LeavesUses uses r v old) → Writes r v old new
       → IsTold (λ made. made ≡ Writing r v ∷ []) (may_of kind) (fits_of kind) old new
-  pub both : (kind then : Stretch) (first second : Uses → Uses) → ((access : Access) → may_of then access → may_of kind access) → ((uses : Uses) → fits_of kind uses → fits_of then (first uses)) → (old mid new : Device)
-      → (a : IsFollowedTo (may_of kind) (fits_of kind) first old mid) → (b : IsFollowedTo (may_of then) (fits_of then) second mid new)
-      → IsToldTo (λ made. made ≡ a.driven.accesses ++ b.driven.accesses) (may_of kind) (fits_of kind) (λ uses. second (first uses)) old new
-  pub agreed : (kind : Stretch) (next : Uses → Uses) (uses : Uses) (old new : Device) → fits_of kind uses → IsFollowedTo (may_of kind) (fits_of kind) next old new → IsAgreed uses old → IsAgreed (next uses) new
+  pub both : (kind then : Stretch) (first second : Uses → Uses)
+      → ((access : Access) → may_of then access → may_of kind access)
+      → ((uses : Uses) → fits_of kind uses → fits_of then (first uses)) → (old mid new : Device)
+      → (a : IsFollowedTo (may_of kind) (fits_of kind) first old mid)
+      → (b : IsFollowedTo (may_of then) (fits_of then) second mid new)
+      → IsToldTo (λ made. made ≡ a.driven.accesses ++ b.driven.accesses) (may_of kind) (fits_of kind)
+      (λ uses. second (first uses)) old new
+  pub agreed : (kind : Stretch) (next : Uses → Uses) (uses : Uses) (old new : Device) → fits_of kind uses
+      → IsFollowedTo (may_of kind) (fits_of kind) next old new → IsAgreed uses old → IsAgreed (next uses) new

@@ -1,4 +1,5 @@
--- A look at a port: what it reads and acknowledges, and what that tells (AHCI 1.3.1, 3.1.3, 3.3.5, 3.3.10, 5.5.3 and 6.2).
+-- A look at a port: what it reads and acknowledges, and what that tells (AHCI 1.3.1, 3.1.3, 3.3.5, 3.3.10, 5.5.3 and
+-- 6.2).
 use Rattle.std.specs.Prelude.{ℕ, ◌≡◌, ◌⊎◌, ◌%◌, ◌||◌, ◌==◌, not, if◌then◌else◌}
 use Rattle.ata_types.specs.declared.Port.{Port}
 use Rattle.hba_regs.specs.Bits.{bit}
@@ -12,8 +13,8 @@ use Rattle.agreement.specs.Driven.{IsBitOf}
 use Rattle.port_look.specs.declared.Look.{Look}
 use Rattle.port_look.specs.declared.Look.TheVariants.{Lost, Broken, Failed, Undisturbed}
 
--- What PxIS and PxSSTS tell, first things first: the device went or came, or isn't there (PCS, PRCS, or DET other than 3); an error that
--- the driver ends with a boot (HBDS, HBFS or IFS); a command that failed (TFES); or none of these.
+-- What PxIS and PxSSTS tell, first things first: the device went or came, or isn't there (PCS, PRCS, or DET other than
+-- 3); an error that the driver ends with a boot (HBDS, HBFS or IFS); a command that failed (TFES); or none of these.
 abbrev pub look_of : ℕ → ℕ → Look
 look_of causes status =
     if bit causes 6 || bit causes 22 || not (status % 16 == 3) then Lost
@@ -26,8 +27,8 @@ IsLooking port (Reading r v) = (r ≡ Px port Is) ⊎ (r ≡ Px port Ssts)
 IsLooking port (Writing r v) = (r ≡ Px port Is) ⊎ ((r ≡ reg.Is) × IsBitOf port.0 v)
 IsLooking port access = ⊥
 
--- PxIS is read and written with what was read; then the port's bit of IS, alone, is written; then PxSSTS is read. The answer is what the
--- two readings tell.
+-- PxIS is read and written with what was read; then the port's bit of IS, alone, is written; then PxSSTS is read. The
+-- answer is what the two readings tell.
 pub record LooksAt (port : Port) (result : Look) (old new : Device) : Type 0 where
   pub causes : ℕ
   pub seen : Device

@@ -23,8 +23,8 @@ IsOrdinary port access = IsService access × SparesRegister (Px port Is) access
 abbrev pub KeepsChanges : PortState → PortState → Type 0
 KeepsChanges old new = (old.serr_n ≡ true → new.serr_n ≡ true) × (old.serr_x ≡ true → new.serr_x ≡ true)
 
--- What isn't shown after a stretch wasn't shown before it, and hasn't come in it: a fault by TFES; a fatal error by IFS, HBDS and HBFS; a disk that went
--- or came by N of PxSERR (AHCI 1.3.1, 3.3.5 and 3.3.12).
+-- What isn't shown after a stretch wasn't shown before it, and hasn't come in it: a fault by TFES; a fatal error by
+-- IFS, HBDS and HBFS; a disk that went or came by N of PxSERR (AHCI 1.3.1, 3.3.5 and 3.3.12).
 abbrev pub ShowsFaults : ℕ → Device → Device → Type 0
 ShowsFaults port old new = (new.port port).is 30 ≡ false → ((old.port port).is 30 ≡ false) × NoneFails port old new
 
@@ -41,4 +41,5 @@ ShowsDisks port old new = (new.port port).serr_n ≡ false → ((old.port port).
 -- The port told of a change of its link before the stretch, or showed no device; or a disk went or came in the stretch.
 abbrev pub HasLoss : ℕ → Device → Device → Type 0
 HasLoss port old new =
-    (((old.port port).serr_n ≡ true) ⊎ ((old.port port).serr_x ≡ true)) ⊎ (((old.port port).ssts_det ≢ 3) ⊎ (PlugsNone port old new → ⊥))
+    (((old.port port).serr_n ≡ true) ⊎ ((old.port port).serr_x ≡ true))
+    ⊎ (((old.port port).ssts_det ≢ 3) ⊎ (PlugsNone port old new → ⊥))

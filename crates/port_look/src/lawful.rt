@@ -1,4 +1,5 @@
-// What laws of the crates below say of this crate's accesses, for its proofs and those above. Nothing comes of calling it.
+// What laws of the crates below say of this crate's accesses, for its proofs and those above. Nothing comes of calling
+// it.
 ghost use Rattle.port_look.specs.Laws.{Laws, Stretch, fits_of, may_of};
 
 use adapter::laws::{port_registers_are_accessed, steps_compose, steps_keep};

@@ -23,19 +23,22 @@ use super::lawful::laws_hold;
 /// The accesses of a look serve ports, and are ordinary for each other port.
 pub fn looks_are_services()
     ensures looking { (port : Port) (access : Access) → IsLooking port access → IsService access }
-    ensures beside { (port other : Port) (access : Access) → port.0 ≢ other.0 → IsLooking port access → IsOrdinary other access }
+    ensures beside { (port other : Port) (access : Access) → port.0 ≢ other.0 → IsLooking port access
+        → IsOrdinary other access }
     ensures look { (port : Port) (result : Look) (old new : Device) → LooksAt port result old new
         → IsDrivenBy (IsLooking port) old new }
 {}
 
-/// A look touches no register of another port, nor another port's bit of IS: so what is said of such accesses (`IsOf`) is so of each.
+/// A look touches no register of another port, nor another port's bit of IS: so what is said of such accesses (`IsOf`)
+/// is so of each.
 pub fn looks_are_of_one_port()
     ensures { (port : Port) (access : Access) → IsLooking port access → IsOf port access }
 {}
 
-/// What serving ports leaves: the adapter, which stays on; ST and the command list of each port; DET of each port's PxSCTL, its PxIE,
-/// and when PxSCTL was written and ST set; each port that runs well, where nothing goes wrong on it; the record of each port's faults; and bits
-/// of PxSACT that are clear. So a machine that agrees goes on, too, where the stretch is followed.
+/// What serving ports leaves: the adapter, which stays on; ST and the command list of each port; DET of each port's
+/// PxSCTL, its PxIE, and when PxSCTL was written and ST set; each port that runs well, where nothing goes wrong on it;
+/// the record of each port's faults; and bits of PxSACT that are clear. So a machine that agrees goes on, too, where
+/// the stretch is followed.
 pub fn services_leave()
     ensures on { (old new : Device) → IsOn old → IsDrivenBy IsService old new → IsOn new }
     ensures adapter { (old new : Device) → IsDrivenBy IsService old new → SameAdapter old new }
@@ -45,10 +48,10 @@ pub fn services_leave()
         → ((new.port port).sctl_det ≡ (old.port port).sctl_det) × ((new.port port).ie ≡ (old.port port).ie)
         × ((new.port port).notes.sctl_written_at ≡ (old.port port).notes.sctl_written_at)
         × ((new.port port).notes.st_set_at ≡ (old.port port).notes.st_set_at) }
-    ensures well { (port : Port) (old new : Device) → IsOn old → IsDrivenBy IsService old new → Undisturbed port.0 old new
-        → RunsWell (old.port port.0) → RunsWell (new.port port.0) }
-    ensures recorded { (port : ℕ) (old new : Device) → IsDrivenBy IsService old new → IsRecorded old.tape (old.port port) port
-        → IsRecorded new.tape (new.port port) port }
+    ensures well { (port : Port) (old new : Device) → IsOn old → IsDrivenBy IsService old new
+        → Undisturbed port.0 old new → RunsWell (old.port port.0) → RunsWell (new.port port.0) }
+    ensures recorded { (port : ℕ) (old new : Device) → IsDrivenBy IsService old new
+        → IsRecorded old.tape (old.port port) port → IsRecorded new.tape (new.port port) port }
     ensures inactive { (port : Port) (q slot : ℕ) (old new : Device) → IsDrivenBy (IsLooking port) old new
         → (old.port q).sact slot ≡ false → (new.port q).sact slot ≡ false }
     ensures agrees { (uses : Uses) (old new : Device) → IsFollowed IsService (IsUse uses) old new → IsAgreed uses old
@@ -69,62 +72,75 @@ pub fn answers_tell()
         × ((place : ℕ) → 27 ≤ place → place ≤ 29 → bit causes place ≡ false) × (status % 16 ≡ 3) }
     ensures undisturbed { (causes status : ℕ) → look_of causes status ≡ look.Undisturbed
         → TellsNoTrouble causes × (status % 16 ≡ 3) }
-    ensures calm { (causes status : ℕ) → TellsNoTrouble causes → status % 16 ≡ 3 → look_of causes status ≡ look.Undisturbed }
+    ensures calm { (causes status : ℕ) → TellsNoTrouble causes → status % 16 ≡ 3
+        → look_of causes status ≡ look.Undisturbed }
 {}
 
-/// A look sees what there is. A port is Undisturbed only where it told no trouble, and where nothing went wrong until PxIS was read. It is
-/// Lost where N or X of PxSERR was set; and where no device was seen, no link was due, and no disk came in the call. A port that runs well
-/// is Undisturbed, and runs well still, where nothing goes wrong in the call.
+/// A look sees what there is. A port is Undisturbed only where it told no trouble, and where nothing went wrong until
+/// PxIS was read. It is Lost where N or X of PxSERR was set; and where no device was seen, no link was due, and no disk
+/// came in the call. A port that runs well is Undisturbed, and runs well still, where nothing goes wrong in the call.
 pub fn trouble_is_seen()
     ensures calm { (port : Port) (result : Look) (old new : Device) → IsOn old → (l : LooksAt port result old new)
         → result ≡ look.Undisturbed → ShowsNoTrouble (old.port port.0) × Undisturbed port.0 old l.seen }
     ensures changed { (port : Port) (result : Look) (old new : Device) → IsOn old → LooksAt port result old new
         → ((old.port port.0).serr_n ≡ true) ⊎ ((old.port port.0).serr_x ≡ true) → result ≡ look.Lost }
     ensures unlinked { (port : Port) (result : Look) (old new : Device) → IsOn old → LooksAt port result old new
-        → (old.port port.0).ssts_det ≢ 3 → (old.port port.0).link_due ≡ false → NoneComes port.0 old new → result ≡ look.Lost }
+        → (old.port port.0).ssts_det ≢ 3 → (old.port port.0).link_due ≡ false → NoneComes port.0 old new
+        → result ≡ look.Lost }
     ensures well { (port : Port) (result : Look) (old new : Device) → IsOn old → LooksAt port result old new
-        → RunsWell (old.port port.0) → Undisturbed port.0 old new → (result ≡ look.Undisturbed) × RunsWell (new.port port.0) }
+        → RunsWell (old.port port.0) → Undisturbed port.0 old new → (result ≡ look.Undisturbed)
+        × RunsWell (new.port port.0) }
 {
     laws_hold();
 }
 
-/// What tells of trouble isn't hidden. Ordinary accesses leave each bit of the port's PxIS, and N and X of its PxSERR, set where they are
-/// set. So does a look with N and X; and with each bit of PxIS that it hasn't read, also one that is set between the reading and the write.
+/// What tells of trouble isn't hidden. Ordinary accesses leave each bit of the port's PxIS, and N and X of its PxSERR,
+/// set where they are set. So does a look with N and X; and with each bit of PxIS that it hasn't read, also one that is
+/// set between the reading and the write.
 pub fn trouble_stays_told()
     ensures errors { (port : Port) (old new : Device) → IsOn old → IsDrivenBy (IsOrdinary port) old new
         → KeepsErrors (old.port port.0) (new.port port.0) }
     ensures changes { (port : Port) (result : Look) (old new : Device) → IsOn old → LooksAt port result old new
         → KeepsChanges (old.port port.0) (new.port port.0) }
-    ensures causes { (port : Port) (result : Look) (old new : Device) → IsOn old → (l : LooksAt port result old new) → (place : ℕ)
-        → (l.clears.mid.port port.0).is place ≡ true → bit l.causes place ≡ false → (new.port port.0).is place ≡ true }
+    ensures causes { (port : Port) (result : Look) (old new : Device) → IsOn old → (l : LooksAt port result old new)
+        → (place : ℕ) → (l.clears.mid.port port.0).is place ≡ true → bit l.causes place ≡ false
+        → (new.port port.0).is place ≡ true }
 {
     laws_hold();
 }
 
-/// A look that tells of a command that failed finds a fault that has halted the port, and a device with a link. Other readings of the port leave both.
+/// A look that tells of a command that failed finds a fault that has halted the port, and a device with a link. Other
+/// readings of the port leave both.
 pub fn failures_are_found()
-    ensures look { (port : Port) (old new : Device) → IsOn old → LooksAt port look.Failed old new → (old.port port.0).st ≡ true
-        → IsRecorded old.tape (old.port port.0) port.0 → IsFaulted (new.port port.0).halt × ((new.port port.0).notes.last_ssts % 16 ≡ 3) }
-    ensures reads { (port : Port) (r : PortReg) (v : ℕ) (old new : Device) → IsOn old → Reads (Px port r) v old new → r ≢ Ssts
-        → (old.port port.0).st ≡ true → IsRecorded old.tape (old.port port.0) port.0 → IsFaulted (old.port port.0).halt
-        → IsFaulted (new.port port.0).halt × ((new.port port.0).notes.last_ssts ≡ (old.port port.0).notes.last_ssts) }
+    ensures look { (port : Port) (old new : Device) → IsOn old → LooksAt port look.Failed old new
+        → (old.port port.0).st ≡ true → IsRecorded old.tape (old.port port.0) port.0 → IsFaulted (new.port port.0).halt
+        × ((new.port port.0).notes.last_ssts % 16 ≡ 3) }
+    ensures reads { (port : Port) (r : PortReg) (v : ℕ) (old new : Device) → IsOn old → Reads (Px port r) v old new
+        → r ≢ Ssts → (old.port port.0).st ≡ true → IsRecorded old.tape (old.port port.0) port.0
+        → IsFaulted (old.port port.0).halt → IsFaulted (new.port port.0).halt
+        × ((new.port port.0).notes.last_ssts ≡ (old.port port.0).notes.last_ssts) }
 {
     laws_hold();
 }
 
-/// Trouble is heeded. What isn't shown after a look, of errors that the look hasn't read, wasn't shown before it and hasn't come: a fault, a fatal error, and a disk
-/// that went or came. So it is over ordinary accesses. And a look tells a loss only where the port had one to tell, or a disk went or came, if no link was due.
+/// Trouble is heeded. What isn't shown after a look, of errors that the look hasn't read, wasn't shown before it and
+/// hasn't come: a fault, a fatal error, and a disk that went or came. So it is over ordinary accesses. And a look tells
+/// a loss only where the port had one to tell, or a disk went or came, if no link was due.
 pub fn trouble_is_heeded()
     ensures fault { (port : Port) (result : Look) (old new : Device) → IsOn old → (l : LooksAt port result old new)
         → bit l.causes 30 ≡ false → ShowsFaults port.0 old new }
     ensures fatal { (port : Port) (result : Look) (old new : Device) → IsOn old → (l : LooksAt port result old new)
         → ((place : ℕ) → 27 ≤ place → place ≤ 29 → bit l.causes place ≡ false) → ShowsFatals port.0 old new }
-    ensures disk { (port : Port) (result : Look) (old new : Device) → IsOn old → LooksAt port result old new → ShowsDisks port.0 old new }
-    ensures faults { (port : Port) (old new : Device) → IsOn old → IsDrivenBy (IsOrdinary port) old new → ShowsFaults port.0 old new }
-    ensures fatals { (port : Port) (old new : Device) → IsOn old → IsDrivenBy (IsOrdinary port) old new → ShowsFatals port.0 old new }
-    ensures disks { (port : Port) (old new : Device) → IsOn old → IsDrivenBy (IsOrdinary port) old new → ShowsDisks port.0 old new }
-    ensures loss { (port : Port) (old new : Device) → IsOn old → LooksAt port look.Lost old new → (old.port port.0).link_due ≡ false
-        → HasLoss port.0 old new }
+    ensures disk { (port : Port) (result : Look) (old new : Device) → IsOn old → LooksAt port result old new
+        → ShowsDisks port.0 old new }
+    ensures faults { (port : Port) (old new : Device) → IsOn old → IsDrivenBy (IsOrdinary port) old new
+        → ShowsFaults port.0 old new }
+    ensures fatals { (port : Port) (old new : Device) → IsOn old → IsDrivenBy (IsOrdinary port) old new
+        → ShowsFatals port.0 old new }
+    ensures disks { (port : Port) (old new : Device) → IsOn old → IsDrivenBy (IsOrdinary port) old new
+        → ShowsDisks port.0 old new }
+    ensures loss { (port : Port) (old new : Device) → IsOn old → LooksAt port look.Lost old new
+        → (old.port port.0).link_due ≡ false → HasLoss port.0 old new }
 {
     laws_hold();
 }

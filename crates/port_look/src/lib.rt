@@ -1,6 +1,10 @@
-//! A look at a port: what its interrupts and its link tell (AHCI 1.3.1, 5.5.3 and 6.2); a look at one that isn't ready, of which nothing is cleared; and what
-//! accesses that serve ports leave.
-//! Each call is of one port, whatever the others do.
+//! Looks at a port: what its interrupts and its link tell (AHCI 1.3.1, 5.5.3 and 6.2).
+//!
+//! `look_at` is for ready ports, and acknowledges what it has read. `finds_device` and
+//! `finds_change` are for others, and write nothing. No call asks for a machine, and none hides
+//! trouble that it hasn't read. Here stand, too, the words and laws on accesses that serve ports
+//! (`IsService`, `services_leave`): they let these write PxCI, since it is between issues that
+//! ports are looked at.
 #![tactic(auto)]
 
 ghost use Rattle.std.specs.Prelude.{◌≡◌, ◌||◌, ◌==◌, ◌%◌, not};
@@ -63,8 +67,8 @@ fn told(interrupts: PortInterrupts, status: SataStatus) -> Look
     Look::Undisturbed
 }
 
-/// Reads and clears a port's interrupts, and looks at its link: whether its device went or came, and whether something failed
-/// (AHCI 1.3.1, 5.5.3 and 6.2).
+/// Reads and clears a port's interrupts, and looks at its link: whether its device went or came, and whether something
+/// failed (AHCI 1.3.1, 5.5.3 and 6.2).
 pub fn look_at<A: Adapter>(adapter: &mut A, port: Port) -> Look
     requires on { IsOn (A.device adapter.old) }
     requires there { HasPort (A.device adapter.old) port.0 }
@@ -80,8 +84,8 @@ pub fn look_at<A: Adapter>(adapter: &mut A, port: Port) -> Look
     told(interrupts, status)
 }
 
-/// Looks at a port for a device, where there was none: whether one with a link shows (DET of PxSSTS is 3; AHCI 1.3.1, 3.3.10). PxSSTS is read, and
-/// that is all.
+/// Looks at a port for a device, where there was none: whether one with a link shows (DET of PxSSTS is 3; AHCI 1.3.1,
+/// 3.3.10). PxSSTS is read, and that is all.
 pub fn finds_device<A: Adapter>(adapter: &mut A, port: Port) -> bool
     requires on { IsOn (A.device adapter.old) }
     requires there { HasPort (A.device adapter.old) port.0 }
@@ -94,8 +98,9 @@ pub fn finds_device<A: Adapter>(adapter: &mut A, port: Port) -> bool
     shows_device(status)
 }
 
-/// Looks at a port for a change of its device: whether it went, or its link came up, since PxSERR was last cleared (PRCS and PCS of PxIS show N and X of PxSERR), or isn't there (DET of
-/// PxSSTS isn't 3; AHCI 1.3.1, 3.3.5, 3.3.10 and 3.3.12). PxIS is read, and then PxSSTS; neither is written, so that a change is told until the port is booted.
+/// Looks at a port for a change of its device: whether it went, or its link came up, since PxSERR was last cleared
+/// (PRCS and PCS of PxIS show N and X of PxSERR), or isn't there (DET of PxSSTS isn't 3; AHCI 1.3.1, 3.3.5, 3.3.10 and
+/// 3.3.12). PxIS is read, and then PxSSTS; neither is written, so that a change is told until the port is booted.
 pub fn finds_change<A: Adapter>(adapter: &mut A, port: Port) -> bool
     requires on { IsOn (A.device adapter.old) }
     requires there { HasPort (A.device adapter.old) port.0 }

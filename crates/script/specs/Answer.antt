@@ -1,4 +1,5 @@
--- The lines that answer a script, and those that tell what the device moved and cleared (this project's own). A line feed ends each.
+-- The lines that answer a script, and those that tell what the device moved and cleared (this project's own). A line
+-- feed ends each.
 use Rattle.std.specs.Prelude.{ℕ, ◌++◌, ◌∷◌, [], List, true, false, codes}
 use Rattle.std.specs.List.{join_with_byte}
 use Rattle.std.specs.Fmt.{decimal}
@@ -32,7 +33,8 @@ state_words Dead = codes "Dead" ∷ []
 
 abbrev pub outcome_words : Outcome → List Word
 outcome_words outcome.Ok = codes "Ok" ∷ []
-outcome_words (outcome.DeviceError status error) = codes "DeviceError" ∷ encode_lower (status ∷ []) ∷ encode_lower (error ∷ []) ∷ []
+outcome_words (outcome.DeviceError status error) = codes "DeviceError" ∷ encode_lower (status ∷ [])
+    ∷ encode_lower (error ∷ []) ∷ []
 outcome_words outcome.Aborted = codes "Aborted" ∷ []
 outcome_words outcome.Unplugged = codes "Unplugged" ∷ []
 outcome_words outcome.PortDead = codes "PortDead" ∷ []
@@ -91,7 +93,8 @@ answer_words (answer.Stepped true) = codes "did" ∷ []
 answer_words (answer.Stepped false) = codes "no" ∷ []
 answer_words (answer.Moved m) = codes "move" ∷ decimal m.now.port.0 ∷ decimal m.now.slot.0 ∷ kind_word m.now.operation
     ∷ decimal m.now.sector ∷ encode_lower (to_be_bytes w32 m.now.address) ∷ []
-answer_words (answer.Cleared c) = codes "clear" ∷ decimal c.port.0 ∷ decimal c.slot.0 ∷ decimal c.first ∷ decimal c.count ∷ []
+answer_words (answer.Cleared c) = codes "clear" ∷ decimal c.port.0 ∷ decimal c.slot.0 ∷ decimal c.first
+    ∷ decimal c.count ∷ []
 
 -- the words, parted by one space
 abbrev pub answer_text : Answer → List ℕ

@@ -28,7 +28,8 @@ page_word Log = codes "log"
 
 -- what stands after `read` or `write`
 abbrev pub transfer_words : Request → List Word
-transfer_words r = decimal r.client.0 ∷ decimal r.grant ∷ decimal r.first.0 ∷ decimal r.count ∷ frames_word r.frames.items ∷ []
+transfer_words r = decimal r.client.0 ∷ decimal r.grant ∷ decimal r.first.0 ∷ decimal r.count
+    ∷ frames_word r.frames.items ∷ []
 
 -- what stands after the operation's word: of a trim no frames, and of a flush no sectors either
 abbrev pub request_words : Op → Request → List Word
@@ -48,7 +49,8 @@ step_words (step.Move port slot) = codes "move" ∷ place_words port slot
 step_words (step.Clear port slot count) = codes "clear" ∷ decimal port.0 ∷ decimal slot.0 ∷ decimal count ∷ []
 step_words (step.Done port slot) = codes "done" ∷ place_words port slot
 step_words (step.Finish port slot) = codes "finish" ∷ place_words port slot
-step_words (step.Fault port slot error) = codes "fault" ∷ decimal port.0 ∷ decimal slot.0 ∷ encode_lower (error ∷ []) ∷ []
+step_words (step.Fault port slot error) = codes "fault" ∷ decimal port.0 ∷ decimal slot.0 ∷ encode_lower (error ∷ [])
+    ∷ []
 step_words (step.Fatal port error) = codes "fatal" ∷ decimal port.0 ∷ fatal_word error ∷ []
 step_words (step.Lie port page offset bits) =
     codes "lie" ∷ decimal port.0 ∷ page_word page ∷ decimal offset ∷ encode_lower (bits ∷ []) ∷ []
@@ -74,7 +76,8 @@ line_words (Device asked) = codes "dev" ∷ step_words asked
 abbrev pub line_text : Line → List ℕ
 line_text line = join_with_byte 32 (line_words line)
 
--- the request asks for nothing that a line of its operation has no word for: of a trim there are no frames, and of a flush no sectors either
+-- the request asks for nothing that a line of its operation has no word for: of a trim there are no frames, and of a
+-- flush no sectors either
 abbrev pub IsSpelled : Op → Request → Type 0
 IsSpelled Read r = Unit {0}
 IsSpelled Write r = Unit {0}
@@ -115,7 +118,8 @@ abbrev pub IsLine : Line → Type 0
 IsLine (Submit request) = IsSpelled request.op request × IsRequest request
 IsLine (Store client frame offset bytes) = (client.0 < 256) × (frame.0 < 65536) × (offset < 2 ^ 32)
     × All (λ b. b < 256) bytes.items × (1 ≤ length bytes.items) × (length bytes.items ≤ 64)
-IsLine (Load client frame offset count) = (client.0 < 256) × (frame.0 < 65536) × (offset < 2 ^ 32) × (1 ≤ count) × (count ≤ 64)
+IsLine (Load client frame offset count) = (client.0 < 256) × (frame.0 < 65536) × (offset < 2 ^ 32) × (1 ≤ count)
+    × (count ≤ 64)
 IsLine Service = Unit {0}
 IsLine Tick = Unit {0}
 IsLine Reset = Unit {0}

@@ -31,7 +31,8 @@ Asks text (Some line) = IsLine line × (line_text line ≡ text)
 -- the lines' texts ask these in turn
 pub data AskInTurn : List (List ℕ) → List Line → Type 0 where
   done : AskInTurn [] []
-  nothing : {text : List ℕ} {texts : List (List ℕ)} {rest : List Line} → Asks text None → AskInTurn texts rest → AskInTurn (text ∷ texts) rest
+  nothing : {text : List ℕ} {texts : List (List ℕ)} {rest : List Line} → Asks text None → AskInTurn texts rest
+      → AskInTurn (text ∷ texts) rest
   one : {text : List ℕ} {texts : List (List ℕ)} {line : Line} {rest : List Line}
       → Asks text (Some line) → AskInTurn texts rest → AskInTurn (text ∷ texts) (line ∷ rest)
 

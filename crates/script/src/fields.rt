@@ -116,7 +116,8 @@ pub(crate) fn fatal_error(word: &str) -> Option<FatalError>
 /// Frames by their numbers, at most 32, parted by commas; `-` is none.
 pub(crate) fn frames(word: &str) -> Option<ArrayVec<Frame, 32>>
     ensures spelled { IfSome result (λ v. All (λ f. f.0 < 65536) v.items × (frames_word v.items ≡ word.now)) }
-    ensures only { (v : Items Frame) → All (λ f. f.0 < 65536) v.items → length v.items ≤ 32 → frames_word v.items ≡ word.now → result ≡ Some v }
+    ensures only { (v : Items Frame) → All (λ f. f.0 < 65536) v.items → length v.items ≤ 32
+        → frames_word v.items ≡ word.now → result ≡ Some v }
 {
     let mut frames = ArrayVec::new();
     if word == "-" {
@@ -133,8 +134,8 @@ pub(crate) fn bytes(word: &str) -> Option<ArrayVec<u8, 64>>
     ensures spelled { IfSome result (λ v. (1 ≤ length v.items) × (encode_lower v.items ≡ word.now)) }
     ensures most { IfSome result (λ v. length v.items ≤ 64) }
     ensures bytes { IfSome result (λ v. All (λ b. b < 256) v.items) }
-    ensures only { (v : Items ℕ) → All (λ b. b < 256) v.items → 1 ≤ length v.items → length v.items ≤ 64 → encode_lower v.items ≡ word.now
-        → result ≡ Some v }
+    ensures only { (v : Items ℕ) → All (λ b. b < 256) v.items → 1 ≤ length v.items → length v.items ≤ 64
+        → encode_lower v.items ≡ word.now → result ≡ Some v }
 {
     let length = word.len() / 2;
     let mut read = [0u8; 64];

@@ -1,4 +1,7 @@
 //! The lines of a script for a block server, and the lines that answer them.
+//!
+//! (This project's own; docs/FORMATS.md.) Each line has one spelling, and reading takes no memory.
+//! It knows no server.
 #![tactic(auto)]
 
 mod answer;

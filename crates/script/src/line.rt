@@ -64,7 +64,8 @@ fn words(text: &str) -> Option<ArrayVec<&str, MOST_WORDS>>
 /// The read or write that is asked, from the words after the first.
 fn transfer(op: Op, words: &[&str]) -> Option<Request>
     ensures found { IfSome result (λ r. (r.op ≡ op) × IsRequest r × (transfer_words r ≡ map (λ w. w.now) words.now)) }
-    ensures only { (r : Request) → r.op ≡ op → IsRequest r → transfer_words r ≡ map (λ w. w.now) words.now → result ≡ Some r }
+    ensures only { (r : Request) → r.op ≡ op → IsRequest r → transfer_words r ≡ map (λ w. w.now) words.now
+        → result ≡ Some r }
 {
     match words {
         [client, grant, first, count, frames] => Some(Request {
@@ -81,8 +82,10 @@ fn transfer(op: Op, words: &[&str]) -> Option<Request>
 
 /// The lie that the disk of the port is to tell of this page: where, and which bits are turned.
 fn lie(port: &str, page: DiskPage, offset: &str, bits: &str) -> Option<DeviceStep>
-    ensures found { IfSome result (λ s. IsStep s × (step_words s ≡ codes "lie" ∷ port.now ∷ page_word page ∷ offset.now ∷ bits.now ∷ [])) }
-    ensures only { (s : DeviceStep) → IsStep s → step_words s ≡ codes "lie" ∷ port.now ∷ page_word page ∷ offset.now ∷ bits.now ∷ [] → result ≡ Some s }
+    ensures found { IfSome result (λ s. IsStep s
+        × (step_words s ≡ codes "lie" ∷ port.now ∷ page_word page ∷ offset.now ∷ bits.now ∷ [])) }
+    ensures only { (s : DeviceStep) → IsStep s → step_words s ≡ codes "lie" ∷ port.now ∷ page_word page ∷ offset.now
+        ∷ bits.now ∷ [] → result ≡ Some s }
 {
     let offset = fields::number(offset, 511)? as u16;
     Some(DeviceStep::Lie(fields::port(port)?, page, offset, fields::byte(bits)?))
@@ -90,8 +93,10 @@ fn lie(port: &str, page: DiskPage, offset: &str, bits: &str) -> Option<DeviceSte
 
 /// The clear that the device is to do: where, and of how many sectors.
 fn clear(port: &str, slot: &str, count: &str) -> Option<DeviceStep>
-    ensures found { IfSome result (λ s. IsStep s × (step_words s ≡ codes "clear" ∷ port.now ∷ slot.now ∷ count.now ∷ [])) }
-    ensures only { (s : DeviceStep) → IsStep s → step_words s ≡ codes "clear" ∷ port.now ∷ slot.now ∷ count.now ∷ [] → result ≡ Some s }
+    ensures found { IfSome result (λ s. IsStep s
+        × (step_words s ≡ codes "clear" ∷ port.now ∷ slot.now ∷ count.now ∷ [])) }
+    ensures only { (s : DeviceStep) → IsStep s → step_words s ≡ codes "clear" ∷ port.now ∷ slot.now ∷ count.now ∷ []
+        → result ≡ Some s }
 {
     let port = fields::port(port)?;
     let slot = fields::slot(slot)?;
@@ -101,8 +106,10 @@ fn clear(port: &str, slot: &str, count: &str) -> Option<DeviceStep>
 
 /// The fault that a command of the device is to end with: where, and which error.
 fn fault(port: &str, slot: &str, error: &str) -> Option<DeviceStep>
-    ensures found { IfSome result (λ s. IsStep s × (step_words s ≡ codes "fault" ∷ port.now ∷ slot.now ∷ error.now ∷ [])) }
-    ensures only { (s : DeviceStep) → IsStep s → step_words s ≡ codes "fault" ∷ port.now ∷ slot.now ∷ error.now ∷ [] → result ≡ Some s }
+    ensures found { IfSome result (λ s. IsStep s
+        × (step_words s ≡ codes "fault" ∷ port.now ∷ slot.now ∷ error.now ∷ [])) }
+    ensures only { (s : DeviceStep) → IsStep s → step_words s ≡ codes "fault" ∷ port.now ∷ slot.now ∷ error.now ∷ []
+        → result ≡ Some s }
 {
     let port = fields::port(port)?;
     let slot = fields::slot(slot)?;
@@ -141,7 +148,8 @@ fn step(words: &[&str]) -> Option<DeviceStep>
 fn trim(client: &str, grant: &str, first: &str, count: &str) -> Option<Line>
     ensures found { IfSome result (λ line. IsLine line
         × (line_words line ≡ codes "trim" ∷ client.now ∷ grant.now ∷ first.now ∷ count.now ∷ [])) }
-    ensures only { (line : Line) → IsLine line → line_words line ≡ codes "trim" ∷ client.now ∷ grant.now ∷ first.now ∷ count.now ∷ []
+    ensures only { (line : Line) → IsLine line → line_words line ≡ codes "trim" ∷ client.now ∷ grant.now ∷ first.now
+        ∷ count.now ∷ []
         → result ≡ Some line }
 {
     let client = fields::client(client)?;
@@ -160,8 +168,10 @@ fn trim(client: &str, grant: &str, first: &str, count: &str) -> Option<Line>
 
 /// The flush that is asked, from the words after `flush`. It names no sectors.
 fn flush(client: &str, grant: &str) -> Option<Line>
-    ensures found { IfSome result (λ line. IsLine line × (line_words line ≡ codes "flush" ∷ client.now ∷ grant.now ∷ [])) }
-    ensures only { (line : Line) → IsLine line → line_words line ≡ codes "flush" ∷ client.now ∷ grant.now ∷ [] → result ≡ Some line }
+    ensures found { IfSome result (λ line. IsLine line
+        × (line_words line ≡ codes "flush" ∷ client.now ∷ grant.now ∷ [])) }
+    ensures only { (line : Line) → IsLine line → line_words line ≡ codes "flush" ∷ client.now ∷ grant.now ∷ []
+        → result ≡ Some line }
 {
     let client = fields::client(client)?;
     let grant = fields::number(grant, 255)? as u8;
@@ -179,7 +189,8 @@ fn flush(client: &str, grant: &str) -> Option<Line>
 fn store(client: &str, frame: &str, offset: &str, bytes: &str) -> Option<Line>
     ensures found { IfSome result (λ line. IsLine line
         × (line_words line ≡ codes "store" ∷ client.now ∷ frame.now ∷ offset.now ∷ bytes.now ∷ [])) }
-    ensures only { (line : Line) → IsLine line → line_words line ≡ codes "store" ∷ client.now ∷ frame.now ∷ offset.now ∷ bytes.now ∷ []
+    ensures only { (line : Line) → IsLine line → line_words line ≡ codes "store" ∷ client.now ∷ frame.now ∷ offset.now
+        ∷ bytes.now ∷ []
         → result ≡ Some line }
 {
     let client = fields::client(client)?;
@@ -198,7 +209,8 @@ fn store(client: &str, frame: &str, offset: &str, bytes: &str) -> Option<Line>
 fn load(client: &str, frame: &str, offset: &str, count: &str) -> Option<Line>
     ensures found { IfSome result (λ line. IsLine line
         × (line_words line ≡ codes "load" ∷ client.now ∷ frame.now ∷ offset.now ∷ count.now ∷ [])) }
-    ensures only { (line : Line) → IsLine line → line_words line ≡ codes "load" ∷ client.now ∷ frame.now ∷ offset.now ∷ count.now ∷ []
+    ensures only { (line : Line) → IsLine line → line_words line ≡ codes "load" ∷ client.now ∷ frame.now ∷ offset.now
+        ∷ count.now ∷ []
         → result ≡ Some line }
 {
     let client = fields::client(client)?;

@@ -38,8 +38,9 @@ pub fn read_asked(text: &[u8]) -> Result<Option<Line>, Misspelled>
     }
 }
 
-/// Looks at the lines of a script: what stands between its line feeds, and what stands after the last one. The fault tells the first
-/// bad line; lines that ask nothing are counted, too. It takes no memory, and keeps no line: `read_asked` reads each again.
+/// Looks at the lines of a script: what stands between its line feeds, and what stands after the last one. The fault
+/// tells the first bad line; lines that ask nothing are counted, too. It takes no memory, and keeps no line:
+/// `read_asked` reads each again.
 pub fn check_script(text: &[u8]) -> Result<(), BadLine>
     ensures ok { OnOk result ((lines : List Line) × IsScript text.now lines) }
     ensures bad { IfErr result (λ bad. IsFirstBad text.now bad.0) }
@@ -62,7 +63,8 @@ fn line_feed(text: &[u8]) -> Option<usize>
     text.iter().position(|byte| *byte == b'\n')
 }
 
-/// The first line of a text, without its line feed, and what stands after it; `None` where no line feed ends it, so that it is the last.
+/// The first line of a text, without its line feed, and what stands after it; `None` where no line feed ends it, so
+/// that it is the last.
 pub fn first_line(text: &[u8]) -> (&[u8], Option<&[u8]>)
     ensures first { IsFirstLine text.now result.0.now result.1 }
     ensures less { IfSome result.1 (λ after. length after.now < length text.now) }

@@ -1,5 +1,5 @@
--- The page that IDENTIFY DEVICE brings, 512 bytes, read as 256 words, each with its low byte first (ACS-3, 7.12.7); and that of log 10h, which READ LOG
--- EXT brings (ACS-3, A.14).
+-- The page that IDENTIFY DEVICE brings, 512 bytes, read as 256 words, each with its low byte first (ACS-3, 7.12.7); and
+-- that of log 10h, which READ LOG EXT brings (ACS-3, A.14).
 use Rattle.std.specs.Prelude.{ℕ, ◌≡◌, ◌≢◌, ◌+◌, ◌-◌, ◌*◌, ◌/◌, ◌%◌, ◌^◌, ◌<◌, ◌≤◌, ◌⊎◌, List, Option, None, Some, if◌then◌else◌, length, sum, slice_index, slice_index_or}
 use Rattle.sector_store.specs.declared.pages.Abilities.{Abilities}
 use Rattle.sector_store.specs.declared.pages.FailedCommand.{FailedCommand}
@@ -24,9 +24,10 @@ abbrev pub trim_function : Trim → ℕ
 trim_function Without = 0
 trim_function _ = 1
 
--- What a word tells, but for the last: serial number (10 to 19), trims (69, 105, 169), queue depth less one (75), native command
--- queuing (76), 48-bit addresses and FLUSH CACHE EXT in a valid word (83), sectors (100 to 103, the lowest first), and sectors of
--- 256 words in a valid word (106). Every other word is zero. The first of the two characters in a word is its high byte.
+-- What a word tells, but for the last: serial number (10 to 19), trims (69, 105, 169), queue depth less one (75),
+-- native command queuing (76), 48-bit addresses and FLUSH CACHE EXT in a valid word (83), sectors (100 to 103, the
+-- lowest first), and sectors of 256 words in a valid word (106). Every other word is zero. The first of the two
+-- characters in a word is its high byte.
 pub record IsWord (serial : List ℕ) (sectors : ℕ) (a : Abilities) (number w : ℕ) : Type 0 where
   pub serial_is : 10 ≤ number → number < 20
       → w ≡ 2 ^ 8 * character serial (2 * (number - 10)) + character serial (2 * (number - 10) + 1)
@@ -40,8 +41,8 @@ pub record IsWord (serial : List ℕ) (sectors : ℕ) (a : Abilities) (number w 
   pub others_are : (number < 10) ⊎ (20 ≤ number) → number ≢ 69 → number ≢ 75 → number ≢ 76 → number ≢ 83
       → (number < 100) ⊎ (104 ≤ number) → number ≢ 105 → number ≢ 106 → number ≢ 169 → w ≡ 0
 
--- The page of a disk with this serial number, so many sectors and these abilities. The low byte of word 255 is A5h, and all bytes
--- sum to 0 modulo 256.
+-- The page of a disk with this serial number, so many sectors and these abilities. The low byte of word 255 is A5h, and
+-- all bytes sum to 0 modulo 256.
 pub record IsPage (serial : List ℕ) (sectors : ℕ) (a : Abilities) (page : List ℕ) : Type 0 where
   pub size : length page ≡ 512
   pub words : (number : ℕ) → number < 255 → IsWord serial sectors a number (word page number)
@@ -61,8 +62,8 @@ abbrev pub error_logged : Option FailedCommand → ℕ
 error_logged None = 0
 error_logged (Some failed) = failed.error
 
--- The page of log 10h: byte 0 has NQ, or the tag, byte 2 the status and byte 3 the error. All bytes sum to 0 modulo 256, by the last of them; the others are
--- zero.
+-- The page of log 10h: byte 0 has NQ, or the tag, byte 2 the status and byte 3 the error. All bytes sum to 0 modulo
+-- 256, by the last of them; the others are zero.
 pub record IsLogPage (failed : Option FailedCommand) (page : List ℕ) : Type 0 where
   pub size : length page ≡ 512
   pub tag : slice_index page 0 ≡ tag_logged failed

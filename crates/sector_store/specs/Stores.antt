@@ -21,4 +21,5 @@ HoldSectors items = (k : ℕ) → k < length items → IsSector (slice_index_or 
 -- One more call has failed: a write, or else a read, of this sector.
 abbrev pub FailsOn : Bool → ℕ → (was now : Option Failures) → Type 0
 FailsOn is_write sector was now =
-    (f : Failures) × (was ≡ Some f) × (now ≡ Some (record { calls = (f.calls + 1) % 2 ^ 64; sector = sector; is_write = is_write }))
+    (f : Failures) × (was ≡ Some f)
+    × (now ≡ Some (record { calls = (f.calls + 1) % 2 ^ 64; sector = sector; is_write = is_write }))

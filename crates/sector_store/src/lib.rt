@@ -1,4 +1,8 @@
-//! Where disks keep their sectors, and the page by which a disk says what it is.
+//! Where modelled disks keep their sectors, and the pages by which they tell of themselves.
+//!
+//! A store in memory tells its sectors, so that claims on bytes hold over it; one over a file tells
+//! none. A store tells of calls that failed on a sector that is there (`failures`), and of no
+//! other.
 #![tactic(auto)]
 
 mod disks;

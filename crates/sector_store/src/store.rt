@@ -25,7 +25,8 @@ pub trait SectorStore: Drop {
     /// The bytes of each sector, where the store tells them, as memory does and a file doesn't.
     ghost told: { Self → Option (ℕ → List ℕ) };
 
-    /// What it tells of the calls that failed on sectors that are there; or `None`, where no such call fails, as in memory.
+    /// What it tells of the calls that failed on sectors that are there; or `None`, where no such call fails, as in
+    /// memory.
     ghost failures: { Self → Option Failures };
 
     /// How many sectors there are.
@@ -39,17 +40,20 @@ pub trait SectorStore: Drop {
         ensures bytes { result ≡ true → IsSector out.new }
         ensures kept { result ≡ false → out.new ≡ out.old }
         ensures serves { (result ≡ true) ⊎ (size self.old ≤ sector) → failures self.new ≡ failures self.old }
-        ensures fails { result ≡ false → sector < size self.old → FailsOn false sector (failures self.old) (failures self.new) }
+        ensures fails { result ≡ false → sector < size self.old
+            → FailsOn false sector (failures self.old) (failures self.new) }
         ensures told { told self.new ≡ told self.old }
         ensures size { size self.new ≡ size self.old };
 
     /// Replaces a sector.
     fn write(&mut self, sector: u64, bytes: &[u8; 512]) -> bool
         ensures inside { result ≡ true → sector < size self.old }
-        ensures puts { result ≡ true → told self.new ≡ option_map (λ told. replaced told sector bytes.now) (told self.old) }
+        ensures puts { result ≡ true → told self.new ≡ option_map (λ told. replaced told sector bytes.now)
+            (told self.old) }
         ensures kept { result ≡ false → told self.new ≡ told self.old }
         ensures serves { (result ≡ true) ⊎ (size self.old ≤ sector) → failures self.new ≡ failures self.old }
-        ensures fails { result ≡ false → sector < size self.old → FailsOn true sector (failures self.old) (failures self.new) }
+        ensures fails { result ≡ false → sector < size self.old
+            → FailsOn true sector (failures self.old) (failures self.new) }
         ensures size { size self.new ≡ size self.old };
 
     /// What it tells are sectors.

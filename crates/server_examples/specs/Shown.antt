@@ -31,9 +31,10 @@ use Rattle.block_server.specs.declared.types.Event.{Event}
 use Rattle.block_server.specs.declared.types.Said.{Said}
 use Rattle.block_server.specs.declared.types.Said.TheVariants as says
 
--- These calls of a new server said this: a history leads to the server before them without calls, and with theirs to the server after them. It is a run, and
--- each read that it answers Ok holds what was left.
-pub record HasRun {A : Type 0} (device : A → Device) (old new : ServerView A) (events : List Event) (said : List Said) : Type 0 where
+-- These calls of a new server said this: a history leads to the server before them without calls, and with theirs to
+-- the server after them. It is a run, and each read that it answers Ok holds what was left.
+pub record HasRun {A : Type 0} (device : A → Device) (old new : ServerView A) (events : List Event)
+    (said : List Said) : Type 0 where
   pub first : Instant Device
   pub begun : Leads first [] (server_of device old)
   pub past : List (Happening Device DeviceStep)
@@ -42,8 +43,9 @@ pub record HasRun {A : Type 0} (device : A → Device) (old new : ServerView A) 
   pub run : IsRun first.moment (events_of past)
   pub reads : EveryReadHolds first.moment (events_of past)
 
--- A history leads from the new server to the other one, in whose last call the read that was asked for is answered Ok. Before that it was accepted and issued, each
--- of its sectors was moved since its last issue, and it was ended; and its frames have what was left (`told`).
+-- A history leads from the new server to the other one, in whose last call the read that was asked for is answered Ok.
+-- Before that it was accepted and issued, each of its sectors was moved since its last issue, and it was ended; and its
+-- frames have what was left (`told`).
 pub record ServesRead (old new : Server) (asked : Request) : Type 0 where
   pub first : Instant Device
   pub begun : Leads first [] old
@@ -62,8 +64,9 @@ pub record ServesReadAnew (old new : Server) (asked : Request) : Type 0 where
   pub twice : 2 ≤ count_by (issues_it serves.read.request.id) (steps_of (events_of serves.past))
   pub again : 1 ≤ count_by (waits_again serves.read.request.id) (steps_of (events_of serves.past))
 
--- A history leads from the new server to the other one, in which what was asked for is answered PortDead, and this frame stays lent. Then a reset ends that answers nothing, but
--- releases what is lent to answered requests; and after it the frame is lent to none.
+-- A history leads from the new server to the other one, in which what was asked for is answered PortDead, and this
+-- frame stays lent. Then a reset ends that answers nothing, but releases what is lent to answered requests; and after
+-- it the frame is lent to none.
 pub record ReleasesFrame (old new : Server) (asked : Request) (frame : Frame) : Type 0 where
   pub first : Instant Device
   pub begun : Leads first [] old
@@ -86,39 +89,52 @@ abbrev pub IsServedAtOnce : List Said → Type 0
 IsServedAtOnce said = (id : RequestId) × (reply : Reply) × (reply.outcome ≡ Ok)
     × (said ≡ says.Submitted (Done id) ∷ says.Stepped true ∷ says.Served (record { items = reply ∷ [] }) ∷ [])
 
--- A request was accepted where three ports are absent; the device did what it was told; a service followed, the device once more, and a service that told one request Ok.
+-- A request was accepted where three ports are absent; the device did what it was told; a service followed, the device
+-- once more, and a service that told one request Ok.
 abbrev pub IsServedAnew : List Said → Type 0
 IsServedAnew said = (id : RequestId) × (before : List Reply) × (reply : Reply) × (reply.outcome ≡ Ok)
-    × (said ≡ says.Submitted (Done id) ∷ says.State Absent ∷ says.State Absent ∷ says.State Absent ∷ says.Stepped true ∷ says.Served (record { items = before })
+    × (said ≡ says.Submitted (Done id) ∷ says.State Absent ∷ says.State Absent ∷ says.State Absent ∷ says.Stepped true
+    ∷ says.Served (record { items = before })
     ∷ says.Stepped true ∷ says.Served (record { items = reply ∷ [] }) ∷ [])
 
--- The device did what it was told, twice; a request was accepted, and a service told one PortDead. A store was refused since its frame is lent; and after a reset
--- that answered nothing one was done.
+-- The device did what it was told, twice; a request was accepted, and a service told one PortDead. A store was refused
+-- since its frame is lent; and after a reset that answered nothing one was done.
 abbrev pub IsReleased : List Said → Type 0
 IsReleased said = (id : RequestId) × (reply : Reply) × (reply.outcome ≡ PortDead)
-    × (said ≡ says.Stepped true ∷ says.Stepped true ∷ says.Submitted (Done id) ∷ says.Served (record { items = reply ∷ [] }) ∷ says.Stored (Err FrameLent)
+    × (said ≡ says.Stepped true ∷ says.Stepped true ∷ says.Submitted (Done id)
+    ∷ says.Served (record { items = reply ∷ [] }) ∷ says.Stored (Err FrameLent)
     ∷ says.WasReset (Done (record { items = [] })) ∷ says.Stored (Done tt) ∷ [])
 
--- What laws of `block_machine` and `machine_runs` say of runs, and one of `driver_history` of histories: what is shown rests on them.
+-- What laws of `block_machine` and `machine_runs` say of runs, and one of `driver_history` of histories: what is shown
+-- rests on them.
 pub record RunLaws : Type 0 where
   pub legal : (first : Moment) (run : List (Call DeviceStep)) → IsRun first run
-      → IsStart first.machine × IsLegal first.machine (steps_of run) × ((moment_of first run).machine ≡ after first.machine (steps_of run))
-  pub asked : (first : Moment) (past : List (Call DeviceStep)) (event : Call DeviceStep) (reply : Reply) → IsRun first (event ∷ past) → Contains (replies_of event.said) reply
-      → (e : Pending) × Contains event.steps (Answer e reply.outcome) × (e.request.id ≡ reply.id) × (e.request.asked.client ≡ reply.client) × WasAsked e.request past
-  pub lawful : (first : Moment) (past : List (Call DeviceStep)) (event : Call DeviceStep) (e : Pending) (o : Outcome) → IsRun first (event ∷ past)
-      → Contains event.steps (Answer e o) → IsLawful (moment_of first past) event.evidence event.ports e o
-  pub came : (first : Moment) (past : List (Call DeviceStep)) (event : Call DeviceStep) (e : Pending) → IsRun first (event ∷ past)
-      → Contains (moment_of first (event ∷ past)).machine.book e → CameFrom (moment_of first past).machine event.steps e ⊎ AsksFor e.request event
-  pub served : (first : Moment) (past : List (Call DeviceStep)) (event : Call DeviceStep) (e : Pending) → IsRun first (event ∷ past) → EveryReadHolds first (event ∷ past)
-      → Contains event.steps (Answer e Ok) → IsAnsweredOk first past event e
-  pub alone : (first : Moment) (run : List (Call DeviceStep)) (e : Pending) → IsRun first run → Contains (moment_of first run).machine.book e
-      → (moment_of first run).ports.state e.request.port ≡ Ready
-      → ((other : Pending) → Contains (moment_of first run).machine.book other → other.request.id ≡ e.request.id) → e.issued ≡ true
-  pub counted : (start : Machine) (history : List Step) (e : Pending) → IsStart start → IsLegal start history → Contains (after start history).book e
-      → (count_by (issues_it e.request.id) history ≡ e.issues)
+      → IsStart first.machine × IsLegal first.machine (steps_of run)
+      × ((moment_of first run).machine ≡ after first.machine (steps_of run))
+  pub asked : (first : Moment) (past : List (Call DeviceStep)) (event : Call DeviceStep) (reply : Reply)
+      → IsRun first (event ∷ past) → Contains (replies_of event.said) reply → (e : Pending)
+      × Contains event.steps (Answer e reply.outcome) × (e.request.id ≡ reply.id)
+      × (e.request.asked.client ≡ reply.client) × WasAsked e.request past
+  pub lawful : (first : Moment) (past : List (Call DeviceStep)) (event : Call DeviceStep) (e : Pending) (o : Outcome)
+      → IsRun first (event ∷ past) → Contains event.steps (Answer e o) → IsLawful (moment_of first past) event.evidence
+      event.ports e o
+  pub came : (first : Moment) (past : List (Call DeviceStep)) (event : Call DeviceStep) (e : Pending)
+      → IsRun first (event ∷ past) → Contains (moment_of first (event ∷ past)).machine.book e
+      → CameFrom (moment_of first past).machine event.steps e ⊎ AsksFor e.request event
+  pub served : (first : Moment) (past : List (Call DeviceStep)) (event : Call DeviceStep) (e : Pending)
+      → IsRun first (event ∷ past) → EveryReadHolds first (event ∷ past) → Contains event.steps (Answer e Ok)
+      → IsAnsweredOk first past event e
+  pub alone : (first : Moment) (run : List (Call DeviceStep)) (e : Pending) → IsRun first run
+      → Contains (moment_of first run).machine.book e → (moment_of first run).ports.state e.request.port ≡ Ready
+      → ((other : Pending) → Contains (moment_of first run).machine.book other → other.request.id ≡ e.request.id)
+      → e.issued ≡ true
+  pub counted : (start : Machine) (history : List Step) (e : Pending) → IsStart start → IsLegal start history
+      → Contains (after start history).book e → (count_by (issues_it e.request.id) history ≡ e.issues)
       × (count_by (issues_it e.request.id) history ≡ count_by (waits_again e.request.id) history + cond e.issued 1 0)
-  pub ready : (first : Moment) (run : List (Call DeviceStep)) (e : Pending) → IsRun first run → Contains (moment_of first run).machine.book e
-      → ((moment_of first run).ports.state e.request.port ≡ Ready) ⊎ (((moment_of first run).ports.state e.request.port ≡ Dead) × IsStillStuck run)
-  pub heeded : (wanted : List Wanted) (first : Instant Device) (past : List (Happening Device DeviceStep)) (h : Happening Device DeviceStep) (port : Port)
+  pub ready : (first : Moment) (run : List (Call DeviceStep)) (e : Pending) → IsRun first run
+      → Contains (moment_of first run).machine.book e → ((moment_of first run).ports.state e.request.port ≡ Ready)
+      ⊎ (((moment_of first run).ports.state e.request.port ≡ Dead) × IsStillStuck run)
+  pub heeded : (wanted : List Wanted) (first : Instant Device) (past : List (Happening Device DeviceStep))
+      (h : Happening Device DeviceStep) (port : Port)
       → IsHistory wanted first (h ∷ past) → h.event.ask ≡ Service → (now first past).moment.ports.state port ≡ Ready
       → ShowsFailure ((now first past).device.port port.0) → HeedsFailure port (now first past) h

@@ -35,8 +35,8 @@ const fn unfit(cause: u8) -> Found {
     Found::Unready(PortState::Unfit(cause))
 }
 
-/// What port 0 is found to be where its disk, of so many sectors, tells some lies; with the slots of the adapter, and whether it does native
-/// command queuing.
+/// What port 0 is found to be where its disk, of so many sectors, tells some lies; with the slots of the adapter, and
+/// whether it does native command queuing.
 fn found(alloc: Global, sectors: u32, lies: [Lie; 4]) -> Result<(u8, bool, Found), Fail> {
     let mut model = model(alloc, ALL_PORTS, sectors)?;
     let [one, another, third, last] = lies;
@@ -51,8 +51,8 @@ fn found(alloc: Global, sectors: u32, lies: [Lie; 4]) -> Result<(u8, bool, Found
 /// The page has no signature of a checksum, so that its bytes may sum to anything.
 pub const UNSIGNED: Lie = (510, 0x01);
 
-// Byte 510 of IDENTIFY DEVICE holds the signature of the checksum, bytes 166 and 167 word 83, bytes 212 and 213 word 106, bytes 200 to 207 the
-// number of sectors, and bytes 20 to 39 the serial number (ACS-3, 7.12.7).
+// Byte 510 of IDENTIFY DEVICE holds the signature of the checksum, bytes 166 and 167 word 83, bytes 212 and 213 word
+// 106, bytes 200 to 207 the number of sectors, and bytes 20 to 39 the serial number (ACS-3, 7.12.7).
 #[test]
 fn a_disk_is_what_its_page_says(rt: HostRuntime) -> Result<(), Fail> {
     for (sectors, lies, what) in [
@@ -140,8 +140,8 @@ fn sectors_are_1_to_2_to_the_48(rt: HostRuntime) -> Result<(), Fail> {
     Ok(())
 }
 
-/// A boot: the ports that the adapter has, the disks that are wanted, what is found, how often PxSSTS of a port is read, of which ports
-/// registers are read or written, and what is written to registers first.
+/// A boot: the ports that the adapter has, the disks that are wanted, what is found, how often PxSSTS of a port is
+/// read, of which ports registers are read or written, and what is written to registers first.
 #[derive(Clone, Copy)]
 struct Boot<'a> {
     pi: u8,
@@ -184,8 +184,9 @@ fn check(rt: &(impl Abort + AllocGlobal), boot: &Boot) -> Result<(), Fail> {
     Ok(())
 }
 
-/// What the boot writes where port 0 has the disk that is wanted: GHC with AE; ST and FRE, which are clear already; the places; FRE; COMRESET;
-/// PxSERR and PxIS; ST, with FRE and FR as they were read; slot 0; PxIE; and GHC with AE and IE (AHCI 1.3.1, 3.1.2, 3.3 and 10.1.2).
+/// What the boot writes where port 0 has the disk that is wanted: GHC with AE; ST and FRE, which are clear already; the
+/// places; FRE; COMRESET; PxSERR and PxIS; ST, with FRE and FR as they were read; slot 0; PxIE; and GHC with AE and IE
+/// (AHCI 1.3.1, 3.1.2, 3.3 and 10.1.2).
 fn writes_of_a_ready_port() -> [Access; 16] {
     [
         ENABLE,

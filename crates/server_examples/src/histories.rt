@@ -1,6 +1,6 @@
-//! Calls of a new server after which a history of it is proved to exist: each function makes its calls by `Server::run`,
-//! compares what they said, and answers yes where that is what was to be shown. Its contract says what is proved then; a
-//! test makes the server, and has it answer yes.
+//! Calls of a new server after which a history of it is proved to exist: each function makes its calls by
+//! `Server::run`, compares what they said, and answers yes where that is what was to be shown. Its contract says what
+//! is proved then; a test makes the server, and has it answer yes.
 ghost use Rattle.std.specs.Prelude.{◌≡◌, IfSome, IsTrue, List, [], ◌∷◌, Ok, Err, true};
 ghost use Rattle.ata_types.specs.declared.request.Reply.{Reply};
 ghost use Rattle.server_examples.specs.Shown.{HasRun, IsReleased, IsServedAnew, IsServedAtOnce};
@@ -80,7 +80,8 @@ fn is_served(said: &Said) -> bool
 
 /// Whether a service or a tick told one request this outcome, and no other any.
 fn is_told(said: &Said, outcome: Outcome) -> bool
-    ensures { IsTrue result → (reply : Reply) × (said.now ≡ Said.Served (record { items = reply ∷ [] })) × (reply.outcome ≡ outcome) }
+    ensures { IsTrue result → (reply : Reply) × (said.now ≡ Said.Served (record { items = reply ∷ [] }))
+        × (reply.outcome ≡ outcome) }
 {
     let Said::Served(replies) = said else {
         return false;
@@ -146,8 +147,8 @@ fn is_served_at_once(said: &[Said]) -> bool
     }
 }
 
-/// A read is accepted, its port meets a fatal error of the interface, and a service boots the port anew. Then the device
-/// does all of the read, which the next service answers Ok. (No other port is there.)
+/// A read is accepted, its port meets a fatal error of the interface, and a service boots the port anew. Then the
+/// device does all of the read, which the next service answers Ok. (No other port is there.)
 pub fn serves_a_read_anew<A: Stepped>(alloc: Global, server: &mut Server<A>, read: Request) -> bool
     requires begun { HasBegun (server_of A.device server.old) }
     requires telling { (A.device server.old.adapter).telling ≡ true }
@@ -176,15 +177,17 @@ pub fn serves_a_read_anew<A: Stepped>(alloc: Global, server: &mut Server<A>, rea
 /// Whether a request was accepted where three other ports are absent.
 fn is_alone(first: &Said, one: &Said, two: &Said, three: &Said) -> bool
     ensures { IsTrue result → (id : RequestId) × (first.now ≡ Said.Submitted (Ok id))
-        × (one.now ≡ Said.State PortState.Absent) × (two.now ≡ Said.State PortState.Absent) × (three.now ≡ Said.State PortState.Absent) }
+        × (one.now ≡ Said.State PortState.Absent) × (two.now ≡ Said.State PortState.Absent)
+        × (three.now ≡ Said.State PortState.Absent) }
 {
     is_accepted(first) && is_absent(one) && is_absent(two) && is_absent(three)
 }
 
 /// Whether the device did something, and so once more after a service, and then one request was told Ok.
 fn is_mended(failed: &Said, served: &Said, done: &Said, last: &Said) -> bool
-    ensures { IsTrue result → (before : List Reply) × (reply : Reply) × (reply.outcome ≡ Outcome.Ok) × (failed.now ≡ Said.Stepped true)
-        × (served.now ≡ Said.Served (record { items = before })) × (done.now ≡ Said.Stepped true) × (last.now ≡ Said.Served (record { items = reply ∷ [] })) }
+    ensures { IsTrue result → (before : List Reply) × (reply : Reply) × (reply.outcome ≡ Outcome.Ok)
+        × (failed.now ≡ Said.Stepped true) × (served.now ≡ Said.Served (record { items = before }))
+        × (done.now ≡ Said.Stepped true) × (last.now ≡ Said.Served (record { items = reply ∷ [] })) }
 {
     is_done(failed) && is_served(served) && is_done(done) && is_told(last, Outcome::Ok)
 }
@@ -212,7 +215,8 @@ pub fn releases_a_frame<A: Stepped>(
 ) -> bool
     requires begun { HasBegun (server_of A.device server.old) }
     requires telling { (A.device server.old.adapter).telling ≡ true }
-    ensures { IsTrue result → ReleasesFrame (server_of A.device server.old) (server_of A.device server.new) request frame }
+    ensures { IsTrue result → ReleasesFrame (server_of A.device server.old) (server_of A.device server.new) request
+        frame }
 {
     laws_of_runs();
     let events = [
@@ -240,7 +244,8 @@ pub fn releases_a_frame<A: Stepped>(
     is_released(&said)
 }
 
-/// Whether the device did two things, a request was accepted and told `PortDead`, and a store into a lent frame was done only after a reset.
+/// Whether the device did two things, a request was accepted and told `PortDead`, and a store into a lent frame was
+/// done only after a reset.
 fn is_released(said: &[Said]) -> bool
     ensures { IsTrue result → IsReleased said.now }
 {

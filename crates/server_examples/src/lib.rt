@@ -1,5 +1,8 @@
-//! What the server, its boot and the play of a script do where no script shows it: which accesses are made, when waits end, what lying
-//! disks are found to be, and what comes of an output that fails; and that histories of the server exist in which it answers. There is no other code here.
+//! Tests of the server, its boots and the play of scripts, where no script shows it.
+//!
+//! Which accesses are made, when waits end, what lying disks are found to be, and what comes of an
+//! output that fails. `histories` has functions by which histories of the server are proved to
+//! exist in which it answers. There is no other code here.
 #![tactic(auto)]
 
 #[cfg(test)]

@@ -1,4 +1,5 @@
-// What a configuration asks of a server, and which values break its rules. Texts of configurations stand in the cases of the program.
+// What a configuration asks of a server, and which values break its rules. Texts of configurations stand in the cases
+// of the program.
 use ata_types::{ClientId, Frame, GrantRow, Port, Rights, Sector};
 use configuration::{ClientConfig, Config, GrantConfig, Kind, PortConfig};
 use identify::Wanted;
@@ -120,7 +121,8 @@ fn a_configuration_is_planned(rt: HostRuntime) -> Result<(), Fail> {
     Ok(())
 }
 
-/// What is added to a configuration: a port, a client with its first frame and how many, or a grant with its client, number and port.
+/// What is added to a configuration: a port, a client with its first frame and how many, or a grant with its client,
+/// number and port.
 #[derive(Clone, Copy)]
 enum Added {
     Port(u64),

@@ -1,5 +1,5 @@
-// Each wait of a boot gives up after 64 readings: the device is held, so that it does nothing by itself. What it does before the last
-// of them is seen.
+// Each wait of a boot gives up after 64 readings: the device is held, so that it does nothing by itself. What it does
+// before the last of them is seen.
 ghost use Rattle.std.specs.Prelude.{◌≤◌};
 ghost use Rattle.adapter.specs.Idle.{IsIdle};
 
@@ -26,7 +26,8 @@ enum Driven {
     BootAndReceive,
 }
 
-/// Before which accesses the device does something: it is held, its disk is taken out and put in again, and it is released.
+/// Before which accesses the device does something: it is held, its disk is taken out and put in again, and it is
+/// released.
 #[derive(Clone, Copy)]
 struct Times {
     held: u64,
@@ -40,7 +41,8 @@ const UNDISTURBED: Times = Times {
     released: NEVER,
 };
 
-/// Takes an adapter over, stops port 0 if it is ready, and has it receive FISes anew. A port whose engine doesn't stop is dead.
+/// Takes an adapter over, stops port 0 if it is ready, and has it receive FISes anew. A port whose engine doesn't stop
+/// is dead.
 fn received_anew<A: Adapter>(adapter: &mut A) -> PortState
     requires idle { IsIdle (A.device adapter.old) }
     requires room { DRIVER_BYTES ≤ (A.device adapter.old).size }
@@ -89,8 +91,9 @@ fn drive(alloc: Global, driven: Driven, times: Times, register: PortReg) -> Resu
     Ok((shown, readings, watched.accesses.len()))
 }
 
-/// A wait: what is driven, from which access on the device is held, before which its disk is exchanged, which register is read, what is
-/// shown where the device goes on after the last reading, also where it never does, and what where it goes on before it.
+/// A wait: what is driven, from which access on the device is held, before which its disk is exchanged, which register
+/// is read, what is shown where the device goes on after the last reading, also where it never does, and what where it
+/// goes on before it.
 #[derive(Clone, Copy)]
 struct Wait<'a> {
     what: &'a str,
@@ -144,12 +147,13 @@ fn check(rt: &(impl Abort + AllocGlobal), wait: &Wait) -> Result<(), Fail> {
     Ok(())
 }
 
-/// The accesses by which a port receives FISes anew, where FR falls at once: PxCMD is read and written, and read until FR is 0; the four
-/// addresses are written; and PxCMD is read and written again.
+/// The accesses by which a port receives FISes anew, where FR falls at once: PxCMD is read and written, and read until
+/// FR is 0; the four addresses are written; and PxCMD is read and written again.
 const RECEIVING: u64 = 9;
 
-/// The waits of a boot, where `link` is the access that first reads the link. The engine stops after the wait for the page. Where the disk is
-/// exchanged after COMRESET was sent, DET is 3, and no first FIS has come yet, so BSY stays (AHCI 1.3.1, 3.3.8 and 10.4.2).
+/// The waits of a boot, where `link` is the access that first reads the link. The engine stops after the wait for the
+/// page. Where the disk is exchanged after COMRESET was sent, DET is 3, and no first FIS has come yet, so BSY stays
+/// (AHCI 1.3.1, 3.3.8 and 10.4.2).
 fn waits_of_a_boot(link: u64) -> [Wait<'static>; 4] {
     [
         Wait {

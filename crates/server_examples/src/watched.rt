@@ -58,8 +58,8 @@ pub enum Access {
     Store,
 }
 
-/// The end of what a port's slots 0 to 5 need: their headers from 0 on, and their tables of 400h bytes each from 1000h on, of which the last's 32
-/// entries end here.
+/// The end of what a port's slots 0 to 5 need: their headers from 0 on, and their tables of 400h bytes each from 1000h
+/// on, of which the last's 32 entries end here.
 pub const LOW: usize = 0x2680;
 
 /// An adapter that notes its calls, and what is stored in the first bytes of memory.

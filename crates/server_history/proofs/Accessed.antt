@@ -224,9 +224,6 @@ module _ (laws : LawsBelow) (s new : Server) (replies : List Reply) (k : KeepsBo
   pub ports_new : new.ports ≡ ports
   ports_new = ap (λ (n : Server). n.ports) issued ∙ ap (λ (n : Server). n.ports) settled ∙ ports_taken
 
-  pub remembered_new : new.remembered ≡ r.taken.remembered
-  remembered_new = ap (λ (n : Server). n.remembered) issued ∙ ap (λ (n : Server). n.remembered) settled
-
   device_settled : r.settled.device ≡ r.taken.device
   device_settled = ap (λ (n : Server). n.device) settled
 

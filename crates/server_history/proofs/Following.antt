@@ -46,7 +46,7 @@ use Rattle.server_history.specs.Below.{LawsBelow}
 use Rattle.server_history.specs.Fates.{DecidesOn, MayMeet, MeetsInMachine, keeps_fate}
 use Rattle.server_history.specs.Mended.{AreUnused, IsFailed, IsFoundAfter, IsProspect, HasMetFates, holdings_of, requests_of, with_port}
 use Rattle.server_history.specs.Served.{answers_in}
-use Rattle.server_history.specs.Server.{AreKept, AreUsesOf, IsKept, IsMachineOf, Server, is_served, kept_at, no_slots, slots_at, state_of}
+use Rattle.server_history.specs.Server.{AreKept, AreUsesOf, IsKept, IsMachineOf, Server, is_served, kept_at, slots_at, state_of}
 use Rattle.server_history.proofs.Going.{book_on, still_kept}
 use Rattle.server_history.proofs.Joined.{first_or_later}
 use Rattle.server_history.proofs.Keeping.{none_alive}
@@ -246,12 +246,6 @@ module _ (laws : LawsBelow) (port : Port) (mid : Server) (k : IsKept mid) (ready
 
       kept_other : (q : ℕ) → q ≢ port.0 → kept_at new.kept q ≡ kept_at mid.kept q
       kept_other q ne = get_or-set_other mid.kept port.0 q now.kept [] ne
-
-      slots_same : slots_at new.slots port.0 ≡ slots
-      slots_same = get_or-set_same mid.slots port.0 slots no_slots (let f = k.four in let l = low in omega (arith, f, l))
-
-      slots_other : (q : ℕ) → q ≢ port.0 → slots_at new.slots q ≡ slots_at mid.slots q
-      slots_other q ne = get_or-set_other mid.slots port.0 q slots no_slots ne
 
       used : AreUsesOf new t.uses
       used = uses_then port.0 way found mid.ports mid.slots slots (record { uses = is.uses; parked = is.parked }) t (let f = (ready_found mid port.0 k ready).1 in in_ports mid.ports port.0 f.0 f.1)

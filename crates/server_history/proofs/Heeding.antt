@@ -1,5 +1,5 @@
 -- A port's turn heeds trouble that comes: a command that fails, a fatal error, or a disk that goes or comes. Its look told it, or it is shown still.
-use Rattle.std.proofs.Common.{ℕ, ◌≡◌, ◌≤◌, ◌++◌, Bool, true, false, List, ◌∷◌, inl, inr, refl, sym, ◌∙◌, subst, ⊎_elim, arith}
+use Rattle.std.proofs.Common.{ℕ, ◌≡◌, ◌≤◌, ◌++◌, true, false, List, ◌∷◌, inl, inr, refl, sym, ◌∙◌, subst, ⊎_elim, arith}
 use Rattle.std.specs.List.{All, Contains}
 use Rattle.std.proofs.lemmas.Bool.{false≢true}
 use Rattle.std.proofs.lemmas.List.{append_cancel_left}
@@ -36,11 +36,6 @@ use Rattle.server_history.specs.Served.{ChecksUsed, HasNone, HasTurn, IssuesIn}
 use Rattle.server_history.proofs.Coming.{none_or_some}
 use Rattle.server_history.proofs.Plain.{issues_serve}
 use Rattle.server_history.proofs.Showing.{fatal_unless, set_unless}
-
--- a bit that isn't set is clear
-clear_unless : (b : Bool) → (b ≡ true → ⊥) → b ≡ false
-clear_unless true none = absurd (none refl)
-clear_unless false none = refl
 
 -- ---- what the tape gained
 

@@ -41,7 +41,6 @@ pub mod Serviced
 pub mod Joined
 pub mod Progress
 pub mod Clear
-pub mod Masked
 pub mod Lifting
 pub mod Plans
 pub mod Unready

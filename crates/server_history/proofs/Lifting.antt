@@ -192,9 +192,6 @@ module _ (plan : Plan) (laws : LawsBelow) (s : Server) (start : IsSettled s) (ol
       pub undue : (s.device.port n).link_due ≡ false
       undue = ((kept.behind n low).runs ready).recorded.linked
 
-      same_ids : (a b d : Pending) → b.request.id ≡ a.request.id → b.request ≡ d.request → a.request.id.0 ≡ d.request.id.0
-      same_ids a b d one other = ap (λ (i : RequestId). i.0) (sym one ∙ ap (λ r. r.id) other)
-
       -- ---- requests, when the call began and when the turn did
 
       -- a request that was issued on the port has a slot

@@ -113,9 +113,6 @@ module _ (laws : LawsBelow) (port : Port) (done : ℕ) where
 
 -- ---- a port's turn
 
-pub same_more : (a b c : Server) → SameSettings a b → SameSettings b c → SameSettings a c
-same_more a b c first then = then ∙ ap (λ (x : Server). record x { device = c.device; table = c.table; slots = c.slots; book = c.book }) first
-
 -- what a turn leaves of the server
 pub turn_settings : LawsBelow → (port : Port) (replies : List Reply) (old new : Server) (turn : HasTurn port (slots_at old.slots port.0) replies old.device new.device) → AnswersTurn port replies old new turn
     → SameSettings old new

@@ -8,7 +8,6 @@ use Rattle.ata_types.specs.declared.PortState.TheVariants.{Absent, Ready as Read
 use Rattle.ata_types.specs.declared.request.Op.{Op}
 use Rattle.adapter.specs.Device.{Device}
 use Rattle.agreement.specs.Acts.{InSlots}
-use Rattle.agreement.specs.Facts.{RunsWell}
 use Rattle.agreement.specs.Links.{HasDeviceOrNone}
 use Rattle.agreement.specs.Slots.{Free}
 use Rattle.block_machine.specs.Due.{is_plain}
@@ -181,19 +180,3 @@ module _ (s : Server) (k : IsKept s) (m : Machine) (reached : IsReached m) (is :
     on = inl k.on;
     port = λ port low. let b = k.behind port.0 low in of port low (found_of s.ports port.0) refl b.behind b.runs;
   }
-
--- a served port that isn't ready is stopped, so that it doesn't run
-pub not_running : (s : Server) → IsKept s → (port : Port) → is_served (found_of s.ports port.0) ≡ true → state_of (found_of s.ports port.0) ≢ ReadyState → RunsWell (s.device.port port.0) → ⊥
-not_running s k port served other well = by (found_of s.ports port.0) served other (k.behind port.0 (k.there port.0 served).0).behind
-  where
-    halted : (s.device.port port.0).st ≡ false → ⊥
-    halted off = false≢true (sym off ∙ well.st)
-
-    by : (f : Found) → is_served f ≡ true → state_of f ≢ ReadyState → StillStandsBehind (wanted_of s.wanted port.0) f port.0 s.device → ⊥
-    by Unserved its unready behind = false≢true its
-    by (Ready info) its unready behind = unready refl
-    by (Unready ReadyState) its unready behind = unready refl
-    by (Unready Absent) its unready behind = halted behind.1.0.halted.st
-    by (Unready Foreign) its unready behind = halted behind.1.0.halted.st
-    by (Unready (Unfit n)) its unready behind = halted behind.1.0.halted.st
-    by (Unready Dead) its unready behind = halted behind.1.0

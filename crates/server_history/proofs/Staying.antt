@@ -3,7 +3,6 @@ use Rattle.std.proofs.Common.{ℕ, ◌≡◌, ◌≢◌, true, false, List, [], 
 use Rattle.std.specs.List.{count_by, list_any}
 use Rattle.std.proofs.lemmas.List.Elements.{Contains-append_cases, Contains-append_right}
 use Rattle.ata_types.specs.declared.Port.{Port}
-use Rattle.ata_types.specs.declared.PortState.{PortState}
 use Rattle.ata_types.specs.declared.PortState.TheVariants.{Absent, Ready as ReadyState}
 use Rattle.ata_types.specs.declared.request.Outcome.{Outcome}
 use Rattle.ata_types.specs.declared.request.Outcome.TheVariants.{DeviceError}
@@ -24,7 +23,7 @@ use Rattle.driver_history.specs.Histories.{IsUnfitOrForeign, HasFaultAlone, IsAn
 use Rattle.driver_history.specs.Parts.{HasTurnIn, NamesAlike}
 use Rattle.server_history.specs.Below.{LawsBelow}
 use Rattle.server_history.specs.Turns.{DoesPort, HasPart, HeedsTrouble, InService, MakesTurn, turn_of}
-use Rattle.server_history.specs.Server.{Server, IsKept, IsMachineOf, IsSettled, ports_of, state_of}
+use Rattle.server_history.specs.Server.{Server, IsKept, IsMachineOf, IsSettled, ports_of}
 use Rattle.server_history.proofs.Joined.{same_then}
 use Rattle.server_history.proofs.Origins.{stood}
 use Rattle.server_history.proofs.Carrying as carrying
@@ -39,9 +38,6 @@ module _ (laws : LawsBelow) (s : Server) (start : IsSettled s) (old : Moment) (r
 
   abbrev began : Instant Device
   began = record { device = s.device; moment = old }
-
-  abbrev state_at : ℕ → PortState
-  state_at q = state_of (found_of s.ports q)
 
   abbrev IsDone : Server → List Access → List Step → Evidence → Port → Type 0
   IsDone c accesses steps evidence q = progress.IsDone AService laws s start old reached at ports_are c accesses steps evidence q
@@ -61,9 +57,6 @@ module _ (laws : LawsBelow) (s : Server) (start : IsSettled s) (old : Moment) (r
 
     abbrev accesses : List Access
     accesses = p.accesses ++ part.accesses
-
-    whole_is : after old.machine all ≡ after m x.steps
-    whole_is = laws.basic.joined old.machine x.steps p.steps
 
     module _ (q : Port) (apart : q ≢ port_at n) (d : IsDone c p.accesses p.steps p.evidence q) (evidence : Evidence) (alike : NamesAlike q p.evidence evidence) (same : SamePort (ports_of c) (ports_of mid) q)
         (asked : old.ports.state q ≡ ReadyState) where

@@ -166,12 +166,6 @@ loss_shows p (inr other) = or_right p.serr_n (p.serr_x || not (nat_eq p.ssts_det
 
 -- a port that runs well shows none of it
 module _ (p : PortState) (well : RunsWell p) where
-  pub no_loss : shows_loss p ≡ true → ⊥
-  no_loss h = ⊎_elim
-      (λ change. ⊎_elim (λ n. false≢true (sym well.quiet.serr_n ∙ n)) (λ x. false≢true (sym well.quiet.serr_x ∙ x)) change)
-      (λ other. other well.det)
-      (unlost p h)
-
   pub no_fatal : shows_fatal p ≡ true → ⊥
   no_fatal h = let f = unfatal p h in let low = f.from in let high = f.to in false≢true (sym (well.quiet.quiet f.place low (omega (arith, high))) ∙ f.set)
 

@@ -35,55 +35,83 @@ use Rattle.port_boot.specs.States.{ShowsOwnDisk}
 
 pub record RecoveryLaws : Type 0 where
   -- where each issued request of a port has a slot, as many slots serve one
-  pub counted : (uses : Uses) (m : Machine) (d : Device) → IsReached m → Agrees uses m d → (port : Port) → NoneKept m port → (n : ℕ) → HaveSlots uses m port.0 []
-      → ((slot : ℕ) (id : RequestId) → uses port.0 slot ≡ Serves id → slot < n) → serving_count uses port.0 n ≡ issued_count (map unanswered m.book) port
+  pub counted : (uses : Uses) (m : Machine) (d : Device) → IsReached m → Agrees uses m d → (port : Port)
+      → NoneKept m port → (n : ℕ) → HaveSlots uses m port.0 []
+      → ((slot : ℕ) (id : RequestId) → uses port.0 slot ≡ Serves id → slot < n)
+      → serving_count uses port.0 n ≡ issued_count (map unanswered m.book) port
   -- acts lead to a machine that is reached
-  pub gone_reached : (k later : Known) (m : Machine) (steps : List Step) → IsReached m → Goes k m steps later → IsReached (after m steps)
-  pub put_other : (uses : Uses) (port slot : ℕ) (u : Use) (other_port other_slot : ℕ) → (other_port ≡ port → other_slot ≡ slot → ⊥) → put uses port slot u other_port other_slot ≡ uses other_port other_slot
+  pub gone_reached : (k later : Known) (m : Machine) (steps : List Step) → IsReached m → Goes k m steps later
+      → IsReached (after m steps)
+  pub put_other : (uses : Uses) (port slot : ℕ) (u : Use) (other_port other_slot : ℕ)
+      → (other_port ≡ port → other_slot ≡ slot → ⊥) → put uses port slot u other_port other_slot ≡ uses other_port
+      other_slot
   -- what accesses leave
   pub any_same : (old new : Device) → IsDrivenBy AnyAccess old new → SameAdapter old new
-  pub own_on : (port : ℕ) (accesses : List Access) (old new : Device) → DoesAll accesses old new → ShowsOwnDisk (old.port port) → ShowsOwnDisk (new.port port)
-  pub of_recorded : (port : Port) (q : ℕ) (old new : Device) → q ≢ port.0 → IsDrivenBy (IsOf port) old new → IsRecorded old.tape (old.port q) q → IsRecorded new.tape (new.port q) q
-  pub of_shown : (port other : Port) (old new : Device) → port.0 ≢ other.0 → IsOn old → IsDrivenBy (IsOf other) old new → HasDeviceOrNone (old.port port.0) → HasDeviceOrNone (new.port port.0)
+  pub own_on : (port : ℕ) (accesses : List Access) (old new : Device) → DoesAll accesses old new
+      → ShowsOwnDisk (old.port port) → ShowsOwnDisk (new.port port)
+  pub of_recorded : (port : Port) (q : ℕ) (old new : Device) → q ≢ port.0 → IsDrivenBy (IsOf port) old new
+      → IsRecorded old.tape (old.port q) q → IsRecorded new.tape (new.port q) q
+  pub of_shown : (port other : Port) (old new : Device) → port.0 ≢ other.0 → IsOn old → IsDrivenBy (IsOf other) old new
+      → HasDeviceOrNone (old.port port.0) → HasDeviceOrNone (new.port port.0)
   -- a port that was booted again
-  pub again_driven : (wanted : Wanted) (port : Port) (booted : Booted) (old new : Device) → BootsAgain wanted port booted old new → IsDrivenBy (IsOf port) old new
-  pub again_stands : (wanted : Wanted) (port : Port) (booted : Booted) (old new : Device) → BootsAgain wanted port booted old new → IsServed wanted port.0 old → StandsBehind wanted booted.found port.0 new
-  pub again_shown : (wanted : Wanted) (port : Port) (booted : Booted) (state : PortState) (old new : Device) → IsOn old → BootsAgain wanted port booted old new → FoundBadDisk state
-      → booted.found ≡ Unready state → HasDeviceOrNone (new.port port.0)
+  pub again_driven : (wanted : Wanted) (port : Port) (booted : Booted) (old new : Device)
+      → BootsAgain wanted port booted old new → IsDrivenBy (IsOf port) old new
+  pub again_stands : (wanted : Wanted) (port : Port) (booted : Booted) (old new : Device)
+      → BootsAgain wanted port booted old new → IsServed wanted port.0 old → StandsBehind wanted booted.found port.0 new
+  pub again_shown : (wanted : Wanted) (port : Port) (booted : Booted) (state : PortState) (old new : Device) → IsOn old
+      → BootsAgain wanted port booted old new → FoundBadDisk state → booted.found ≡ Unready state
+      → HasDeviceOrNone (new.port port.0)
   -- and one that was booted where a device showed
   pub start_of : (port : Port) (access : Access) → IsOfStart port access → IsOf port access
-  pub there_driven : (wanted : Wanted) (port : Port) (booted : Booted) (old new : Device) → BootsIfThere wanted port booted old new → IsDrivenBy (IsOf port) old new
-  pub there_stands : (wanted : Wanted) (port : Port) (booted : Booted) (old new : Device) → BootsIfThere wanted port booted old new → IsServed wanted port.0 old → StandsBehind wanted booted.found port.0 new
-  pub there_shown : (wanted : Wanted) (port : Port) (booted : Booted) (state : PortState) (old new : Device) → IsOn old → BootsIfThere wanted port booted old new → FoundBadDisk state
-      → booted.found ≡ Unready state → HasDeviceOrNone (new.port port.0)
+  pub there_driven : (wanted : Wanted) (port : Port) (booted : Booted) (old new : Device)
+      → BootsIfThere wanted port booted old new → IsDrivenBy (IsOf port) old new
+  pub there_stands : (wanted : Wanted) (port : Port) (booted : Booted) (old new : Device)
+      → BootsIfThere wanted port booted old new → IsServed wanted port.0 old
+      → StandsBehind wanted booted.found port.0 new
+  pub there_shown : (wanted : Wanted) (port : Port) (booted : Booted) (state : PortState) (old new : Device) → IsOn old
+      → BootsIfThere wanted port booted old new → FoundBadDisk state → booted.found ≡ Unready state
+      → HasDeviceOrNone (new.port port.0)
 
 -- What of a port's trouble is shown, and that stretches are of their parts.
 pub record TroubleLaws : Type 0 where
   -- each error, and each disk that goes or comes, is shown until it is cleared
-  pub shows_fault : (port : Port) (access : Access) (old new : Device) → old.hr ≡ false → SparesRegister (Px port Is) access → Does access old new → (new.port port.0).is 30 ≡ false
+  pub shows_fault : (port : Port) (access : Access) (old new : Device) → old.hr ≡ false
+      → SparesRegister (Px port Is) access → Does access old new → (new.port port.0).is 30 ≡ false
       → ((old.port port.0).is 30 ≡ false) × NoneFails port.0 old new
-  pub shows_fatal : (port : Port) (access : Access) (old new : Device) → old.hr ≡ false → SparesRegister (Px port Is) access → Does access old new
-      → ((place : ℕ) → 27 ≤ place → place ≤ 29 → (new.port port.0).is place ≡ false) → ((place : ℕ) → 27 ≤ place → place ≤ 29 → (old.port port.0).is place ≡ false) × NoneFatal port.0 old new
-  pub shows_disk : (port : Port) (access : Access) (old new : Device) → old.hr ≡ false → SparesRegister (Px port Serr) access → Does access old new → (new.port port.0).serr_n ≡ false
+  pub shows_fatal : (port : Port) (access : Access) (old new : Device) → old.hr ≡ false
+      → SparesRegister (Px port Is) access → Does access old new
+      → ((place : ℕ) → 27 ≤ place → place ≤ 29 → (new.port port.0).is place ≡ false)
+      → ((place : ℕ) → 27 ≤ place → place ≤ 29 → (old.port port.0).is place ≡ false) × NoneFatal port.0 old new
+  pub shows_disk : (port : Port) (access : Access) (old new : Device) → old.hr ≡ false
+      → SparesRegister (Px port Serr) access → Does access old new → (new.port port.0).serr_n ≡ false
       → ((old.port port.0).serr_n ≡ false) × PlugsNone port.0 old new
   -- parts
   pub fails_none : (port : ℕ) (d : Device) → NoneFails port d d
-  pub fails_more : (port : ℕ) (old mid new : Device) → NoneFails port old mid → NoneFails port mid new → NoneFails port old new
+  pub fails_more : (port : ℕ) (old mid new : Device) → NoneFails port old mid → NoneFails port mid new
+      → NoneFails port old new
   pub fatal_none : (port : ℕ) (d : Device) → NoneFatal port d d
-  pub fatal_more : (port : ℕ) (old mid new : Device) → NoneFatal port old mid → NoneFatal port mid new → NoneFatal port old new
+  pub fatal_more : (port : ℕ) (old mid new : Device) → NoneFatal port old mid → NoneFatal port mid new
+      → NoneFatal port old new
   pub plugs_none : (port : ℕ) (d : Device) → PlugsNone port d d
-  pub plugs_more : (port : ℕ) (old mid new : Device) → PlugsNone port old mid → PlugsNone port mid new → PlugsNone port old new
-  pub plugs_parts : (port : ℕ) (old mid new : Device) (early late : List Entry) → mid.tape ≡ old.tape ++ early → new.tape ≡ mid.tape ++ late → PlugsNone port old new → PlugsNone port old mid × PlugsNone port mid new
+  pub plugs_more : (port : ℕ) (old mid new : Device) → PlugsNone port old mid → PlugsNone port mid new
+      → PlugsNone port old new
+  pub plugs_parts : (port : ℕ) (old mid new : Device) (early late : List Entry) → mid.tape ≡ old.tape ++ early
+      → new.tape ≡ mid.tape ++ late → PlugsNone port old new → PlugsNone port old mid × PlugsNone port mid new
   -- where nothing disturbs a port
   pub calm_fatal : (port : ℕ) (old new : Device) → Undisturbed port old new → NoneFatal port old new
   pub calm_plugs : (port : ℕ) (old new : Device) → Undisturbed port old new → PlugsNone port old new
   -- its disk, and its link, stay
-  pub disk_left : (port : ℕ) (access : Access) (old new : Device) → Does access old new → PlugsNone port old new → LeavesDisk (old.port port) (new.port port)
-  pub link_left : (port : Port) (access : Access) (old new : Device) → old.hr ≡ false → SparesRegister (Px port Sctl) access → Does access old new → PlugsNone port.0 old new → LeavesLink (old.port port.0) (new.port port.0)
+  pub disk_left : (port : ℕ) (access : Access) (old new : Device) → Does access old new → PlugsNone port old new
+      → LeavesDisk (old.port port) (new.port port)
+  pub link_left : (port : Port) (access : Access) (old new : Device) → old.hr ≡ false
+      → SparesRegister (Px port Sctl) access → Does access old new → PlugsNone port.0 old new
+      → LeavesLink (old.port port.0) (new.port port.0)
   -- and a queued command that has halted it is taken still
-  pub halts_acts : (port : Port) (acts : List Act) (k later : Known) (m : Machine) → IsReached m → Knows m k → AreDone acts k m later → All (SparesRegister (Px port Cmd)) (accesses_of acts)
+  pub halts_acts : (port : Port) (acts : List Act) (k later : Known) (m : Machine) → IsReached m → Knows m k
+      → AreDone acts k m later → All (SparesRegister (Px port Cmd)) (accesses_of acts)
       → IsHaltedAsTaken (k.device.port port.0) → IsHaltedAsTaken (later.device.port port.0)
-  pub halts_access : (uses : Uses) (m : Machine) (port : Port) (access : Access) (old new : Device) → IsReached m → Agrees uses m old → SparesRegister (Px port Cmd) access → Does access old new
+  pub halts_access : (uses : Uses) (m : Machine) (port : Port) (access : Access) (old new : Device) → IsReached m
+      → Agrees uses m old → SparesRegister (Px port Cmd) access → Does access old new
       → IsHaltedAsTaken (old.port port.0) → IsHaltedAsTaken (new.port port.0)
   pub halts_calm : (p : PortOf) → p.halt ≡ NotHalted → HaltsAsTaken p
   pub halts_plain : (p : PortOf) → WorksPlainly p → HaltsAsTaken p

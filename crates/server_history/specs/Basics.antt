@@ -47,65 +47,94 @@ pub record BasicLaws : Type 0 where
   pub was_on : (old new : Device) → Steps old new → IsOn new → IsOn old
   -- steps one after another
   pub joined : (m : Machine) (late early : List Step) → after m (late ++ early) ≡ after (after m early) late
-  pub may : (m : Machine) (late early : List Step) → AllMay m early → AllMay (after m early) late → AllMay m (late ++ early)
+  pub may : (m : Machine) (late early : List Step) → AllMay m early → AllMay (after m early) late
+      → AllMay m (late ++ early)
   pub reached : (m : Machine) (steps : List Step) → IsReached m → AllMay m steps → IsReached (after m steps)
-  pub history_reached : (wanted : List Wanted) (first : Instant Device) (past : List (Happening Device DeviceStep)) → IsHistory wanted first past → IsReached (now first past).moment.machine
+  pub history_reached : (wanted : List Wanted) (first : Instant Device) (past : List (Happening Device DeviceStep))
+      → IsHistory wanted first past → IsReached (now first past).moment.machine
   -- the book
-  pub one : (m : Machine) → IsReached m → (a b : Pending) → Contains m.book a → Contains m.book b → a.request.id.0 ≡ b.request.id.0 → a ≡ b
+  pub one : (m : Machine) → IsReached m → (a b : Pending) → Contains m.book a → Contains m.book b
+      → a.request.id.0 ≡ b.request.id.0 → a ≡ b
   pub ended_issued : (m : Machine) (e : Pending) → IsReached m → Contains m.book e → e.ended ≡ true → e.issued ≡ true
   -- what the device's own steps leave of it
   pub spares : (m : Machine) (steps : List Step) → AllDevices steps → SparesBook m (after m steps)
-  pub found_later : (old new : List Pending) (e : Pending) → AllFurther old new → Contains old e → (x : Pending) × Contains new x × IsFurther e x
-  pub found_before : (old new : List Pending) (e : Pending) → AllFurther old new → Contains new e → (x : Pending) × Contains old x × IsFurther x e
+  pub found_later : (old new : List Pending) (e : Pending) → AllFurther old new → Contains old e → (x : Pending)
+      × Contains new x × IsFurther e x
+  pub found_before : (old new : List Pending) (e : Pending) → AllFurther old new → Contains new e → (x : Pending)
+      × Contains old x × IsFurther x e
   -- accesses one after another
-  pub does_append : (early late : List Access) (old mid new : Device) → DoesAll early old mid → DoesAll late mid new → DoesAll (early ++ late) old new
+  pub does_append : (early late : List Access) (old mid new : Device) → DoesAll early old mid → DoesAll late mid new
+      → DoesAll (early ++ late) old new
 
 -- what becomes of slots, and of the requests in them
 pub record SlotLaws : Type 0 where
   -- what becomes of requests that no slot serves
-  pub answered_agrees : (k : Known) (m : Machine) (e : Pending) (outcome : Outcome) (later : ℕ → List RequestId) → IsReached m → Knows m k → Contains m.book e → stays e outcome ≡ false
-      → HasNoSlot k.uses e.request.id → Forgets e.request.id k.parked later → Knows (after_step m (Answer e outcome)) (record k { parked = later })
-  pub again_agrees : (k : Known) (m : Machine) (e : Pending) (later : ℕ → List RequestId) → IsReached m → Knows m k → Contains m.book e → HasNoSlot k.uses e.request.id
-      → Forgets e.request.id k.parked later → Knows (after_step m (Again e)) (record k { parked = later })
+  pub answered_agrees : (k : Known) (m : Machine) (e : Pending) (outcome : Outcome) (later : ℕ → List RequestId)
+      → IsReached m → Knows m k → Contains m.book e → stays e outcome ≡ false → HasNoSlot k.uses e.request.id
+      → Forgets e.request.id k.parked later → Knows (after_step m (Answer e outcome)) (record k { parked = later })
+  pub again_agrees : (k : Known) (m : Machine) (e : Pending) (later : ℕ → List RequestId) → IsReached m → Knows m k
+      → Contains m.book e → HasNoSlot k.uses e.request.id → Forgets e.request.id k.parked later
+      → Knows (after_step m (Again e)) (record k { parked = later })
   -- and of one that is kept, in its slot or without one
-  pub kept_agrees : (k : Known) (m : Machine) (e : Pending) (outcome : Outcome) → IsReached m → Knows m k → Contains m.book e → stays e outcome ≡ true → Knows (after_step m (Answer e outcome)) k
+  pub kept_agrees : (k : Known) (m : Machine) (e : Pending) (outcome : Outcome) → IsReached m → Knows m k
+      → Contains m.book e → stays e outcome ≡ true → Knows (after_step m (Answer e outcome)) k
   -- what acts give
-  pub acts_go : (acts : List Act) (k later : Known) (m : Machine) → Knows m k → AreDone acts k m later → Goes k m (steps_of acts) later
+  pub acts_go : (acts : List Act) (k later : Known) (m : Machine) → Knows m k → AreDone acts k m later
+      → Goes k m (steps_of acts) later
   -- slots that are given up, or put to another use, and requests that have none
-  pub served : (uses : Uses) (port n : ℕ) (id : RequestId) → Contains (served_ids uses port n) id → (slot : ℕ) × (slot < n) × (uses port slot ≡ Serves id)
-  pub frees : (k : Known) (port slot : ℕ) (id : RequestId) → AreApart k.uses → k.uses port slot ≡ Serves id → HasNoSlot (parking_all k port).uses id
-  pub put_unserved : (uses : Uses) (port slot : ℕ) (u : Use) (id : RequestId) → HasNoSlot uses id → ((other : RequestId) → u ≡ Serves other → other ≢ id) → HasNoSlot (put uses port slot u) id
-  pub waiting : (uses : Uses) (m : Machine) (d : Device) → IsReached m → Agrees uses m d → (e : Pending) → Contains m.book e → e.issued ≡ false → HasNoSlot uses e.request.id
+  pub served : (uses : Uses) (port n : ℕ) (id : RequestId) → Contains (served_ids uses port n) id → (slot : ℕ)
+      × (slot < n) × (uses port slot ≡ Serves id)
+  pub frees : (k : Known) (port slot : ℕ) (id : RequestId) → AreApart k.uses → k.uses port slot ≡ Serves id
+      → HasNoSlot (parking_all k port).uses id
+  pub put_unserved : (uses : Uses) (port slot : ℕ) (u : Use) (id : RequestId) → HasNoSlot uses id
+      → ((other : RequestId) → u ≡ Serves other → other ≢ id) → HasNoSlot (put uses port slot u) id
+  pub waiting : (uses : Uses) (m : Machine) (d : Device) → IsReached m → Agrees uses m d → (e : Pending)
+      → Contains m.book e → e.issued ≡ false → HasNoSlot uses e.request.id
   -- a request that is due finds a free slot
-  pub plain_free : (uses : Uses) (m : Machine) (d : Device) → IsReached m → Agrees uses m d → (mode : Mode) (e : Pending) → May m (Issue mode e)
-      → ((o : Operation) → uses e.request.port.0 0 ≡ Own o → ⊥) → ((slot : ℕ) → uses e.request.port.0 slot ≡ Armed → ⊥) → is_plain mode e.request.asked.op ≡ true → uses e.request.port.0 0 ≡ Free
-  pub queued_free : (uses : Uses) (m : Machine) (d : Device) → IsReached m → Agrees uses m d → (mode : Mode) (e : Pending) → May m (Issue mode e)
-      → ((o : Operation) → uses e.request.port.0 0 ≡ Own o → ⊥) → ((slot : ℕ) → uses e.request.port.0 slot ≡ Armed → ⊥) → is_plain mode e.request.asked.op ≡ false
-      → (slot : ℕ) × (slot < mode.usable) × (uses e.request.port.0 slot ≡ Free)
+  pub plain_free : (uses : Uses) (m : Machine) (d : Device) → IsReached m → Agrees uses m d
+      → (mode : Mode) (e : Pending) → May m (Issue mode e) → ((o : Operation) → uses e.request.port.0 0 ≡ Own o → ⊥)
+      → ((slot : ℕ) → uses e.request.port.0 slot ≡ Armed → ⊥) → is_plain mode e.request.asked.op ≡ true
+      → uses e.request.port.0 0 ≡ Free
+  pub queued_free : (uses : Uses) (m : Machine) (d : Device) → IsReached m → Agrees uses m d
+      → (mode : Mode) (e : Pending) → May m (Issue mode e) → ((o : Operation) → uses e.request.port.0 0 ≡ Own o → ⊥)
+      → ((slot : ℕ) → uses e.request.port.0 slot ≡ Armed → ⊥) → is_plain mode e.request.asked.op ≡ false → (slot : ℕ)
+      × (slot < mode.usable) × (uses e.request.port.0 slot ≡ Free)
   -- the bytes of a slot say one command
-  pub one_said : (memory : ℕ → ℕ) (list slot : ℕ) (m n : Meaning) (xs ys : List ℕ) → Says memory list slot m xs → Says memory list slot n ys → (m ≡ n) × (xs ≡ ys)
+  pub one_said : (memory : ℕ → ℕ) (list slot : ℕ) (m n : Meaning) (xs ys : List ℕ) → Says memory list slot m xs
+      → Says memory list slot n ys → (m ≡ n) × (xs ≡ ys)
   -- what is stored for a slot stays so over acts that leave it
-  pub stored : (port : Port) (slot : ℕ) (c : Meaning) (places : List ℕ) (acts : List Act) (k later : Known) (m : Machine) → IsReached m → Knows m k → AreDone acts k m later
-      → All (LeavesStored port slot) (accesses_of acts) → IsOn k.device → IsStored k.device port.0 slot c places → IsStored later.device port.0 slot c places
+  pub stored : (port : Port) (slot : ℕ) (c : Meaning) (places : List ℕ) (acts : List Act) (k later : Known)
+      (m : Machine) → IsReached m → Knows m k → AreDone acts k m later
+      → All (LeavesStored port slot) (accesses_of acts) → IsOn k.device → IsStored k.device port.0 slot c places
+      → IsStored later.device port.0 slot c places
   -- and over an access that leaves it
-  pub stored_access : (uses : Uses) (m : Machine) (port : Port) (slot : ℕ) (c : Meaning) (places : List ℕ) (access : Access) (old new : Device) → IsReached m → Agrees uses m old → old.hr ≡ false
-      → ClearsNoStart port access → SparesRegister (Px port Clb) access → ((at : ℕ) (bytes : List ℕ) → access ≡ Storing at bytes → MissesTable port.0 slot at (length bytes)) → Does access old new
-      → IsStored old port.0 slot c places → IsStored new port.0 slot c places
+  pub stored_access : (uses : Uses) (m : Machine) (port : Port) (slot : ℕ) (c : Meaning) (places : List ℕ)
+      (access : Access) (old new : Device) → IsReached m → Agrees uses m old → old.hr ≡ false
+      → ClearsNoStart port access → SparesRegister (Px port Clb) access
+      → ((at : ℕ) (bytes : List ℕ) → access ≡ Storing at bytes → MissesTable port.0 slot at (length bytes))
+      → Does access old new → IsStored old port.0 slot c places → IsStored new port.0 slot c places
   -- a fault that is shown is of the slot that alone is used
-  pub fault_sole : (uses : Uses) (m : Machine) (d : Device) (port slot : ℕ) (entries : List TapeEntry) → Agrees uses m d → (s : ShowsFault entries (d.port port) port)
-      → ((other : ℕ) → other ≢ slot → uses port other ≡ Free) → s.fault.slot.0 ≡ slot
+  pub fault_sole : (uses : Uses) (m : Machine) (d : Device) (port slot : ℕ) (entries : List TapeEntry) → Agrees uses m d
+      → (s : ShowsFault entries (d.port port) port) → ((other : ℕ) → other ≢ slot → uses port other ≡ Free)
+      → s.fault.slot.0 ≡ slot
 
 -- requests that get older
 pub record AgeLaws : Type 0 where
   pub agrees : (k : Known) (m : Machine) (ready : Port → Bool) → Knows m k → Knows (after_step m (Age ready)) k
-  pub book : (entries : List Held) (m : Machine) (ready : Port → Bool) → IsBook entries m.book → IsBook (aged ready entries) (after_step m (Age ready)).book
+  pub book : (entries : List Held) (m : Machine) (ready : Port → Bool) → IsBook entries m.book
+      → IsBook (aged ready entries) (after_step m (Age ready)).book
   pub ordered : (entries : List Held) (ready : Port → Bool) → IsInOrder entries → IsInOrder (aged ready entries)
-  pub accepted : (rows : List GrantRow) (table : Table) (entries : List Held) (ready : Port → Bool) → All (IsAccepted rows table) entries → All (IsAccepted rows table) (aged ready entries)
+  pub accepted : (rows : List GrantRow) (table : Table) (entries : List Held) (ready : Port → Bool)
+      → All (IsAccepted rows table) entries → All (IsAccepted rows table) (aged ready entries)
   pub asks : (entries : List Held) (ready : Port → Bool) → asks_of (aged ready entries) ≡ asks_of entries
 
 -- requests that are unanswered or kept
 pub record LivingLaws : Type 0 where
-  pub limits : (start : Machine) (history : List Step) → IsStart start → IsLegal start history → WithinLimits (after start history)
-  pub lived : (start : Machine) (history : List Step) (e : Pending) → IsStart start → IsLegal start history → IsLiving (after start history) e → WasAccepted start history e.request
-  pub one : (start : Machine) (history : List Step) (one other : Accepted) → WasAccepted start history one → WasAccepted start history other → one.id ≡ other.id → one ≡ other
-  pub answered : (m : Machine) (a b : Pending) → IsReached m → Contains m.book a → Contains m.kept b → a.request.id.0 ≢ b.request.id.0
+  pub limits : (start : Machine) (history : List Step) → IsStart start → IsLegal start history
+      → WithinLimits (after start history)
+  pub lived : (start : Machine) (history : List Step) (e : Pending) → IsStart start → IsLegal start history
+      → IsLiving (after start history) e → WasAccepted start history e.request
+  pub one : (start : Machine) (history : List Step) (one other : Accepted) → WasAccepted start history one
+      → WasAccepted start history other → one.id ≡ other.id → one ≡ other
+  pub answered : (m : Machine) (a b : Pending) → IsReached m → Contains m.book a → Contains m.kept b
+      → a.request.id.0 ≢ b.request.id.0

@@ -1,4 +1,5 @@
--- What laws of the crates below say of requests, of transfers, and of accesses that serve ports: the laws of this crate rest on them.
+-- What laws of the crates below say of requests, of transfers, and of accesses that serve ports: the laws of this crate
+-- rest on them.
 use Rattle.std.specs.Prelude.{ℕ, true, false, ◌≡◌, ◌≢◌, ◌+◌, ◌%◌, ◌≤◌, ◌<◌, ◌↔◌, List, [], ◌∷◌, ◌++◌, map, Option, None, All, Contains, length}
 use Rattle.ata_types.specs.declared.Port.{Port}
 use Rattle.ata_types.specs.declared.grant.GrantRow.{GrantRow}
@@ -62,28 +63,43 @@ pub record LawsBelow : Type 0 where
   pub basic : BasicLaws
   pub living : LivingLaws
   -- the book and the machine's
-  pub accepts : (entries : List Held) (m : Machine) (e : Held) (r : machine.Accepted) → IsBook entries m.book → IsEntry e (newly_accepted r) → IsBook (entries ++ e ∷ []) (after_step m (Accept r)).book
-  pub issues : (entries : List Held) (m : Machine) (mode : Mode) (p : Pending) → IsBook entries m.book → IsBook (map (at p.request.id issue) entries) (after_step m (Issue mode p)).book
-  pub again : (entries : List Held) (m : Machine) (p : Pending) → IsBook entries m.book → IsBook (map (at p.request.id requeued_entry) entries) (after_step m (Again p)).book
-  pub answers : (entries : List Held) (m : Machine) (p : Pending) (outcome : Outcome) → IsBook entries m.book → IsBook (without p.request.id entries) (after_step m (Answer p outcome)).book
-  pub counts : (entries : List Held) (book : List Pending) (client : ClientId) → IsBook entries book → steps.unanswered_of book client ≡ unanswered_of entries client.0
+  pub accepts : (entries : List Held) (m : Machine) (e : Held) (r : machine.Accepted) → IsBook entries m.book
+      → IsEntry e (newly_accepted r) → IsBook (entries ++ e ∷ []) (after_step m (Accept r)).book
+  pub issues : (entries : List Held) (m : Machine) (mode : Mode) (p : Pending) → IsBook entries m.book
+      → IsBook (map (at p.request.id issue) entries) (after_step m (Issue mode p)).book
+  pub again : (entries : List Held) (m : Machine) (p : Pending) → IsBook entries m.book
+      → IsBook (map (at p.request.id requeued_entry) entries) (after_step m (Again p)).book
+  pub answers : (entries : List Held) (m : Machine) (p : Pending) (outcome : Outcome) → IsBook entries m.book
+      → IsBook (without p.request.id entries) (after_step m (Answer p outcome)).book
+  pub counts : (entries : List Held) (book : List Pending) (client : ClientId) → IsBook entries book
+      → steps.unanswered_of book client ≡ unanswered_of entries client.0
   -- its order
-  pub one : (entries : List Held) (a b : Held) → IsInOrder entries → Contains entries a → Contains entries b → a.entry.id ≡ b.entry.id → a ≡ b
-  pub longer : (entries : List Held) (e : Held) → IsInOrder entries → All (λ x. IsEarlier x e) entries → IsFresh e.entry → 1 ≤ e.entry.client.0 → e.entry.client.0 ≤ 8
-      → unanswered_of entries e.entry.client.0 < 16 → IsInOrder (entries ++ e ∷ [])
-  pub issued : (entries : List Held) (id : RequestId) → IsInOrder entries → IsWaiting id entries → IsInOrder (map (at id issue) entries)
-  pub requeued : (entries : List Held) (id : RequestId) → IsInOrder entries → MayGoAgain id entries → IsInOrder (map (at id requeued_entry) entries)
+  pub one : (entries : List Held) (a b : Held) → IsInOrder entries → Contains entries a → Contains entries b
+      → a.entry.id ≡ b.entry.id → a ≡ b
+  pub longer : (entries : List Held) (e : Held) → IsInOrder entries → All (λ x. IsEarlier x e) entries → IsFresh e.entry
+      → 1 ≤ e.entry.client.0 → e.entry.client.0 ≤ 8 → unanswered_of entries e.entry.client.0 < 16
+      → IsInOrder (entries ++ e ∷ [])
+  pub issued : (entries : List Held) (id : RequestId) → IsInOrder entries → IsWaiting id entries
+      → IsInOrder (map (at id issue) entries)
+  pub requeued : (entries : List Held) (id : RequestId) → IsInOrder entries → MayGoAgain id entries
+      → IsInOrder (map (at id requeued_entry) entries)
   pub fewer : (entries : List Held) (id : RequestId) → IsInOrder entries → IsInOrder (without id entries)
-  pub others : (entries : List Held) (id : RequestId) (change : Entry → Entry) (e : Held) → Contains entries e → e.entry.id ≢ id → Contains (map (at id change) entries) e
-  pub left : (entries : List Held) (id : RequestId) (e : Held) → Contains (without id entries) e ↔ (Contains entries e × (e.entry.id ≢ id))
+  pub others : (entries : List Held) (id : RequestId) (change : Entry → Entry) (e : Held) → Contains entries e
+      → e.entry.id ≢ id → Contains (map (at id change) entries) e
+  pub left : (entries : List Held) (id : RequestId) (e : Held) → Contains (without id entries) e
+      ↔ (Contains entries e × (e.entry.id ≢ id))
   pub asked : (entries : List Held) → IsInOrder entries → machine_in_order (asks_of entries)
   -- what is lent
-  pub still_lent : (rows : List GrantRow) (old new : Table) (entries : List Held) (frames : List Frame) (to : Option RequestId) → LendsOnly old new frames to → All (λ f. lent_to old f ≡ None) frames
+  pub still_lent : (rows : List GrantRow) (old new : Table) (entries : List Held) (frames : List Frame)
+      (to : Option RequestId) → LendsOnly old new frames to → All (λ f. lent_to old f ≡ None) frames
       → All (IsAccepted rows old) entries → All (IsAccepted rows new) entries
-  pub still_answered : (rows : List GrantRow) (old new : Table) (entries : List Held) (e : Held) → Contains entries e → LendsOnly old new e.frames None → All (IsAccepted rows old) entries
+  pub still_answered : (rows : List GrantRow) (old new : Table) (entries : List Held) (e : Held) → Contains entries e
+      → LendsOnly old new e.frames None → All (IsAccepted rows old) entries
       → All (IsAccepted rows new) (without e.entry.id entries)
-  pub still_issued : (rows : List GrantRow) (table : Table) (entries : List Held) (id : RequestId) → All (IsAccepted rows table) entries → All (IsAccepted rows table) (map (at id issue) entries)
-  pub still_requeued : (rows : List GrantRow) (table : Table) (entries : List Held) (id : RequestId) → All (IsAccepted rows table) entries → All (IsAccepted rows table) (map (at id requeued_entry) entries)
+  pub still_issued : (rows : List GrantRow) (table : Table) (entries : List Held) (id : RequestId)
+      → All (IsAccepted rows table) entries → All (IsAccepted rows table) (map (at id issue) entries)
+  pub still_requeued : (rows : List GrantRow) (table : Table) (entries : List Held) (id : RequestId)
+      → All (IsAccepted rows table) entries → All (IsAccepted rows table) (map (at id requeued_entry) entries)
   -- what becomes of slots, and of the requests in them
   pub slots : SlotLaws
   -- requests that get older
@@ -91,43 +107,65 @@ pub record LawsBelow : Type 0 where
   -- what the device backs
   pub backed_none : (d : Device) (m : Machine) → IsBacked d d m []
   pub backed_own : (d : Device) (m : Machine) (step : Step) → (IsDevices step → ⊥) → IsBacked d d m (step ∷ [])
-  pub backed_parts : (old mid new : Device) (m : Machine) (early late : List Step) → IsBacked old mid m early → IsBacked mid new (after m early) late → IsBacked old new m (late ++ early)
+  pub backed_parts : (old mid new : Device) (m : Machine) (early late : List Step) → IsBacked old mid m early
+      → IsBacked mid new (after m early) late → IsBacked old new m (late ++ early)
   -- what is due
-  pub waits : (mode : Mode) (entries : List Held) (r : Unanswered) → IsDue mode (asks_of entries) r → IsWaiting r.id entries
-  pub asks_issued : (entries : List Held) (id : RequestId) → asks_of (map (at id issue) entries) ≡ with_issued id (asks_of entries)
-  pub asks_answered : (entries : List Held) (id : RequestId) → asks_of (without id entries) ≡ with_none id (asks_of entries)
-  pub exact : (mode : Mode) (port : Port) (book : List Unanswered) (r : Unanswered) → r.port ≡ port → Contains (due_of mode port book) r ↔ IsDue mode book r
-  pub own : (mode : Mode) (port : Port) (book : List Unanswered) (r : Unanswered) → Contains (due_of mode port book) r → r.port ≡ port
-  pub in_turn : (mode : Mode) (port : Port) (book : List Unanswered) → machine_in_order book → AreDueInTurn mode port (map (λ r. r.id) (due_of mode port book)) book
-  pub same_due : (mode : Mode) (port : Port) (book other : List Unanswered) (r : Unanswered) → of_port port book ≡ of_port port other → r.port ≡ port → IsDue mode book r ↔ IsDue mode other r
-  pub issued_apart : (port : Port) (book : List Unanswered) (r : Unanswered) → machine_in_order book → Contains book r → r.port ≢ port → of_port port (with_issued r.id book) ≡ of_port port book
-  pub answered_apart : (port : Port) (book : List Unanswered) (r : Unanswered) → machine_in_order book → Contains book r → r.port ≢ port → of_port port (with_none r.id book) ≡ of_port port book
+  pub waits : (mode : Mode) (entries : List Held) (r : Unanswered) → IsDue mode (asks_of entries) r
+      → IsWaiting r.id entries
+  pub asks_issued : (entries : List Held) (id : RequestId) → asks_of (map (at id issue) entries)
+      ≡ with_issued id (asks_of entries)
+  pub asks_answered : (entries : List Held) (id : RequestId)
+      → asks_of (without id entries) ≡ with_none id (asks_of entries)
+  pub exact : (mode : Mode) (port : Port) (book : List Unanswered) (r : Unanswered) → r.port ≡ port
+      → Contains (due_of mode port book) r ↔ IsDue mode book r
+  pub own : (mode : Mode) (port : Port) (book : List Unanswered) (r : Unanswered) → Contains (due_of mode port book) r
+      → r.port ≡ port
+  pub in_turn : (mode : Mode) (port : Port) (book : List Unanswered) → machine_in_order book
+      → AreDueInTurn mode port (map (λ r. r.id) (due_of mode port book)) book
+  pub same_due : (mode : Mode) (port : Port) (book other : List Unanswered) (r : Unanswered)
+      → of_port port book ≡ of_port port other → r.port ≡ port → IsDue mode book r ↔ IsDue mode other r
+  pub issued_apart : (port : Port) (book : List Unanswered) (r : Unanswered) → machine_in_order book → Contains book r
+      → r.port ≢ port → of_port port (with_issued r.id book) ≡ of_port port book
+  pub answered_apart : (port : Port) (book : List Unanswered) (r : Unanswered) → machine_in_order book → Contains book r
+      → r.port ≢ port → of_port port (with_none r.id book) ≡ of_port port book
   -- accesses that serve ports
   pub looks : Laws
   pub looking : LookLaws
   -- a task is issued
-  pub issuing_ends : (port : Port) (slot : ℕ) (r : Task) (frames : List Frame) (mode : Mode) (e : Pending) (old new : Device) (s : InSlots) (m : Machine)
-      → IssuesTask port slot r frames old new → IsTaskOf port slot r frames mode e → IsReached m → Knows m (at_slots s old) → MayServe port slot mode e s m
+  pub issuing_ends : (port : Port) (slot : ℕ) (r : Task) (frames : List Frame) (mode : Mode) (e : Pending)
+      (old new : Device) (s : InSlots) (m : Machine)
+      → IssuesTask port slot r frames old new → IsTaskOf port slot r frames mode e → IsReached m
+      → Knows m (at_slots s old) → MayServe port slot mode e s m
       → EndsWith (at_slots s old) m (Issue mode e) (at_slots (with_serving port slot e.request.id s) new)
-  pub issuing_silent : (port : Port) (slot : ℕ) (r : Task) (frames : List Frame) (mode : Mode) (e : Pending) (old new : Device) (s : InSlots) (m : Machine)
-      → IssuesTask port slot r frames old new → IsTaskOf port slot r frames mode e → IsReached m → Knows m (at_slots s old) → MayServe port slot mode e s m
-      → (q : ℕ) (o : Operation) → op_of o ≡ None → (s.uses q 0 ≡ Own o → ⊥) → SendsNone q o old new
+  pub issuing_silent : (port : Port) (slot : ℕ) (r : Task) (frames : List Frame) (mode : Mode) (e : Pending)
+      (old new : Device) (s : InSlots) (m : Machine)
+      → IssuesTask port slot r frames old new → IsTaskOf port slot r frames mode e → IsReached m
+      → Knows m (at_slots s old) → MayServe port slot mode e s m → (q : ℕ) (o : Operation) → op_of o ≡ None
+      → (s.uses q 0 ≡ Own o → ⊥) → SendsNone q o old new
   pub issuing_of : (port : Port) (slot : ℕ) (access : Access) → IsIssuing port slot access → IsOf port access
   -- it is found done
   pub finding_of : (port : Port) (access : Access) → IsFinding port access → IsOf port access
-  pub finding_followed : (port : Port) (mask done : ℕ) (old new : Device) → ReadsDone port mask done old new → IsFollowed (IsFinding port) AnyUse old new
+  pub finding_followed : (port : Port) (mask done : ℕ) (old new : Device) → ReadsDone port mask done old new
+      → IsFollowed (IsFinding port) AnyUse old new
   -- the adapter
   pub steps_keep : (old new : Device) → Steps old new → Keeps old new
-  pub switches_on : (v : ℕ) (old new : Device) → old.hr ≡ false → bit v 31 ≡ true → bit v 0 ≡ false → Writes Ghc v old new → IsOn new
+  pub switches_on : (v : ℕ) (old new : Device) → old.hr ≡ false → bit v 31 ≡ true → bit v 0 ≡ false
+      → Writes Ghc v old new → IsOn new
   -- accesses of one port
   pub of_on : (port : Port) (old new : Device) → IsOn old → IsDrivenBy (IsOf port) old new → IsOn new
-  pub of_left : (port : Port) (q : ℕ) (old new : Device) → q ≢ port.0 → IsOn old → IsDrivenBy (IsOf port) old new → LeavesPort (old.port q) (new.port q)
-  pub of_spares : (port q : Port) (r : PortReg) → q.0 ≢ port.0 → (access : Access) → IsOf port access → SparesRegister (Px q r) access
+  pub of_left : (port : Port) (q : ℕ) (old new : Device) → q ≢ port.0 → IsOn old → IsDrivenBy (IsOf port) old new
+      → LeavesPort (old.port q) (new.port q)
+  pub of_spares : (port q : Port) (r : PortReg) → q.0 ≢ port.0 → (access : Access) → IsOf port access
+      → SparesRegister (Px q r) access
   pub of_host : (port : Port) (access : Access) → IsOf port access → SparesRegister Ghc access
   -- a port that runs does so still
-  pub runs_over : (port : Port) (access : Access) (old new : Device) → IsOn old → SparesRegister (Px port Sctl) access → SparesRegister (Px port Cmd) access → Does access old new → RunsOn port.0 old new
-  pub runs_on : (port : Port) (accesses : List Access) (old new : Device) → IsOn old → DoesAll accesses old new → All (SparesRegister Ghc) accesses → All (SparesRegister (Px port Sctl)) accesses → All (SparesRegister (Px port Cmd)) accesses → RunsOn port.0 old new
-  pub runs_well : (port : ℕ) (old new : Device) → RunsOn port old new → Undisturbed port old new → RunsWell (old.port port) → RunsWell (new.port port)
+  pub runs_over : (port : Port) (access : Access) (old new : Device) → IsOn old → SparesRegister (Px port Sctl) access
+      → SparesRegister (Px port Cmd) access → Does access old new → RunsOn port.0 old new
+  pub runs_on : (port : Port) (accesses : List Access) (old new : Device) → IsOn old → DoesAll accesses old new
+      → All (SparesRegister Ghc) accesses → All (SparesRegister (Px port Sctl)) accesses
+      → All (SparesRegister (Px port Cmd)) accesses → RunsOn port.0 old new
+  pub runs_well : (port : ℕ) (old new : Device) → RunsOn port old new → Undisturbed port old new
+      → RunsWell (old.port port) → RunsWell (new.port port)
   -- a port is recovered
   pub recovery : RecoveryLaws
   -- what is shown of trouble
@@ -136,24 +174,36 @@ pub record LawsBelow : Type 0 where
   pub calls : CallLaws
   -- a port that is recovered, or booted anew
   pub recovering_of : (port : Port) (access : Access) → IsRecovering port access → IsOf port access
-  pub recovering_loads : (port : Port) (at : ℕ) (bytes : List ℕ) → port.0 < 4 → IsRecovering port (Loading at bytes) → at + length bytes ≤ DRIVER_BYTES
-  pub recovering_stores : (port : Port) (at : ℕ) (bytes : List ℕ) → port.0 < 4 → IsRecovering port (Storing at bytes) → at + length bytes ≤ DRIVER_BYTES
+  pub recovering_loads : (port : Port) (at : ℕ) (bytes : List ℕ) → port.0 < 4 → IsRecovering port (Loading at bytes)
+      → at + length bytes ≤ DRIVER_BYTES
+  pub recovering_stores : (port : Port) (at : ℕ) (bytes : List ℕ) → port.0 < 4 → IsRecovering port (Storing at bytes)
+      → at + length bytes ≤ DRIVER_BYTES
   pub booting_of : (port : Port) (access : Access) → IsOfBoot port access → IsOf port access
   -- what accesses tell of a port's engines
-  pub falls_then : (early late : List Access) (start running : ℕ) (port : Port) → Falls start running port early → Falls start running port (early ++ late)
-  pub falls_since : (early late : List Access) (start running : ℕ) (port : Port) → Falls start running port late → Falls start running port (early ++ late)
+  pub falls_then : (early late : List Access) (start running : ℕ) (port : Port) → Falls start running port early
+      → Falls start running port (early ++ late)
+  pub falls_since : (early late : List Access) (start running : ℕ) (port : Port) → Falls start running port late
+      → Falls start running port (early ++ late)
   pub sticks_then : (early late : List Access) (port : Port) → Sticks port early → Sticks port (early ++ late)
   pub sticks_since : (early late : List Access) (port : Port) → Sticks port late → Sticks port (early ++ late)
   -- what stands behind a fault in a part of a turn
-  pub failed_stays : (port : Port) (early part late : List Access) (start old new end : Device) (fault : Fault) → IsOn start → All (SparesRegister Ghc) early → All (SparesRegister (Px port Cmd)) early
-      → DoesAll early start old → DoesAll late new end → HasFailed port part old new fault → HasFailed port (early ++ (part ++ late)) start end fault
-  pub log_stays : (port : Port) (start old new end : Device) (page : List ℕ) → Grows start old → SendsNone port.0 ReadLog new end → BringsLog port old new page → BringsLog port start end page
+  pub failed_stays : (port : Port) (early part late : List Access) (start old new end : Device) (fault : Fault)
+      → IsOn start → All (SparesRegister Ghc) early → All (SparesRegister (Px port Cmd)) early → DoesAll early start old
+      → DoesAll late new end → HasFailed port part old new fault → HasFailed port (early ++ (part ++ late)) start end
+      fault
+  pub log_stays : (port : Port) (start old new end : Device) (page : List ℕ) → Grows start old
+      → SendsNone port.0 ReadLog new end → BringsLog port old new page → BringsLog port start end page
   -- a request that waits again
-  pub asks_requeued : (entries : List Held) (id : RequestId) → asks_of (map (at id requeued_entry) entries) ≡ with_waiting id (asks_of entries)
+  pub asks_requeued : (entries : List Held) (id : RequestId) → asks_of (map (at id requeued_entry) entries)
+      ≡ with_waiting id (asks_of entries)
   -- a disk that comes, or goes
-  pub out_on : (port : Port) (access : Access) (old new : Device) → NoneComes port.0 old new → Does access old new → (old.port port.0).present ≡ false → (new.port port.0).present ≡ false
-  pub vacant_on : (port : Port) (access : Access) (old new : Device) → NoneComes port.0 old new → Does access old new → IsVacant (old.port port.0) → IsVacant (new.port port.0)
-  pub fresh_on : (port : Port) (access : Access) (old new : Device) → NoneComes port.0 old new → Does access old new → IsFreshIfShown (old.port port.0) → IsFreshIfShown (new.port port.0)
-  pub fresh_reset : (port : Port) (v : ℕ) (old new : Device) → v % 16 ≡ 1 → Writes (Px port Sctl) v old new → IsFreshIfShown (new.port port.0)
-  pub disks_told : (port : Port) (m : Machine) (gained : List TapeEntry) (steps : List Step) → TellsAmong m gained steps → (e : TapeEntry) → Contains gained e → IsPlugging port.0 e
-      → list_any (changes_disk port) steps ≡ true
+  pub out_on : (port : Port) (access : Access) (old new : Device) → NoneComes port.0 old new → Does access old new
+      → (old.port port.0).present ≡ false → (new.port port.0).present ≡ false
+  pub vacant_on : (port : Port) (access : Access) (old new : Device) → NoneComes port.0 old new → Does access old new
+      → IsVacant (old.port port.0) → IsVacant (new.port port.0)
+  pub fresh_on : (port : Port) (access : Access) (old new : Device) → NoneComes port.0 old new → Does access old new
+      → IsFreshIfShown (old.port port.0) → IsFreshIfShown (new.port port.0)
+  pub fresh_reset : (port : Port) (v : ℕ) (old new : Device) → v % 16 ≡ 1 → Writes (Px port Sctl) v old new
+      → IsFreshIfShown (new.port port.0)
+  pub disks_told : (port : Port) (m : Machine) (gained : List TapeEntry) (steps : List Step) → TellsAmong m gained steps
+      → (e : TapeEntry) → Contains gained e → IsPlugging port.0 e → list_any (changes_disk port) steps ≡ true

@@ -34,84 +34,136 @@ use Rattle.port_look.specs.declared.Look.TheVariants.{Broken, Failed, Lost, Undi
 
 pub record LookLaws : Type 0 where
   -- a reading of a port's register
-  pub seen : (port : Port) (r : PortReg) (v : ℕ) (old new : Device) → Reads (Px port r) v old new → old.hr ≡ false → SeenAt port.0 r v old new
+  pub seen : (port : Port) (r : PortReg) (v : ℕ) (old new : Device) → Reads (Px port r) v old new → old.hr ≡ false
+      → SeenAt port.0 r v old new
   pub leaves_none : (p : PortState) → LeavesPort p p
   pub leaves_more : (old mid new : PortState) → LeavesPort old mid → LeavesPort mid new → LeavesPort old new
   -- a command that failed
-  pub fails_look : (port : Port) (old new : Device) → IsOn old → LooksAt port Failed old new → (old.port port.0).st ≡ true → IsRecorded old.tape (old.port port.0) port.0
-      → IsFaulted (new.port port.0).halt × ((new.port port.0).notes.last_ssts % 16 ≡ 3)
-  pub fails_reads : (port : Port) (r : PortReg) (v : ℕ) (old new : Device) → IsOn old → Reads (Px port r) v old new → r ≢ Ssts → (old.port port.0).st ≡ true → IsRecorded old.tape (old.port port.0) port.0
-      → IsFaulted (old.port port.0).halt → IsFaulted (new.port port.0).halt × ((new.port port.0).notes.last_ssts ≡ (old.port port.0).notes.last_ssts)
+  pub fails_look : (port : Port) (old new : Device) → IsOn old → LooksAt port Failed old new
+      → (old.port port.0).st ≡ true → IsRecorded old.tape (old.port port.0) port.0 → IsFaulted (new.port port.0).halt
+      × ((new.port port.0).notes.last_ssts % 16 ≡ 3)
+  pub fails_reads : (port : Port) (r : PortReg) (v : ℕ) (old new : Device) → IsOn old → Reads (Px port r) v old new
+      → r ≢ Ssts → (old.port port.0).st ≡ true → IsRecorded old.tape (old.port port.0) port.0
+      → IsFaulted (old.port port.0).halt → IsFaulted (new.port port.0).halt
+      × ((new.port port.0).notes.last_ssts ≡ (old.port port.0).notes.last_ssts)
   -- what a look tells of trouble
-  pub looks_changed : (port : Port) (result : Look) (old new : Device) → IsOn old → LooksAt port result old new → ((old.port port.0).serr_n ≡ true) ⊎ ((old.port port.0).serr_x ≡ true) → result ≡ Lost
-  pub looks_unlinked : (port : Port) (result : Look) (old new : Device) → IsOn old → LooksAt port result old new → (old.port port.0).ssts_det ≢ 3 → (old.port port.0).link_due ≡ false → NoneComes port.0 old new → result ≡ Lost
+  pub looks_changed : (port : Port) (result : Look) (old new : Device) → IsOn old → LooksAt port result old new
+      → ((old.port port.0).serr_n ≡ true) ⊎ ((old.port port.0).serr_x ≡ true) → result ≡ Lost
+  pub looks_unlinked : (port : Port) (result : Look) (old new : Device) → IsOn old → LooksAt port result old new
+      → (old.port port.0).ssts_det ≢ 3 → (old.port port.0).link_due ≡ false → NoneComes port.0 old new → result ≡ Lost
   pub looks_failed : (causes status : ℕ) → look_of causes status ≡ Failed
-      → (bit causes 30 ≡ true) × (bit causes 6 ≡ false) × (bit causes 22 ≡ false) × ((place : ℕ) → 27 ≤ place → place ≤ 29 → bit causes place ≡ false) × (status % 16 ≡ 3)
+      → (bit causes 30 ≡ true) × (bit causes 6 ≡ false) × (bit causes 22 ≡ false)
+      × ((place : ℕ) → 27 ≤ place → place ≤ 29 → bit causes place ≡ false) × (status % 16 ≡ 3)
   pub looks_undisturbed : (causes status : ℕ) → look_of causes status ≡ Calm → TellsNoTrouble causes × (status % 16 ≡ 3)
-  pub looks_calm : (port : Port) (result : Look) (old new : Device) → IsOn old → (l : LooksAt port result old new) → result ≡ Calm → ShowsNoTrouble (old.port port.0) × Undisturbed port.0 old l.seen
+  pub looks_calm : (port : Port) (result : Look) (old new : Device) → IsOn old → (l : LooksAt port result old new)
+      → result ≡ Calm → ShowsNoTrouble (old.port port.0) × Undisturbed port.0 old l.seen
   -- a command that fails is heeded
   pub looks_broken : (causes status : ℕ) → look_of causes status ≡ Broken
-      → ((bit causes 28 ≡ true) ⊎ (bit causes 29 ≡ true) ⊎ (bit causes 27 ≡ true)) × (bit causes 6 ≡ false) × (bit causes 22 ≡ false) × (status % 16 ≡ 3)
+      → ((bit causes 28 ≡ true) ⊎ (bit causes 29 ≡ true) ⊎ (bit causes 27 ≡ true)) × (bit causes 6 ≡ false)
+      × (bit causes 22 ≡ false) × (status % 16 ≡ 3)
   -- trouble is heeded
-  pub looks_fault : (port : Port) (result : Look) (old new : Device) → IsOn old → (l : LooksAt port result old new) → bit l.causes 30 ≡ false → ShowsFaults port.0 old new
-  pub looks_fatal : (port : Port) (result : Look) (old new : Device) → IsOn old → (l : LooksAt port result old new) → ((place : ℕ) → 27 ≤ place → place ≤ 29 → bit l.causes place ≡ false) → ShowsFatals port.0 old new
-  pub looks_disk : (port : Port) (result : Look) (old new : Device) → IsOn old → LooksAt port result old new → ShowsDisks port.0 old new
-  pub ordinary_faults : (port : Port) (old new : Device) → IsOn old → IsDrivenBy (IsOrdinary port) old new → ShowsFaults port.0 old new
-  pub ordinary_fatals : (port : Port) (old new : Device) → IsOn old → IsDrivenBy (IsOrdinary port) old new → ShowsFatals port.0 old new
-  pub ordinary_disks : (port : Port) (old new : Device) → IsOn old → IsDrivenBy (IsOrdinary port) old new → ShowsDisks port.0 old new
-  pub looks_loss : (port : Port) (old new : Device) → IsOn old → LooksAt port Lost old new → (old.port port.0).link_due ≡ false → HasLoss port.0 old new
+  pub looks_fault : (port : Port) (result : Look) (old new : Device) → IsOn old → (l : LooksAt port result old new)
+      → bit l.causes 30 ≡ false → ShowsFaults port.0 old new
+  pub looks_fatal : (port : Port) (result : Look) (old new : Device) → IsOn old → (l : LooksAt port result old new)
+      → ((place : ℕ) → 27 ≤ place → place ≤ 29 → bit l.causes place ≡ false) → ShowsFatals port.0 old new
+  pub looks_disk : (port : Port) (result : Look) (old new : Device) → IsOn old → LooksAt port result old new
+      → ShowsDisks port.0 old new
+  pub ordinary_faults : (port : Port) (old new : Device) → IsOn old → IsDrivenBy (IsOrdinary port) old new
+      → ShowsFaults port.0 old new
+  pub ordinary_fatals : (port : Port) (old new : Device) → IsOn old → IsDrivenBy (IsOrdinary port) old new
+      → ShowsFatals port.0 old new
+  pub ordinary_disks : (port : Port) (old new : Device) → IsOn old → IsDrivenBy (IsOrdinary port) old new
+      → ShowsDisks port.0 old new
+  pub looks_loss : (port : Port) (old new : Device) → IsOn old → LooksAt port Lost old new
+      → (old.port port.0).link_due ≡ false → HasLoss port.0 old new
   -- accesses that serve ports
   pub looking_service : (port : Port) (access : Access) → IsLooking port access → IsService access
   pub looking_of : (port : Port) (access : Access) → IsLooking port access → IsOf port access
-  pub looks_driven : (port : Port) (result : Look) (old new : Device) → LooksAt port result old new → IsDrivenBy (IsLooking port) old new
-  pub looks_well : (port : Port) (result : Look) (old new : Device) → IsOn old → LooksAt port result old new → RunsWell (old.port port.0) → Undisturbed port.0 old new
-      → (result ≡ Calm) × RunsWell (new.port port.0)
+  pub looks_driven : (port : Port) (result : Look) (old new : Device) → LooksAt port result old new
+      → IsDrivenBy (IsLooking port) old new
+  pub looks_well : (port : Port) (result : Look) (old new : Device) → IsOn old → LooksAt port result old new
+      → RunsWell (old.port port.0) → Undisturbed port.0 old new → (result ≡ Calm) × RunsWell (new.port port.0)
   -- what serving ports leaves
   pub services_on : (old new : Device) → IsOn old → IsDrivenBy IsService old new → IsOn new
   pub services_same : (old new : Device) → IsDrivenBy IsService old new → SameAdapter old new
   pub services_controls : (port : ℕ) (old new : Device) → IsOn old → IsDrivenBy IsService old new
       → ((new.port port).sctl_det ≡ (old.port port).sctl_det) × ((new.port port).ie ≡ (old.port port).ie)
-      × ((new.port port).notes.sctl_written_at ≡ (old.port port).notes.sctl_written_at) × ((new.port port).notes.st_set_at ≡ (old.port port).notes.st_set_at)
-  pub services_recorded : (port : ℕ) (old new : Device) → IsDrivenBy IsService old new → IsRecorded old.tape (old.port port) port → IsRecorded new.tape (new.port port) port
-  pub looks_inactive : (port : Port) (q slot : ℕ) (old new : Device) → IsDrivenBy (IsLooking port) old new → (old.port q).sact slot ≡ false → (new.port q).sact slot ≡ false
+      × ((new.port port).notes.sctl_written_at ≡ (old.port port).notes.sctl_written_at)
+      × ((new.port port).notes.st_set_at ≡ (old.port port).notes.st_set_at)
+  pub services_recorded : (port : ℕ) (old new : Device) → IsDrivenBy IsService old new
+      → IsRecorded old.tape (old.port port) port → IsRecorded new.tape (new.port port) port
+  pub looks_inactive : (port : Port) (q slot : ℕ) (old new : Device) → IsDrivenBy (IsLooking port) old new
+      → (old.port q).sact slot ≡ false → (new.port q).sact slot ≡ false
 
 pub record CallLaws : Type 0 where
   -- a port's turn in a call
-  pub evidence : (port : Port) (old : Instant Device) (begun : Moment) (ended ports : Ports) (new : Device) (turn call : Evidence) (ask : Ask DeviceStep) (said : Said) → IsOn old.device
+  pub evidence : (port : Port) (old : Instant Device) (begun : Moment) (ended ports : Ports) (new : Device)
+      (turn call : Evidence) (ask : Ask DeviceStep) (said : Said) → IsOn old.device
       → ((old.moment.ports.state port ≡ Ready) ⊎ Contains turn.lost port → (old.device.port port.0).link_due ≡ false)
-      → (t : HasTurnIn port old.device new) → IsOn t.end → SamePort old.moment.ports begun.ports port → SamePort ended ports port → NamesAlike port turn call
-      → IsEvidencedOf ask said t.turn (record { device = t.start; moment = begun }) ended t.end turn port → IsEvidencedOf ask said (all_of t) old ports new call port
-  pub failed : (port : Port) (old new : Device) (fault : Fault) → IsOn old → (t : HasTurnIn port old new) → HasFailed port t.turn t.start t.end fault → HasFailed port (all_of t) old new fault
-  pub brings : (port : Port) (old new : Device) (page : List ℕ) → IsOn old → (t : HasTurnIn port old new) → SendsNone port.0 ReadLog t.end new → BringsLog port t.start t.end page → BringsLog port old new page
+      → (t : HasTurnIn port old.device new) → IsOn t.end → SamePort old.moment.ports begun.ports port
+      → SamePort ended ports port → NamesAlike port turn call
+      → IsEvidencedOf ask said t.turn (record { device = t.start; moment = begun }) ended t.end turn port
+      → IsEvidencedOf ask said (all_of t) old ports new call port
+  pub failed : (port : Port) (old new : Device) (fault : Fault) → IsOn old → (t : HasTurnIn port old new)
+      → HasFailed port t.turn t.start t.end fault → HasFailed port (all_of t) old new fault
+  pub brings : (port : Port) (old new : Device) (page : List ℕ) → IsOn old → (t : HasTurnIn port old new)
+      → SendsNone port.0 ReadLog t.end new → BringsLog port t.start t.end page → BringsLog port old new page
   -- a port's trouble, and its turn in the call
-  pub ordinary : (port : Port) (old : Instant Device) (new : Device) (accesses : List Access) (evidence : Evidence) (ports : Ports) → IsOn old.device
-      → DoesAll accesses old.device new → All (SparesRegister Ghc) accesses → All (ClearsNone port) accesses → LosesNoTrouble evidence old ports new port
-  pub ordinary_steps : (port : Port) (old : Instant Device) (new : Device) (evidence : Evidence) (ports : Ports) → IsOn old.device → Steps old.device new → LosesNoTrouble evidence old ports new port
-  pub alone_then : (port : Port) (old : Instant Device) (begun : Moment) (new : Device) → IsOn old.device → (old.device.port port.0).link_due ≡ false → (t : HasTurnIn port old.device new) → IsOn t.end
-      → begun.ports.state port ≡ Ready → HasFaultAlone port old new → HasFaultAlone port (record { device = t.start; moment = begun }) t.end
-  pub call_trouble : (port : Port) (old : Instant Device) (begun : Moment) (ended ports : Ports) (new : Device) (turn call : Evidence) → IsOn old.device
-      → (t : HasTurnIn port old.device new) → IsOn t.end → SamePort ended ports port → NamesAlike port turn call → SamePort old.moment.ports begun.ports port
-      → (ended.state port ≡ Ready → IsInterrupted turn port → length t.start.tape ≤ (t.end.port port.0).notes.st_set_at)
-      → ((begun.ports.state port ≡ Ready) ⊎ (ended.state port ≡ Ready) → ShowsFailure (t.start.port port.0) ⊎ ShowsChange (t.start.port port.0) → IsInterrupted turn port)
-      → LosesNoTrouble turn (record { device = t.start; moment = begun }) ended t.end port → LosesNoTrouble call old ports new port
-  pub call_boots : (port : Port) (old : Instant Device) (begun : Moment) (ended ports : Ports) (new : Device) (one other : Said) → IsOn old.device → (old.moment.ports.state port ≡ Ready → (old.device.port port.0).link_due ≡ false)
-      → (t : HasTurnIn port old.device new) → IsOn t.end → SamePort ended ports port → SamePort old.moment.ports begun.ports port
-      → BootsAnew Service one t.turn (record { device = t.start; moment = begun }) ended t.end port → BootsAnew Service other (all_of t) old ports new port
-  pub call_well : (port : Port) (old : Instant Device) (begun : Moment) (ended ports : Ports) (new : Device) (turn call : Evidence) → IsOn old.device
-      → (t : HasTurnIn port old.device new) → IsOn t.end → (ended.state port ≡ Ready → ((old.device.port port.0).link_due ≡ false) ⊎ ResetsLink port t.turn) → SamePort ended ports port → NamesAlike port turn call
+  pub ordinary : (port : Port) (old : Instant Device) (new : Device) (accesses : List Access) (evidence : Evidence)
+      (ports : Ports) → IsOn old.device
+      → DoesAll accesses old.device new → All (SparesRegister Ghc) accesses → All (ClearsNone port) accesses
+      → LosesNoTrouble evidence old ports new port
+  pub ordinary_steps : (port : Port) (old : Instant Device) (new : Device) (evidence : Evidence) (ports : Ports)
+      → IsOn old.device → Steps old.device new → LosesNoTrouble evidence old ports new port
+  pub alone_then : (port : Port) (old : Instant Device) (begun : Moment) (new : Device) → IsOn old.device
+      → (old.device.port port.0).link_due ≡ false → (t : HasTurnIn port old.device new) → IsOn t.end
+      → begun.ports.state port ≡ Ready → HasFaultAlone port old new
+      → HasFaultAlone port (record { device = t.start; moment = begun }) t.end
+  pub call_trouble : (port : Port) (old : Instant Device) (begun : Moment) (ended ports : Ports) (new : Device)
+      (turn call : Evidence) → IsOn old.device
+      → (t : HasTurnIn port old.device new) → IsOn t.end → SamePort ended ports port → NamesAlike port turn call
+      → SamePort old.moment.ports begun.ports port → (ended.state port ≡ Ready → IsInterrupted turn port
+      → length t.start.tape ≤ (t.end.port port.0).notes.st_set_at)
+      → ((begun.ports.state port ≡ Ready) ⊎ (ended.state port ≡ Ready) → ShowsFailure (t.start.port port.0)
+      ⊎ ShowsChange (t.start.port port.0) → IsInterrupted turn port)
+      → LosesNoTrouble turn (record { device = t.start; moment = begun }) ended t.end port
+      → LosesNoTrouble call old ports new port
+  pub call_boots : (port : Port) (old : Instant Device) (begun : Moment) (ended ports : Ports) (new : Device)
+      (one other : Said) → IsOn old.device
+      → (old.moment.ports.state port ≡ Ready → (old.device.port port.0).link_due ≡ false)
+      → (t : HasTurnIn port old.device new) → IsOn t.end → SamePort ended ports port
+      → SamePort old.moment.ports begun.ports port
+      → BootsAnew Service one t.turn (record { device = t.start; moment = begun }) ended t.end port
+      → BootsAnew Service other (all_of t) old ports new port
+  pub call_well : (port : Port) (old : Instant Device) (begun : Moment) (ended ports : Ports) (new : Device)
+      (turn call : Evidence) → IsOn old.device
+      → (t : HasTurnIn port old.device new) → IsOn t.end
+      → (ended.state port ≡ Ready → ((old.device.port port.0).link_due ≡ false) ⊎ ResetsLink port t.turn)
+      → SamePort ended ports port → NamesAlike port turn call
       → (ended.state port ≡ Ready → (t.end.port port.0).notes.st_set_at ≤ length t.end.tape)
-      → RunsWellAnew turn t.turn (record { device = t.start; moment = begun }) ended t.end port → RunsWellAnew call (all_of t) old ports new port
+      → RunsWellAnew turn t.turn (record { device = t.start; moment = begun }) ended t.end port
+      → RunsWellAnew call (all_of t) old ports new port
   -- a disk that is tried in a port's turn
-  pub call_tries : (port : Port) (old : Instant Device) (begun : Moment) (ended ports : Ports) (new : Device) → IsOn old.device → (t : HasTurnIn port old.device new) → IsOn t.end
-      → SamePort ended ports port → SamePort old.moment.ports begun.ports port → (IsUnfitOrForeign old.moment.ports port → HasDeviceOrNone (old.device.port port.0))
-      → EndsLinked port (record { device = t.start; moment = begun }) ended t.end → (NoneComes port.0 t.start t.end → TriesDisk t.turn (record { device = t.start; moment = begun }) ended t.end port)
+  pub call_tries : (port : Port) (old : Instant Device) (begun : Moment) (ended ports : Ports) (new : Device)
+      → IsOn old.device → (t : HasTurnIn port old.device new) → IsOn t.end → SamePort ended ports port
+      → SamePort old.moment.ports begun.ports port
+      → (IsUnfitOrForeign old.moment.ports port → HasDeviceOrNone (old.device.port port.0))
+      → EndsLinked port (record { device = t.start; moment = begun }) ended t.end
+      → (NoneComes port.0 t.start t.end → TriesDisk t.turn (record { device = t.start; moment = begun }) ended t.end
+      port)
       → NoneComes port.0 old.device new → TriesDisk (all_of t) old ports new port
-  pub call_linked : (port : Port) (old : Instant Device) (begun : Moment) (ended ports : Ports) (new : Device) → IsOn old.device → (t : HasTurnIn port old.device new) → IsOn t.end
-      → SamePort ended ports port → SamePort old.moment.ports begun.ports port → EndsLinked port (record { device = t.start; moment = begun }) ended t.end → EndsLinked port old ports new
-  pub set_since : (port : Port) (accesses : List Access) (old new : Device) → IsOn old → All (SparesRegister Ghc) accesses → DoesAll accesses old new → Stops port accesses → (new.port port.0).st ≡ true
+  pub call_linked : (port : Port) (old : Instant Device) (begun : Moment) (ended ports : Ports) (new : Device)
+      → IsOn old.device → (t : HasTurnIn port old.device new) → IsOn t.end → SamePort ended ports port
+      → SamePort old.moment.ports begun.ports port → EndsLinked port (record { device = t.start; moment = begun }) ended
+      t.end → EndsLinked port old ports new
+  pub set_since : (port : Port) (accesses : List Access) (old new : Device) → IsOn old
+      → All (SparesRegister Ghc) accesses → DoesAll accesses old new → Stops port accesses → (new.port port.0).st ≡ true
       → length old.tape ≤ (new.port port.0).notes.st_set_at
   -- what came since ST was set
-  pub fatal_in_part : (port : ℕ) (old start end new : Device) → Grows old start → Grows end new → (new.port port).notes.st_set_at ≡ (end.port port).notes.st_set_at
-      → GainsRunning (IsFatalOf port) port start end → GainsRunning (IsFatalOf port) port old new
-  pub calm_since : (port : ℕ) (old mid new : Device) → Grows old mid → Grows mid new → (new.port port).notes.st_set_at ≤ length mid.tape → PlugsNone port old new
-      → (GainsRunning (IsFaultOf port) port old new → ⊥) → (GainsRunning (IsFatalOf port) port old new → ⊥) → Undisturbed port mid new
+  pub fatal_in_part : (port : ℕ) (old start end new : Device) → Grows old start → Grows end new
+      → (new.port port).notes.st_set_at ≡ (end.port port).notes.st_set_at → GainsRunning (IsFatalOf port) port start end
+      → GainsRunning (IsFatalOf port) port old new
+  pub calm_since : (port : ℕ) (old mid new : Device) → Grows old mid → Grows mid new → (new.port port).notes.st_set_at
+      ≤ length mid.tape → PlugsNone port old new
+      → (GainsRunning (IsFaultOf port) port old new → ⊥) → (GainsRunning (IsFatalOf port) port old new → ⊥)
+      → Undisturbed port mid new

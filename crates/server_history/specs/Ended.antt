@@ -1,4 +1,5 @@
--- What laws of the crates below say of an adapter that is taken over, and of the machine when it is reset: the laws of this crate rest on them.
+-- What laws of the crates below say of an adapter that is taken over, and of the machine when it is reset: the laws of
+-- this crate rest on them.
 use Rattle.std.specs.Prelude.{List, Some, false, true, ℕ, ◌≡◌}
 use Rattle.std.specs.List.{Contains}
 use Rattle.hba_regs.specs.Bits.{bit}
@@ -28,17 +29,27 @@ use Rattle.server_history.specs.Below.{LawsBelow}
 
 -- what a law says of an adapter that was taken over
 pub record TakenLaws : Type 0 where
-  pub well : (wanted : List Wanted) (host : Host) (port : ℕ) (info : DiskInfo) (old new : Device) → IsIdle old → TakesOver wanted host old new → found_of host.ports port ≡ Ready info → Undisturbed port old new → RunsWell (new.port port)
-  pub recorded : (wanted : List Wanted) (host : Host) (port : ℕ) (info : DiskInfo) (old new : Device) → IsIdle old → TakesOver wanted host old new → found_of host.ports port ≡ Ready info → IsRecorded new.tape (new.port port) port
-  pub own : (wanted : List Wanted) (host : Host) (port : ℕ) (info : DiskInfo) (old new : Device) → IsIdle old → TakesOver wanted host old new → found_of host.ports port ≡ Ready info → ShowsOwnDisk (new.port port)
-  pub shown : (wanted : List Wanted) (host : Host) (port : ℕ) (state : PortState) (old new : Device) → IsIdle old → TakesOver wanted host old new → FoundBadDisk state → found_of host.ports port ≡ Unready state → HasDeviceOrNone (new.port port)
+  pub well : (wanted : List Wanted) (host : Host) (port : ℕ) (info : DiskInfo) (old new : Device) → IsIdle old
+      → TakesOver wanted host old new → found_of host.ports port ≡ Ready info → Undisturbed port old new
+      → RunsWell (new.port port)
+  pub recorded : (wanted : List Wanted) (host : Host) (port : ℕ) (info : DiskInfo) (old new : Device) → IsIdle old
+      → TakesOver wanted host old new → found_of host.ports port ≡ Ready info → IsRecorded new.tape (new.port port) port
+  pub own : (wanted : List Wanted) (host : Host) (port : ℕ) (info : DiskInfo) (old new : Device) → IsIdle old
+      → TakesOver wanted host old new → found_of host.ports port ≡ Ready info → ShowsOwnDisk (new.port port)
+  pub shown : (wanted : List Wanted) (host : Host) (port : ℕ) (state : PortState) (old new : Device) → IsIdle old
+      → TakesOver wanted host old new → FoundBadDisk state → found_of host.ports port ≡ Unready state
+      → HasDeviceOrNone (new.port port)
 
 -- what laws say of an adapter that is taken over again, and of the machine meanwhile
 pub record ResetLaws : Type 0 where
   pub below : LawsBelow
   pub taken : TakenLaws
-  pub limits : (start : Machine) (history : List Step) → IsStart start → IsLegal start history → WithinLimits (after start history)
-  pub own_frame : (m : Machine) (frame : Frame) (e : Pending) → IsReached m → IsLiving m e → m.lent frame ≡ Some e.request.id → HasFrame e.request frame
-  pub released : (k : Known) (m : Machine) (later : ℕ → List RequestId) → IsReached m → Knows m k → ((e : Pending) → Contains m.kept e → HasNoSlot k.uses e.request.id) → ForgetsKept m k.parked later
+  pub limits : (start : Machine) (history : List Step) → IsStart start → IsLegal start history
+      → WithinLimits (after start history)
+  pub own_frame : (m : Machine) (frame : Frame) (e : Pending) → IsReached m → IsLiving m e
+      → m.lent frame ≡ Some e.request.id → HasFrame e.request frame
+  pub released : (k : Known) (m : Machine) (later : ℕ → List RequestId) → IsReached m → Knows m k
+      → ((e : Pending) → Contains m.kept e → HasNoSlot k.uses e.request.id) → ForgetsKept m k.parked later
       → Knows (after_step m Release) (record k { parked = later })
-  pub switches_on : (v : ℕ) (old new : Device) → old.hr ≡ false → bit v 31 ≡ true → bit v 0 ≡ false → Writes Ghc v old new → IsOn new
+  pub switches_on : (v : ℕ) (old new : Device) → old.hr ≡ false → bit v 31 ≡ true → bit v 0 ≡ false
+      → Writes Ghc v old new → IsOn new

@@ -47,9 +47,10 @@ abbrev pub loans_of : List Pending → List Lending
 loans_of [] = []
 loans_of (e ∷ rest) = loans_of rest ++ loan_of e ∷ []
 
--- The machine has the book and the loans. These are requests of the port in the book; no slot serves one of them whose loan isn't kept; and where none is,
--- what is parked of the port are issued ones among them.
-pub record MayMeet (port : Port) (fate : Entry → Fate) (requests : List Held) (now : Holdings) (rows : List GrantRow) (k : Known) (m : Machine) : Type 0 where
+-- The machine has the book and the loans. These are requests of the port in the book; no slot serves one of them whose
+-- loan isn't kept; and where none is, what is parked of the port are issued ones among them.
+pub record MayMeet (port : Port) (fate : Entry → Fate) (requests : List Held) (now : Holdings) (rows : List GrantRow)
+    (k : Known) (m : Machine) : Type 0 where
   pub reached : IsReached m
   pub knows : Knows m k
   pub book : IsBook now.book m.book
@@ -58,12 +59,16 @@ pub record MayMeet (port : Port) (fate : Entry → Fate) (requests : List Held) 
   pub accepted : All (IsAccepted rows now.table) now.book
   pub here : (e : Held) → Contains requests e → Contains now.book e × (e.entry.port ≡ port)
   pub earlier : AllPairs IsEarlier requests
-  pub unserved : (e : Held) → Contains requests e → keeps_fate (fate e.entry) e.entry ≡ false → HasNoSlot k.uses e.entry.id
-  pub parked : KeepsNone fate → (id : RequestId) → Contains (k.parked port.0) id → (e : Held) × Contains requests e × (e.entry.id ≡ id) × (e.entry.issued ≡ true)
+  pub unserved : (e : Held) → Contains requests e → keeps_fate (fate e.entry) e.entry ≡ false
+      → HasNoSlot k.uses e.entry.id
+  pub parked : KeepsNone fate → (id : RequestId) → Contains (k.parked port.0) id → (e : Held) × Contains requests e
+      × (e.entry.id ≡ id) × (e.entry.issued ≡ true)
 
--- They meet their fates by steps that decide on requests of the port, after which the machine has the book and the loans that are left. Those whose loans are kept are kept in
--- the machine beside those that were, and each has one more loan; where none is, none of the port is parked.
-pub record MeetsInMachine (port : Port) (fate : Entry → Fate) (requests : List Held) (replies : List Reply) (old new : Holdings) (k : Known) (m : Machine) : Type 0 where
+-- They meet their fates by steps that decide on requests of the port, after which the machine has the book and the
+-- loans that are left. Those whose loans are kept are kept in the machine beside those that were, and each has one more
+-- loan; where none is, none of the port is parked.
+pub record MeetsInMachine (port : Port) (fate : Entry → Fate) (requests : List Held) (replies : List Reply)
+    (old new : Holdings) (k : Known) (m : Machine) : Type 0 where
   pub steps : List Step
   pub parked : ℕ → List RequestId
   pub may : AllMay m steps
@@ -78,7 +83,10 @@ pub record MeetsInMachine (port : Port) (fate : Entry → Fate) (requests : List
   pub kept : (after m steps).kept ≡ held ++ m.kept
   pub loans : new.kept ≡ old.kept ++ loans_of held
   pub two : AllPairs AreOfTwo (loans_of held)
-  pub whose : (e : Pending) → Contains held e → (request : Held) × Contains requests request × IsEntry request e × (keeps_fate (fate request.entry) request.entry ≡ true)
-  pub answered : (e : Pending) (outcome : Outcome) → Contains steps (Answer e outcome) → (request : Held) × Contains requests request × IsEntry request e × (fate request.entry ≡ Ends outcome)
-  pub again : (e : Pending) → Contains steps (Again e) → (request : Held) × Contains requests request × IsEntry request e × (fate request.entry ≡ GoesAgain)
+  pub whose : (e : Pending) → Contains held e → (request : Held) × Contains requests request × IsEntry request e
+      × (keeps_fate (fate request.entry) request.entry ≡ true)
+  pub answered : (e : Pending) (outcome : Outcome) → Contains steps (Answer e outcome) → (request : Held)
+      × Contains requests request × IsEntry request e × (fate request.entry ≡ Ends outcome)
+  pub again : (e : Pending) → Contains steps (Again e) → (request : Held) × Contains requests request
+      × IsEntry request e × (fate request.entry ≡ GoesAgain)
   pub tells : Tells steps replies

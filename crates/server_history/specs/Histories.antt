@@ -10,7 +10,8 @@ use Rattle.driver_history.specs.Histories.{Begins, Ties}
 use Rattle.server_history.specs.Server.{Server, ports_of, IsSettled, IsMachineOf}
 use Rattle.server_history.specs.Stalled.{IsStalled}
 
--- An instant of a history is where the server stands: the device is its own, the ports are what it says, and the machine stands for it.
+-- An instant of a history is where the server stands: the device is its own, the ports are what it says, and the
+-- machine stands for it.
 pub record Stands (now : Instant Device) (s : Server) : Type 0 where
   pub device_is : now.device ≡ s.device
   pub ports_are : now.moment.ports ≡ ports_of s
@@ -30,7 +31,8 @@ load_said (Err fault) bytes = Loaded (Err fault)
 abbrev pub Leads : Instant Device → List (Happening Device DeviceStep) → Server → Type 0
 Leads first past s = histories.Leads (Begins s.wanted) (Ties s.wanted) Stands first past s
 
--- To every history that leads to the old server, a call that asked this and said that adds one event, which leads to the new one.
+-- To every history that leads to the old server, a call that asked this and said that adds one event, which leads to
+-- the new one.
 abbrev pub AddsEvent : Server → Server → Ask DeviceStep → Said → Type 0
 AddsEvent old new ask said = (first : Instant Device) (past : List (Happening Device DeviceStep)) → Leads first past old
     → (h : Happening Device DeviceStep) × (h.event.ask ≡ ask) × (h.event.said ≡ said) × Leads first (h ∷ past) new

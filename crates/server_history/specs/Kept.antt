@@ -15,8 +15,10 @@ pub record TakesBack (old new : Table) (Such : Lending → Type 0) : Type 0 wher
 abbrev pub IsKeptIn : List (List Lending) → Lending → Type 0
 IsKeptIn kept loan = (port : ℕ) × Contains (kept_at kept port) loan
 
--- The frames of each loan are lent to its request, and no two loans are of one request: so they may be given back, one after another.
+-- The frames of each loan are lent to its request, and no two loans are of one request: so they may be given back, one
+-- after another.
 pub record MayGoBack (table : Table) (kept : List (List Lending)) : Type 0 where
   pub lent : (port : ℕ) → All (IsLentOut table) (kept_at kept port)
   pub two : (port : ℕ) → AllPairs AreOfTwo (kept_at kept port)
-  pub apart : (port other : ℕ) (a b : Lending) → port ≢ other → Contains (kept_at kept port) a → Contains (kept_at kept other) b → AreOfTwo a b
+  pub apart : (port other : ℕ) (a b : Lending) → port ≢ other → Contains (kept_at kept port) a
+      → Contains (kept_at kept other) b → AreOfTwo a b

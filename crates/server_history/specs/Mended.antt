@@ -1,5 +1,5 @@
--- How a port is mended on which a command failed, whose link or host bus did, whose disk was lost, or whose request is hung, and what becomes of its
--- requests (this project's own).
+-- How a port is mended on which a command failed, whose link or host bus did, whose disk was lost, or whose request is
+-- hung, and what becomes of its requests (this project's own).
 use Rattle.std.specs.Prelude.{ℕ, Bool, true, ◌≡◌, ◌≢◌, ◌⊎◌, ◌<◌, ◌≤◌, ◌++◌, List, Option, Some, None, AllPairs, IsPermutation, filter, length, map, slice_set}
 use Rattle.ata_types.specs.declared.Port.{Port}
 use Rattle.ata_types.specs.declared.PortState.TheVariants.{Dead as DeadState}
@@ -38,8 +38,8 @@ use Rattle.server_history.specs.Server.{Server, kept_at, mode_found, slots_at, u
 
 -- ---- a port is mended
 
--- How the trouble is found out: a look at the port tells that a command had failed, or the link or the host's bus, or that the disk was lost. That a request
--- is hung its age tells, and the port isn't looked at.
+-- How the trouble is found out: a look at the port tells that a command had failed, or the link or the host's bus, or
+-- that the disk was lost. That a request is hung its age tells, and the port isn't looked at.
 abbrev pub IsFoundOut : Port → Trouble → Device → Device → Type 0
 IsFoundOut port Failed old seen = LooksAt port look.Failed old seen
 IsFoundOut port Broken old seen = LooksAt port look.Broken old seen
@@ -50,18 +50,20 @@ IsFoundOut port Hung old seen = seen ≡ old
 abbrev pub EndsGivenUp : Recovered → Type 0
 EndsGivenUp result = (result.failed ≡ None) × ((token : running_token.Running) → result.next ≢ next.Running token)
 
--- What is told then. Where a command had failed, the port was recovered. Where its link or the host's bus had, its disk was lost, or a request is hung, the
--- port was given up.
+-- What is told then. Where a command had failed, the port was recovered. Where its link or the host's bus had, its disk
+-- was lost, or a request is hung, the port was given up.
 abbrev pub TellsMending : Trouble → Port → ℕ → Bool → Recovered → List Access → Device → Device → Type 0
-TellsMending Failed port outstanding queued result accesses old new = TellsRecovery port outstanding queued result accesses old new
+TellsMending Failed port outstanding queued result accesses old new = TellsRecovery port outstanding queued result
+    accesses old new
 TellsMending trouble port outstanding queued result accesses old new = EndsGivenUp result
 
 -- each used slot has a queued command, or each has a plain one
 abbrev pub AreQueued : Bool → PortSlots → Type 0
 AreQueued queued slots = (slot : ℕ) (used : SlotUse) → use_at slots slot ≡ Some used → used.queued ≡ queued
 
--- Trouble was found out. The masks were read; what was done was answered, in order of acceptance, and no slot of it is in use any more;
--- and the port was mended, with the commands of the other used slots outstanding. So it came to this server, and then to this device.
+-- Trouble was found out. The masks were read; what was done was answered, in order of acceptance, and no slot of it is
+-- in use any more; and the port was mended, with the commands of the other used slots outstanding. So it came to this
+-- server, and then to this device.
 pub record IsMended (port : Port) (old mid : Server) (new : Device) : Type 0 where
   pub trouble : Trouble
   pub seen : Device
@@ -93,7 +95,8 @@ BootsAfter trouble wanted port booted old new = BootsAgain wanted port booted ol
 -- It is found to be this: what it was, where it runs; what its boot has found, where it has to be booted; or dead.
 abbrev pub IsFoundAfter : Wanted → Port → Trouble → DiskInfo → Next → Device → Device → Found → Type 0
 IsFoundAfter wanted port trouble was (next.Running token) old new found = (found ≡ Ready was) × (new ≡ old)
-IsFoundAfter wanted port trouble was (next.Restart token) old new found = (booted : Booted) × (booted.found ≡ found) × BootsAfter trouble wanted port booted old new
+IsFoundAfter wanted port trouble was (next.Restart token) old new found = (booted : Booted) × (booted.found ≡ found)
+    × BootsAfter trouble wanted port booted old new
 IsFoundAfter wanted port trouble was next.Dead old new found = (found ≡ Unready DeadState) × (new ≡ old)
 
 -- the disk has the serial number and the size of the one that was there
@@ -102,8 +105,10 @@ IsSameDisk was info = (info.serial ≡ was.serial) × (info.sectors ≡ was.sect
 
 -- What its requests may expect. Where its disk was lost, it doesn't count that the same one is there again.
 abbrev pub IsProspect : Trouble → DiskInfo → Found → Prospect → Type 0
-IsProspect trouble was found SameDisk = (trouble ≢ Lost) × ((info : DiskInfo) × (found ≡ Ready info) × IsSameDisk was info)
-IsProspect trouble was found DiskLost = (found ≢ Unready DeadState) × ((trouble ≡ Lost) ⊎ ((info : DiskInfo) → found ≡ Ready info → IsSameDisk was info → ⊥))
+IsProspect trouble was found SameDisk = (trouble ≢ Lost)
+    × ((info : DiskInfo) × (found ≡ Ready info) × IsSameDisk was info)
+IsProspect trouble was found DiskLost = (found ≢ Unready DeadState)
+    × ((trouble ≡ Lost) ⊎ ((info : DiskInfo) → found ≡ Ready info → IsSameDisk was info → ⊥))
 IsProspect trouble was found Dead = found ≡ Unready DeadState
 
 -- ---- what becomes of its requests
@@ -112,7 +117,8 @@ IsProspect trouble was found Dead = found ≡ Unready DeadState
 abbrev pub IsFailed : PortSlots → Option Failure → Option fate.Failed → Type 0
 IsFailed slots None failed = failed ≡ None
 IsFailed slots (Some its) failed =
-    (used : SlotUse) × (use_at slots its.slot.0 ≡ Some used) × (failed ≡ Some (record { id = used.id; status = its.status; error = its.error }))
+    (used : SlotUse) × (use_at slots its.slot.0 ≡ Some used)
+    × (failed ≡ Some (record { id = used.id; status = its.status; error = its.error }))
 
 -- the port's requests, in order of acceptance
 abbrev pub requests_of : Port → List Held → List Held
@@ -141,8 +147,9 @@ with_port port device found was mode slots now s = record s {
   book = now.book;
 }
 
--- The port was mended, and booted where it had to be; and its requests met their fates: the one that failed is told so, and the others what their port
--- is then. So it came to this server, by these replies after those that tell what was done.
+-- The port was mended, and booted where it had to be; and its requests met their fates: the one that failed is told so,
+-- and the others what their port is then. So it came to this server, by these replies after those that tell what was
+-- done.
 pub record HasMetFates (port : Port) (later : List Reply) (old new : Server) : Type 0 where
   pub was : DiskInfo
   pub ready : found_of old.ports port.0 ≡ Ready was
@@ -165,8 +172,8 @@ pub record HasMetFates (port : Port) (later : List Reply) (old new : Server) : T
 
 -- ---- the whole
 
--- A port's turn in which trouble was found out: it was mended, its requests met their fates, and then what is due on it was issued. The replies stand in
--- order of acceptance.
+-- A port's turn in which trouble was found out: it was mended, its requests met their fates, and then what is due on it
+-- was issued. The replies stand in order of acceptance.
 pub record MendsPort (port : Port) (replies : List Reply) (old new : Server) : Type 0 where
   pub later : List Reply
   pub mid : Server

@@ -22,8 +22,9 @@ use Rattle.server_history.specs.Server.{Server, disk_in, kept_at, mode_at, mode_
 
 -- ---- the adapter is taken over again
 
--- The adapter was reset, the frames of the kept loans were given back, and the idle adapter was taken over: ports are what they were found to be, with no slot
--- used; and the disk that each was last ready with is remembered. No request is answered, nor issued.
+-- The adapter was reset, the frames of the kept loans were given back, and the idle adapter was taken over: ports are
+-- what they were found to be, with no slot used; and the disk that each was last ready with is remembered. No request
+-- is answered, nor issued.
 pub record IsTakenAgain (old taken : Server) : Type 0 where
   pub idle : Device
   pub resets : Resets old.device idle
@@ -41,13 +42,22 @@ pub record IsTakenAgain (old taken : Server) : Type 0 where
   pub places : (port : ℕ) → port < 4 → length (slots_at taken.slots port).places ≡ 32
   pub usable : (port : ℕ) → port < 4 → (slots_at taken.slots port).usable ≡ (mode_at taken.modes port).usable
   pub unused : (port slot : ℕ) → used_for taken.slots port slot ≡ None
-  pub server : taken ≡ record old { device = taken.device; table = taken.table; ports = host.ports; remembered = taken.remembered; modes = taken.modes; slots = taken.slots; kept = taken.kept }
+  pub server : taken ≡ record old {
+    device = taken.device;
+    table = taken.table;
+    ports = host.ports;
+    remembered = taken.remembered;
+    modes = taken.modes;
+    slots = taken.slots;
+    kept = taken.kept;
+  }
 
 -- ---- what becomes of its requests
 
 -- What a port's requests may expect then, by the disk that it was last ready with, if it ever was.
 abbrev pub IsProspectAnew : Option DiskInfo → Found → Prospect → Type 0
-IsProspectAnew was found SameDisk = (before now : DiskInfo) × (was ≡ Some before) × (found ≡ Ready now) × IsSameDisk before now
+IsProspectAnew was found SameDisk = (before now : DiskInfo) × (was ≡ Some before) × (found ≡ Ready now)
+    × IsSameDisk before now
 IsProspectAnew was found DiskLost = (found ≢ Unready DeadState)
     × ((before now : DiskInfo) → was ≡ Some before → found ≡ Ready now → IsSameDisk before now → ⊥)
 IsProspectAnew was found Dead = found ≡ Unready DeadState
@@ -56,7 +66,8 @@ IsProspectAnew was found Dead = found ≡ Unready DeadState
 abbrev pub with_holdings : Port → Holdings → Server → Server
 with_holdings port now s = record s { table = now.table; kept = slice_set s.kept port.0 now.kept; book = now.book }
 
--- The requests of a port met their fates, in order of acceptance: none is told a fault, and what becomes of each else its port's prospect says. So it came to this server.
+-- The requests of a port met their fates, in order of acceptance: none is told a fault, and what becomes of each else
+-- its port's prospect says. So it came to this server.
 pub record SettlesPort (port : Port) (replies : List Reply) (old new : Server) : Type 0 where
   pub prospect : Prospect
   pub expects : IsProspectAnew (remembered_at old.remembered port.0) (found_of old.ports port.0) prospect
@@ -68,25 +79,30 @@ pub record SettlesPort (port : Port) (replies : List Reply) (old new : Server) :
 abbrev pub SettlePorts : ℕ → List Found → List Reply → Server → Server → Type 0
 SettlePorts port [] replies old new = (replies ≡ []) × (new ≡ old)
 SettlePorts port (found ∷ rest) replies old new =
-    (mid : Server) × (its later : List Reply) × (replies ≡ its ++ later) × SettlesPort (port_at port) its old mid × SettlePorts (port + 1) rest later mid new
+    (mid : Server) × (its later : List Reply) × (replies ≡ its ++ later) × SettlesPort (port_at port) its old mid
+    × SettlePorts (port + 1) rest later mid new
 
--- Its requests may meet their fates: there are loans of four ports; the requests are in order, each as it was accepted, with its frames lent to it; and there is a place for the loan of each that is issued, beside those
--- that are kept of its port.
+-- Its requests may meet their fates: there are loans of four ports; the requests are in order, each as it was accepted,
+-- with its frames lent to it; and there is a place for the loan of each that is issued, beside those that are kept of
+-- its port.
 pub record MaySettle (s : Server) : Type 0 where
   pub four_kept : length s.kept ≡ 4
   pub ordered : IsInOrder s.book
   pub accepted : All (IsAccepted s.grants s.table) s.book
-  pub places : (port : Port) → length (kept_at s.kept port.0) + count_by (λ (e : Held). e.entry.issued) (requests_of port s.book) ≤ 32
+  pub places : (port : Port) → length (kept_at s.kept port.0) + count_by (λ (e : Held). e.entry.issued)
+      (requests_of port s.book) ≤ 32
 
 -- ---- the whole
 
 -- what is due was issued on those of these ports that are ready, one after another, of which the first has this number
 abbrev pub IssuePorts : ℕ → List Found → Server → Server → Type 0
 IssuePorts port [] old new = new ≡ old
-IssuePorts port (Ready info ∷ rest) old new = (mid : Server) × IssuesAll (port_at port) old mid × IssuePorts (port + 1) rest mid new
+IssuePorts port (Ready info ∷ rest) old new = (mid : Server) × IssuesAll (port_at port) old mid
+    × IssuePorts (port + 1) rest mid new
 IssuePorts port (found ∷ rest) old new = IssuePorts (port + 1) rest old new
 
--- A reset that ended: the adapter was taken over again, all requests met their fates, port by port, and then what is due was issued.
+-- A reset that ended: the adapter was taken over again, all requests met their fates, port by port, and then what is
+-- due was issued.
 pub record ResetsServer (replies : List Reply) (old new : Server) : Type 0 where
   pub taken : Server
   pub takes : IsTakenAgain old taken

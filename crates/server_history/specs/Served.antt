@@ -54,13 +54,15 @@ HasNone mask = (slot : ℕ) → slot < 32 → bit mask slot ≡ false
 abbrev pub IsAnsweredIn : RequestId → List Reply → Type 0
 IsAnsweredIn id replies = (reply : Reply) × Contains replies reply × (reply.id ≡ id)
 
--- PxCI and PxSACT were read, which tell which slots of the mask are done. A used slot's request was answered exactly if its slot was found done;
--- where none was, nobody was answered, and that was all. Of accesses, only those followed that issue requests of the port's, if any.
+-- PxCI and PxSACT were read, which tell which slots of the mask are done. A used slot's request was answered exactly if
+-- its slot was found done; where none was, nobody was answered, and that was all. Of accesses, only those followed that
+-- issue requests of the port's, if any.
 pub record Checks (port : Port) (slots : PortSlots) (mask : ℕ) (replies : List Reply) (old new : Device) : Type 0 where
   pub done : ℕ
   pub read : Device
   pub reads : ReadsDone port mask done old read
-  pub exact : (slot : ℕ) (used : SlotUse) → slot < 32 → use_at slots slot ≡ Some used → bit done slot ≡ true ↔ IsAnsweredIn used.id replies
+  pub exact : (slot : ℕ) (used : SlotUse) → slot < 32 → use_at slots slot ≡ Some used → bit done slot ≡ true
+      ↔ IsAnsweredIn used.id replies
   pub running : HasNone done → (replies ≡ []) × (new ≡ read)
   pub over : IsDrivenBy (IssuesIn port) read new
 
@@ -71,7 +73,8 @@ pub record ChecksUsed (port : Port) (slots : PortSlots) (replies : List Reply) (
   pub idle : HasNone mask → (replies ≡ []) × (new ≡ old)
   pub checks : (HasNone mask → ⊥) → Checks port slots mask replies old new
 
--- A port's turn in a service, in which no trouble was told of: the port was looked at, and the slots that it uses were checked.
+-- A port's turn in a service, in which no trouble was told of: the port was looked at, and the slots that it uses were
+-- checked.
 pub record HasTurn (port : Port) (slots : PortSlots) (replies : List Reply) (old new : Device) : Type 0 where
   pub look : Look
   pub seen : Device
@@ -89,7 +92,8 @@ task_of mode e = record { op = e.entry.op; range = e.entry.range; queued = not (
 abbrev pub use_for : Mode → Held → SlotUse
 use_for mode e = record { id = e.entry.id; queued = (task_of mode e).queued }
 
--- A due request of the port was issued in the lowest slot that was free: the slot's bytes say it, and a trim's block names its sectors.
+-- A due request of the port was issued in the lowest slot that was free: the slot's bytes say it, and a trim's block
+-- names its sectors.
 pub record IssuesOne (port : Port) (id : RequestId) (old new : Server) : Type 0 where
   pub request : Held
   pub here : Contains old.book request
@@ -100,7 +104,8 @@ pub record IssuesOne (port : Port) (id : RequestId) (old new : Server) : Type 0 
   pub small : slot < 32
   pub lowest : IsLowestFree (slots_at old.slots port.0) slot
   pub issues : IssuesTask port slot (task_of (mode_in old port) request) request.frames old.device new.device
-  pub stored : IsStored new.device port.0 slot (meaning_of (task_of (mode_in old port) request)) (addresses_of port.0 request.entry.op request.entry.range.count request.frames)
+  pub stored : IsStored new.device port.0 slot (meaning_of (task_of (mode_in old port) request))
+      (addresses_of port.0 request.entry.op request.entry.range.count request.frames)
   pub block : HasBlockOf request.entry.op request.entry.range port.0 new.device.memory
   pub server : new ≡ record old {
     device = new.device;
@@ -140,8 +145,8 @@ accepted_as port r id = record {
 abbrev pub accepting : Port → Request → RequestId → Table → Server → Server
 accepting port r id table s = record s { table = table; book = s.book ++ accepted_as port r id ∷ []; last = s.last + 1 }
 
--- The request goes last in the book with the next id, on the port of its row, and its frames are lent to it. Then what is due on the port is
--- issued.
+-- The request goes last in the book with the next id, on the port of its row, and its frames are lent to it. Then what
+-- is due on the port is issued.
 pub record Accepts (port : Port) (r : Request) (id : RequestId) (old new : Server) : Type 0 where
   pub row : GrantRow
   pub named : IsNamed old.grants r row
@@ -171,16 +176,22 @@ pub record AnswersOne (port : Port) (request : Held) (old new : Server) : Type 0
   pub served : used_for old.slots port.0 slot ≡ Some used
   pub id_is : used.id ≡ request.entry.id
   pub lent : LendsOnly old.table new.table request.frames None
-  pub server : new ≡ record old { table = new.table; slots = with_slot old.slots port.0 slot None; book = without request.entry.id old.book }
+  pub server : new ≡ record old {
+    table = new.table;
+    slots = with_slot old.slots port.0 slot None;
+    book = without
+        request.entry.id old.book;
+  }
 
 -- these requests, whose slots have their bits set here, were answered one after another
 abbrev pub AnswersEach : Port → ℕ → List Held → Server → Server → Type 0
 AnswersEach port done [] old new = new ≡ old
 AnswersEach port done (request ∷ requests) old new =
-    (mid : Server) × (one : AnswersOne port request old mid) × (bit done one.slot ≡ true) × AnswersEach port done requests mid new
+    (mid : Server) × (one : AnswersOne port request old mid) × (bit done one.slot ≡ true)
+    × AnswersEach port done requests mid new
 
--- What was found done on the port was answered, in order of acceptance, and no slot of it is in use any more. Then what is due on the port was
--- issued.
+-- What was found done on the port was answered, in order of acceptance, and no slot of it is in use any more. Then what
+-- is due on the port was issued.
 pub record AnswersDone (port : Port) (done : ℕ) (replies : List Reply) (old new : Server) : Type 0 where
   pub requests : List Held
   pub told : replies ≡ map done_reply requests
@@ -190,13 +201,15 @@ pub record AnswersDone (port : Port) (done : ℕ) (replies : List Reply) (old ne
   pub free : (slot : ℕ) → slot < 32 → bit done slot ≡ true → used_for mid.slots port.0 slot ≡ None
   pub issued : IssuesAll port mid new
 
--- Nobody was answered in the turn, and nothing but the device changed; or what was found done in it was, from the moment on when the masks
--- had been read.
-abbrev pub AnswersTurn : (port : Port) (replies : List Reply) (old new : Server) → HasTurn port (slots_at old.slots port.0) replies old.device new.device → Type 0
+-- Nobody was answered in the turn, and nothing but the device changed; or what was found done in it was, from the
+-- moment on when the masks had been read.
+abbrev pub AnswersTurn : (port : Port) (replies : List Reply) (old new : Server)
+    → HasTurn port (slots_at old.slots port.0) replies old.device new.device → Type 0
 AnswersTurn port replies old new turn =
     ((replies ≡ []) × (new ≡ record old { device = new.device }))
     ⊎ ((calm : turn.look ≡ Calm) × (some : HasNone (turn.calm calm).mask → ⊥)
-    × AnswersDone port ((turn.calm calm).checks some).done replies (record old { device = ((turn.calm calm).checks some).read }) new)
+    × AnswersDone port ((turn.calm calm).checks some).done replies
+    (record old { device = ((turn.calm calm).checks some).read }) new)
 
 -- ---- as the machine has it
 
@@ -219,8 +232,8 @@ pub record HasEnded (port : Port) (request : Held) (done : Pending) : Type 0 whe
   pub ended : done.ended ≡ true
   pub touched : AllTouched done
 
--- The steps are the device's, then the answers of these requests, which had ended, and then the device's but for the issues of requests of the
--- port.
+-- The steps are the device's, then the answers of these requests, which had ended, and then the device's but for the
+-- issues of requests of the port.
 pub record AnswersBy (mode : Mode) (port : Port) (replies : List Reply) (steps : List Step) : Type 0 where
   pub requests : List Held
   pub told : replies ≡ map done_reply requests

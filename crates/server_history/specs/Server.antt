@@ -40,9 +40,10 @@ use Rattle.slots.specs.Uses.{Uses as PortSlots, use_at, with_use}
 use Rattle.slots.specs.declared.Use.{Use as SlotUse}
 use Rattle.driver_history.specs.Holds.{Runs, mode_of}
 
--- The device behind the adapter; the grants; by frame its owner and the request that it is lent to; by port the disk that is wanted,
--- what it was found to be, which disk it was ready with when it was last mended, or its adapter last reset, how it takes commands, what its slots are used for, and what is still lent
--- to requests of it that were answered; the unanswered requests in order of acceptance, with what is lent to them; and the id that was handed out
+-- The device behind the adapter; the grants; by frame its owner and the request that it is lent to; by port the disk
+-- that is wanted, what it was found to be, which disk it was ready with when it was last mended, or its adapter last
+-- reset, how it takes commands, what its slots are used for, and what is still lent to requests of it that were
+-- answered; the unanswered requests in order of acceptance, with what is lent to them; and the id that was handed out
 -- last, or 0.
 pub record Server : Type 0 where
   pub device : Device
@@ -102,8 +103,8 @@ plain_mode = record { queued = false; usable = 1 }
 abbrev pub mode_at : List Mode → ℕ → Mode
 mode_at modes port = slice_index_or modes port plain_mode
 
--- how a port that was found so takes commands, by an adapter of these abilities (CAP): a ready one as adapter and disk both can, another
--- one at a time
+-- how a port that was found so takes commands, by an adapter of these abilities (CAP): a ready one as adapter and disk
+-- both can, another one at a time
 abbrev pub mode_found : ℕ → Found → Mode
 mode_found cap (Ready info) = mode_of cap info
 mode_found cap _ = plain_mode
@@ -162,8 +163,8 @@ abbrev pub use_of : Option SlotUse → Use
 use_of None = Free
 use_of (Some used) = Serves used.id
 
--- A slot is used as the server has it, unless its port is dead: there an engine was awaited in vain, or the adapter isn't on, so that what was in the slot may be there
--- still, and nobody asks for it until the adapter is reset.
+-- A slot is used as the server has it, unless its port is dead: there an engine was awaited in vain, or the adapter
+-- isn't on, so that what was in the slot may be there still, and nobody asks for it until the adapter is reset.
 abbrev pub IsUsedAs : Found → Option SlotUse → Use → Type 0
 IsUsedAs found used u = found ≢ Unready Dead → u ≡ use_of used
 
@@ -186,13 +187,15 @@ AreOfTwo a b = a.request ≢ b.request
 -- The machine's kept requests are those whose loans the server keeps, one loan each, on dead ports alone.
 pub record AreKept (found : List Found) (kept : List (List Lending)) (requests : List Pending) : Type 0 where
   pub dead : (e : Pending) → Contains requests e → found_of found e.request.port.0 ≡ Unready Dead
-  pub loan : (e : Pending) → Contains requests e → (loan : Lending) × Contains (kept_at kept e.request.port.0) loan × IsLoanOf loan e
+  pub loan : (e : Pending) → Contains requests e → (loan : Lending) × Contains (kept_at kept e.request.port.0) loan
+      × IsLoanOf loan e
   pub whose : (port : ℕ) (loan : Lending) → Contains (kept_at kept port) loan
       → (e : Pending) × Contains requests e × (e.request.port.0 ≡ port) × IsLoanOf loan e
   pub apart : (port : ℕ) → AllPairs AreOfTwo (kept_at kept port)
 
--- The machine agrees with what the server knows of its device, where only a dead port's requests may have been taken from their slots; and it has
--- the server's book, the requests whose loans it keeps, its grants, its owners, its loans and its next id.
+-- The machine agrees with what the server knows of its device, where only a dead port's requests may have been taken
+-- from their slots; and it has the server's book, the requests whose loans it keeps, its grants, its owners, its loans
+-- and its next id.
 pub record IsMachineOf (s : Server) (m : Machine) : Type 0 where
   pub uses : Uses
   pub used : AreUsesOf s uses
@@ -217,8 +220,9 @@ abbrev pub OwnsClientFrames : Table → ℕ → Type 0
 OwnsClientFrames table size = (frame : Frame) (client : ClientId) → owner_of table frame ≡ Some client
     → (DRIVER_FRAMES ≤ frame.0) × (FRAME_BYTES * frame.0 + FRAME_BYTES ≤ size)
 
--- What stands behind each port, as it was found; a ready one runs, has a disk in if it shows one, and doesn't wait for READ LOG EXT, and where a queued command halted it a queued one is taken;
--- and one with a disk that isn't served shows a device, or has none in.
+-- What stands behind each port, as it was found; a ready one runs, has a disk in if it shows one, and doesn't wait for
+-- READ LOG EXT, and where a queued command halted it a queued one is taken; and one with a disk that isn't served shows
+-- a device, or has none in.
 pub record IsPortOf (wanted : List Wanted) (found : List Found) (port : ℕ) (d : Device) : Type 0 where
   pub behind : StillStandsBehind (wanted_of wanted port) (found_of found port) port d
   pub runs : state_of (found_of found port) ≡ ReadyState → Runs port d
@@ -235,7 +239,8 @@ usable_of _ mode = 0
 pub record HasSlots (found : List Found) (modes : List Mode) (slots : List PortSlots) (port : ℕ) : Type 0 where
   pub places : length (slots_at slots port).places ≡ 32
   pub usable : (slots_at slots port).usable ≡ (mode_at modes port).usable
-  pub unused : (slot : ℕ) → usable_of (found_of found port) (mode_at modes port) ≤ slot → used_for slots port slot ≡ None
+  pub unused : (slot : ℕ) → usable_of (found_of found port) (mode_at modes port) ≤ slot
+      → used_for slots port slot ≡ None
 
 -- header and table of a slot of a port that runs say a command that is queued, or one that isn't
 pub record HasCommand (queued : Bool) (d : Device) (port slot : ℕ) : Type 0 where
@@ -248,11 +253,12 @@ pub record HasCommand (queued : Bool) (d : Device) (port slot : ℕ) : Type 0 wh
 abbrev pub StandsAlone : List PortSlots → ℕ → ℕ → Type 0
 StandsAlone slots port slot = (slot ≡ 0) × ((other : ℕ) → other ≢ 0 → used_for slots port other ≡ None)
 
--- What holds of a server at each moment of a call. The adapter is on and has the memory of the driver and of the clients, and each port that is
--- served; each port is as it was found, and runs if that was ready; of each of the four ports a disk may be remembered, and 32 loans at most be kept; they
--- take commands as adapter and disk can, and use the slots that they may, for queued commands or for plain ones, of which each is alone in slot 0;
--- grants are as a configuration may give them; requests are as they were accepted, in order, and of ready ports; and some machine that a history
--- leads to stands for the server.
+-- What holds of a server at each moment of a call. The adapter is on and has the memory of the driver and of the
+-- clients, and each port that is served; each port is as it was found, and runs if that was ready; of each of the four
+-- ports a disk may be remembered, and 32 loans at most be kept; they take commands as adapter and disk can, and use the
+-- slots that they may, for queued commands or for plain ones, of which each is alone in slot 0; grants are as a
+-- configuration may give them; requests are as they were accepted, in order, and of ready ports; and some machine that
+-- a history leads to stands for the server.
 pub record IsKept (s : Server) : Type 0 where
   pub on : IsOn s.device
   pub room : DRIVER_BYTES ≤ s.device.size
@@ -265,10 +271,12 @@ pub record IsKept (s : Server) : Type 0 where
   pub few_kept : (port : ℕ) → length (kept_at s.kept port) ≤ 32
   pub modes : (port : ℕ) → port < 4 → mode_at s.modes port ≡ mode_found s.device.cap (found_of s.ports port)
   pub slots : (port : ℕ) → port < 4 → HasSlots s.ports s.modes s.slots port
-  pub kinds : (port : Port) (slot : ℕ) (used : SlotUse) (e : Held) → used_for s.slots port.0 slot ≡ Some used → Contains s.book e → e.entry.id ≡ used.id
-      → used.queued ≡ not (is_plain (mode_in s port) e.entry.op)
-  pub commands : (port slot : ℕ) (used : SlotUse) → used_for s.slots port slot ≡ Some used → HasCommand used.queued s.device port slot
-  pub alone : (port slot : ℕ) (used : SlotUse) → used_for s.slots port slot ≡ Some used → used.queued ≡ false → StandsAlone s.slots port slot
+  pub kinds : (port : Port) (slot : ℕ) (used : SlotUse) (e : Held) → used_for s.slots port.0 slot ≡ Some used
+      → Contains s.book e → e.entry.id ≡ used.id → used.queued ≡ not (is_plain (mode_in s port) e.entry.op)
+  pub commands : (port slot : ℕ) (used : SlotUse) → used_for s.slots port slot ≡ Some used
+      → HasCommand used.queued s.device port slot
+  pub alone : (port slot : ℕ) (used : SlotUse) → used_for s.slots port slot ≡ Some used → used.queued ≡ false
+      → StandsAlone s.slots port slot
   pub rows : All IsRow s.grants
   pub owners : OwnsClientFrames s.table s.device.size
   pub accepted : All (IsAccepted s.grants s.table) s.book
@@ -284,8 +292,9 @@ pub record IsSettled (s : Server) : Type 0 where
   pub kept : IsKept s
   pub issued : (port : Port) → NoneDue (mode_in s port) (asks_of s.book) port
 
--- A server as it is made: what was found and wanted of four ports, of which it remembers nothing else, at most 64 grants that differ in name,
--- owners that are clients 1 to 8, no frame lent, nothing asked or kept, and no id handed out.
+-- A server as it is made: what was found and wanted of four ports, of which it remembers nothing else, at most 64
+-- grants that differ in name, owners that are clients 1 to 8, no frame lent, nothing asked or kept, and no id handed
+-- out.
 pub record IsNewServer (host : Host) (s : Server) : Type 0 where
   pub ports : s.ports ≡ host.ports
   pub four : length host.ports ≡ 4
@@ -297,7 +306,8 @@ pub record IsNewServer (host : Host) (s : Server) : Type 0 where
   pub names : AllPairs DifferInName s.grants
   pub few : length s.grants ≤ 64
   pub owners : OwnsClientFrames s.table s.device.size
-  pub clients : (frame : Frame) (client : ClientId) → owner_of s.table frame ≡ Some client → (1 ≤ client.0) × (client.0 ≤ 8) × (frame.0 < MOST_FRAMES)
+  pub clients : (frame : Frame) (client : ClientId) → owner_of s.table frame ≡ Some client → (1 ≤ client.0)
+      × (client.0 ≤ 8) × (frame.0 < MOST_FRAMES)
   pub room : DRIVER_BYTES ≤ s.device.size
   pub lent : (frame : Frame) → lent_to s.table frame ≡ None
   pub four_slots : length s.slots ≡ 4

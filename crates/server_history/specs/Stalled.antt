@@ -1,4 +1,5 @@
--- A server whose adapter didn't end its reset, and what holds of a server whether or not its adapter is on (this project's own).
+-- A server whose adapter didn't end its reset, and what holds of a server whether or not its adapter is on (this
+-- project's own).
 use Rattle.std.specs.Prelude.{ℕ, true, ◌≡◌, ◌↔◌, ◌+◌, ◌<◌, ◌≤◌, List, None, All, count_by, length}
 use Rattle.ata_types.specs.declared.Port.{Port}
 use Rattle.ata_types.specs.declared.PortState.TheVariants.{Dead}
@@ -17,13 +18,16 @@ use Rattle.request_queue.specs.Entries.{Held, IsAccepted, IsInOrder}
 use Rattle.server_history.specs.Mended.{requests_of}
 use Rattle.server_history.specs.Server.{Server, IsMachineOf, OwnsClientFrames, disk_in, is_served, kept_at, mode_at, plain_mode, remembered_at, slots_at, used_for}
 
--- What holds of a server whether or not its adapter is on. The adapter has the memory of the driver and of the clients. Ports are served in which a disk is wanted, and which the adapter has; another one is
--- idle, has no slot that is used, and nobody waits for it. Of each of the four ports a disk may be remembered, and there is a place for the loan of each of its
--- requests that is issued beside those that are kept. Grants are as a configuration may give them; requests are as they were accepted, in order, of served ports, and by ids that were handed out; and some machine that a
+-- What holds of a server whether or not its adapter is on. The adapter has the memory of the driver and of the clients.
+-- Ports are served in which a disk is wanted, and which the adapter has; another one is idle, has no slot that is used,
+-- and nobody waits for it. Of each of the four ports a disk may be remembered, and there is a place for the loan of
+-- each of its requests that is issued beside those that are kept. Grants are as a configuration may give them; requests
+-- are as they were accepted, in order, of served ports, and by ids that were handed out; and some machine that a
 -- history leads to stands for the server.
 pub record KeepsBooks (s : Server) : Type 0 where
   pub room : DRIVER_BYTES ≤ s.device.size
-  pub served : (port : ℕ) → port < 4 → (is_served (found_of s.ports port) ≡ true) ↔ IsServed (wanted_of s.wanted port) port s.device
+  pub served : (port : ℕ) → port < 4 → (is_served (found_of s.ports port) ≡ true)
+      ↔ IsServed (wanted_of s.wanted port) port s.device
   pub few : (port : ℕ) → is_served (found_of s.ports port) ≡ true → port < 4
   pub idle : (port : ℕ) → port < 4 → found_of s.ports port ≡ Unserved → IsIdlePort (s.device.port port)
   pub unused : (port slot : ℕ) → found_of s.ports port ≡ Unserved → used_for s.slots port slot ≡ None
@@ -31,7 +35,8 @@ pub record KeepsBooks (s : Server) : Type 0 where
   pub four_modes : length s.modes ≡ 4
   pub four_remembered : length s.remembered ≡ 4
   pub four_kept : length s.kept ≡ 4
-  pub places : (port : Port) → length (kept_at s.kept port.0) + count_by (λ (e : Held). e.entry.issued) (requests_of port s.book) ≤ 32
+  pub places : (port : Port) → length (kept_at s.kept port.0) + count_by (λ (e : Held). e.entry.issued)
+      (requests_of port s.book) ≤ 32
   pub rows : All IsRow s.grants
   pub owners : OwnsClientFrames s.table s.device.size
   pub accepted : All (IsAccepted s.grants s.table) s.book
@@ -46,8 +51,9 @@ pub record KeepsBooks (s : Server) : Type 0 where
 abbrev pub AreDead : List Found → Type 0
 AreDead found = (port : ℕ) → is_served (found_of found port) ≡ true → found_of found port ≡ Unready Dead
 
--- What holds of a server between calls since a reset that got stuck: the adapter isn't on (HR is still one, or AE fell when the reset ended unseen), and each port that is
--- served is dead. Requests from before that reset may wait for the service that tells them.
+-- What holds of a server between calls since a reset that got stuck: the adapter isn't on (HR is still one, or AE fell
+-- when the reset ended unseen), and each port that is served is dead. Requests from before that reset may wait for the
+-- service that tells them.
 pub record IsStalled (s : Server) : Type 0 where
   pub booked : KeepsBooks s
   pub off : IsOn s.device → ⊥
@@ -58,7 +64,8 @@ abbrev pub stuck_found : Found → Found
 stuck_found Unserved = Unserved
 stuck_found _ = Unready Dead
 
--- A reset got stuck: each served port is dead, its last disk is remembered, it takes plain commands and uses no slot. No request is answered and no frame given back.
+-- A reset got stuck: each served port is dead, its last disk is remembered, it takes plain commands and uses no slot.
+-- No request is answered and no frame given back.
 pub record GetsStuck (old new : Server) : Type 0 where
   pub stays : StaysReset old.device new.device
   pub found : (port : ℕ) → found_of new.ports port ≡ stuck_found (found_of old.ports port)
@@ -70,4 +77,10 @@ pub record GetsStuck (old new : Server) : Type 0 where
   pub places : (port : ℕ) → port < 4 → length (slots_at new.slots port).places ≡ 32
   pub usable : (port : ℕ) → port < 4 → (slots_at new.slots port).usable ≡ (mode_at new.modes port).usable
   pub unused : (port slot : ℕ) → used_for new.slots port slot ≡ None
-  pub server : new ≡ record old { device = new.device; ports = new.ports; remembered = new.remembered; modes = new.modes; slots = new.slots }
+  pub server : new ≡ record old {
+    device = new.device;
+    ports = new.ports;
+    remembered = new.remembered;
+    modes = new.modes;
+    slots = new.slots;
+  }

@@ -1,4 +1,5 @@
--- How a port that isn't ready is looked at, and booted again where its disk may have come, or may be another by now (this project's own).
+-- How a port that isn't ready is looked at, and booted again where its disk may have come, or may be another by now
+-- (this project's own).
 use Rattle.std.specs.Prelude.{Bool, true, false, ◌≡◌, slice_set}
 use Rattle.ata_types.specs.declared.Port.{Port}
 use Rattle.ata_types.specs.declared.PortState.{PortState}
@@ -20,8 +21,8 @@ use Rattle.slots.specs.Uses.{Uses as PortSlots}
 use Rattle.server_history.specs.Mended.{AreUnused}
 use Rattle.server_history.specs.Server.{Server, mode_found}
 
--- What a port in such a state is looked at for, and whether that was found: an absent one for a device that shows; one whose disk isn't served, for a
--- change of its link, or a device that doesn't show. A dead port isn't looked at.
+-- What a port in such a state is looked at for, and whether that was found: an absent one for a device that shows; one
+-- whose disk isn't served, for a change of its link, or a device that doesn't show. A dead port isn't looked at.
 abbrev pub IsLookedAt : PortState → Port → Bool → Device → Device → Type 0
 IsLookedAt Absent port result old new = FindsDevice port result old new
 IsLookedAt Foreign port result old new = FindsChange port result old new
@@ -31,7 +32,8 @@ IsLookedAt state port result old new = (result ≡ false) × (new ≡ old)
 -- What a port that was given up is found to be: what its boot has found; or dead.
 abbrev pub IsFoundAnew : Wanted → Port → Next → Device → Device → Found → Type 0
 IsFoundAnew wanted port (next.Running token) old new found = ⊥
-IsFoundAnew wanted port (next.Restart token) old new found = (booted : Booted) × (booted.found ≡ found) × BootsAgain wanted port booted old new
+IsFoundAnew wanted port (next.Restart token) old new found = (booted : Booted) × (booted.found ≡ found)
+    × BootsAgain wanted port booted old new
 IsFoundAnew wanted port next.Dead old new found = (found ≡ Unready Dead) × (new ≡ old)
 
 -- The port was given up, with no command outstanding, and booted. It is found to be this then, and takes commands so.
@@ -56,7 +58,8 @@ pub record BootsOnce (port : Port) (old new : Server) : Type 0 where
     slots = slice_set old.slots port.0 slots;
   }
 
--- The turn of a port that isn't ready, in a service: it is looked at, and booted where that was found which it was looked at for.
+-- The turn of a port that isn't ready, in a service: it is looked at, and booted where that was found which it was
+-- looked at for.
 pub record TriesPort (port : Port) (old new : Server) : Type 0 where
   pub state : PortState
   pub is : found_of old.ports port.0 ≡ Unready state

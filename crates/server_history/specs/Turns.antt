@@ -64,17 +64,19 @@ pub record NamesOnly (port : Port) (evidence : Evidence) : Type 0 where
   pub stopped : All (λ q. q ≡ port) evidence.stopped
   pub stuck : All (λ q. q ≡ port) evidence.stuck
 
--- A fault of the port stood on the tape since ST was set before the turn, at a moment of it before PxCMD was written; and status and error are
--- its own, where it is of this slot's plain command, or are what the log's last page tells of this slot's queued one.
+-- A fault of the port stood on the tape since ST was set before the turn, at a moment of it before PxCMD was written;
+-- and status and error are its own, where it is of this slot's plain command, or are what the log's last page tells of
+-- this slot's queued one.
 abbrev pub IsOfCommand : Bool → Port → List Access → Device → Device → ℕ → Fault → Type 0
 IsOfCommand false port accesses old new slot told =
-    (fault : tape_fault.Fault) × HasFailed port accesses old new fault × (fault.slot.0 ≡ slot) × (fault.status ≡ told.status) × (fault.error ≡ told.error)
+    (fault : tape_fault.Fault) × HasFailed port accesses old new fault × (fault.slot.0 ≡ slot)
+    × (fault.status ≡ told.status) × (fault.error ≡ told.error)
 IsOfCommand true port accesses old new slot told =
     ((fault : tape_fault.Fault) × HasFailed port accesses old new fault)
     × ((page : List ℕ) × BringsLog port old new page × TellsError page slot told.status told.error)
 
--- The fault that is told is of a request that had a slot of the port when the turn began. (Where the log's page told it, the port
--- doesn't end dead.)
+-- The fault that is told is of a request that had a slot of the port when the turn began. (Where the log's page told
+-- it, the port doesn't end dead.)
 pub record TellsFault (port : Port) (accesses : List Access) (old new : Server) (told : Fault) : Type 0 where
   pub slot : ℕ
   pub used : SlotUse
@@ -85,7 +87,8 @@ pub record TellsFault (port : Port) (accesses : List Access) (old new : Server) 
 
 -- ---- a turn
 
--- A port's turn: in a service a ready port is served, and another one tried; in a tick a ready one is restarted, or rests.
+-- A port's turn: in a service a ready port is served, and another one tried; in a tick a ready one is restarted, or
+-- rests.
 pub data Turn : Type 0 where
   InService InTry InRestart AtRest : Turn
 
@@ -99,41 +102,49 @@ call_of AtRest = Tick
 -- a turn, as though it were a call of its own
 abbrev pub turn_of : Turn → List Reply → Server → Evidence → List Step → Happening Device DeviceStep
 turn_of turn replies new evidence steps = record {
-  event = record { ask = call_of turn; said = Served replies; evidence = evidence; steps = steps; ports = ports_of new };
+  event =
+      record { ask = call_of turn; said = Served replies; evidence = evidence; steps = steps; ports = ports_of new };
   device = new.device;
 }
 
 -- What a call does of a port: its part in what ties the device to the event, and it heeds what it finds of the port.
-pub record DoesPort (old : Instant Device) (h : Happening Device DeviceStep) (accesses : List Access) (port : Port) : Type 0 where
+pub record DoesPort (old : Instant Device) (h : Happening Device DeviceStep) (accesses : List Access)
+    (port : Port) : Type 0 where
   pub ties : TiesPort old h accesses port
   pub heeds : HeedsAt port h.event.ask old.moment h.event.evidence h.event.steps (moment_after old.moment h.event)
 
 -- What a call does of a port's trouble: none is lost unless the port was stopped, and then it runs well anew.
-pub record HeedsTrouble (port : Port) (accesses : List Access) (old : Instant Device) (evidence : Evidence) (ports : Ports) (new : Device) : Type 0 where
+pub record HeedsTrouble (port : Port) (accesses : List Access) (old : Instant Device) (evidence : Evidence)
+    (ports : Ports) (new : Device) : Type 0 where
   pub trouble : LosesNoTrouble evidence old ports new port
   pub well : RunsWellAnew evidence accesses old ports new port
 
--- As such a call it has done of its port what a service does of one; where it tried a port that showed X, and no disk came, no link is due at its end (EndsLinked); and where it
--- restarts the port it has done what a call does of trouble.
+-- As such a call it has done of its port what a service does of one; where it tried a port that showed X, and no disk
+-- came, no link is due at its end (EndsLinked); and where it restarts the port it has done what a call does of trouble.
 abbrev pub TiesTurn : Turn → Port → List Reply → List Access → Server → Server → Machine → Evidence → List Step → Type 0
 TiesTurn InService port replies accesses old new m evidence steps =
     DoesPort (instant_of old m) (turn_of InService replies new evidence steps) accesses port
 TiesTurn InRestart port replies accesses old new m evidence steps =
     HeedsTrouble port accesses (instant_of old m) evidence (ports_of new) new.device
 TiesTurn InTry port replies accesses old new m evidence steps =
-    DoesPort (instant_of old m) (turn_of InTry replies new evidence steps) accesses port × EndsLinked port (instant_of old m) (ports_of new) new.device
+    DoesPort (instant_of old m) (turn_of InTry replies new evidence steps) accesses port
+    × EndsLinked port (instant_of old m) (ports_of new) new.device
 TiesTurn AtRest port replies accesses old new m evidence steps = Unit {0}
 
--- What was done was found by a reading of the masks, in which the bits of each slot that wasn't used when the turn began were clear. (The bytes of such a slot may say
--- still the command of a request that has ended.)
-pub record FindsTurn (port : Port) (accesses : List Access) (old : Server) (m : Machine) (steps : List Step) : Type 0 where
+-- What was done was found by a reading of the masks, in which the bits of each slot that wasn't used when the turn
+-- began were clear. (The bytes of such a slot may say still the command of a request that has ended.)
+pub record FindsTurn (port : Port) (accesses : List Access) (old : Server) (m : Machine)
+    (steps : List Step) : Type 0 where
   pub done : FindsDone port accesses (instant_of old m) steps
-  pub unused : (slot : ℕ) → slot < 32 → used_for old.slots port.0 slot ≡ None → (bit done.ci slot ≡ false) × (bit done.sact slot ≡ false)
+  pub unused : (slot : ℕ) → slot < 32 → used_for old.slots port.0 slot ≡ None → (bit done.ci slot ≡ false)
+      × (bit done.sact slot ≡ false)
 
--- What a tick does of a port that it restarts. What was done was found by a reading of the masks, and the port was booted anew, unless it got stuck. What had ended is
--- answered; the port was stopped, or got stuck; and none of its requests keeps its issue. Unplugged is told only where the port is neither dead nor ready with its disk; and it shows a
--- disk only where one was in.
-pub record RestartsPort (port : Port) (accesses : List Access) (old new : Server) (m : Machine) (evidence : Evidence) (steps : List Step) : Type 0 where
+-- What a tick does of a port that it restarts. What was done was found by a reading of the masks, and the port was
+-- booted anew, unless it got stuck. What had ended is answered; the port was stopped, or got stuck; and none of its
+-- requests keeps its issue. Unplugged is told only where the port is neither dead nor ready with its disk; and it shows
+-- a disk only where one was in.
+pub record RestartsPort (port : Port) (accesses : List Access) (old new : Server) (m : Machine) (evidence : Evidence)
+    (steps : List Step) : Type 0 where
   pub finds : FindsTurn port accesses old m steps
   pub boots : (state_of (found_of new.ports port.0) ≡ Dead) ⊎ ResetsLink port accesses
   pub ended : AnswersEnded m steps port
@@ -142,18 +153,24 @@ pub record RestartsPort (port : Port) (accesses : List Access) (old new : Server
   pub another : FindsAnother steps (ports_of old) (ports_of new)
   pub disk : HadDisk (moment_of old m) steps (moment_of new (after m steps)) port
 
--- What a turn owes besides. In a service requests wait again, are aborted, or told a fault, on ports alone that failed; of a port that isn't ready no fault is told, and
--- no loss. A restart owes what it does, and tells no fault. Where a port rests nothing is done.
+-- What a turn owes besides. In a service requests wait again, are aborted, or told a fault, on ports alone that failed;
+-- of a port that isn't ready no fault is told, and no loss. A restart owes what it does, and tells no fault. Where a
+-- port rests nothing is done.
 abbrev pub OwesTurn : Turn → Port → List Access → Server → Server → Machine → Evidence → List Step → Type 0
 OwesTurn InService port accesses old new m evidence steps = AllGrounded evidence steps
-OwesTurn InTry port accesses old new m evidence steps = AllGrounded evidence steps × (evidence.faults ≡ []) × (evidence.lost ≡ [])
-OwesTurn InRestart port accesses old new m evidence steps = RestartsPort port accesses old new m evidence steps × (evidence.faults ≡ [])
-OwesTurn AtRest port accesses old new m evidence steps = (accesses ≡ []) × (steps ≡ []) × (evidence.faults ≡ []) × (IsInterrupted evidence port → ⊥)
+OwesTurn InTry port accesses old new m evidence steps = AllGrounded evidence steps × (evidence.faults ≡ [])
+    × (evidence.lost ≡ [])
+OwesTurn InRestart port accesses old new m evidence steps = RestartsPort port accesses old new m evidence steps
+    × (evidence.faults ≡ [])
+OwesTurn AtRest port accesses old new m evidence steps = (accesses ≡ []) × (steps ≡ []) × (evidence.faults ≡ [])
+    × (IsInterrupted evidence port → ⊥)
 
--- What a turn that made these accesses and said these replies has made of the machine: its steps may come, and lead to a machine that stands for
--- the new server; the tape backs them; and they are the device's own, or of requests of the port. Its evidence names the port alone, and is
--- backed by the device. Of what its call owes and claims it owes and claims what the block machine asks; and it has done what a call does of a port.
-pub record MakesTurn (turn : Turn) (port : Port) (replies : List Reply) (accesses : List Access) (old new : Server) (m : Machine) : Type 0 where
+-- What a turn that made these accesses and said these replies has made of the machine: its steps may come, and lead to
+-- a machine that stands for the new server; the tape backs them; and they are the device's own, or of requests of the
+-- port. Its evidence names the port alone, and is backed by the device. Of what its call owes and claims it owes and
+-- claims what the block machine asks; and it has done what a call does of a port.
+pub record MakesTurn (turn : Turn) (port : Port) (replies : List Reply) (accesses : List Access) (old new : Server)
+    (m : Machine) : Type 0 where
   pub steps : List Step
   pub evidence : Evidence
   pub may : AllMay m steps
@@ -168,16 +185,19 @@ pub record MakesTurn (turn : Turn) (port : Port) (replies : List Reply) (accesse
   pub tells : Tells steps replies
   pub unplugs : UnplugsAll steps (after m steps)
   pub becomes : IsServiced (ports_of old) evidence (ports_of new) port
-  pub disk : SamePort (ports_of old) (ports_of new) port ⊎ HadDisk (moment_of old m) steps (moment_of new (after m steps)) port
+  pub disk : SamePort (ports_of old) (ports_of new) port
+      ⊎ HadDisk (moment_of old m) steps (moment_of new (after m steps)) port
   pub keeps : SameDisk (ports_of old) (ports_of new) port ⊎ NoneWaits (after m steps) port
   pub issues : (ports_of new).state port ≡ ReadyState → IssuesDue (mode_in new port) steps (after m steps) port
-  pub evidenced : IsEvidencedOf (call_of turn) (Served replies) accesses (instant_of old m) (ports_of new) new.device evidence port
+  pub evidenced : IsEvidencedOf (call_of turn) (Served replies) accesses (instant_of old m) (ports_of new) new.device
+      evidence port
   pub faults : (told : Fault) → Contains evidence.faults told → TellsFault port accesses old new told
   pub ties : TiesTurn turn port replies accesses old new m evidence steps
   pub finds : turn ≡ InService → (e : Pending) → IsIssuedOn port m e → FindsTurn port accesses old m steps
 
--- what a turn of the port leaves of the server: its grants, the disks that are wanted, the id that was handed out last, and what it has of other ports and their
--- requests (the machine that stands for it has the owners, and the loans that are kept)
+-- what a turn of the port leaves of the server: its grants, the disks that are wanted, the id that was handed out last,
+-- and what it has of other ports and their requests (the machine that stands for it has the owners, and the loans that
+-- are kept)
 pub record LeavesOthers (port : Port) (old new : Server) : Type 0 where
   pub grants : new.grants ≡ old.grants
   pub wanted : new.wanted ≡ old.wanted
@@ -188,8 +208,9 @@ pub record LeavesOthers (port : Port) (old new : Server) : Type 0 where
   pub slots : (q : ℕ) → q ≢ port.0 → slots_at new.slots q ≡ slots_at old.slots q
   pub book : (q : Port) → q ≢ port → of_port q (asks_of new.book) ≡ of_port q (asks_of old.book)
 
--- A port's turn, in which these replies were given: its accesses are of the port, and those of memory in the driver's frames; it leaves the other
--- ports, of which each that isn't dead is sent no page of the log; and from each machine that stands for the old server it makes one that stands for the new.
+-- A port's turn, in which these replies were given: its accesses are of the port, and those of memory in the driver's
+-- frames; it leaves the other ports, of which each that isn't dead is sent no page of the log; and from each machine
+-- that stands for the old server it makes one that stands for the new.
 pub record HasPart (turn : Turn) (port : Port) (replies : List Reply) (old new : Server) : Type 0 where
   pub accesses : List Access
   pub does : DoesAll accesses old.device new.device
@@ -202,7 +223,8 @@ pub record HasPart (turn : Turn) (port : Port) (replies : List Reply) (old new :
 -- The port was mended, where a look told of trouble; else those of its requests were answered that were found done.
 abbrev pub DoesTurn : Port → List Reply → Server → Server → Type 0
 DoesTurn port replies old new =
-    ((turn : HasTurn port (slots_at old.slots port.0) replies old.device new.device) × AnswersTurn port replies old new turn)
+    ((turn : HasTurn port (slots_at old.slots port.0) replies old.device new.device)
+    × AnswersTurn port replies old new turn)
     ⊎ ((mends : MendsPort port replies old new) × (mends.settled.mended.trouble ≢ Hung))
 
 -- What serving a port does: the port has its turn, which is a part of a service.
@@ -210,13 +232,16 @@ pub record ServesPort (port : Port) (replies : List Reply) (old new : Server) : 
   pub does : DoesTurn port replies old new
   pub part : HasPart InService port replies old new
 
--- What serving a port that isn't ready does: it is looked at, and tried where it may have a disk, which is a part of a service.
+-- What serving a port that isn't ready does: it is looked at, and tried where it may have a disk, which is a part of a
+-- service.
 pub record TriesUnready (port : Port) (old new : Server) : Type 0 where
   pub does : TriesPort port old new
   pub part : HasPart InTry port [] old new
 
--- Ports that were found ready have such turns, and other ones that are served have theirs, one after another; the first of these ports has this number.
-abbrev pub TakeTurns : (Port → List Reply → Server → Server → Type 0) → (Port → Server → Server → Type 0) → ℕ → List Found → List Reply → Server → Server → Type 0
+-- Ports that were found ready have such turns, and other ones that are served have theirs, one after another; the first
+-- of these ports has this number.
+abbrev pub TakeTurns : (Port → List Reply → Server → Server → Type 0) → (Port → Server → Server → Type 0) → ℕ
+    → List Found → List Reply → Server → Server → Type 0
 TakeTurns Such Other port [] replies old new = (replies ≡ []) × (new ≡ old)
 TakeTurns Such Other port (Ready info ∷ rest) replies old new =
     (mid : Server) × (its later : List Reply) × (replies ≡ its ++ later)
@@ -240,12 +265,16 @@ is_ready found = false
 abbrev pub a_tick_older : Server → Server
 a_tick_older s = record s { book = aged (λ port. is_ready (found_of s.ports port.0)) s.book }
 
--- A ready port's turn in a tick, where the book was this when requests had got older: the port was mended, where one was overdue; else it rests.
+-- A ready port's turn in a tick, where the book was this when requests had got older: the port was mended, where one
+-- was overdue; else it rests.
 abbrev pub TicksPort : List Held → Port → List Reply → Server → Server → Type 0
 TicksPort book port replies old new =
-    (IsOverdue port book × (mends : MendsPort port replies old new) × (mends.settled.mended.trouble ≡ Hung) × HasPart InRestart port replies old new)
+    (IsOverdue port book × (mends : MendsPort port replies old new) × (mends.settled.mended.trouble ≡ Hung)
+    × HasPart InRestart port replies old new)
     ⊎ ((IsOverdue port book → ⊥) × (replies ≡ []) × (new ≡ old))
 
--- What a tick does: requests get older, and then each ready port has its turn, in rising number; nothing is done of another one.
+-- What a tick does: requests get older, and then each ready port has its turn, in rising number; nothing is done of
+-- another one.
 abbrev pub Ticks : List Reply → Server → Server → Type 0
-Ticks replies old new = TakeTurns (TicksPort (a_tick_older old).book) (λ port one other. other ≡ one) 0 old.ports replies (a_tick_older old) new
+Ticks replies old new = TakeTurns (TicksPort (a_tick_older old).book) (λ port one other. other ≡ one) 0 old.ports
+    replies (a_tick_older old) new

@@ -1,5 +1,10 @@
-//! What a server of several ports is to the block machine: what stands behind its ports, its book and its loans between two
-//! calls, and what each call adds to its histories. It has definitions and laws, and of program code one type.
+//! What a server is to the block machine, and what each call adds to its histories.
+//!
+//! `IsKept` holds at each moment of a call while the adapter is on, `IsSettled` between calls, and
+//! `IsStalled` since a reset that got stuck; `KeepsBooks` is what holds in either case. A service's
+//! event is put together of its ports' turns (`HasPart`, `MakesTurn`): a turn is of its own port,
+//! and leaves the others. A server whose calls do what the laws ask for has the laws' theorems as
+//! its contracts. It names no type of adapter, and of program code it has `Trouble` alone.
 #![tactic(auto)]
 
 mod lawful;

@@ -26,19 +26,22 @@ fn reset_laws_hold()
     switching_on();
 }
 
-/// A server goes on once its adapter was taken over again and its requests met their fates; and once what is due was issued, nothing is due.
+/// A server goes on once its adapter was taken over again and its requests met their fates; and once what is due was
+/// issued, nothing is due.
 pub fn a_reset_server_goes_on()
     ensures settle { (s taken : Server) → KeepsBooks s → IsTakenAgain s taken → MaySettle taken }
-    ensures kept { (s taken settled : Server) (replies : List Reply) → KeepsBooks s → IsTakenAgain s taken → SettlePorts 0 taken.ports replies taken settled → IsKept settled }
-    ensures settled { (s taken settled new : Server) (replies : List Reply) → KeepsBooks s → IsTakenAgain s taken → SettlePorts 0 taken.ports replies taken settled
-        → IssuePorts 0 taken.ports settled new → IsSettled new }
+    ensures kept { (s taken settled : Server) (replies : List Reply) → KeepsBooks s → IsTakenAgain s taken
+        → SettlePorts 0 taken.ports replies taken settled → IsKept settled }
+    ensures settled { (s taken settled new : Server) (replies : List Reply) → KeepsBooks s → IsTakenAgain s taken
+        → SettlePorts 0 taken.ports replies taken settled → IssuePorts 0 taken.ports settled new → IsSettled new }
 {
     reset_laws_hold();
 }
 
 /// A reset that ends adds an event.
 pub fn resets_add()
-    ensures { (s new : Server) (replies : List Reply) → KeepsBooks s → ResetsServer replies s new → Adds s new Reset (WasReset (Some replies)) }
+    ensures { (s new : Server) (replies : List Reply) → KeepsBooks s → ResetsServer replies s new
+        → Adds s new Reset (WasReset (Some replies)) }
 {
     reset_laws_hold();
 }

@@ -1,5 +1,5 @@
-// Laws of a server whether or not its adapter is on, and of one since a reset that got stuck: the clause is the theorem. Nothing comes of calling these
-// functions.
+// Laws of a server whether or not its adapter is on, and of one since a reset that got stuck: the clause is the
+// theorem. Nothing comes of calling these functions.
 ghost use Rattle.std.specs.Prelude.{ℕ, true, false, ◌≡◌, ◌≢◌, ◌+◌, ◌*◌, ◌<◌, List, [], None, Ok, Err, All, AllPairs, Contains, length};
 ghost use Rattle.ata_types.specs.declared.Port.{Port};
 ghost use Rattle.ata_types.specs.declared.memory.TheConstants.{FRAME_BYTES};
@@ -35,22 +35,23 @@ pub fn a_server_is_booked()
     the_laws_below_hold();
 }
 
-/// What is kept may be given back, whether or not the adapter is on: the frames of each kept loan are lent to its request, which isn't unanswered, and of which
-/// there is no other loan.
+/// What is kept may be given back, whether or not the adapter is on: the frames of each kept loan are lent to its
+/// request, which isn't unanswered, and of which there is no other loan.
 pub fn booked_loans_are_lent()
     ensures lent { (s : Server) (port : ℕ) → KeepsBooks s → All (IsLentOut s.table) (kept_at s.kept port) }
     ensures two { (s : Server) (port : ℕ) → KeepsBooks s → AllPairs AreOfTwo (kept_at s.kept port) }
-    ensures one { (s : Server) (port other : ℕ) (a b : Lending) → KeepsBooks s → Contains (kept_at s.kept port) a → Contains (kept_at s.kept other) b
-        → a.request ≡ b.request → (port ≡ other) × (a ≡ b) }
-    ensures answered { (s : Server) (port : ℕ) (loan : Lending) (e : Held) → KeepsBooks s → Contains (kept_at s.kept port) loan → Contains s.book e
-        → e.entry.id ≢ loan.request }
+    ensures one { (s : Server) (port other : ℕ) (a b : Lending) → KeepsBooks s → Contains (kept_at s.kept port) a
+        → Contains (kept_at s.kept other) b → a.request ≡ b.request → (port ≡ other) × (a ≡ b) }
+    ensures answered { (s : Server) (port : ℕ) (loan : Lending) (e : Held) → KeepsBooks s
+        → Contains (kept_at s.kept port) loan → Contains s.book e → e.entry.id ≢ loan.request }
 {
     living_laws_hold();
 }
 
 /// The requests of one port meet their fates, and those of the others may still.
 pub fn settling_goes_on()
-    ensures { (s new : Server) (port : Port) (replies : List Reply) → port.0 < 4 → MaySettle s → SettlesPort port replies s new → MaySettle new }
+    ensures { (s new : Server) (port : Port) (replies : List Reply) → port.0 < 4 → MaySettle s
+        → SettlesPort port replies s new → MaySettle new }
 {
     the_laws_below_hold();
 }
@@ -62,42 +63,47 @@ pub fn stuck_resets_add()
     the_laws_below_hold();
 }
 
-/// A request is refused while no port is ready, and none is acceptable then; so are accesses to frames as ever. A port's state may be asked. Nothing changes.
+/// A request is refused while no port is ready, and none is acceptable then; so are accesses to frames as ever. A
+/// port's state may be asked. Nothing changes.
 pub fn stalled_refusals_add()
-    ensures submit { (s : Server) (r : Request) (refusal : Refusal) → IsStalled s → IsFirstRefusal (situation_of s) r refusal
-        → AddsEvent s s (Submit r) (Submitted (Err refusal)) }
+    ensures submit { (s : Server) (r : Request) (refusal : Refusal) → IsStalled s
+        → IsFirstRefusal (situation_of s) r refusal → AddsEvent s s (Submit r) (Submitted (Err refusal)) }
     ensures none { (s : Server) (r : Request) → IsStalled s → IsAcceptable (situation_of s) r → ⊥ }
-    ensures store { (s : Server) (client : ClientId) (frame : Frame) (offset : ℕ) (bytes : List ℕ) (fault : MemFault) → IsStalled s
-        → IsFirstMemFault (owner_of s.table) (lent_to s.table) client frame offset (length bytes) fault
+    ensures store { (s : Server) (client : ClientId) (frame : Frame) (offset : ℕ) (bytes : List ℕ) (fault : MemFault)
+        → IsStalled s → IsFirstMemFault (owner_of s.table) (lent_to s.table) client frame offset (length bytes) fault
         → AddsEvent s s (StoreAt client frame offset bytes) (store_said (Err fault)) }
-    ensures load { (s : Server) (client : ClientId) (frame : Frame) (offset count : ℕ) (bytes : List ℕ) (fault : MemFault) → IsStalled s
+    ensures load { (s : Server) (client : ClientId) (frame : Frame) (offset count : ℕ) (bytes : List ℕ)
+        (fault : MemFault) → IsStalled s
         → IsFirstMemFault (owner_of s.table) (lent_to s.table) client frame offset count fault
         → AddsEvent s s (LoadAt client frame offset count) (load_said (Err fault) bytes) }
-    ensures state { (s : Server) (port : Port) → IsStalled s → AddsEvent s s (State port) (Shown ((ports_of s).state port)) }
+    ensures state { (s : Server) (port : Port) → IsStalled s
+        → AddsEvent s s (State port) (Shown ((ports_of s).state port)) }
 {
     the_laws_below_hold();
 }
 
-/// A device that does what it is told adds an event while its adapter isn't on, and so does one that can't. It doesn't switch the adapter on.
+/// A device that does what it is told adds an event while its adapter isn't on, and so does one that can't. It doesn't
+/// switch the adapter on.
 pub fn stalled_device_steps_add()
-    ensures done { (s : Server) (new : Device) (step : DeviceStep) → IsStalled s → Asked step s.device new → Steps s.device new
-        → AddsStalled s (record s { device = new }) (Told step) (Stepped true) }
+    ensures done { (s : Server) (new : Device) (step : DeviceStep) → IsStalled s → Asked step s.device new
+        → Steps s.device new → AddsStalled s (record s { device = new }) (Told step) (Stepped true) }
     ensures refused { (s : Server) (step : DeviceStep) → IsStalled s → AddsEvent s s (Told step) (Stepped false) }
 {
     the_laws_below_hold();
 }
 
-/// Bytes of an open frame may be loaded and stored while the adapter isn't on, whatever the device does first; and that adds an event.
+/// Bytes of an open frame may be loaded and stored while the adapter isn't on, whatever the device does first; and that
+/// adds an event.
 pub fn stalled_bytes_add()
     ensures open { (s : Server) (client : ClientId) (frame : Frame) (offset count : ℕ) → IsStalled s
         → IsOpen (owner_of s.table) (lent_to s.table) client frame offset count
         → Stays (IsFree (FRAME_BYTES * frame.0 + offset) count) s.device }
-    ensures store { (s : Server) (new : Device) (client : ClientId) (frame : Frame) (offset : ℕ) (bytes : List ℕ) → IsStalled s
-        → IsOpen (owner_of s.table) (lent_to s.table) client frame offset (length bytes)
+    ensures store { (s : Server) (new : Device) (client : ClientId) (frame : Frame) (offset : ℕ) (bytes : List ℕ)
+        → IsStalled s → IsOpen (owner_of s.table) (lent_to s.table) client frame offset (length bytes)
         → Stores (FRAME_BYTES * frame.0 + offset) bytes s.device new
         → AddsStalled s (record s { device = new }) (StoreAt client frame offset bytes) (store_said (Ok tt)) }
-    ensures load { (s : Server) (new : Device) (client : ClientId) (frame : Frame) (offset count : ℕ) (bytes : List ℕ) → IsStalled s
-        → length bytes ≡ count → IsOpen (owner_of s.table) (lent_to s.table) client frame offset count
+    ensures load { (s : Server) (new : Device) (client : ClientId) (frame : Frame) (offset count : ℕ) (bytes : List ℕ)
+        → IsStalled s → length bytes ≡ count → IsOpen (owner_of s.table) (lent_to s.table) client frame offset count
         → Loads (FRAME_BYTES * frame.0 + offset) bytes s.device new
         → AddsStalled s (record s { device = new }) (LoadAt client frame offset count) (load_said (Ok tt) bytes) }
 {
@@ -111,7 +117,8 @@ pub fn stalled_ticks_add()
     the_laws_below_hold();
 }
 
-/// A service adds an event: the requests of each dead port are told that it is dead, port by port, and nothing is accessed.
+/// A service adds an event: the requests of each dead port are told that it is dead, port by port, and nothing is
+/// accessed.
 pub fn stalled_services_add()
     ensures { (s new : Server) (replies : List Reply) → IsStalled s → SettlePorts 0 s.ports replies s new
         → AddsStalled s new Service (Served replies) }

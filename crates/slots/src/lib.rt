@@ -1,4 +1,7 @@
-//! The command slots of a port: which request each is used for.
+//! Which command slots of a port are taken, each for which request.
+//!
+//! `take` gives the lowest free usable one. It doesn't look whether another slot has that request.
+//! It knows no register.
 #![tactic(auto)]
 
 ghost use Rattle.std.specs.Prelude.{◌≡◌, ◌↔◌, ℕ, ◌<◌, ◌≤◌, length, IfSome, IfNone, Some, None, IsSome, true, slice_index_or};
@@ -53,10 +56,12 @@ impl Slots {
         }
     }
 
-    /// Takes the lowest free usable slot for a request's command. `None` where each usable one is taken; then nothing changes.
+    /// Takes the lowest free usable slot for a request's command. `None` where each usable one is taken; then nothing
+    /// changes.
     pub fn take(&mut self, id: RequestId, queued: bool) -> Option<Slot>
         ensures lowest { IfSome result (λ slot. IsLowestFree self.old slot.0) }
-        ensures taken { IfSome result (λ slot. self.new ≡ with_use self.old slot.0 (Some (record { id = id; queued = queued }))) }
+        ensures taken { IfSome result
+            (λ slot. self.new ≡ with_use self.old slot.0 (Some (record { id = id; queued = queued }))) }
         ensures full { IfNone result ((slot : ℕ) → slot < self.old.usable → IsTaken self.old slot) }
         ensures none { IfNone result (self.new ≡ self.old) }
     {
@@ -97,7 +102,8 @@ impl Slots {
         self.taken
     }
 
-    /// Of the slots that are taken and have their bits set here, the one whose request has the least id. `None` where there is none.
+    /// Of the slots that are taken and have their bits set here, the one whose request has the least id. `None` where
+    /// there is none.
     pub fn earliest(&self, mask: u32) -> Option<Slot>
         ensures found { IfSome result (λ slot. IsEarliest self.now mask slot.0) }
         ensures none { IfNone result ((slot : ℕ) → slot < 32 → bit_at mask slot ≡ 1 → use_at self.now slot ≡ None) }
@@ -140,7 +146,8 @@ fn lowest_free(places: &[Option<Use>], usable: u8) -> Option<u8>
 fn earliest_of(places: &[Option<Use>], mask: u32) -> Option<u8>
     requires { length places.now ≡ 32 }
     ensures found { IfSome result (λ place. IsEarliestOf places.now mask place) }
-    ensures none { IfNone result ((place : ℕ) → place < 32 → bit_at mask place ≡ 1 → slice_index_or places.now place None ≡ None) }
+    ensures none { IfNone result ((place : ℕ) → place < 32 → bit_at mask place ≡ 1
+        → slice_index_or places.now place None ≡ None) }
 {
     let mut earliest = None;
     let mut least = RequestId(0);

@@ -58,8 +58,8 @@ fn port(rt: &impl Abort, state: PortState, sectors: u64, trims: bool) -> ArrayVe
     ports
 }
 
-/// Client 1 has frames 40 to 79 and may do all to sectors 100 to 163; client 2 has frames 80 to 119 and may read 140 to 199.
-/// Port 0 is ready, with a disk of 70,000 sectors.
+/// Client 1 has frames 40 to 79 and may do all to sectors 100 to 163; client 2 has frames 80 to 119 and may read 140 to
+/// 199. Port 0 is ready, with a disk of 70,000 sectors.
 fn tables(rt: &impl Abort) -> Tables {
     let mut rows = ArrayVec::new();
     assert!(rt; rows.try_push(row(1, 100, 64, true)).is_ok());

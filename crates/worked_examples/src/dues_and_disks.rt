@@ -38,7 +38,8 @@ const ISSUED_READ: InBook = (1, 0, Op::Read, 100, 8, true);
 
 const TRIM: InBook = (2, 0, Op::Trim, 120, 8, false);
 
-/// What is told of a book: the case's name, whether commands are queued, the slots that are usable, the book, and the ids of those due.
+/// What is told of a book: the case's name, whether commands are queued, the slots that are usable, the book, and the
+/// ids of those due.
 const DUE: &[(&str, bool, u8, &[InBook], &[u64])] = &[
     ("two writes apart", true, 32, &[WRITE, WRITE_APART], &[1, 2]),
     (
@@ -398,7 +399,8 @@ const THERE: &[Happened] = &[
     Happened::Touched(WRITE_THERE, 4),
 ];
 
-/// A case's name, what happened on a disk that is filled from 5 on, the read, a sector, and the byte that is left on it.
+/// A case's name, what happened on a disk that is filled from 5 on, the read, a sector, and the byte that is left on
+/// it.
 const LEFT: &[(&str, &[Happened], Filled, u64, u8)] = &[
     ("a write that was cut short", CUT_SHORT, LONG_READ, 100, 7),
     ("its second sector", CUT_SHORT, LONG_READ, 101, 8),

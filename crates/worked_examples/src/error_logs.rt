@@ -1,4 +1,5 @@
-// Pages of log 10h, worked out by hand from ACS-3: bits 4:0 of byte 0 are the tag, bit 7 is NQ; byte 2 is the status and byte 3 the error.
+// Pages of log 10h, worked out by hand from ACS-3: bits 4:0 of byte 0 are the tag, bit 7 is NQ; byte 2 is the status
+// and byte 3 the error.
 use ata_types::Slot;
 use error_log::{Failure, parse_log};
 

@@ -9,8 +9,9 @@ use request_queue::{Book, Entry};
 use std::process::Abort;
 use std::test::Fail;
 
-/// The request with this id, 1 to 128: sixteen of a client after those of the one before, and the ports in turn. Of four that follow one another
-/// on a port the first two are a write and a read of the same sectors, and the others two reads of the same.
+/// The request with this id, 1 to 128: sixteen of a client after those of the one before, and the ports in turn. Of
+/// four that follow one another on a port the first two are a write and a read of the same sectors, and the others two
+/// reads of the same.
 fn request(id: u64) -> Entry
     requires { (1 ≤ id) × (id ≤ 128) }
     ensures id { result.id.0 ≡ id }
@@ -47,8 +48,8 @@ fn fill(rt: &impl Abort, book: &mut Book, table: &mut FrameTable)
     }
 }
 
-/// Of a port's requests, by which of 32 it is, those that are due where so many slots are usable for queued commands: the first of all but each
-/// second of four, which is a read of what the first writes.
+/// Of a port's requests, by which of 32 it is, those that are due where so many slots are usable for queued commands:
+/// the first of all but each second of four, which is a read of what the first writes.
 fn is_due(turn: usize, usable: usize) -> bool
     requires { turn < 32 }
 {

@@ -1,5 +1,7 @@
-//! Worked examples of the public calls of libraries that aren't proved once more with tests of their own: values, bytes, texts
-//! and answers from outside. There is no other code here.
+//! Tests of the public calls of the lower libraries.
+//!
+//! Values, bytes, texts and answers come from outside. They stand here since a crate with tests is
+//! proved twice. There is no other code, and nothing uses it.
 #![tactic(auto)]
 
 #[cfg(test)]

@@ -1,4 +1,5 @@
-// Requests that no script asks for so far, and what is said of them. Reads and writes stand in the cases of the program.
+// Requests that no script asks for so far, and what is said of them. Reads and writes stand in the cases of the
+// program.
 use arrayvec::ArrayVec;
 use ata_types::{ClientId, Frame, GrantRow, Op, Port, Request, Rights, Rule, Sector};
 use dma_frames::FrameTable;

@@ -1,4 +1,5 @@
-// Steps as lines spell them, and answers that the program doesn't tell so far. The other lines and answers stand in the cases of the program.
+// Steps as lines spell them, and answers that the program doesn't tell so far. The other lines and answers stand in the
+// cases of the program.
 use adapter::{Clear, DeviceStep, Direction, DiskNumber, DiskPage, FatalError, Move, Operation};
 use arrayvec::ArrayVec;
 use ata_types::{ClientId, Outcome, Port, PortState, Refusal, Reply, RequestId, Slot};
@@ -13,8 +14,8 @@ fn step_of(text: &[u8]) -> Option<DeviceStep> {
     }
 }
 
-/// Texts, and the steps that they are read as. No server shows which values a lie has. The last three are no lines; a script has the first
-/// two beside its lines.
+/// Texts, and the steps that they are read as. No server shows which values a lie has. The last three are no lines; a
+/// script has the first two beside its lines.
 const STEPS: &[(&str, Option<DeviceStep>)] = &[
     ("dev fetch 3 31", Some(DeviceStep::Fetch(Port(3), Slot(31)))),
     ("dev move 3 31", Some(DeviceStep::Move(Port(3), Slot(31)))),

@@ -1,4 +1,5 @@
-// Blocks of trims, worked out by hand from ACS-3: an entry has six bytes of a first sector and two of how many, lowest byte first.
+// Blocks of trims, worked out by hand from ACS-3: an entry has six bytes of a first sector and two of how many, lowest
+// byte first.
 use ata_types::{Range, Sector};
 use flush_trim::trim_block;
 
@@ -61,7 +62,8 @@ fn ranges_are_cut_from_their_front(rt: HostRuntime) {
     }
 }
 
-// The most that a trim may be of: each of the 64 entries is full. The last one's first sector is 63 times 65,535, 3EFFC1h.
+// The most that a trim may be of: each of the 64 entries is full. The last one's first sector is 63 times 65,535,
+// 3EFFC1h.
 #[test]
 fn whole_blocks_are_full(rt: HostRuntime) {
     let Some(block) = block_of(0, 4_194_240) else {

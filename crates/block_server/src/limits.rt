@@ -1,0 +1,15 @@
+// Limits of requests that no grant sets.
+ghost use Rattle.std.specs.Prelude.{◌≢◌, ◌<◌, ◌+◌, ◌↔◌, IsTrue};
+
+use ata_types::{Op, Request};
+
+/// Unanswered requests of one client at most.
+pub(crate) const CLIENT_PLACES: usize = 16;
+
+/// Whether sectors of a request leave a disk of so many. A flush has none.
+pub(crate) fn leaves_disk(r: &Request, sectors: u64) -> bool
+    ensures { IsTrue result ↔ ((r.now.op ≢ Op.Flush) × (sectors < r.now.first.0 + r.now.count)) }
+{
+    let end = r.first.0 as u128 + r.count as u128;
+    r.op != Op::Flush && end > sectors as u128
+}
