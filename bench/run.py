@@ -1,10 +1,11 @@
 #!/usr/bin/env python3
 """Times the program and the server, and prints tables. `bench/run.py [REQUESTS]` builds `bench` and `blockd` first.
 
-Each script is of reads of eight sectors: asked, done by the disk, and answered; the one asks each after the last is answered, the other asks
-16 at a time, which one service answers. A time is the least of five runs, less that of a script of one line. Instructions are those that callgrind counts. The
-server's calls are compiled into what plays the script, so its part is what is left without the model and without as many lines that ask
-nothing of it but what a port's state is.
+Each script is of reads of eight sectors: asked, done by the disk, and answered; the one asks each after the last is
+answered, the other asks 16 at a time, which one service answers. A time is the least of five runs, less that of a
+script of one line. Instructions are those that callgrind counts. The server's calls are compiled into what plays the
+script, so its part is what is left without the model and without as many lines that ask nothing of it but what a port's
+state is.
 """
 import pathlib
 import re
@@ -26,12 +27,14 @@ trim = "full"
 [[port]]
 number = 0
 """
-# Unanswered requests of one client at most, and frames of each of eight clients; one client alone has all that they have.
+# Unanswered requests of one client at most, and frames of each of eight clients; one client alone has all that they
+# have.
 PLACES = 16
 
 
 def configuration(clients=1, grants=1):
-    """So many clients with a grant of all sectors each, after so many less one of client 1 that no line uses: its last is the one that lines use."""
+    """So many clients with a grant of all sectors each, after so many less one of client 1 that no line uses: its last
+    is the one that lines use."""
     text = ADAPTER
     frames = 8 * PLACES // clients
     for client in range(1, clients + 1):
@@ -49,7 +52,8 @@ def waiting():
 
 
 def script(requests, at_a_time, before=(), grant=0, slot=0, sectors=8):
-    """These lines, and then reads of so many sectors, so many of them unanswered at a time; the first goes in this slot."""
+    """These lines, and then reads of so many sectors, so many of them unanswered at a time; the first goes in this
+    slot."""
     lines = list(before)
     wide = sectors // 8
     for _ in range(requests // at_a_time):
@@ -78,7 +82,11 @@ def instructions(words, folder):
         cwd=folder, stdout=subprocess.DEVNULL, stderr=subprocess.DEVNULL, check=True,
     )
     told = subprocess.run(
-        ["callgrind_annotate", "--inclusive=yes", "--threshold=100", "profile"], cwd=folder, capture_output=True, text=True, check=True,
+        ["callgrind_annotate", "--inclusive=yes", "--threshold=100", "profile"],
+        cwd=folder,
+        capture_output=True,
+        text=True,
+        check=True,
     ).stdout
     found = {}
     for line in told.splitlines():
@@ -143,7 +151,8 @@ def main():
         (room / "clients").write_text(configuration(clients=8, grants=8))
         lines = max(of_each(lambda requests: "state 0\n" * 3 * requests, bench, room).values())
         print(f"\nReading and printing three lines: {lines:,.0f} instructions\n")
-        print("| Sectors | Asked at a time | Unanswered | Grants | Instructions a request | the model's | the server's, and what the line of a read is longer |")
+        heads = ["Sectors", "Asked at a time", "Unanswered", "Grants", "Instructions a request", "the model's"]
+        print("| " + " | ".join([*heads, "the server's, and what the line of a read is longer"]) + " |")
         print("|---|---|---|---|---|---|---|")
         for sectors, at_a_time, unanswered, grants, config, text in (
             (8, 1, 1, 1, "config", lambda requests: script(requests, 1)),
@@ -155,7 +164,8 @@ def main():
             found = of_each(text, bench, room, config)
             spent = lines if at_a_time == 1 else lines * (2 + 1 / at_a_time) / 3
             whole, model, server = parts(found, spent)
-            print(f"| {sectors} | {at_a_time} | {unanswered} | {grants} | {whole:,.0f} | {model:,.0f} | {server:,.0f} |")
+            counts = f"{whole:,.0f} | {model:,.0f} | {server:,.0f}"
+            print(f"| {sectors} | {at_a_time} | {unanswered} | {grants} | {counts} |")
 
 
 if __name__ == "__main__":

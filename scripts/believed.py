@@ -1,9 +1,10 @@
 #!/usr/bin/env python3
 """What has to be believed for a clause: the definitions behind a name, and their lines.
 
-`believed.py NAME..` follows the names that a definition of `crates/*/specs` is made of, and those behind them, and prints how many definitions that
-are, and how many lines they have without comments, in all and by crate. A name is `CRATE.FILE.NAME`, or `NAME` where one definition alone has it.
-`--list` prints each. `--check` compares the counts with the most that `scripts/believed.txt` allows: a rise is refused, and a fall has to be noted.
+`believed.py NAME..` follows the names that a definition of `crates/*/specs` is made of, and those behind them, and
+prints how many definitions that are, and how many lines they have without comments, in all and by crate. A name is
+`CRATE.FILE.NAME`, or `NAME` where one definition alone has it. `--list` prints each. `--check` compares the counts with
+the most that `scripts/believed.txt` allows: a rise is refused, and a fall has to be noted.
 """
 import collections
 import glob
@@ -135,7 +136,8 @@ def check(known):
             counts = known.counted(name)
             if counts != tuple(map(int, most)):
                 failed = 1
-                print(f"{name}: {counts[0]} definitions and {counts[1]} lines, where {MOST} has {' and '.join(most)}", file=sys.stderr)
+                told = f"{counts[0]} definitions and {counts[1]} lines, where {MOST} has {' and '.join(most)}"
+                print(f"{name}: {told}", file=sys.stderr)
     print(f"{1 - failed} passed, {failed} failed")
     return failed
 

@@ -1,6 +1,7 @@
 #!/usr/bin/env python3
-"""Counts the imports of another crate's proofs, crate by crate: what a crate knows of another otherwise than by its contracts and
-laws. The last line tells those of the crates above `agreement`, which are to become none. With a crate's name, lists its own.
+"""Counts the imports of another crate's proofs, crate by crate: what a crate knows of another otherwise than by its
+contracts and laws. The last line tells those of the crates above `agreement`, which are to become none. With a crate's
+name, lists its own.
 """
 import collections
 import os
@@ -20,7 +21,8 @@ def borrowed(crate, names):
         for file in sorted(files):
             if file.endswith((".antt", ".rt")):
                 with open(f"{at}/{file}", encoding="utf-8") as it:
-                    yield from (found for found in BORROWED.findall(it.read()) if found[0] in names and found[0] != crate.name)
+                    found = BORROWED.findall(it.read())
+                    yield from (it for it in found if it[0] in names and it[0] != crate.name)
 
 
 def main():
@@ -33,7 +35,8 @@ def main():
     each = sorted(((len(it), name) for name, it in found.items() if it), reverse=True)
     print("borrowed: imports of another crate's proofs: " + ", ".join(f"{name} {count}" for count, name in each))
     above = {it.name for it in crates if any(below.name == "agreement" for below in it.below())}
-    print(f"borrowed: {sum(count for count, name in each if name in above)} of them in crates above agreement, {sum(it[0] for it in each)} in all")
+    high = sum(count for count, name in each if name in above)
+    print(f"borrowed: {high} of them in crates above agreement, {sum(it[0] for it in each)} in all")
 
 
 main()

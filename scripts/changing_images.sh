@@ -1,6 +1,7 @@
 #!/usr/bin/env bash
-# Runs the built program over an image that changes, or that the system lets it write in part, while it runs; and where standard input,
-# output or error is closed. BLOCKD names the program; without it, it is crates/blockd/out/blockd. scripts/examples.sh calls this.
+# Runs the built program over an image that changes, or that the system lets it write in part, while it runs; and where
+# standard input, output or error is closed. BLOCKD names the program; without it, it is crates/blockd/out/blockd.
+# scripts/examples.sh calls this.
 set -euo pipefail
 cd "$(dirname "$0")/.."
 source scripts/comparing.sh
@@ -10,9 +11,10 @@ clear_sector() {
     head -c 512 /dev/zero | dd of="$1" bs=512 seek="$2" conv=notrunc status=none
 }
 
-# Plays two parts of a script with many answers between them, which wait to be read while something is done: tells what was told of the
-# first part, and of the second. The program has opened the image by then, and can't go on to the second part before. `limit` is how long
-# a file it may write, in units of 1024 bytes: past it, a write fails where the signal for this is ignored.
+# Plays two parts of a script with many answers between them, which wait to be read while something is done: tells what
+# was told of the first part, and of the second. The program has opened the image by then, and can't go on to the second
+# part before. `limit` is how long a file it may write, in units of 1024 bytes: past it, a write fails where the signal
+# for this is ignored.
 limit=unlimited
 played_around() {
     local first=$1 second=$2
@@ -20,7 +22,11 @@ played_around() {
     shift 2
     rm -f answers
     mkfifo answers
-    (trap '' XFSZ; ulimit -S -f "$limit"; exec "$blockd" --config blockd.toml --image disk.img --script around.script --trace) >answers &
+    (
+        trap '' XFSZ
+        ulimit -S -f "$limit"
+        exec "$blockd" --config blockd.toml --image disk.img --script around.script --trace
+    ) >answers &
     exec 3<answers
     while read -r line <&3 && [[ $line != 'state Ready' ]]; do
         echo "$line"
@@ -37,12 +43,32 @@ cut_disk() {
 }
 
 cp fresh.img disk.img
-compare 'a read of an image that was cut' $'move 0 0 identify 0 00009000\nok 1\nmove 0 0 read 100 00028000\nmove 0 0 read 101 00028200\nmove 0 0 read 102 00028400\ndid\nno\nno\nmove 0 0 log 0 00009000\nreply 1 DeviceError 41 40' \
+compare 'a read of an image that was cut' 'move 0 0 identify 0 00009000
+ok 1
+move 0 0 read 100 00028000
+move 0 0 read 101 00028200
+move 0 0 read 102 00028400
+did
+no
+no
+move 0 0 log 0 00009000
+reply 1 DeviceError 41 40' \
     "$(played_around '' 'read 1 0 100 8 40\ndev finish 0 0\ndev finish 0 0\ndev move 0 0\nservice\n' cut_disk)"
 compare 'it is as long as it was cut' $((512 * 103 + 10)) "$(stat -c %s disk.img)"
 cp fresh.img disk.img
-compare 'a write to an image that was cut' $'move 0 0 identify 0 00009000\nstored\nok 1\nmove 0 0 write 103 00028000\ndid\nreply 1 Ok\nok 2\nmove 0 0 read 103 00029000\ndid\nreply 2 Ok\nbytes c0c0' \
-    "$(played_around '' 'store 1 40 0 c0c0\nwrite 1 0 103 1 40\ndev finish 0 0\nservice\nread 1 0 103 1 41\ndev finish 0 0\nservice\nload 1 41 0 2\n' cut_disk)"
+compare 'a write to an image that was cut' 'move 0 0 identify 0 00009000
+stored
+ok 1
+move 0 0 write 103 00028000
+did
+reply 1 Ok
+ok 2
+move 0 0 read 103 00029000
+did
+reply 2 Ok
+bytes c0c0' \
+    "$(played_around '' 'store 1 40 0 c0c0\nwrite 1 0 103 1 40\ndev finish 0 0\nservice\n'\
+'read 1 0 103 1 41\ndev finish 0 0\nservice\nload 1 41 0 2\n' cut_disk)"
 compare 'it is longer again' $((512 * 104)) "$(stat -c %s disk.img)"
 
 # The file may be written up to the end of sector 101, and then further.
@@ -55,15 +81,32 @@ cp fresh.img wanted.img
 for sector in 100 101; do
     clear_sector wanted.img $sector
 done
-compare 'a write that the system refuses fails, and its client is told' $'move 0 0 identify 0 00009000\nok 1\nmove 0 0 write 100 00028000\nmove 0 0 write 101 00028200\ndid\nno\nno\nmove 0 0 log 0 00009000\nreply 1 DeviceError 41 40\nno\nno\nquiet' \
+compare 'a write that the system refuses fails, and its client is told' 'move 0 0 identify 0 00009000
+ok 1
+move 0 0 write 100 00028000
+move 0 0 write 101 00028200
+did
+no
+no
+move 0 0 log 0 00009000
+reply 1 DeviceError 41 40
+no
+no
+quiet' \
     "$(limit=51
-    played_around 'write 1 0 100 3 40\ndev finish 0 0\ndev finish 0 0\ndev move 0 0\nservice\ndev done 0 0\n' 'dev finish 0 0\nservice\n' lift_limit)"
+    played_around 'write 1 0 100 3 40\ndev finish 0 0\ndev finish 0 0\ndev move 0 0\nservice\ndev done 0 0\n' \
+        'dev finish 0 0\nservice\n' lift_limit)"
 compare 'and the sector that was left is as it was' "$(bytes_of wanted.img)" "$(bytes_of disk.img)"
 compare 'an image that is not there is not made' $'blockd: image\nnot there' \
-    "$("$blockd" --config blockd.toml --image missing.img --script /dev/null 2>&1 || true; [[ -e missing.img ]] || echo 'not there')"
-compare 'an image that runs' 'blockd: image' "$("$blockd" --config blockd.toml --image "$blockd" --script /dev/null 2>&1 || true)"
+    "$(
+        "$blockd" --config blockd.toml --image missing.img --script /dev/null 2>&1 || true
+        [[ -e missing.img ]] || echo 'not there'
+    )"
+compare 'an image that runs' 'blockd: image' \
+    "$("$blockd" --config blockd.toml --image "$blockd" --script /dev/null 2>&1 || true)"
 
-# Some of the program's first three files are closed: the image must not come in their place, where output would be written into it.
+# Some of the program's first three files are closed: the image must not come in their place, where output would be
+# written into it.
 printf 'load 1 40 0 64\n%.0s' {1..3000} >loads.script
 zeros=$(printf '00%.0s' {1..64})
 wanted_loads=$(printf "bytes $zeros\n%.0s" {1..3000}; echo 'status 0')

@@ -1,6 +1,6 @@
 #!/usr/bin/env bash
-# Proves the named crates and all that stand on them, lowest first, over what earlier runs kept: after `scripts/test.sh` a first
-# change of a small crate takes about a minute. It is no verdict: scripts/test.sh is.
+# Proves the named crates and all that stand on them, lowest first, over what earlier runs kept: after `scripts/test.sh`
+# a first change of a small crate takes about a minute. It is no verdict: scripts/test.sh is.
 set -euo pipefail
 cd "$(dirname "$0")/.."
 if [[ $# == 0 ]]; then

@@ -1,5 +1,5 @@
-# For scripts that run the built program: a folder of their own with a fresh image, and how what is wanted is compared with what is given.
-# Sourced at the top of the repository; BLOCKD names the program, which is `blockd` then.
+# For scripts that run the built program: a folder of their own with a fresh image, and how what is wanted is compared
+# with what is given. Sourced at the top of the repository; BLOCKD names the program, which is `blockd` then.
 blockd=$(realpath "${BLOCKD:-crates/blockd/out/blockd}")
 scratch=$(mktemp -d)
 trap 'rm -rf "$scratch"' EXIT

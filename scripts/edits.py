@@ -2,18 +2,20 @@
 """Tries the edits crates/NAME/edits/*.edit: the prover must refuse each. With names, those of these crates alone; with
 --tries, what each try took is told too; with --kept, what an earlier run refused over the same files isn't tried again.
 
-It stands on libraries that were proved (crates/*/out/rlib), as scripts/test.sh has them made. Several edits are tried at
-a time, each in a function of its own, on a copy of their crate. An edit is refused where a function that it changes is
-told as not proved for a reason of its own: a goal that stays open, or an answer that is wrong, and not merely that it
-calls another function that isn't proved. A function's goals rest on the contracts of what it calls, and not on their
-bodies, so edits of callers and callees can share a try. What isn't refused so is tried alone. An edit fails, too, where all that
-is told is that a proof names what it took away: a right body of another form would be told the same way.
-Each try has a function that no edit reaches, which must be proved; so a crate that can't be read, or libraries that
-don't fit, refuse nothing. What the edited functions call isn't proved again, and no lemma is: in the copy the proofs of all other
-functions and of the lemmas are holes, which the prover takes for proofs. What isn't proved even so isn't proved at all.
+It stands on libraries that were proved (crates/*/out/rlib), as scripts/test.sh has them made. Several edits are tried
+at a time, each in a function of its own, on a copy of their crate. An edit is refused where a function that it changes
+is told as not proved for a reason of its own: a goal that stays open, or an answer that is wrong, and not merely that
+it calls another function that isn't proved. A function's goals rest on the contracts of what it calls, and not on their
+bodies, so edits of callers and callees can share a try. What isn't refused so is tried alone. An edit fails, too, where
+all that is told is that a proof names what it took away: a right body of another form would be told the same way. Each
+try has a function that no edit reaches, which must be proved; so a crate that can't be read, or libraries that don't
+fit, refuse nothing. What the edited functions call isn't proved again, and no lemma is: in the copy the proofs of all
+other functions and of the lemmas are holes, which the prover takes for proofs. What isn't proved even so isn't proved
+at all.
 
-With --kept, an edit that was refused is not tried again on this machine while nothing changes that its try read: the crate's
-files, the libraries below it as they were built, the toolchain, the edit, and this script. The whole check tries all.
+With --kept, an edit that was refused is not tried again on this machine while nothing changes that its try read: the
+crate's files, the libraries below it as they were built, the toolchain, the edit, and this script. The whole check
+tries all.
 
 An edit has the form of those of `rt must-fail`: a line 'file: src/NAME.rt', then pairs of lines 'old: TEXT' and
 'new: TEXT', where TEXT stands once in that file. An edit of a text outside of functions, such as a constant, names the
@@ -38,7 +40,10 @@ import toolchain
 
 PARTS = ("src", "specs", "proofs")
 # A proof that is taken as given: the prover then goes on as if the function's theorem were proved.
-HOLE = "use Rattle.{crate}.proofs.{place}.Statement.{{statement}}\n\npub {name}_spec : {{M : Type 1}} → statement M\n{name}_spec 𝓤 𝓛 𝓜 𝓡 w = ?\n"
+HOLE = (
+    "use Rattle.{crate}.proofs.{place}.Statement.{{statement}}\n\n"
+    "pub {name}_spec : {{M : Type 1}} → statement M\n{name}_spec 𝓤 𝓛 𝓜 𝓡 w = ?\n"
+)
 # A definition without a mark but `pub`, whose body no other one can see unless it says so by `unfolding` or `unfold`.
 SIGNATURE = re.compile(r"(?:pub )?(\S+)(?: \{[^}]*\})? :(?:\s|$)")
 UNFOLDS = re.compile(r"^.*\bunfold(?:ing)?\b.*$", re.M)
@@ -100,14 +105,23 @@ def end_of(lines, at, indent):
 
 
 def body_at(lines, first, last):
-    """The line whose end begins a function's body, if the body has lines of its own. Its clauses stand deeper than its head."""
+    """The line whose end begins a function's body, if the body has lines of its own. Its clauses stand deeper than its
+    head."""
     deep = len(lines[first]) - len(lines[first].lstrip())
-    begin = next((at for at in range(first, last) if lines[at].endswith("{") and len(lines[at]) - len(lines[at].lstrip()) == deep), None)
+    begin = next(
+        (
+            at
+            for at in range(first, last)
+            if lines[at].endswith("{") and len(lines[at]) - len(lines[at].lstrip()) == deep
+        ),
+        None,
+    )
     return begin if begin is not None and begin + 1 < last else None
 
 
 def body_of(lines, first, last, indent):
-    """The words of a function's body. Its clauses name definitions, and call nothing. A text with braces may be filled in by any `fmt`."""
+    """The words of a function's body. Its clauses name definitions, and call nothing. A text with braces may be filled
+    in by any `fmt`."""
     begin = next((at for at in range(first, last + 1) if lines[at].rstrip() == indent + "{"), first)
     code = re.sub(r"//[^\n]*", "", "\n".join(lines[begin : last + 1]))
     filled = any("{" in text.replace("{{", "") for text in TEXT.findall(code))
@@ -125,7 +139,8 @@ def without_parameters(text):
 
 
 def block_name(kind, head):
-    """What a block adds to the names of the functions in it, and the type in whose module these stand, if not in that of the block."""
+    """What a block adds to the names of the functions in it, and the type in whose module these stand, if not in that
+    of the block."""
     head = re.sub(r"^<(?:[^<>]|<[^<>]*>)*>", "", head.partition(" where ")[0].strip()).strip()
     if kind != "impl":
         return without_parameters(head).partition(":")[0].strip(), None
@@ -144,7 +159,8 @@ def module_of(path):
 
 
 def functions_in(path, text, types):
-    """The functions of a file. A method's name begins with the module in which its type stands, or, where it is a trait's, its `impl`."""
+    """The functions of a file. A method's name begins with the module in which its type stands, or, where it is a
+    trait's, its `impl`."""
     lines, found, inside = text.split("\n"), [], []
     for at, line in enumerate(lines):
         inside = [it for it in inside if at <= it[1]]
@@ -207,12 +223,14 @@ def end_of_item(lines, at, depth):
 
 
 def without_bodies(lines, opened):
-    """The declarations of a file of antt, or of a module in it: those whose bodies nothing else sees with holes in place of these."""
+    """The declarations of a file of antt, or of a module in it: those whose bodies nothing else sees with holes in
+    place of these."""
     found, at = [], 0
     while at < len(lines):
         depth, end = depth_of(lines[at]), end_of_item(lines, at, depth_of(lines[at]))
         head, after = SIGNATURE.match(lines[at].strip()), end
-        while head and head[1] not in opened and after < len(lines) and lines[after].split()[0] in ("unfolding", head[1]):
+        names = ("unfolding", head[1]) if head and head[1] not in opened else ()
+        while after < len(lines) and lines[after].split()[0] in names:
             after = end_of_item(lines, after, depth)
         if after > end:
             found += [*lines[at:end], f"{' ' * depth}{head[1]} = ?", ""]
@@ -229,7 +247,8 @@ def leave_out_bodies(folder):
     """In a copy of a crate, makes holes of the lemmas. Definitions that one of the crate's proofs opens stay."""
     files = [f"{at}/{name}" for at, _, names in os.walk(folder) for name in names if name.endswith(".antt")]
     texts = {it: read(it) for it in files}
-    opened = {word for text in texts.values() for line in UNFOLDS.findall(text) for word in re.findall(r"[^\s(){},.;]+", line)}
+    lines = [line for text in texts.values() for line in UNFOLDS.findall(text)]
+    opened = {word for line in lines for word in re.findall(r"[^\s(){},.;]+", line)}
     for path, text in texts.items():
         if os.path.basename(path) in OWN:
             continue
@@ -365,7 +384,8 @@ class Crate:
         return min(left, key=lambda it: (len(it.reaches), len(it.words), it.name)).name if left else None
 
     def batch(self, edits):
-        """Edits of these that can be tried at once: each in functions of its own, and one function is left to be proved."""
+        """Edits of these that can be tried at once: each in functions of its own, and one function is left to be
+        proved."""
         found, changed = [], set()
         for it in edits:
             if len(found) < MOST and not changed & it.functions.keys() and self.control([*found, it]):
@@ -374,7 +394,8 @@ class Crate:
         return found
 
     def run(self, batch, control):
-        """Proves the functions of a copy of the crate with these edits. Answers what was printed, and which edits are in it."""
+        """Proves the functions of a copy of the crate with these edits. Answers what was printed, and which edits are
+        in it."""
         at = tempfile.mkdtemp(prefix="copy-", dir=self.room)
         for part in PARTS:
             if os.path.isdir(f"{self.folder}/{part}"):
@@ -400,10 +421,12 @@ class Crate:
         return said, tried
 
     def leave_out_code(self, at, names):
-        """In a copy of the crate, takes away the bodies of all functions but these, so that what they call isn't read."""
+        """In a copy of the crate, takes away the bodies of all functions but these, so that what they call isn't read.
+        """
         for path in {it.file for it in self.functions}:
             lines = read(f"{at}/{path}").split("\n")
-            for it in sorted((it for it in self.functions if it.file == path and it.name not in names), key=lambda it: -it.first):
+            others = [it for it in self.functions if it.file == path and it.name not in names]
+            for it in sorted(others, key=lambda it: -it.first):
                 begin = body_at(lines, it.first, it.last)
                 if begin is not None and not re.search(r"\bconst\b", lines[it.first]) and not self.calls_itself(at, it):
                     lines[begin + 1 : it.last] = ["unreachable!()"]
@@ -435,15 +458,19 @@ class Crate:
         return {name.partition("::")[2]: text for name, text in VERDICT.findall(said)}
 
     def errors(self, name, said):
-        """What is told of the files of a function's own proof. A long error goes on in lines that begin with two spaces."""
+        """What is told of the files of a function's own proof. A long error goes on in lines that begin with two
+        spaces."""
         place = re.escape(name.replace("::", "/"))
         found = re.findall(rf"^(?:\./)?proofs/{place}/\S+ error: (.*(?:\n  .*)*)$", said, re.M)
         return [" ".join(it.split()) for it in found]
 
     def is_refused(self, edit, said):
-        """Whether one of the edit's own functions isn't proved, for a reason of its own, and not only since its proof names what is gone."""
+        """Whether one of the edit's own functions isn't proved, for a reason of its own, and not only since its proof
+        names what is gone."""
         told = self.verdicts(said)
-        return not self.is_weak(edit, said) and any(self.is_own(name, told.get(name, ""), said) for name in edit.functions)
+        if self.is_weak(edit, said):
+            return False
+        return any(self.is_own(name, told.get(name, ""), said) for name in edit.functions)
 
     def is_own(self, name, verdict, said):
         """Whether the verdict on a function says that it isn't proved, for a reason of its own."""
@@ -462,10 +489,13 @@ class Crate:
         return bool(told) and all(NAMES.search(it) for it in told)
 
     def try_batch(self, batch):
-        """Tries these edits at once, and notes which are refused. Where one spoils the try, the halves are tried apart."""
+        """Tries these edits at once, and notes which are refused. Where one spoils the try, the halves are tried apart.
+        """
         control = self.control(batch)
         said, tried = self.run(batch, control)
-        why = why_unread(said) or (not self.is_good(control, said) and f"{control}, which they don't change, isn't proved")
+        why = why_unread(said)
+        if not why and not self.is_good(control, said):
+            why = f"{control}, which they don't change, isn't proved"
         if why:
             if SHOWS_TRIES:
                 say(f"{self.name}: that try told nothing: {why}")
@@ -480,7 +510,8 @@ class Crate:
     def try_alone(self, edit):
         control = self.control([edit])
         if control is None:
-            return self.fail(edit.name, "BAD EDIT: each function of its crate may come to call what it changes, so none is left to be proved")
+            why = "each function of its crate may come to call what it changes, so none is left to be proved"
+            return self.fail(edit.name, f"BAD EDIT: {why}")
         said, _ = self.run([edit], control)
         why = why_unread(said)
         if why:
@@ -490,7 +521,8 @@ class Crate:
         elif self.is_refused(edit, said):
             self.refuse(edit)
         elif self.is_weak(edit, said):
-            self.fail(edit.name, "NOT REFUSED: all that is told is that its proof names what it took away: change a value, and keep the form")
+            why = "all that is told is that its proof names what it took away: change a value, and keep the form"
+            self.fail(edit.name, f"NOT REFUSED: {why}")
         elif any("it calls" in self.verdicts(said).get(it, "") for it in edit.functions):
             self.fail(edit.name, "NOT REFUSED: its function is told only because it calls another one")
         else:
@@ -506,7 +538,8 @@ class Crate:
         os.makedirs(self.room)
         lacking = toolchain.lacking(self.crate)
         if lacking:
-            self.fail(self.files[0], f"the library {lacking[0]} isn't that of its sources: run scripts/test.sh, or rt check in {self.name}")
+            why = f"the library {lacking[0]} isn't that of its sources"
+            self.fail(self.files[0], f"{why}: run scripts/test.sh, or rt check in {self.name}")
             return self
         self.read_edits()
         self.refused += filter(self.is_known, self.edits) if IS_KEPT else []

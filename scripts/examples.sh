@@ -1,6 +1,7 @@
 #!/usr/bin/env bash
-# Runs the built program as people do: on the examples in docs/FORMATS.md and on the cases in examples/cases. BLOCKD names the program that
-# is run; without it, it is crates/blockd/out/blockd, which is built anew where it is older than a source.
+# Runs the built program as people do: on the examples in docs/FORMATS.md and on the cases in examples/cases. BLOCKD
+# names the program that is run; without it, it is crates/blockd/out/blockd, which is built anew where it is older than
+# a source.
 set -euo pipefail
 cd "$(dirname "$0")/.."
 blockd=${BLOCKD:-crates/blockd/out/blockd}

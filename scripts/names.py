@@ -1,13 +1,16 @@
 #!/usr/bin/env python3
-"""Checks that what the documents name is there: each definition of docs/DEFINITIONS.md in its file, each path, and each name in
-backticks somewhere in the crates or scripts. The last line is 'N passed, M failed', of documents.
+"""Checks that what the documents name is there: each definition of docs/DEFINITIONS.md in its file, each path, and each
+name in backticks somewhere in the crates or scripts. The last line is 'N passed, M failed', of documents.
 """
+import glob
 import os
 import re
 import sys
 
 ROOT = os.path.dirname(os.path.dirname(os.path.realpath(__file__)))
-DOCUMENTS = ["README.md", "CONTRIBUTING.md", "docs/ARCHITECTURE.md", "docs/DEFINITIONS.md", "docs/PROVED.md", "docs/DECISIONS.md"]
+DOCUMENTS = sorted(
+    it for pattern in ("*.md", "docs/*.md", "examples/*/README.md") for it in glob.glob(pattern, root_dir=ROOT)
+)
 PLACES = ("crates", "scripts", "examples", "bench", "docs", ".ci")
 # What is made by a run, or stands for a name.
 MADE = re.compile(r"out/|/NAME|NAME\b|FILE|CRATE")

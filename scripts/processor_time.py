@@ -64,7 +64,8 @@ def tell(taken):
         print(f"time: {name:18}" + "".join(f"{by_kind[it]:7.0f}" for it in KINDS), file=sys.stderr)
     in_all, hundreds = {it: sum(of[it] for of in crates.values()) for it in KINDS}, lines_of_code() / 100
     parts = ", ".join(f"{it} {in_all[it]:.0f} ({in_all[it] / hundreds:.1f}, budget {BUDGET[it]})" for it in KINDS)
-    both = f"{sum(in_all.values()) / hundreds:.1f} for each of {hundreds:.0f} hundred lines of code, budget {sum(BUDGET.values())}"
+    each = sum(in_all.values()) / hundreds
+    both = f"{each:.1f} for each of {hundreds:.0f} hundred lines of code, budget {sum(BUDGET.values())}"
     print(f"time: in all {sum(in_all.values()):.0f} processor seconds ({both}): {parts}", file=sys.stderr)
 
 

@@ -1,8 +1,9 @@
 #!/usr/bin/env python3
 """Plays cases by a built blockd, each in a run of its own, and compares what comes of it with what is wanted.
 
-`run_cases.py PROGRAM FILE..`: the files are docs/FORMATS.md and those of examples/cases, whose README.md says how they are written. A case
-that comes out otherwise is told with its file and line, what was wanted and what was given; the status is 0 where none does.
+`run_cases.py PROGRAM FILE..`: the files are docs/FORMATS.md and those of examples/cases, whose README.md says how they
+are written. A case that comes out otherwise is told with its file and line, what was wanted and what was given; the
+status is 0 where none does.
 """
 import dataclasses
 import os
@@ -44,7 +45,8 @@ class Case:
 
 
 def unescaped(text):
-    """The bytes of a text with escapes: of a line feed, a return, a tab, a backslash, a byte by two digits, and many times a byte."""
+    """The bytes of a text with escapes: of a line feed, a return, a tab, a backslash, a byte by two digits, and many
+    times a byte."""
 
     def spelled(found):
         escape = found[1]
@@ -164,8 +166,8 @@ def bad_lines(file):
 
 
 def configurations(file):
-    """The cases of a file of configurations: the kind of fault, and a whole text or a change of the base. A good configuration is
-    played; a bad one is told though the script is bad, too."""
+    """The cases of a file of configurations: the kind of fault, and a whole text or a change of the base. A good
+    configuration is played; a bad one is told though the script is bad, too."""
     base = None
     for number, line in rows(file):
         kind, _, text = line.partition(" ")
@@ -258,7 +260,8 @@ def sectors_that_differ(wanted, image):
     """Which sectors of two images differ, and how long each image is, as texts."""
     if wanted is image or wanted == image:
         return b"", b""
-    places = [at for at in range(0, max(len(wanted), len(image)), SECTOR) if wanted[at : at + SECTOR] != image[at : at + SECTOR]]
+    begins = range(0, max(len(wanted), len(image)), SECTOR)
+    places = [at for at in begins if wanted[at : at + SECTOR] != image[at : at + SECTOR]]
 
     def told(data):
         lines = [f"sector {at // SECTOR} {data[at:at + SECTOR].hex()[:64]}..\n" for at in places[:4]]
@@ -278,7 +281,12 @@ def play(program, folder, case):
         files = set(os.listdir(folder.path))
         try:
             run = subprocess.run(
-                [program, *words], cwd=folder.path, stdin=subprocess.DEVNULL, stdout=into, stderr=subprocess.PIPE, timeout=SECONDS
+                [program, *words],
+                cwd=folder.path,
+                stdin=subprocess.DEVNULL,
+                stdout=into,
+                stderr=subprocess.PIPE,
+                timeout=SECONDS,
             )
         except subprocess.TimeoutExpired:
             return [("end", f"within {SECONDS} seconds\n".encode(), b"none\n")]

@@ -1,9 +1,10 @@
 #!/usr/bin/env python3
 """Runs the built program at a terminal: `scripts/terminal_run.py PROGRAM`. scripts/examples.sh calls it.
 
-The terminal is stopped before the program begins, as by Ctrl-S. So the program sleeps in its first write, and what it has played by then is
-what the image shows: where each line's answers are written at once, nothing after the first line. Then the terminal goes on, and the whole
-output comes. A program that gathers its answers has changed the image before it writes.
+The terminal is stopped before the program begins, as by Ctrl-S. So the program sleeps in its first write, and what it
+has played by then is what the image shows: where each line's answers are written at once, nothing after the first line.
+Then the terminal goes on, and the whole output comes. A program that gathers its answers has changed the image before
+it writes.
 """
 import os
 import pathlib
@@ -24,7 +25,8 @@ LIMIT = 60
 
 
 def state_of(process):
-    """The letter by which the system tells what a process does: S where it sleeps until something comes, Z where it has ended."""
+    """The letter by which the system tells what a process does: S where it sleeps until something comes, Z where it has
+    ended."""
     text = pathlib.Path(f"/proc/{process}/stat").read_text()
     return text[text.rindex(")") + 2]
 
@@ -52,7 +54,8 @@ def read_all(terminal):
 
 
 def play(program, folder):
-    """The first byte of sector 100 while the terminal is stopped, all that was written, the status, and that byte at the end."""
+    """The first byte of sector 100 while the terminal is stopped, all that was written, the status, and that byte at
+    the end."""
     image = folder / "disk.img"
     subprocess.run([ROOT / "examples/make_image.sh", image], check=True)
     (folder / "blockd.toml").write_bytes((ROOT / "examples/blockd.toml").read_bytes())
@@ -81,7 +84,12 @@ def main():
     with tempfile.TemporaryDirectory() as name:
         given = play(program, pathlib.Path(name))
     wanted = (BEFORE, ANSWERS, 0, AFTER)
-    names = ("a line's answers are written before the next is played", "what is written at a terminal", "status", "the image at the end")
+    names = (
+        "a line's answers are written before the next is played",
+        "what is written at a terminal",
+        "status",
+        "the image at the end",
+    )
     failed = 0
     for what, one, other in zip(names, wanted, given):
         if one != other:

@@ -1,8 +1,16 @@
 #!/usr/bin/env bash
-# Proves and runs everything: `rt ci`, which keeps what this machine proved before of the same files; the edits that the prover must refuse;
-# the cases of the built program; a full book on four ports, disks that fail, and disks that are taken out at each moment of the worked cases, which are run without a
-# proof; the server over QEMU's adapter, where QEMU is installed; and the edits that the compiler must refuse; looks for the names in the documents; and counts the
-# definitions behind the promise. The last line is 'N passed, M failed', of all. What each part took is told on standard error.
+# Proves and runs everything, and is the verdict. It has these parts:
+#
+# - `rt ci`, which keeps what this machine proved before of the same files;
+# - the edits that the prover must refuse;
+# - the cases of the built program;
+# - tests that are run without a proof: a full book on four ports, disks in several ports of the model, disks that fail,
+#   and disks that are taken out at each moment of the worked cases;
+# - the server over QEMU's adapter, where QEMU is installed;
+# - the edits that the compiler must refuse;
+# - names in the documents, columns and sizes, the table of crates, and the number of definitions behind the promise.
+#
+# The last line is 'N passed, M failed', of all. What each part took is told on standard error.
 set -euo pipefail
 cd "$(dirname "$0")/.."
 if [[ -z ${IS_MEASURED:-} ]]; then
@@ -14,8 +22,8 @@ said=$(mktemp)
 trap 'rm -f "$said"' EXIT
 passed=0 failed=0
 
-# Runs a part of the check, whose last line is 'N passed, M failed', perhaps behind a word, and tells its time whether it passes
-# or not. Once a part has failed, the others are left out.
+# Runs a part of the check, whose last line is 'N passed, M failed', perhaps behind a word, and tells its time whether
+# it passes or not. Once a part has failed, the others are left out.
 part() {
     local name=$1 begin=$SECONDS status=0 count
     shift
@@ -47,6 +55,8 @@ part "surprise removal" scripts/unproved.sh surprise_removal
 part "QEMU's adapter" examples/qemu/test.sh
 part "compile-fail" scripts/compile-fail.sh
 part "names" scripts/names.py
+part "layout" scripts/layout.py
+part "crates" scripts/crates_table.py
 part "believed" scripts/believed.py --check
 scripts/borrowed.py >&2
 echo "$passed passed, $failed failed"

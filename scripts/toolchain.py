@@ -1,8 +1,9 @@
 #!/usr/bin/env python3
 """What the scripts beside it need of the toolchain: the repository's crates, as its command `rt` sees them.
 
-`toolchain.py stamp` marks the libraries that `rt ci` has just made as those of the sources as they are, so that `rt check`
-and the scripts take them. `toolchain.py above NAME..` lists these crates and all that stand on them, lowest first.
+`toolchain.py stamp` marks the libraries that `rt ci` has just made as those of the sources as they are, so that `rt
+check` and the scripts take them. `toolchain.py above NAME..` lists these crates and all that stand on them, lowest
+first.
 """
 import hashlib
 import importlib.util
@@ -38,8 +39,10 @@ def lacking(crate):
 
 
 def sum_read(crate):
-    """A sum of all that a check of a crate reads: its own files, the libraries below it as they were built, and the toolchain."""
-    it = hashlib.sha256(repr((crate.said, [rtlib.sum_of(f"{rtlib.KIT}/{name}") for name in ("KIT-ID", "WHAT")])).encode())
+    """A sum of all that a check of a crate reads: its own files, the libraries below it as they were built, and the
+    toolchain."""
+    kit = [rtlib.sum_of(f"{rtlib.KIT}/{name}") for name in ("KIT-ID", "WHAT")]
+    it = hashlib.sha256(repr((crate.said, kit)).encode())
     for path in sorted(rtlib.files_of(crate.folder)):
         it.update(repr((os.path.relpath(path, crate.folder), rtlib.sum_of(path))).encode())
     # (a library's format has the sum of its files)

@@ -1,7 +1,8 @@
 #!/usr/bin/env bash
-# Plays a test that stands in a folder of examples/ and is run without a proof, over the sources of the crates that it uses: `unproved.sh NAME`. What is
-# looked at is told in the folder's README.md. Where the folder has a file `given`, its lines name files of examples/cases, which are given to the test as
-# its words. The last line is 'N passed, M failed', of rounds.
+# Plays a test that stands in a folder of examples/ and is run without a proof, over the sources of the crates that it
+# uses: `unproved.sh NAME`. What is looked at is told in the folder's README.md. Where the folder has a file `given`,
+# its lines name files of examples/cases, which are given to the test as its words. The last line is 'N passed, M
+# failed', of rounds.
 set -euo pipefail
 cd "$(dirname "$0")/.."
 
@@ -24,7 +25,8 @@ echo "$name: $below" >>"$scratch/crates.txt"
 
 # The interpreter would take minutes for what the compiled run does in a second.
 status=0
-(cd "$scratch/crates/$name" && rt try --steps 1 --seconds 1500 -- "${words[@]}" </dev/null) >"$scratch/printed" 2>"$scratch/told" || status=$?
+(cd "$scratch/crates/$name" && rt try --steps 1 --seconds 1500 -- "${words[@]}" </dev/null) \
+    >"$scratch/printed" 2>"$scratch/told" || status=$?
 cat "$scratch/printed"
 if [[ $status != 0 ]]; then
     cat "$scratch/told" >&2

@@ -1,9 +1,13 @@
 #!/usr/bin/env bash
-# Plays a script over the ICH9 AHCI adapter of QEMU, while the model follows each access: `run.sh CONFIG SCRIPT IMAGE..`. The images, one to four, are those of the ports from 0 on. Each is copied: QEMU writes one copy, and the model the other, and where nothing strayed the copies are compared at the end,
-# byte by byte. The status is 0 where all went well, 77 where QEMU isn't there, and else another.
+# Plays a script over the ICH9 AHCI adapter of QEMU, while the model follows each access: `run.sh [--proved] CONFIG
+# SCRIPT IMAGE..`. The images, one to four, are those of the ports from 0 on. Each is copied: QEMU writes one copy, and
+# the model the other, and where nothing strayed the copies are compared at the end, byte by byte. The status is 0 where
+# all went well, 77 where QEMU isn't there, and else another.
 #
-# SECONDS_AT_MOST says how long QEMU may run (600). FOLLOW names the program; without it, it is crates/follow/out/follow, which is built where it isn't there. QEMU_DRIVES has what stands before
-# the file of each port's -drive option, parted by spaces, as `blkdebug:FILE:`. QTEST_LOG names a file for QEMU's own log of the accesses.
+# The program `follow` is built without proofs, which takes about a minute. With `--proved` each crate below it is
+# proved first, unless crates/follow/out/follow is there. FOLLOW names another program. SECONDS_AT_MOST says how long
+# QEMU may run (600). QEMU_DRIVES has what stands before the file of each port's -drive option, parted by spaces, as
+# `blkdebug:FILE:`. QTEST_LOG names a file for QEMU's own log of the accesses.
 set -euo pipefail
 here=$(cd "$(dirname "$0")" && pwd)
 
@@ -11,17 +15,29 @@ if ! command -v qemu-system-x86_64 >/dev/null; then
     echo "qemu-system-x86_64 isn't there: install QEMU (on Debian and Ubuntu the package qemu-system-x86)" >&2
     exit 77
 fi
+proved=
+if [[ ${1:-} == --proved ]]; then
+    proved=1
+    shift
+fi
 if [[ $# -lt 3 || $# -gt 6 ]]; then
-    echo "run.sh CONFIG SCRIPT IMAGE.." >&2
+    echo "run.sh [--proved] CONFIG SCRIPT IMAGE.." >&2
     exit 2
 fi
-config=$1 script=$2
+config=$(realpath "$1") script=$(realpath "$2")
 shift 2
-follow=${FOLLOW:-$here/../../crates/follow/out/follow}
-if [[ ! -x $follow ]]; then
-    echo "$follow isn't there: it is proved and built now, which takes a while" >&2
-    # Without words the program ends at once.
-    (cd "$here/../../crates/follow" && rt run >/dev/null 2>&1) || [[ -x $follow ]]
+if [[ ${FOLLOW:-} ]]; then
+    program=("$FOLLOW")
+elif [[ $proved ]]; then
+    program=("$here/../../crates/follow/out/follow")
+    if [[ ! -x ${program[0]} ]]; then
+        echo "follow isn't there: it is proved and built now, which takes a while" >&2
+        # Without words the program ends at once.
+        (cd "$here/../../crates/follow" && rt run >/dev/null 2>&1) || [[ -x ${program[0]} ]]
+    fi
+else
+    echo "This build of follow isn't proved: examples/qemu/run.sh --proved proves it, and runs it then." >&2
+    program=("$here/../../scripts/run_unproved.sh" follow)
 fi
 
 scratch=$(mktemp -d)
@@ -51,8 +67,10 @@ done
 
 mkfifo "$scratch/to" "$scratch/from"
 # The processor of the machine never runs: what is written to `to` makes each access.
-timeout --kill-after=5 "${SECONDS_AT_MOST:-600}" qemu-system-x86_64 -machine q35,accel=tcg -S -nodefaults -display none -m 16 \
-    -qtest stdio -qtest-log "${QTEST_LOG:-/dev/null}" "${options[@]}" <"$scratch/to" >"$scratch/from" 2>"$scratch/said" &
+timeout --kill-after=5 "${SECONDS_AT_MOST:-600}" \
+    qemu-system-x86_64 -machine q35,accel=tcg -S -nodefaults -display none -m 16 \
+    -qtest stdio -qtest-log "${QTEST_LOG:-/dev/null}" "${options[@]}" \
+    <"$scratch/to" >"$scratch/from" 2>"$scratch/said" &
 qemu=$!
 exec 3>"$scratch/to" 4<"$scratch/from"
 
@@ -63,7 +81,8 @@ ask() {
     [[ $answer == OK* ]] || { echo "QEMU answered $answer to $1" >&2; cat "$scratch/said" >&2; exit 1; }
 }
 
-# The adapter is function 2 of device 31 on bus 0; its registers are put at FEBF0000h (BAR 5), and memory decoding and bus mastering switched on.
+# The adapter is function 2 of device 31 on bus 0. Its registers are put at FEBF0000h (BAR 5), and memory decoding and
+# bus mastering switched on.
 registers=febf0000
 ask "outl 0xcf8 0x8000fa00"
 ask "inl 0xcfc"
@@ -74,7 +93,7 @@ ask "outl 0xcf8 0x8000fa04"
 ask "outw 0xcfc 0x6"
 
 status=0
-"$follow" "$config" "$script" "$scratch/to" "$scratch/from" "$registers" "${models[@]}" || status=$?
+"${program[@]}" "$config" "$script" "$scratch/to" "$scratch/from" "$registers" "${models[@]}" || status=$?
 exec 3>&- 4<&-
 cat "$scratch/said" >&2
 if [[ $status == 0 ]]; then

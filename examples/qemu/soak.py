@@ -1,11 +1,14 @@
 #!/usr/bin/env python3
-"""Random requests of eight clients against the server over QEMU's adapter, while the model follows; what the server answers is compared with shadow copies.
+"""Random requests of eight clients against the server over QEMU's adapter, while the model follows; what the server
+answers is compared with shadow copies.
 
 soak.py [--requests N] [--seed N] [--ports N] [--failures] [--seconds N] [--keep FOLDER]
 
-It writes a configuration and a script, has run.sh play it, and goes through script and answers side by side: each refusal is the one that the rules
-say, each reply is of a request that is unanswered, and each loaded byte is what the shadow of the frame has, by the order in which requests were accepted.
-With --failures QEMU's blkdebug fails reads and writes: docs/QEMU.md says what comes of it. The last line tells how many requests were accepted, how many accesses each took, and how many differences were found.
+It writes a configuration and a script, has run.sh play it, and goes through script and answers side by side: each
+refusal is the one that the rules say, each reply is of a request that is unanswered, and each loaded byte is what the
+shadow of the frame has, by the order in which requests were accepted. With --failures QEMU's blkdebug fails reads and
+writes: docs/QEMU.md says what comes of it. The last line tells how many requests were accepted, how many accesses each
+took, and how many differences were found.
 """
 import argparse
 import collections
@@ -29,7 +32,8 @@ def first_bytes(port, sector):
 
 
 class Grants:
-    """What each client may do: under number P all of port P's disk, and under P + 8 a part of it, which it may read alone."""
+    """What each client may do: under number P all of port P's disk, and under P + 8 a part of it, which it may read
+    alone."""
 
     def __init__(self, ports):
         self.rows = {}
@@ -42,7 +46,8 @@ class Grants:
         lines = []
         for (client, number), (port, first, count, rights) in self.rows.items():
             lines.append(
-                f'[[grant]]\nclient = {client}\nnumber = {number}\nport = {port}\nfirst = {first}\ncount = {count}\nrights = "{rights}"\n'
+                f"[[grant]]\nclient = {client}\nnumber = {number}\nport = {port}\n"
+                f'first = {first}\ncount = {count}\nrights = "{rights}"\n'
             )
         return "".join(lines)
 
@@ -80,7 +85,8 @@ class Writer:
         self.lines.append(f"store {client} {frame} {offset} {data.hex()}")
 
     def load(self, client):
-        frame = self.random.choice(range(FIRST_FRAME + CLIENT_FRAMES * (client - 1), FIRST_FRAME + CLIENT_FRAMES * client))
+        first = FIRST_FRAME + CLIENT_FRAMES * (client - 1)
+        frame = self.random.choice(range(first, first + CLIENT_FRAMES))
         offset = SECTOR * self.random.randrange(8) + self.random.randrange(SECTOR - 64)
         self.lines.append(f"load {client} {frame} {offset} {self.random.randrange(1, 65)}")
 
@@ -336,7 +342,7 @@ def main():
         if words.failures:
             environment["QEMU_DRIVES"] = " ".join(blkdebug(scratch, port, words.seed) for port in range(words.ports))
         ran = subprocess.run(
-            [HERE / "run.sh", scratch / "soak.toml", scratch / "soak.script", *images],
+            [HERE / "run.sh", "--proved", scratch / "soak.toml", scratch / "soak.script", *images],
             capture_output=True,
             text=True,
             env=environment,
@@ -359,12 +365,14 @@ def main():
     failed = sum(count for outcome, count in shadow.outcomes.items() if outcome != "Ok")
     # Each failure of a disk fails one command, and a request is told so once at most.
     if failed > FAILURES * words.ports:
-        shadow.differences.append(f"{failed} requests weren't answered Ok, with {FAILURES * words.ports} failures at most")
+        most = FAILURES * words.ports
+        shadow.differences.append(f"{failed} requests weren't answered Ok, with {most} failures at most")
     print(", ".join(f"{count} {outcome}" for outcome, count in sorted(shadow.outcomes.items())))
     for difference in shadow.differences[:20]:
         print(difference, file=sys.stderr)
     each = accesses / max(1, shadow.count)
-    print(f"{shadow.count} requests accepted, {shadow.answered} answered, {each:.1f} accesses a request, {len(shadow.differences)} differences")
+    told = f"{each:.1f} accesses a request, {len(shadow.differences)} differences"
+    print(f"{shadow.count} requests accepted, {shadow.answered} answered, {told}")
     return 0 if not shadow.differences else 1
 
 

@@ -1,6 +1,7 @@
 #!/usr/bin/env bash
-# Runs the program `follow` over QEMU's adapter: a script, whose answers are known, and random requests, on disks that don't fail and on disks that do. Where QEMU isn't installed, it is left
-# out, and says so. It takes some ten seconds once the program is built. The last line is 'N passed, M failed'.
+# Runs the program `follow` over QEMU's adapter: a script, whose answers are known, and random requests, on disks that
+# don't fail and on disks that do. Where QEMU isn't installed, it is left out, and says so. It takes some ten seconds
+# once the program is built. The last line is 'N passed, M failed'.
 set -euo pipefail
 cd "$(dirname "$0")"
 
@@ -18,7 +19,9 @@ count() {
 
 # Plays the script, and compares what is answered.
 plays() {
-    ../make_image.sh "$scratch/disk.img" && ./run.sh qemu.toml first.script "$scratch/disk.img" >"$scratch/output" && diff first.output "$scratch/output"
+    ../make_image.sh "$scratch/disk.img" &&
+        ./run.sh --proved qemu.toml first.script "$scratch/disk.img" >"$scratch/output" &&
+        diff first.output "$scratch/output"
 }
 
 scratch=$(mktemp -d)
