@@ -7,22 +7,22 @@ use Rattle.std.proofs.lemmas.List.Edits.{get_or-insert_below, get_or-remove_belo
 use Rattle.std.proofs.lemmas.List.Quantifiers.{all_pairs_remove}
 use Rattle.range_index.specs.declared.Item.{Item}
 use Rattle.range_index.specs.declared.Entry.{Entry}
-use Rattle.range_index.specs.Items.{AreSorted, IsBefore, IsGreatestEnd, end_of, first_of}
+use Rattle.range_index.specs.Items.{AreSorted, StandsBefore, IsGreatestEnd, end_of, first_of}
 use Rattle.range_index.specs.Index.{IsIndex, items_of}
 use Rattle.range_index.proofs.Sorting.{item_at, as_many, sorted_insert, itself}
 
 item : Entry → Item
 item k = k.item
 
--- the kept end at an entry doesn't change the items
+-- the greatest end at an entry doesn't change the items
 pub items_set : (es : List Entry) (i : ℕ) (x : Entry) (greatest_end : ℕ) → i < length es → x ≡ get_or es i x → items_of (set es i (record { item = x.item; greatest_end = greatest_end })) ≡ items_of es
 items_set es i x greatest_end lt is =
     let same : x.item ≡ get_or (items_of es) i x.item = ap (λ (k : Entry). k.item) is ∙ sym (item_at es i x x.item lt) in
     map-set (λ (k : Entry). k.item) es i (record { item = x.item; greatest_end = greatest_end }) ∙ (ap (set (items_of es) i) same ∙ set-get_or (items_of es) i x.item)
 
--- a kept end is of the items up to it alone
-pub same_reach : (old new : List Item) (k greatest_end : ℕ) → ((j : ℕ) (d : Item) → j ≤ k → get_or new j d ≡ get_or old j d) → IsGreatestEnd old k greatest_end → IsGreatestEnd new k greatest_end
-same_reach old new k greatest_end same so = record {
+-- a greatest end is of the items up to it alone
+pub same_greatest : (old new : List Item) (k greatest_end : ℕ) → ((j : ℕ) (d : Item) → j ≤ k → get_or new j d ≡ get_or old j d) → IsGreatestEnd old k greatest_end → IsGreatestEnd new k greatest_end
+same_greatest old new k greatest_end same so = record {
   covers = λ j d le. let e = ap end_of (same j d le) in let h = so.covers j d le in omega (arith, e, h);
   at = so.at;
   before = so.before;
@@ -41,7 +41,7 @@ items_remove es place =
     ∙ (ap (λ (xs : List Item). xs ++ items_of (drop (suc place) es)) (sym (take-map (λ (k : Entry). k.item) place es))
     ∙ ap (λ (xs : List Item). take place (items_of es) ++ xs) (sym (drop-map (λ (k : Entry). k.item) (suc place) es)))
 
--- an index again, where the items are in order and the kept ends those of the items
+-- an index again, where the items are in order and the greatest ends those of the items
 index_of : (grown new : List Entry) → AreSorted (items_of grown) → items_of new ≡ items_of grown
     → ((k : ℕ) (d : Entry) → k < length grown → IsGreatestEnd (items_of grown) k (get_or new k d).greatest_end) → IsIndex new
 index_of grown new sorted items ends = record {
@@ -58,7 +58,7 @@ module _ (old grown new : List Entry) (place : ℕ) (x : Entry) (is : IsIndex ol
       let here : get_or grown k d ≡ get_or old k d = ap (λ (es : List Entry). get_or es k d) grew ∙ get_or-insert_below old place x d k lt within in
       let items : items_of grown ≡ insert (items_of old) place x.item = ap items_of grew ∙ items_insert old place x in
       subst (λ (r : ℕ). IsGreatestEnd (items_of grown) k r) (sym (ap (λ (e : Entry). e.greatest_end) here))
-      (same_reach (items_of old) (items_of grown) k (get_or old k d).greatest_end
+      (same_greatest (items_of old) (items_of grown) k (get_or old k d).greatest_end
       (λ j e le. ap (λ (xs : List Item). get_or xs j e) items ∙ get_or-insert_below (items_of old) place x.item e j (omega (arith, le, lt)) (omega (arith, n, within)))
       (is.ends k d (omega (arith, lt, within))))
 
@@ -66,8 +66,8 @@ module _ (old grown new : List Entry) (place : ℕ) (x : Entry) (is : IsIndex ol
     pub inserted_view : items_of new ≡ insert (items_of old) place x.item
     inserted_view = items ∙ (ap items_of grew ∙ items_insert old place x)
 
-    pub inserted_index : ((k : ℕ) (d : Item) → k < place → IsBefore (get_or (items_of old) k d) (first_of x.item) x.item.id.0)
-        → ((k : ℕ) (d : Item) → place ≤ k → k < length old → IsBefore (get_or (items_of old) k d) (first_of x.item) x.item.id.0 → ⊥)
+    pub inserted_index : ((k : ℕ) (d : Item) → k < place → StandsBefore (get_or (items_of old) k d) (first_of x.item) x.item.id.0)
+        → ((k : ℕ) (d : Item) → place ≤ k → k < length old → StandsBefore (get_or (items_of old) k d) (first_of x.item) x.item.id.0 → ⊥)
         → All (λ (y : Item). y.id ≢ x.item.id) (items_of old) → IsIndex new
     inserted_index before behind fresh =
         let n = as_many old in
@@ -83,7 +83,7 @@ module _ (old shrunk new : List Entry) (place : ℕ) (is : IsIndex old) (shrank 
       let here : get_or shrunk k d ≡ get_or old k d = ap (λ (es : List Entry). get_or es k d) shrank ∙ get_or-remove_below old place d k lt within in
       let items : items_of shrunk ≡ remove (items_of old) place = ap items_of shrank ∙ items_remove old place in
       subst (λ (r : ℕ). IsGreatestEnd (items_of shrunk) k r) (sym (ap (λ (e : Entry). e.greatest_end) here))
-      (same_reach (items_of old) (items_of shrunk) k (get_or old k d).greatest_end
+      (same_greatest (items_of old) (items_of shrunk) k (get_or old k d).greatest_end
       (λ j e le. ap (λ (xs : List Item). get_or xs j e) items ∙ get_or-remove_below (items_of old) place e j (omega (arith, le, lt)) (omega (arith, n, within)))
       (is.ends k d (omega (arith, lt, within))))
 
@@ -95,19 +95,19 @@ module _ (old shrunk new : List Entry) (place : ℕ) (is : IsIndex old) (shrank 
     removed_index =
         let n = as_many old in
         index_of shrunk new
-        (subst AreSorted (sym (ap items_of shrank ∙ items_remove old place)) (all_pairs_remove (λ (a : Item) (b : Item). IsBefore a (first_of b) b.id.0) (items_of old) place (omega (arith, n, within)) is.sorted))
+        (subst AreSorted (sym (ap items_of shrank ∙ items_remove old place)) (all_pairs_remove (λ (a : Item) (b : Item). StandsBefore a (first_of b) b.id.0) (items_of old) place (omega (arith, n, within)) is.sorted))
         items ends
 
 -- what stands behind all that stand before an item, and before all that don't, is the item
 pub its_place : (items : List Item) (x : Item) (place : ℕ) → AreSorted items → Contains items x
-    → ((k : ℕ) (d : Item) → k < place → IsBefore (get_or items k d) (first_of x) x.id.0)
-    → ((k : ℕ) (d : Item) → place ≤ k → k < length items → IsBefore (get_or items k d) (first_of x) x.id.0 → ⊥)
+    → ((k : ℕ) (d : Item) → k < place → StandsBefore (get_or items k d) (first_of x) x.id.0)
+    → ((k : ℕ) (d : Item) → place ≤ k → k < length items → StandsBefore (get_or items k d) (first_of x) x.id.0 → ⊥)
     → (place < length items) × (get_or items place x ≡ x)
 its_place items x place sorted there before behind = elim (cases_lt there.0 place) [
-  | inl low ↦ absurd (itself x (subst (λ (y : Item). IsBefore y (first_of x) x.id.0) there.2 (before there.0 x low)))
+  | inl low ↦ absurd (itself x (subst (λ (y : Item). StandsBefore y (first_of x) x.id.0) there.2 (before there.0 x low)))
   | inr high ↦ elim (cases_eq there.0 place) [
     | inl e ↦ (let h = there.1 in omega (arith, e, h), ap (λ (i : ℕ). get_or items i x) (sym e) ∙ there.2)
     | inr ne ↦ absurd (behind place x (omega arith) (let h = there.1 in omega (arith, high, h))
-        (subst (λ (y : Item). IsBefore (get_or items place x) (first_of y) y.id.0) there.2 (sorted place there.0 x (omega arith) there.1)))
+        (subst (λ (y : Item). StandsBefore (get_or items place x) (first_of y) y.id.0) there.2 (sorted place there.0 x (omega arith) there.1)))
   ]
 ]

@@ -1,4 +1,4 @@
--- The kept ends, and what they save.
+-- The greatest ends, and what they save.
 use Rattle.std.proofs.Common.{◌≡◌, ℕ, ◌+◌, ◌<◌, ◌≤◌, ◌&&◌, ◌||◌, ◌==◌, true, false, List, length, get_or, ap, arith, inl, inr}
 use Rattle.std.specs.Prelude.{nat_lt}
 use Rattle.std.specs.List.{list_any}
@@ -6,9 +6,9 @@ use Rattle.std.proofs.lemmas.Bool.{cases_eq, cases_lt, and_parts, ltb-true, fals
 use Rattle.std.proofs.lemmas.List.Folds.{list_any_none}
 use Rattle.block_machine.specs.Due.{overlap}
 use Rattle.range_index.specs.declared.Item.{Item}
-use Rattle.range_index.specs.Items.{IsBefore, IsGreatestEnd, end_of, first_of, is_earlier_conflict}
+use Rattle.range_index.specs.Items.{StandsBefore, IsGreatestEnd, end_of, first_of, is_earlier_conflict}
 
--- the kept end goes on, with the next item's
+-- the greatest end goes on, with the next item's
 pub end_grows : (items : List Item) (k greatest_end end : ℕ) → IsGreatestEnd items k greatest_end → ((d : Item) → end_of (get_or items (k + 1) d) ≡ end) → greatest_end < end → IsGreatestEnd items (k + 1) end
 end_grows items k greatest_end end so is less = record {
   covers = λ j d le. elim (cases_eq j (k + 1)) [
@@ -41,15 +41,15 @@ shared r x is =
     let sides = and_parts (nat_lt (first_of x) (end_of r)) (nat_lt (first_of r) (end_of x)) meet.0 in
     (ltb-true (first_of x) (end_of r) sides.0, ltb-true (first_of r) (end_of x) sides.1)
 
--- one that begins where r ends, or later, doesn't hold it
-pub begins_late : (r x : Item) → (IsBefore x (end_of r) 0 → ⊥) → is_earlier_conflict r x ≡ false
+-- one that begins where r ends, or later, doesn't conflict with it
+pub begins_late : (r x : Item) → (StandsBefore x (end_of r) 0 → ⊥) → is_earlier_conflict r x ≡ false
 begins_late r x not = false_from_ne_true (is_earlier_conflict r x) (λ is. not (inl (shared r x is).0))
 
--- one that ends where r begins, or earlier, doesn't hold it
+-- one that ends where r begins, or earlier, doesn't conflict with it
 pub ends_early : (r x : Item) (greatest_end : ℕ) → end_of x ≤ greatest_end → greatest_end ≤ first_of r → is_earlier_conflict r x ≡ false
 ends_early r x greatest_end h g = false_from_ne_true (is_earlier_conflict r x) (λ is. let s = (shared r x is).1 in omega (arith, s, h, g))
 
--- nor do all up to a place whose kept end is there
+-- nor do all up to a place whose greatest end is there
 pub none_conflicts : (r : Item) (items : List Item) (past greatest_end : ℕ) → IsGreatestEnd items past greatest_end → greatest_end ≤ first_of r
     → ((k : ℕ) (d : Item) → past < k → k < length items → is_earlier_conflict r (get_or items k d) ≡ false) → list_any (is_earlier_conflict r) items ≡ false
 none_conflicts r items past greatest_end so early behind = list_any_none (is_earlier_conflict r) items (λ k d lt. elim (cases_lt past k) [

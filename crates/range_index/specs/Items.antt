@@ -19,12 +19,12 @@ is_earlier_conflict x other = other.port.0 == x.port.0
     && (nat_lt other.id.0 x.id.0 && ((other.writes || x.writes) && overlap other.range x.range))
 
 -- the item stands before this first sector and id
-abbrev pub IsBefore : Item → ℕ → ℕ → Type 0
-IsBefore x first id = (first_of x < first) ⊎ ((first_of x ≡ first) × (x.id.0 < id))
+abbrev pub StandsBefore : Item → ℕ → ℕ → Type 0
+StandsBefore x first id = (first_of x < first) ⊎ ((first_of x ≡ first) × (x.id.0 < id))
 
 -- the items rise by first sector, and by id where these are the same
 abbrev pub AreSorted : List Item → Type 0
-AreSorted items = AllPairs (λ a b. IsBefore a (first_of b) b.id.0) items
+AreSorted items = AllPairs (λ a b. StandsBefore a (first_of b) b.id.0) items
 
 -- It is the greatest end of the items up to a place: at least each of their ends, and one of them.
 pub record IsGreatestEnd (items : List Item) (place greatest : ℕ) : Type 0 where

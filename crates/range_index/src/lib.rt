@@ -1,15 +1,15 @@
-//! Sorted ranges of sectors with the greatest end so far: finds conflicts without a walk over all.
+//! Sorted ranges of sectors with the greatest end so far: finds conflicts by a search that can stop early.
 //!
-//! A search goes down from the last range that begins before the request's ends, to where all are
-//! known to end before it begins. (That it stops there is read, not proved: its contract says what
-//! is found.) `new` alone takes memory. Ids tell which request is earlier.
+//! It goes down from the last range that begins before the request ends, to where all that are left
+//! are known to end at or before its first sector. (That it stops there is read, not proved: its
+//! contract says what is found.) `new` alone takes memory. Ids tell which request is earlier.
 #![tactic(auto)]
 
 ghost use Rattle.std.specs.Prelude.{◌≡◌, ◌≢◌, ◌↔◌, ℕ, ◌<◌, ◌≤◌, length, All, Contains, IfNone, IfOk, IfSome, IsTrue, Some, false, true, [], slice_get, slice_index_or, insert, remove, vec_capacity};
 ghost use Rattle.std.specs.List.{list_any};
 ghost use Rattle.ata_types.specs.Range.{range_end};
 ghost use Rattle.block_machine.specs.Due as machine;
-ghost use Rattle.range_index.specs.Items.{AreSorted, IsBefore, IsGreatestEnd, is_earlier_conflict};
+ghost use Rattle.range_index.specs.Items.{AreSorted, StandsBefore, IsGreatestEnd, is_earlier_conflict};
 ghost use Rattle.range_index.specs.declared.Entry.{Entry};
 ghost use Rattle.range_index.specs.declared.Item.{Item};
 ghost use Rattle.range_index.specs.Index.{IsIndex, items_of};
@@ -133,7 +133,7 @@ fn end_of(range: &Range) -> u128
 
 /// Whether the item stands before this first sector and id.
 fn is_before(item: &Item, first: u128, id: u64) -> bool
-    ensures { IsTrue result ↔ IsBefore item.now first id }
+    ensures { IsTrue result ↔ StandsBefore item.now first id }
 {
     let own = u128::from(item.range.first.0);
     own < first || (own == first && item.id.0 < id)
@@ -143,9 +143,10 @@ fn is_before(item: &Item, first: u128, id: u64) -> bool
 fn count_before(entries: &[Entry], first: u128, id: u64) -> usize
     requires { AreSorted (items_of entries.now) }
     ensures within { result ≤ length entries.now }
-    ensures before { (k : ℕ) (d : Item) → k < result → IsBefore (slice_index_or (items_of entries.now) k d) first id }
+    ensures before { (k : ℕ) (d : Item) → k < result → StandsBefore (slice_index_or (items_of entries.now) k d) first
+        id }
     ensures behind { (k : ℕ) (d : Item) → result ≤ k → k < length entries.now
-        → IsBefore (slice_index_or (items_of entries.now) k d) first id → ⊥ }
+        → StandsBefore (slice_index_or (items_of entries.now) k d) first id → ⊥ }
 {
     let mut low = 0;
     let mut high = entries.len();
@@ -160,8 +161,8 @@ fn count_before(entries: &[Entry], first: u128, id: u64) -> usize
     low
 }
 
-/// Searches down from the last item that begins before this one ends. All up to an entry whose kept end is at or below
-/// the first sector end before this one begins, so the search stops there.
+/// Searches down from the last item that begins before this one ends. It stops at an entry whose greatest end is at or
+/// below this one's first sector: no range up to that entry reaches it.
 fn earlier_conflict(entries: &[Entry], item: &Item) -> Option<Item>
     requires { IsIndex entries.now }
     ensures none { IfNone result (list_any (is_earlier_conflict item.now) (items_of entries.now) ≡ false) }

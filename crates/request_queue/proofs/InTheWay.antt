@@ -16,7 +16,7 @@ use Rattle.block_machine.specs.Due.{IsInOrder, conflict, holds_back, is_flush, i
 use Rattle.range_index.specs.declared.Item.{Item}
 use Rattle.range_index.specs.Items.{is_earlier_conflict}
 use Rattle.request_queue.specs.InTheWay.{is_held, is_issued_alone}
-use Rattle.request_queue.specs.Sectors.{AreSectorsOf, item_of, list_of}
+use Rattle.request_queue.specs.Sectors.{AreSectorsOf, item_of, index_of_port}
 use Rattle.request_queue.specs.declared.due.Issued.{Issued}
 use Rattle.request_queue.proofs.Members.{count_cons, contains_none, contains_here, contains_there, contains_cases}
 use Rattle.request_queue.proofs.Own.{own_in_order, own_at}
@@ -146,7 +146,7 @@ module _ (port : Port) (all book : List Unanswered) (own : book ≡ of_port port
       (All-filter (λ (u : Unanswered). u.port.0 == port.0) (λ (u : Unanswered). Contains all u) all (λ k d lt. Contains-get_or all k d lt) kept.0 o kept.1)
 
   -- a queued request waits for a plain one that is issued, and for those before it that conflict with it
-  pub queued_held : is_plain mode r.op ≡ false → (items : List Item) → AreSectorsOf (list_of port) all items → (stopped conflicts : Bool)
+  pub queued_held : is_plain mode r.op ≡ false → (items : List Item) → AreSectorsOf (index_of_port port) all items → (stopped conflicts : Bool)
       → stopped ≡ list_any (is_issued_alone mode) book → conflicts ≡ list_any (is_earlier_conflict (item_of r)) items → (stopped || conflicts) ≡ list_any (holds_back mode r) book
   queued_held waits items index stopped conflicts stops_is conflicts_is = same_bool (stopped || conflicts) (list_any (holds_back mode r) book) ahead back
     where
@@ -185,7 +185,7 @@ module _ (port : Port) (all book : List Unanswered) (own : book ≡ of_port port
           (λ (f : is_flush r.op ≡ true). both_ways _ (queued_is_no_flush mode r.op waits) f)
           (or_cases (is_flush o.op) (is_flush r.op) flush)))
           (λ (both : ((is_writer o.op || is_writer r.op) && overlap o.range r.range) ≡ true).
-          let list : list_of o.port ≡ list_of port = ap (λ (n : ℕ). n % 4) (eqb-true o.port.0 r.port.0 same ∙ ap (λ (p : Port). p.0) mine) in
+          let list : index_of_port o.port ≡ index_of_port port = ap (λ (n : ℕ). n % 4) (eqb-true o.port.0 r.port.0 same ∙ ap (λ (p : Port). p.0) mine) in
           conflicts_is ∙ found (is_earlier_conflict (item_of r)) items (item_of o)
           ((index (item_of o)).1 (o, in_all o there, list, queued_is_no_flush mode o.op alone, refl))
           (and_from (o.port.0 == r.port.0) _ same (and_from (nat_lt o.id.0 r.id.0) _ less both)))
@@ -210,7 +210,7 @@ module _ (port : Port) (all book : List Unanswered) (own : book ≡ of_port port
           (or_cases (is_plain mode o.op && o.issued) _ parts.1)
 
   -- so both are told by the place and the index
-  pub held_by_place : (items : List Item) → AreSectorsOf (list_of port) all items → (issued : Issued)
+  pub held_by_place : (items : List Item) → AreSectorsOf (index_of_port port) all items → (issued : Issued)
       → issued.count ≡ count_by (λ (u : Unanswered). u.issued) book → issued.alone ≡ list_any (is_issued_alone mode) book
       → is_held mode r i issued items ≡ list_any (holds_back mode r) book
   held_by_place items index issued counted alone = by (is_plain mode r.op) refl

@@ -20,7 +20,7 @@ use Rattle.block_machine.specs.Due.{mark_issued, mark_waiting}
 use Rattle.request_queue.specs.Entries.{Held, asks, asks_of, at, issue, requeued}
 use Rattle.request_queue.proofs.Working.{after_issue, after_requeue}
 use Rattle.request_queue.proofs.PermutedPairs.{permuted_pairs}
-use Rattle.request_queue.specs.Sectors.{AreIndexed, IsListOf, is_in_list, item_of, list_of}
+use Rattle.request_queue.specs.Sectors.{AreIndexed, IsListOf, is_in_list, item_of, index_of_port}
 use Rattle.request_queue.proofs.Members.{contains_none, contains_here, contains_there, contains_cases, count_append, count_cons, count_map, into_map, map_in}
 
 -- ---- one more, and one less, of elements with ids
@@ -73,14 +73,14 @@ count_removed p xs i x at =
     let rest = count_append p (take i xs) (drop (suc i) xs) in
     omega (arith, whole, front, here, head, same, rest)
 
-in_list : (list : ℕ) (r : Unanswered) → list_of r.port ≡ list → is_flush r.op ≡ false → is_in_list list r ≡ true
-in_list list r here has = and_from (list_of r.port == list) (not (is_flush r.op)) (eq-eqb (list_of r.port) list here) (ap not has)
+in_list : (list : ℕ) (r : Unanswered) → index_of_port r.port ≡ list → is_flush r.op ≡ false → is_in_list list r ≡ true
+in_list list r here has = and_from (index_of_port r.port == list) (not (is_flush r.op)) (eq-eqb (index_of_port r.port) list here) (ap not has)
 
-out_of_list : (list : ℕ) (r : Unanswered) → (list ≡ list_of r.port → ⊥) → is_in_list list r ≡ false
-out_of_list list r other = false_from_ne_true (is_in_list list r) (λ is. other (sym (eqb-true (list_of r.port) list (and_parts (list_of r.port == list) (not (is_flush r.op)) is).0)))
+out_of_list : (list : ℕ) (r : Unanswered) → (list ≡ index_of_port r.port → ⊥) → is_in_list list r ≡ false
+out_of_list list r other = false_from_ne_true (is_in_list list r) (λ is. other (sym (eqb-true (index_of_port r.port) list (and_parts (index_of_port r.port == list) (not (is_flush r.op)) is).0)))
 
 flush_in_none : (list : ℕ) (r : Unanswered) → is_flush r.op ≡ true → is_in_list list r ≡ false
-flush_in_none list r flush = false_from_ne_true (is_in_list list r) (λ is. both_ways _ (not-true (is_flush r.op) (and_parts (list_of r.port == list) (not (is_flush r.op)) is).1) flush)
+flush_in_none list r flush = false_from_ne_true (is_in_list list r) (λ is. both_ways _ (not-true (is_flush r.op) (and_parts (index_of_port r.port == list) (not (is_flush r.op)) is).1) flush)
 
 set_indexed : (book : List Unanswered) (lists : List (List Item)) (i : ℕ) (items : List Item) → i < 4 → length lists ≡ 4 → IsListOf i book items
     → ((list : ℕ) → list < 4 → (list ≡ i → ⊥) → IsListOf list book (get_or lists list [])) → AreIndexed book (set lists i items)
@@ -106,7 +106,7 @@ module _ (list : ℕ) (book : List Unanswered) (items : List Item) (is : IsListO
     distinct = is.distinct;
   }
     where
-      here : (o : Unanswered) → Contains (book ++ r ∷ []) o → list_of o.port ≡ list → is_flush o.op ≡ false → Contains book o
+      here : (o : Unanswered) → Contains (book ++ r ∷ []) o → index_of_port o.port ≡ list → is_flush o.op ≡ false → Contains book o
       here o there at has = elim (Contains-append_cases book (r ∷ []) o there) [
         | inl h ↦ h
         | inr h ↦ elim (contains_cases r [] o h) [
@@ -124,7 +124,7 @@ module _ (list : ℕ) (book : List Unanswered) (items : List Item) (is : IsListO
       let equal = ap (λ (i : RequestId). i.0) e in
       omega (arith, less, same, equal)
 
-  pub own_accepted : list_of r.port ≡ list → is_flush r.op ≡ false → All (λ o. o.id.0 < r.id.0) book → (place : ℕ) → place ≤ length items
+  pub own_accepted : index_of_port r.port ≡ list → is_flush r.op ≡ false → All (λ o. o.id.0 < r.id.0) book → (place : ℕ) → place ≤ length items
       → IsListOf list (book ++ r ∷ []) (insert items place (item_of r))
   own_accepted at has newest place within = record {
     sectors = λ x. (
@@ -173,7 +173,7 @@ module _ (list : ℕ) (book : List Unanswered) (items : List Item) (is : IsListO
     distinct = is.distinct;
   }
 
-  pub own_answered : list_of r.port ≡ list → is_flush r.op ≡ false → (place : ℕ) → slice_get items place ≡ Some (item_of r) → IsListOf list (remove book i) (remove items place)
+  pub own_answered : index_of_port r.port ≡ list → is_flush r.op ≡ false → (place : ℕ) → slice_get items place ≡ Some (item_of r) → IsListOf list (remove book i) (remove items place)
   own_answered here has place found = record {
     sectors = λ x. (
       λ there. let two = (in_remove (λ (y : Item). y.id) items place (item_of r) found is.distinct x).0 there in
@@ -198,36 +198,36 @@ pub changed_list : (list : ℕ) (book : List Unanswered) (items : List Item) (g 
     → ((r : Unanswered) → (g r).port ≡ r.port) → IsListOf list book items → IsListOf list (map g book) items
 changed_list list book items g same_item same_op same_port is = record {
   sectors = λ x. (
-    λ there. let h = (is.sectors x).0 there in (g h.0, into_map g book h.0 h.1, ap list_of (same_port h.0) ∙ h.2, ap is_flush (same_op h.0) ∙ h.3, same_item h.0 ∙ h.4),
+    λ there. let h = (is.sectors x).0 there in (g h.0, into_map g book h.0 h.1, ap index_of_port (same_port h.0) ∙ h.2, ap is_flush (same_op h.0) ∙ h.3, same_item h.0 ∙ h.4),
     λ h. let u = map_in g book h.0 h.1 in
-        (is.sectors x).1 (u.0, u.1, sym (ap list_of (ap (λ (o : Unanswered). o.port) u.2 ∙ same_port u.0)) ∙ h.2, sym (ap is_flush (ap (λ (o : Unanswered). o.op) u.2 ∙ same_op u.0)) ∙ h.3, sym (ap item_of u.2 ∙ same_item u.0) ∙ h.4),
+        (is.sectors x).1 (u.0, u.1, sym (ap index_of_port (ap (λ (o : Unanswered). o.port) u.2 ∙ same_port u.0)) ∙ h.2, sym (ap is_flush (ap (λ (o : Unanswered). o.op) u.2 ∙ same_op u.0)) ∙ h.3, sym (ap item_of u.2 ∙ same_item u.0) ∙ h.4),
   );
   number = is.number ∙ sym (count_map (is_in_list list) (is_in_list list) g book
-      (λ y _. ap (λ (p : Port). (list_of p == list) && not (is_flush (g y).op)) (same_port y) ∙ ap (λ (o : Rattle.ata_types.specs.declared.request.Op.Op). (list_of y.port == list) && not (is_flush o)) (same_op y)));
+      (λ y _. ap (λ (p : Port). (index_of_port p == list) && not (is_flush (g y).op)) (same_port y) ∙ ap (λ (o : Rattle.ata_types.specs.declared.request.Op.Op). (index_of_port y.port == list) && not (is_flush o)) (same_op y)));
   distinct = is.distinct;
 }
 
 -- ---- the four lists
 
-pub in_four : (port : Port) → list_of port < 4
+pub in_four : (port : Port) → index_of_port port < 4
 in_four port = omega arith
 
 module _ (book : List Unanswered) (lists : List (List Item)) (is : AreIndexed book lists) (r : Unanswered) where
-  own_list : IsListOf (list_of r.port) book (get_or lists (list_of r.port) [])
-  own_list = is.each (list_of r.port) (in_four r.port)
+  own_list : IsListOf (index_of_port r.port) book (get_or lists (index_of_port r.port) [])
+  own_list = is.each (index_of_port r.port) (in_four r.port)
 
   pub flush_accepted : is_flush r.op ≡ true → AreIndexed (book ++ r ∷ []) lists
   flush_accepted flush = record { four = is.four; each = λ list lt. other_accepted list book (get_or lists list []) (is.each list lt) r (flush_in_none list r flush) }
 
-  pub accepted : is_flush r.op ≡ false → All (λ o. o.id.0 < r.id.0) book → (place : ℕ) → place ≤ length (get_or lists (list_of r.port) [])
-      → AreIndexed (book ++ r ∷ []) (set lists (list_of r.port) (insert (get_or lists (list_of r.port) []) place (item_of r)))
+  pub accepted : is_flush r.op ≡ false → All (λ o. o.id.0 < r.id.0) book → (place : ℕ) → place ≤ length (get_or lists (index_of_port r.port) [])
+      → AreIndexed (book ++ r ∷ []) (set lists (index_of_port r.port) (insert (get_or lists (index_of_port r.port) []) place (item_of r)))
   accepted has newest place within =
-      set_indexed (book ++ r ∷ []) lists (list_of r.port) (insert (get_or lists (list_of r.port) []) place (item_of r)) (in_four r.port) is.four
-      (own_accepted (list_of r.port) book (get_or lists (list_of r.port) []) own_list r refl has newest place within)
+      set_indexed (book ++ r ∷ []) lists (index_of_port r.port) (insert (get_or lists (index_of_port r.port) []) place (item_of r)) (in_four r.port) is.four
+      (own_accepted (index_of_port r.port) book (get_or lists (index_of_port r.port) []) own_list r refl has newest place within)
       (λ list lt other. other_accepted list book (get_or lists list []) (is.each list lt) r (out_of_list list r other))
 
-  pub room_left : length book < 128 → length (get_or lists (list_of r.port) []) < 128
-  room_left few = let n = own_list.number in let c = count_below (is_in_list (list_of r.port)) book in omega (arith, n, c, few)
+  pub room_left : length book < 128 → length (get_or lists (index_of_port r.port) []) < 128
+  room_left few = let n = own_list.number in let c = count_below (is_in_list (index_of_port r.port)) book in omega (arith, n, c, few)
     where
       count_below : (p : Unanswered → Bool) (xs : List Unanswered) → count_by p xs ≤ length xs
       count_below p [] = omega arith
@@ -237,21 +237,21 @@ module _ (book : List Unanswered) (lists : List (List Item)) (is : AreIndexed bo
           at_most true = omega arith
           at_most false = omega arith
 
-  pub items_fresh : All (λ o. o.id.0 < r.id.0) book → All (λ x. x.id ≢ (item_of r).id) (get_or lists (list_of r.port) [])
-  items_fresh newest = fresh_item (list_of r.port) book (get_or lists (list_of r.port) []) own_list r newest
+  pub items_fresh : All (λ o. o.id.0 < r.id.0) book → All (λ x. x.id ≢ (item_of r).id) (get_or lists (index_of_port r.port) [])
+  items_fresh newest = fresh_item (index_of_port r.port) book (get_or lists (index_of_port r.port) []) own_list r newest
 
   module _ (ordered : IsInOrder book) (i : ℕ) (at : slice_get book i ≡ Some r) where
     pub flush_answered : is_flush r.op ≡ true → AreIndexed (remove book i) lists
     flush_answered flush = record { four = is.four; each = λ list lt. other_answered list book (get_or lists list []) (is.each list lt) ordered i r at (flush_in_none list r flush) }
 
-    pub answered : is_flush r.op ≡ false → (place : ℕ) → slice_get (get_or lists (list_of r.port) []) place ≡ Some (item_of r)
-        → AreIndexed (remove book i) (set lists (list_of r.port) (remove (get_or lists (list_of r.port) []) place))
+    pub answered : is_flush r.op ≡ false → (place : ℕ) → slice_get (get_or lists (index_of_port r.port) []) place ≡ Some (item_of r)
+        → AreIndexed (remove book i) (set lists (index_of_port r.port) (remove (get_or lists (index_of_port r.port) []) place))
     answered has place found =
-        set_indexed (remove book i) lists (list_of r.port) (remove (get_or lists (list_of r.port) []) place) (in_four r.port) is.four
-        (own_answered (list_of r.port) book (get_or lists (list_of r.port) []) own_list ordered i r at refl has place found)
+        set_indexed (remove book i) lists (index_of_port r.port) (remove (get_or lists (index_of_port r.port) []) place) (in_four r.port) is.four
+        (own_answered (index_of_port r.port) book (get_or lists (index_of_port r.port) []) own_list ordered i r at refl has place found)
         (λ list lt other. other_answered list book (get_or lists list []) (is.each list lt) ordered i r at (out_of_list list r other))
 
-    pub its_item : is_flush r.op ≡ false → Contains (get_or lists (list_of r.port) []) (item_of r)
+    pub its_item : is_flush r.op ≡ false → Contains (get_or lists (index_of_port r.port) []) (item_of r)
     its_item has = (own_list.sectors (item_of r)).1 (r, (i, slice_get_within book i r at, get_or_from_slice_get book i r r at), refl, has, refl)
 
 pub changed_indexed : (book : List Unanswered) (lists : List (List Item)) (g : Unanswered → Unanswered) → ((r : Unanswered) → item_of (g r) ≡ item_of r) → ((r : Unanswered) → (g r).op ≡ r.op)

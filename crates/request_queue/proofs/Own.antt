@@ -1,10 +1,11 @@
 -- The requests of one port, at their places.
-use Rattle.std.proofs.Common.{◌≡◌, ℕ, zero, suc, ◌<◌, ◌+◌, ◌-◌, ◌==◌, ◌&&◌, Bool, true, false, cond, List, [], ◌∷◌, ◌++◌, length, get_or, map, take, Some, refl, sym, ap, ◌∙◌, subst, arith}
-use Rattle.std.specs.List.{All, count_by, filter, slice_get}
+use Rattle.std.proofs.Common.{◌≡◌, ℕ, zero, suc, ◌<◌, ◌+◌, ◌-◌, ◌==◌, ◌&&◌, ◌||◌, Bool, true, false, cond, List, [], ◌∷◌, ◌++◌, length, get_or, map, take, Some, refl, sym, ap, ◌∙◌, subst, arith}
+use Rattle.std.specs.List.{All, count_by, filter, list_any, slice_get}
 use Rattle.std.specs.Option.{option_map}
 use Rattle.std.proofs.lemmas.Bool.{cond-true, cond-false}
 use Rattle.std.proofs.lemmas.List.{map-append, append-nil, length-map}
 use Rattle.std.proofs.lemmas.List.Elements.{All-head, All-tail, filter-append}
+use Rattle.std.proofs.lemmas.List.Folds.{list_any-append}
 use Rattle.std.proofs.lemmas.List.Kept.{AllPairs-filter}
 use Rattle.std.proofs.lemmas.Option.{get_or_from_slice_get, slice_get_within, slice_get-get_or, slice_get-map}
 use Rattle.ata_types.specs.declared.Port.{Port}
@@ -14,7 +15,7 @@ use Rattle.block_machine.specs.declared.due.Unanswered.{Unanswered}
 use Rattle.block_machine.specs.Due.{IsInOrder, issued_count, free_slots, of_port, due_of}
 use Rattle.request_queue.specs.Entries.{Held, asks, asks_of, due_ids}
 use Rattle.request_queue.specs.Store.{asks_at, blank}
-use Rattle.request_queue.proofs.Members.{count_cons, taken_more}
+use Rattle.request_queue.proofs.Members.{count_append, count_cons, taken_more}
 
 -- what a filter leaves passes
 passes : (p : Unanswered → Bool) (xs : List Unanswered) → All (λ x. p x ≡ true) (filter p xs)
@@ -99,3 +100,26 @@ module _ (port : Port) (es : List Held) (places : List ℕ) (i : ℕ) (r : Unans
   pub one_foreign : (r.port.0 == port.0) ≡ false → asks_at es places ≡ of_port port (take (i + 1) (asks_of es))
   one_foreign other =
       so_far ∙ sym (more ∙ (ap (λ (xs : List Unanswered). of_port port (take i (asks_of es)) ++ xs) (cond-false (r.port.0 == port.0) (r ∷ []) [] other) ∙ append-nil (of_port port (take i (asks_of es)))))
+
+-- and what is counted of those at the places
+module _ (es : List Held) (places : List ℕ) (i : ℕ) (r : Unanswered) (is : slice_get (asks_of es) i ≡ Some r) (p : Unanswered → Bool) where
+  asked_more : asks_at es (places ++ i ∷ []) ≡ asks_at es places ++ r ∷ []
+  asked_more =
+      map-append (λ (place : ℕ). get_or (asks_of es) place (asks blank)) places (i ∷ [])
+      ∙ ap (λ (x : Unanswered). asks_at es places ++ x ∷ []) (get_or_from_slice_get (asks_of es) i r (asks blank) is)
+
+  pub counted_more : count_by p (asks_at es (places ++ i ∷ [])) ≡ count_by p (asks_at es places) + cond (p r) 1 0
+  counted_more =
+      let a = ap (λ (xs : List Unanswered). count_by p xs) asked_more in
+      let b = count_append p (asks_at es places) (r ∷ []) in
+      let c = count_cons p r [] in
+      omega (arith, a, b, c)
+
+  pub any_more : list_any p (asks_at es (places ++ i ∷ [])) ≡ (list_any p (asks_at es places) || p r)
+  any_more =
+      ap (list_any p) asked_more
+      ∙ (list_any-append p (asks_at es places) (r ∷ []) ∙ ap (λ (b : Bool). list_any p (asks_at es places) || b) (or_none (p r)))
+    where
+      or_none : (b : Bool) → (b || false) ≡ b
+      or_none true = refl
+      or_none false = refl

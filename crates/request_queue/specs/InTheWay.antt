@@ -15,7 +15,8 @@ abbrev pub is_issued_alone : Mode → Unanswered → Bool
 is_issued_alone mode r = is_plain mode r.op && r.issued
 
 -- A plain request waits for all that are issued and all before it. A queued one waits for one that is issued alone,
--- and for an earlier conflict. (The walk ends at a plain one, so a queued one that it reaches has none before it.)
+-- and for an earlier conflict. (The walk ends at a plain one, so no plain one stands before a queued one that it
+-- reaches.)
 abbrev pub is_held : Mode → Unanswered → ℕ → Issued → List Item → Bool
 is_held mode r number issued items = if is_plain mode r.op
     then nat_lt 0 issued.count || nat_lt 0 number

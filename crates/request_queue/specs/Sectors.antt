@@ -10,12 +10,12 @@ abbrev pub item_of : Unanswered → Item
 item_of r = record { id = r.id; port = r.port; range = r.range; writes = is_writer r.op }
 
 -- The list that a port's requests are in. Each of the four ports has its own.
-abbrev pub list_of : Port → ℕ
-list_of port = port.0 % 4
+abbrev pub index_of_port : Port → ℕ
+index_of_port port = port.0 % 4
 
 -- the item is that of a request of the list's ports which has sectors, as all but flushes have
 abbrev pub HasSectors : ℕ → List Unanswered → Item → Type 0
-HasSectors list book x = (r : Unanswered) × Contains book r × (list_of r.port ≡ list) × (is_flush r.op ≡ false)
+HasSectors list book x = (r : Unanswered) × Contains book r × (index_of_port r.port ≡ list) × (is_flush r.op ≡ false)
     × (item_of r ≡ x)
 
 -- the items are those of the requests of the list's ports that have sectors
@@ -24,7 +24,7 @@ AreSectorsOf list book items = (x : Item) → Contains items x ↔ HasSectors li
 
 -- the request has sectors, and its port's list is this one
 abbrev pub is_in_list : ℕ → Unanswered → Bool
-is_in_list list r = (list_of r.port == list) && not (is_flush r.op)
+is_in_list list r = (index_of_port r.port == list) && not (is_flush r.op)
 
 -- The list has the items of those requests, as many as there are of them, and no two of one id.
 pub record IsListOf (list : ℕ) (book : List Unanswered) (items : List Item) : Type 0 where

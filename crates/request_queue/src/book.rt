@@ -5,7 +5,7 @@ ghost use Rattle.request_queue.specs.Entries.{Held, GivesBack, IsEarlier, IsFres
 
 use crate::Entry;
 use crate::due::due;
-use crate::sectors::{LISTS, add_sectors, list_of, no_sectors, take_sectors};
+use crate::sectors::{LISTS, add_sectors, index_of_port, no_sectors, take_sectors};
 use crate::store::{Store, asks_of};
 use arrayvec::ArrayVec;
 use ata_types::{ClientId, Port, RequestId};
@@ -88,7 +88,7 @@ impl Book {
         requires { mode.usable ≤ 32 }
         ensures { result.items ≡ due_ids mode port (asks_of self.now) }
     {
-        due(&self.store, &self.sectors[list_of(port)], mode, port)
+        due(&self.store, &self.sectors[index_of_port(port)], mode, port)
     }
 
     /// An unanswered request, and how far it is.

@@ -1,11 +1,11 @@
 // The walk that gives the due requests of a port.
-ghost use Rattle.std.specs.Prelude.{◌≡◌, ◌<◌, ◌≤◌, ◌-◌, ◌&&◌, ◌||◌, not, nat_lt, count_by, length, All, Contains, IfSome, Some, slice_get};
+ghost use Rattle.std.specs.Prelude.{◌≡◌, ◌<◌, ◌≤◌, ◌-◌, ◌&&◌, ◌||◌, if◌then◌else◌, not, nat_lt, count_by, length, All, Contains, IfSome, Some, slice_get};
 ghost use Rattle.std.specs.List.{list_any};
 ghost use Rattle.block_machine.specs.Due as machine;
 ghost use Rattle.range_index.specs.Items.{is_earlier_conflict};
 ghost use Rattle.request_queue.specs.Entries.{asks_of, due_ids};
 ghost use Rattle.request_queue.specs.InTheWay.{is_held, is_issued_alone};
-ghost use Rattle.request_queue.specs.Sectors.{AreSectorsOf, list_of};
+ghost use Rattle.request_queue.specs.Sectors.{AreSectorsOf, index_of_port};
 ghost use Rattle.request_queue.specs.Store.{asks_at};
 
 use crate::sectors::item_of;
@@ -32,14 +32,13 @@ pub fn due(store: &Store, ranges: &Ranges, mode: Mode, port: Port) -> ArrayVec<R
     requires ordered { machine.IsInOrder (asks_of store.now) }
     requires few { length store.now ≤ 128 }
     requires usable { mode.usable ≤ 32 }
-    requires index { AreSectorsOf (list_of port) (asks_of store.now) ranges.now }
+    requires index { AreSectorsOf (index_of_port port) (asks_of store.now) ranges.now }
     ensures { result.items ≡ due_ids mode port (asks_of store.now) }
 {
     earlier_ones_stand_before();
     own_requests_count();
     slots_by_due();
-    let places = places_of(store, port);
-    let issued = issued_of(store, &places, mode);
+    let (places, issued) = places_of(store, mode, port);
     let free = free_slots(mode, issued.count);
     let mut due = ArrayVec::new();
     let mut last = None;
@@ -56,19 +55,35 @@ pub fn due(store: &Store, ranges: &Ranges, mode: Mode, port: Port) -> ArrayVec<R
     due
 }
 
-/// The places of the port's requests.
-fn places_of(store: &Store, port: Port) -> Places
+/// The places of the port's requests, and what of these is issued.
+fn places_of(store: &Store, mode: Mode, port: Port) -> (Places, Issued)
     requires { length store.now ≤ 128 }
-    ensures own { asks_at store.now result.items ≡ machine.of_port port (asks_of store.now) }
-    ensures within { All (λ place. place < length store.now) result.items }
+    ensures own { asks_at store.now result.0.items ≡ machine.of_port port (asks_of store.now) }
+    ensures within { All (λ place. place < length store.now) result.0.items }
+    ensures count { result.1.count ≡ count_by (λ r. r.issued) (asks_at store.now result.0.items) }
+    ensures alone { result.1.alone ≡ list_any (is_issued_alone mode) (asks_at store.now result.0.items) }
 {
     let mut places = ArrayVec::new();
+    let mut count = 0usize;
+    let mut alone = false;
     for place in 0..store.len() {
-        if store.asks(place).port.0 == port.0 {
+        let asks = store.asks(place);
+        if asks.port.0 == port.0 {
             places.push(place as u8);
+            let slots = slots_of(&asks);
+            count += slots;
+            let issued_alone = is_issued_alone(mode, &asks);
+            alone |= issued_alone;
         }
     }
-    places
+    (places, Issued { count, alone })
+}
+
+/// How many slots the request takes: one if it is issued.
+fn slots_of(asks: &Unanswered) -> usize
+    ensures { result ≡ (if asks.now.issued then 1 else 0) }
+{
+    if asks.issued { 1 } else { 0 }
 }
 
 /// What of the request at the place with this number says whether it is due.
@@ -92,25 +107,6 @@ fn ends(mode: Mode, asks: &Unanswered, given: usize, free: usize) -> bool
     ensures { result ≡ (machine.is_plain mode asks.now.op || not (nat_lt given free)) }
 {
     is_plain(mode, asks.op) || !(given < free)
-}
-
-/// What is issued of the requests at these places.
-fn issued_of(store: &Store, places: &Places, mode: Mode) -> Issued
-    requires { All (λ place. place < length store.now) places.now.items }
-    ensures count { result.count ≡ count_by (λ r. r.issued) (asks_at store.now places.now.items) }
-    ensures alone { result.alone ≡ list_any (is_issued_alone mode) (asks_at store.now places.now.items) }
-{
-    let mut count = 0usize;
-    let mut alone = false;
-    for number in 0..places.len() {
-        let asks = nth(store, places, number);
-        let issued_alone = is_issued_alone(mode, &asks);
-        alone |= issued_alone;
-        if asks.issued {
-            count += 1;
-        }
-    }
-    Issued { count, alone }
 }
 
 /// Whether the request is issued, and goes alone.

@@ -2,7 +2,7 @@
 ghost use Rattle.std.specs.Prelude.{◌≡◌, ◌<◌, ◌++◌, ◌∷◌, [], length, not, remove, All, IfOk};
 ghost use Rattle.block_machine.specs.Due as machine;
 ghost use Rattle.request_queue.specs.Entries.{asks_of};
-ghost use Rattle.request_queue.specs.Sectors.{AreIndexed, item_of, list_of};
+ghost use Rattle.request_queue.specs.Sectors.{AreIndexed, item_of, index_of_port};
 
 use crate::store::Store;
 use ata_types::{Op, Port};
@@ -35,7 +35,7 @@ pub fn add_sectors(sectors: &mut [Ranges; LISTS], store: &Store, request: &Unans
     if !has_sectors(request.op) {
         return;
     }
-    let list = &mut sectors[list_of(request.port)];
+    let list = &mut sectors[index_of_port(request.port)];
     list.insert(item_of(request));
 }
 
@@ -50,13 +50,13 @@ pub fn take_sectors(sectors: &mut [Ranges; LISTS], store: &Store, place: usize)
     if !has_sectors(request.op) {
         return;
     }
-    let own_list = &mut sectors[list_of(request.port)];
+    let own_list = &mut sectors[index_of_port(request.port)];
     own_list.remove(&item_of(&request));
 }
 
-/// Which list the requests of a port are in.
-pub fn list_of(port: Port) -> usize
-    ensures { result ≡ list_of port }
+/// Which list the requests of a port are in. A book takes requests of any port number, so it is the number modulo four.
+pub fn index_of_port(port: Port) -> usize
+    ensures { result ≡ index_of_port port }
 {
     port.0 as usize % LISTS
 }
@@ -73,7 +73,8 @@ pub fn item_of(request: &Unanswered) -> Item
     }
 }
 
-/// Whether the operation is one on sectors. A flush isn't: it is plain, so no search has to find it.
+/// Whether the operation is one on sectors. A flush has none. (It is plain, as a trim is: no search has to find
+/// either.)
 fn has_sectors(op: Op) -> bool
     ensures { result ≡ not (machine.is_flush op) }
 {

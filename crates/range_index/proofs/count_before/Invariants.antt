@@ -1,6 +1,6 @@
 use Rattle.std.proofs.Common.{ℕ, ◌≤◌, ◌<◌, ◌-◌, get_or, length}
 use Rattle.range_index.specs.declared.Item.{Item}
-use Rattle.range_index.specs.Items.{IsBefore}
+use Rattle.range_index.specs.Items.{StandsBefore}
 use Rattle.range_index.specs.Index.{items_of}
 use Rattle.range_index.proofs.count_before.Given as goal
 
@@ -8,8 +8,8 @@ abbrev pub invariant-loop-low : goal.invariant-loop-low
 invariant-loop-low l = record {
   meets : l.low ≤ l.high;
   within : l.high ≤ length l.entries;
-  before : (k : ℕ) (d : Item) → k < l.low → IsBefore (get_or (items_of l.entries) k d) l.first l.id;
-  behind : (k : ℕ) (d : Item) → l.high ≤ k → k < length l.entries → IsBefore (get_or (items_of l.entries) k d) l.first l.id → ⊥;
+  before : (k : ℕ) (d : Item) → k < l.low → StandsBefore (get_or (items_of l.entries) k d) l.first l.id;
+  behind : (k : ℕ) (d : Item) → l.high ≤ k → k < length l.entries → StandsBefore (get_or (items_of l.entries) k d) l.first l.id → ⊥;
 }
 
 abbrev pub decreases-loop-low : goal.decreases-loop-low

@@ -1,6 +1,6 @@
 use Rattle.std.proofs.Common.{ℕ, ◌<◌, ◌-◌, length, get_or, subst, sym, ap, ◌∙◌, arith, inl, inr}
 use Rattle.std.proofs.lemmas.Bool.{cases_eq}
-use Rattle.range_index.specs.Items.{IsBefore, is_earlier_conflict}
+use Rattle.range_index.specs.Items.{StandsBefore, is_earlier_conflict}
 use Rattle.range_index.specs.Index.{items_of}
 use Rattle.range_index.proofs.Sorting.{item_at, as_many, blank}
 use Rattle.range_index.proofs.Ends.{begins_late, none_conflicts, none_left}
@@ -13,7 +13,7 @@ loop-past-init c =
       within = c.count_before-past.ensures.within;
       none = λ k d ge lt.
           begins_late c.args.item.now (get_or (items_of es) k d)
-          (λ is. c.count_before-past.ensures.behind k d ge (let n = as_many es in omega (arith, n, lt)) (subst (λ (e : ℕ). IsBefore (get_or (items_of es) k d) e 0) (sym c.end_of.ensures) is));
+          (λ is. c.count_before-past.ensures.behind k d ge (let n = as_many es in omega (arith, n, lt)) (subst (λ (e : ℕ). StandsBefore (get_or (items_of es) k d) e 0) (sym c.end_of.ensures) is));
     }
 
 pub returns-then-entry-first-clause-none : goal.returns-then-entry-first-clause-none

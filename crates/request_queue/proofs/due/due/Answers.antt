@@ -30,14 +30,14 @@ queued_more mode book i r at here before k d lt = elim (cases_eq k i) [
 pub returns-then-ends : goal.returns-then-ends
 returns-then-ends c =
     let all = asks_of c.args.store.now in
-    let book = asks_at c.args.store.now c.places_of-places.result.items in
+    let book = asks_at c.args.store.now c.places_of-places.result.0.items in
     let is = c.places_of-places.ensures.own in
     let ordered = own_in_order c.args.port all book is c.requires.ordered in
     let mine = own_at c.args.port all book is c.loop-number.number c.nth-asks.result c.nth-asks.ensures in
     let held = held_by_place c.args.port all book is c.requires.ordered c.args.mode c.loop-number.number c.nth-asks.result c.nth-asks.ensures
-    (own_port c.args.port c.nth-asks.result mine) c.loop-number.invariant.queued c.args.ranges.now c.requires.index c.issued_of-issued.result c.issued_of-issued.ensures.count c.issued_of-issued.ensures.alone in
+    (own_port c.args.port c.nth-asks.result mine) c.loop-number.invariant.queued c.args.ranges.now c.requires.index c.places_of-places.result.1 c.places_of-places.ensures.count c.places_of-places.ensures.alone in
     let clear = c.is_clear-clear.ensures.clear ∙ ap (λ (h : Bool). not c.nth-asks.result.issued && not h) held in
-    let free = own_free c.args.port all book is c.args.mode c.free_slots-free.result (c.free_slots-free.ensures ∙ ap (λ (n : ℕ). c.args.mode.usable - n) c.issued_of-issued.ensures.count) in
+    let free = own_free c.args.port all book is c.args.mode c.free_slots-free.result (c.free_slots-free.ensures ∙ ap (λ (n : ℕ). c.args.mode.usable - n) c.places_of-places.ensures.count) in
     let so_far =
     steps_on c.earlier_ones_stand_before.ensures c.slots_by_due.ensures c.args.mode c.args.port book ordered c.loop-number.number c.nth-asks.result c.nth-asks.ensures mine
     c.loop-number.due.items c.loop-number.invariant.so_far c.len.result c.free_slots-free.result c.len.ensures.value free c.if-goes.due.items c.goes.result (c.goes.ensures ∙ ap (λ (b : Bool). b && (is_plain c.args.mode c.nth-asks.result.op || nat_lt c.len.result c.free_slots-free.result)) clear)
@@ -49,14 +49,14 @@ returns-then-ends c =
 pub loop-number-preserved : goal.loop-number-preserved
 loop-number-preserved c =
     let all = asks_of c.args.store.now in
-    let book = asks_at c.args.store.now c.places_of-places.result.items in
+    let book = asks_at c.args.store.now c.places_of-places.result.0.items in
     let is = c.places_of-places.ensures.own in
     let ordered = own_in_order c.args.port all book is c.requires.ordered in
     let mine = own_at c.args.port all book is c.loop-number.number c.nth-asks.result c.nth-asks.ensures in
     let held = held_by_place c.args.port all book is c.requires.ordered c.args.mode c.loop-number.number c.nth-asks.result c.nth-asks.ensures
-    (own_port c.args.port c.nth-asks.result mine) c.loop-number.invariant.queued c.args.ranges.now c.requires.index c.issued_of-issued.result c.issued_of-issued.ensures.count c.issued_of-issued.ensures.alone in
+    (own_port c.args.port c.nth-asks.result mine) c.loop-number.invariant.queued c.args.ranges.now c.requires.index c.places_of-places.result.1 c.places_of-places.ensures.count c.places_of-places.ensures.alone in
     let clear = c.is_clear-clear.ensures.clear ∙ ap (λ (h : Bool). not c.nth-asks.result.issued && not h) held in
-    let free = own_free c.args.port all book is c.args.mode c.free_slots-free.result (c.free_slots-free.ensures ∙ ap (λ (n : ℕ). c.args.mode.usable - n) c.issued_of-issued.ensures.count) in
+    let free = own_free c.args.port all book is c.args.mode c.free_slots-free.result (c.free_slots-free.ensures ∙ ap (λ (n : ℕ). c.args.mode.usable - n) c.places_of-places.ensures.count) in
     let small = has_room c.args.mode c.args.port book c.nth-asks.result c.len-in-loop-number.result c.free_slots-free.result free c.requires.usable (sym c.ends.ensures ∙ c.if-ends.false) in
     record {
       so_far = steps_on c.earlier_ones_stand_before.ensures c.slots_by_due.ensures c.args.mode c.args.port book ordered c.loop-number.number c.nth-asks.result c.nth-asks.ensures mine
@@ -70,8 +70,8 @@ loop-number-preserved c =
 pub returns : goal.returns
 returns c =
     let all = asks_of c.args.store.now in
-    let book = asks_at c.args.store.now c.places_of-places.result.items in
-    let long : length book ≤ c.loop-number.number = omega (arith, as_long c.args.store.now c.places_of-places.result.items, c.loop-number-test.false, c.len-number-end.ensures.value) in
+    let book = asks_at c.args.store.now c.places_of-places.result.0.items in
+    let long : length book ≤ c.loop-number.number = omega (arith, as_long c.args.store.now c.places_of-places.result.0.items, c.loop-number-test.false, c.len-number-end.ensures.value) in
     own_due c.args.port all book c.places_of-places.ensures.own c.own_requests_count.ensures.list c.args.mode c.loop-number.due.items
     (c.loop-number.invariant.so_far
     ∙ ap (λ (rs : List Unanswered). map (λ (r : Unanswered). r.id) (filter (due_test c.args.mode c.args.port book) rs)) (take_all c.loop-number.number book long))

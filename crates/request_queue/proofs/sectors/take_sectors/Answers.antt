@@ -3,7 +3,7 @@ use Rattle.std.proofs.lemmas.Bool.{not-true}
 use Rattle.std.specs.List.{Contains, remove, slice_get}
 use Rattle.range_index.specs.declared.Item.{Item}
 use Rattle.request_queue.specs.Entries.{asks_of}
-use Rattle.request_queue.specs.Sectors.{list_of}
+use Rattle.request_queue.specs.Sectors.{index_of_port}
 use Rattle.request_queue.proofs.Indexing.{flush_answered, answered, its_item, put_back, by_default, in_four}
 use Rattle.request_queue.proofs.sectors.take_sectors.Goals as goal
 
@@ -20,9 +20,9 @@ remove-requires c =
     let r = c.asks-request.result in
     let lists = c.args.sectors.now in
     let four = c.requires.indexed.four in
-    let e = by_default lists c.list_of.result (list_of r.port) c.index-sectors-list_of.result c.list_of.ensures (omega (arith, four, in_four r.port)) in
+    let e = by_default lists c.index_of_port.result (index_of_port r.port) c.index-sectors-index_of_port.result c.index_of_port.ensures (omega (arith, four, in_four r.port)) in
     subst (λ (xs : List Item). Contains xs c.item_of.result) (sym e)
-    (subst (Contains (get_or lists (list_of r.port) [])) (sym c.item_of.ensures)
+    (subst (Contains (get_or lists (index_of_port r.port) [])) (sym c.item_of.ensures)
     (its_item (asks_of c.args.store.now) lists c.requires.indexed r c.requires.ordered c.args.place c.asks-request.ensures (not-true _ (sym c.if-not-has_sectors.ensures))))
 
 pub returns : goal.returns
@@ -30,9 +30,9 @@ returns c =
     let r = c.asks-request.result in
     let lists = c.args.sectors.now in
     let four = c.requires.indexed.four in
-    let e = by_default lists c.list_of.result (list_of r.port) c.index-sectors-list_of.result c.list_of.ensures (omega (arith, four, in_four r.port)) in
+    let e = by_default lists c.index_of_port.result (index_of_port r.port) c.index-sectors-index_of_port.result c.index_of_port.ensures (omega (arith, four, in_four r.port)) in
     let place = c.remove.ensures.0 in
-    put_back (remove (asks_of c.args.store.now) c.args.place) lists c.list_of.result (list_of r.port) _ (remove (get_or lists (list_of r.port) []) place) c.list_of.ensures
+    put_back (remove (asks_of c.args.store.now) c.args.place) lists c.index_of_port.result (index_of_port r.port) _ (remove (get_or lists (index_of_port r.port) []) place) c.index_of_port.ensures
     (c.remove.ensures.2 ∙ ap (λ (xs : List Item). remove xs place) e)
     (answered (asks_of c.args.store.now) lists c.requires.indexed r c.requires.ordered c.args.place c.asks-request.ensures (not-true _ (sym c.if-not-has_sectors.ensures)) place
     (ap (λ (xs : List Item). slice_get xs place) (sym e) ∙ (c.remove.ensures.1 ∙ ap Some c.item_of.ensures)))
