@@ -45,10 +45,26 @@ def configuration(clients=1, grants=1):
     return text
 
 
-def waiting():
-    """127 writes of the same sectors by eight clients, of which the first is issued in slot 0, and isn't done."""
+def waiting(range_of):
+    """127 writes by eight clients, none of which is done. `range_of` gives the first sector and the number of each."""
     names = [(client, 40 + PLACES * (client - 1) + place) for client in range(8, 0, -1) for place in range(PLACES)]
-    return [f"write {client} 0 200 8 {frame}" for client, frame in names[:-1]]
+    ranges = map(range_of, range(127))
+    return [f"write {client} 0 {first} {count} {frame}" for (client, frame), (first, count) in zip(names, ranges)]
+
+
+def for_the_first(number):
+    """All are of the same sectors, so all wait for the first."""
+    return 200, 8
+
+
+def for_the_one_before(number):
+    """Each shares a sector with the one before it, and waits for it."""
+    return 100 + number, 2
+
+
+def for_the_thirtieth(number):
+    """30 are issued, and all others wait for the last of them."""
+    return 20 + min(number, 29), 1
 
 
 def script(requests, at_a_time, before=(), grant=0, slot=0, sectors=8):
@@ -158,7 +174,9 @@ def main():
             (8, 1, 1, 1, "config", lambda requests: script(requests, 1)),
             (256, 1, 1, 1, "config", lambda requests: script(requests, 1, sectors=256)),
             (8, 1, 1, 64, "grants", lambda requests: script(requests, 1, grant=63)),
-            (8, 1, 128, 8, "clients", lambda requests: script(requests, 1, waiting(), slot=1)),
+            (8, 1, 128, 8, "clients", lambda requests: script(requests, 1, waiting(for_the_first), slot=1)),
+            (8, 1, 128, 8, "clients", lambda requests: script(requests, 1, waiting(for_the_one_before), slot=1)),
+            (8, 1, 128, 8, "clients", lambda requests: script(requests, 1, waiting(for_the_thirtieth), slot=30)),
             (8, 16, 16, 1, "config", lambda requests: script(requests, 16)),
         ):
             found = of_each(text, bench, room, config)
