@@ -16,5 +16,6 @@ if [[ -z ${BLOCKD:-} ]] && is_old; then
 fi
 scripts/changing_images.sh
 scripts/limited_runs.sh
+scripts/lying_pages.sh
 scripts/terminal_run.py "$blockd"
 exec scripts/run_cases.py "$blockd" docs/FORMATS.md examples/cases/*.{session,bad-lines,configurations}

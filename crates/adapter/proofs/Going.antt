@@ -1,14 +1,18 @@
 -- Steps of one slot's command, one after another.
-use Rattle.std.proofs.Common.{ℕ, Bool, true, false, zero, suc, ◌≡◌, ◌⊎◌, refl, sym, subst, inl, inr}
-use Rattle.adapter.specs.Device.{Device}
-use Rattle.adapter.specs.Steps.{Steps}
+use Rattle.std.proofs.Common.{ℕ, Bool, true, false, zero, suc, ◌≡◌, ◌⊎◌, ◌+◌, ◌*◌, ◌<◌, All, Option, None, Some, refl, sym, subst, inl, inr, arith}
+use Rattle.std.specs.Prelude.{if◌then◌else◌, is_some, nat_le, replicate}
+use Rattle.std.proofs.lemmas.List.Elements.{All-replicate}
+use Rattle.ata_types.specs.declared.memory.TheConstants.{HEADER_BYTES, RECEIVED_BYTES}
+use Rattle.adapter.specs.Memory.{patched}
+use Rattle.adapter.specs.Device.{Taken, Device}
+use Rattle.adapter.specs.Steps.{MayScribble, Steps}
 use Rattle.adapter.specs.Steps.Step.{Fetch, FetchFault, Move, Clear, Done, Fault, Fatal, Unplug, Plug, Scribble}
 use Rattle.adapter.specs.declared.command.Operation.{Operation}
 use Rattle.adapter.specs.declared.command.Operation.TheVariants.{Identify}
 use Rattle.adapter.specs.declared.access.DeviceStep.{DeviceStep}
 use Rattle.adapter.specs.declared.access.DeviceStep.TheVariants as asked
 use Rattle.adapter.proofs.Runs.{Steps-refl, Steps-one, Steps-trans}
-use Rattle.adapter.specs.Asked.{DoesClear, DoesOne, DoesSome, Fails, FailsAfter, FailsOf, GoesOn, MayPost, Asked, DoneOf, fatal_bit}
+use Rattle.adapter.specs.Asked.{DoesClear, DoesOne, DoesSome, Fails, FailsAfter, FailsOf, GoesOn, MayPost, Asked, DoneOf, DoesScribble, busy, counts_filled, fatal_bit, filled}
 
 module _ (Posts : (port flag : ℕ) → Operation → Device → Device → Type 0) where
   pub goes_one : (port slot : ℕ) (old new : Device) → DoesOne Posts port slot old new → GoesOn Posts port slot old new
@@ -44,22 +48,56 @@ some_steps : (n port slot : ℕ) (old new : Device) → DoesSome MayPost n port 
 some_steps zero port slot old new e = let P : Device → Type 0 = λ d. Steps old d in subst P (sym e) (Steps-refl old)
 some_steps (suc n) port slot old new s = Steps-trans (some_steps n port slot old s.0 s.1) (one_steps port slot s.0 new s.2)
 
-fault_steps : (port slot error : ℕ) (old new : Device) → Fails MayPost port slot error old new → Steps old new
-fault_steps port slot error old new f =
-    Steps-trans (Steps-one (Fault port slot error 0 f.fault.t) old f.mid f.fault.can f.fault.effect)
+fault_steps : (port slot error kept : ℕ) (old new : Device) → Fails MayPost port slot error kept old new → Steps old new
+fault_steps port slot error kept old new f =
+    Steps-trans (Steps-one (Fault port slot error kept f.fault.t) old f.mid f.fault.can f.fault.effect)
     (post_steps port 30 f.fault.t.meaning.operation f.mid new f.posts)
 
 -- a command failed after some steps, or none
-fails_steps : (Some : Device → Device → Type 0) → ((old new : Device) → Some old new → Steps old new) → (port slot : ℕ) (old new : Device) →
-    FailsAfter MayPost Some port slot old new → Steps old new
-fails_steps Some steps port slot old new f = Steps-trans (before f.before) (fault_steps port slot f.error f.mid new f.fails)
+fails_steps : (Part : Device → Device → Type 0) → ((old new : Device) → Part old new → Steps old new) → (port slot : ℕ) (old new : Device) →
+    FailsAfter MayPost Part port slot old new → Steps old new
+fails_steps Part steps port slot old new f = Steps-trans (before f.before) (fault_steps port slot f.error 0 f.mid new f.fails)
   where
-    before : (f.mid ≡ old) ⊎ Some old f.mid → Steps old f.mid
+    before : (f.mid ≡ old) ⊎ Part old f.mid → Steps old f.mid
     before (inl same) = let P : Device → Type 0 = λ d. Steps old d in subst P (sym same) (Steps-refl old)
     before (inr some) = steps old f.mid some
 
 goes_steps : (port slot : ℕ) (old new : Device) → GoesOn MayPost port slot old new → Steps old new
 goes_steps port slot old new did = some_steps (suc did.0) port slot old new did.1
+
+-- a place that the device may fill, or that isn't in the memory
+fill_steps : (port slot at count byte : ℕ) (d : Device) → (inside : Bool) → MayScribble (d.port port) slot at (replicate count byte) →
+    Steps d (record d { memory = if inside then patched d.memory at (replicate count byte) else d.memory })
+fill_steps port slot at count byte d true may = Steps-one (Scribble port slot at (replicate count byte)) d _ may refl
+fill_steps port slot at count byte d false may = Steps-refl d
+
+bytes_of : (count byte : ℕ) → byte < 256 → All (λ b. b < 256) (replicate count byte)
+bytes_of count byte small = All-replicate (λ b. b < 256) count byte small
+
+-- PRDBC of a slot, after others
+count_steps : (slot port byte : ℕ) (d : Device) (before : ℕ → ℕ) → (d.port port).fre ≡ true → byte < 256 → (held : Option Taken) → (d.port port).taken slot ≡ held →
+    {from : Device} → Steps from (record d { memory = before }) →
+    Steps from (record d { memory = if is_some held then filled d.size ((d.port port).bases.clb + HEADER_BYTES * slot + 4) 4 byte before else before })
+count_steps slot port byte d before fre small None e so_far = so_far
+count_steps slot port byte d before fre small (Some t) e so_far =
+    let at : ℕ = (d.port port).bases.clb + HEADER_BYTES * slot + 4 in
+    Steps-trans so_far (fill_steps port slot at 4 byte (record d { memory = before }) (nat_le (at + 4) d.size)
+    (record { fre = fre; place = inr (t, e, refl, refl); are_bytes = bytes_of 4 byte small }))
+
+-- those of the slots, one after another
+counts_steps : (slots port byte : ℕ) (d : Device) (memory : ℕ → ℕ) → (d.port port).fre ≡ true → byte < 256 →
+    Steps (record d { memory = memory }) (record d { memory = counts_filled slots d.size byte (d.port port) memory })
+counts_steps zero port byte d memory fre small = Steps-refl _
+counts_steps (suc slot) port byte d memory fre small =
+    count_steps slot port byte d (counts_filled slot d.size byte (d.port port) memory) fre small ((d.port port).taken slot) refl (counts_steps slot port byte d memory fre small)
+
+scribble_steps : (port byte : ℕ) (old new : Device) → DoesScribble port byte old new → Steps old new
+scribble_steps port byte old new did =
+    let at : ℕ = (old.port port).bases.fb in
+    let place = fill_steps port 0 at RECEIVED_BYTES byte old (nat_le (at + RECEIVED_BYTES) old.size)
+    (record { fre = did.receives; place = inl (omega arith, omega arith); are_bytes = bytes_of RECEIVED_BYTES byte did.is_byte }) in
+    let P : Device → Type 0 = λ d. Steps old d in
+    subst P (sym did.effect) (Steps-trans place (counts_steps 32 port byte old (filled old.size at RECEIVED_BYTES byte old.memory) did.receives did.is_byte))
 
 done_steps : (s : DeviceStep) (old new : Device) → DoneOf MayPost s old new → Steps old new
 done_steps (asked.Fetch p slot) old new did = one_steps p.0 slot.0 old new (inl did)
@@ -67,7 +105,9 @@ done_steps (asked.Move p slot) old new did = one_steps p.0 slot.0 old new (inr (
 done_steps (asked.Clear p slot most) old new did = clear_steps p.0 slot.0 most old new did
 done_steps (asked.Done p slot) old new did = one_steps p.0 slot.0 old new (inr (inr (inl did)))
 done_steps (asked.Finish p slot) old new did = goes_steps p.0 slot.0 old new did
-done_steps (asked.Fault p slot error) old new did = fault_steps p.0 slot.0 error old new did
+done_steps (asked.Fault p slot error) old new did = fault_steps p.0 slot.0 error 0 old new did
+done_steps (asked.FaultBusy p slot error) old new did = fault_steps p.0 slot.0 error busy old new did
+done_steps (asked.Scribble p byte) old new did = scribble_steps p.0 byte old new did
 done_steps (asked.Fatal p error) old new did = Steps-one (Fatal p.0 (fatal_bit error)) old new did.can did.effect
 done_steps (asked.Lie p page offset bits) old new did = let P : Device → Type 0 = λ d. Steps old d in subst P (sym did) (Steps-refl old)
 done_steps (asked.Truth p) old new did = let P : Device → Type 0 = λ d. Steps old d in subst P (sym did) (Steps-refl old)
@@ -80,12 +120,14 @@ failed_steps : (s : DeviceStep) (old new : Device) → FailsOf MayPost s old new
 failed_steps (asked.Fetch p slot) old new f =
     Steps-trans (Steps-one (FetchFault p.0 slot.0 f.fault.queued 0) old f.mid f.fault.can f.fault.effect)
     (post_steps p.0 30 Identify f.mid new (f.posts Identify))
-failed_steps (asked.Move p slot) old new f = fault_steps p.0 slot.0 f.0 old new f.1
+failed_steps (asked.Move p slot) old new f = fault_steps p.0 slot.0 f.0 0 old new f.1
 failed_steps (asked.Clear p slot most) old new f = fails_steps (DoesClear p.0 slot.0 most) (clear_steps p.0 slot.0 most) p.0 slot.0 old new f
 failed_steps (asked.Finish p slot) old new f = fails_steps (GoesOn MayPost p.0 slot.0) (goes_steps p.0 slot.0) p.0 slot.0 old new f
 failed_steps (asked.Done p slot) old new f = absurd f
 failed_steps (asked.Fault p slot error) old new f = absurd f
+failed_steps (asked.FaultBusy p slot error) old new f = absurd f
 failed_steps (asked.Fatal p error) old new f = absurd f
+failed_steps (asked.Scribble p byte) old new f = absurd f
 failed_steps (asked.Lie p page offset bits) old new f = absurd f
 failed_steps (asked.Truth p) old new f = absurd f
 failed_steps (asked.Hold p) old new f = absurd f

@@ -1,4 +1,5 @@
 -- An adapter without a command, and one with one, are guarded.
+use Rattle.ata_types.specs.declared.memory.TheConstants.{PRD_BYTES, TABLE_HEAD}
 use Rattle.std.proofs.Common.{ℕ, zero, suc, ◌≡◌, ◌<◌, ◌≤◌, ◌+◌, ◌*◌, ◌||◌, not, Bool, true, false, List, [], ◌∷◌, length, slice_index, refl, sym, ◌∙◌, ap, subst, arith, inl, inr}
 use Rattle.std.proofs.lemmas.Bool.{cases_eq, cases_lt, le-leb, lt-ltb}
 use Rattle.adapter.specs.Device.{PortState, Device}
@@ -40,13 +41,13 @@ third_of a b c h = or_two (a || b) c h
 
 module _ (s : Standing) (at : ℕ) where
   reads_head : s.header ≤ at → at < s.header + 4 → is_read_alone s at ≡ true
-  reads_head low high = first_of (is_from s.header 4 at) (is_from (s.header + 8) 24 at) (is_from s.table (128 + 16 * s.entries) at) (is_from_yes s.header 4 at low high)
+  reads_head low high = first_of (is_from s.header 4 at) (is_from (s.header + 8) 24 at) (is_from s.table (TABLE_HEAD + PRD_BYTES * s.entries) at) (is_from_yes s.header 4 at low high)
 
   reads_rest : s.header + 8 ≤ at → at < s.header + 32 → is_read_alone s at ≡ true
-  reads_rest low high = second_of (is_from s.header 4 at) (is_from (s.header + 8) 24 at) (is_from s.table (128 + 16 * s.entries) at) (is_from_yes (s.header + 8) 24 at low (omega (arith, high)))
+  reads_rest low high = second_of (is_from s.header 4 at) (is_from (s.header + 8) 24 at) (is_from s.table (TABLE_HEAD + PRD_BYTES * s.entries) at) (is_from_yes (s.header + 8) 24 at low (omega (arith, high)))
 
-  reads_table : s.table ≤ at → at < s.table + 128 + 16 * s.entries → is_read_alone s at ≡ true
-  reads_table low high = third_of (is_from s.header 4 at) (is_from (s.header + 8) 24 at) (is_from s.table (128 + 16 * s.entries) at) (is_from_yes s.table (128 + 16 * s.entries) at low (omega (arith, high)))
+  reads_table : s.table ≤ at → at < s.table + TABLE_HEAD + PRD_BYTES * s.entries → is_read_alone s at ≡ true
+  reads_table low high = third_of (is_from s.header 4 at) (is_from (s.header + 8) 24 at) (is_from s.table (TABLE_HEAD + PRD_BYTES * s.entries) at) (is_from_yes s.table (TABLE_HEAD + PRD_BYTES * s.entries) at low (omega (arith, high)))
 
   writes_count : s.header + 4 ≤ at → at < s.header + 8 → is_written s at ≡ true
   writes_count low high = first_of (is_from (s.header + 4) 4 at) (is_of_pieces s.places at) (is_from s.received 256 at) (is_from_yes (s.header + 4) 4 at low (omega (arith, high)))

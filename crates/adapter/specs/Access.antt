@@ -1,5 +1,6 @@
 -- The calls of an adapter: what a register shows, what a reading notes beside the state, and what a write does. A call
 -- is any steps of the device, and then its one effect.
+use Rattle.ata_types.specs.declared.limits.TheConstants.{READINGS}
 use Rattle.std.specs.Prelude.{ℕ, Bool, true, false, ◌≡◌, ◌+◌, ◌*◌, ◌/◌, ◌%◌, ◌<◌, ◌&&◌, ◌||◌, not, min, List, [], ◌∷◌, length, if◌then◌else◌, nat_eq, nat_le}
 use Rattle.hba_regs.specs.Bits.{bit}
 use Rattle.hba_regs.specs.declared.reg.Reg.{Reg}
@@ -48,13 +49,13 @@ Shows _ v d = Unit {0}
 
 -- ---- what a reading notes beside the state (this project's own)
 
--- one more reading in a row, at most 64
+-- one more reading in a row, at most as many as a wait has
 abbrev pub counted : Bool → ℕ → ℕ
-counted again n = if again then min 64 (n + 1) else 0
+counted again n = if again then min READINGS (n + 1) else 0
 
--- the count of SSTS: a reading with a device sets it to 64, where it stays
+-- the count of SSTS: a reading with a device sets it to the most, where it stays
 abbrev pub link_counted : ℕ → ℕ → ℕ
-link_counted det n = if nat_eq det 3 then 64 else min 64 (n + 1)
+link_counted det n = if nat_eq det 3 then READINGS else min READINGS (n + 1)
 
 -- the counts of SSTS, TFD and CI move only while SCTL.DET is 0
 abbrev pub while_no_comreset : PortState → ℕ → ℕ → ℕ

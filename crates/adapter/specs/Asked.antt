@@ -1,9 +1,9 @@
 -- What was asked of the device, and done; or a command that failed as it was to be done. A command that ends or fails
 -- may do so with a FIS in the received FIS area of its port.
-use Rattle.std.specs.Prelude.{ℕ, Bool, zero, suc, ◌≡◌, ◌+◌, ◌<◌, ◌≤◌, ◌⊎◌, true, List, length, All}
-use Rattle.ata_types.specs.declared.memory.TheConstants.{RECEIVED_BYTES}
+use Rattle.std.specs.Prelude.{ℕ, Bool, zero, suc, ◌≡◌, ◌+◌, ◌<◌, ◌≤◌, ◌*◌, ◌⊎◌, true, List, length, All, if◌then◌else◌, is_some, nat_le, replicate}
+use Rattle.ata_types.specs.declared.memory.TheConstants.{HEADER_BYTES, RECEIVED_BYTES}
 use Rattle.adapter.specs.Commands.{Meaning}
-use Rattle.adapter.specs.Device.{Disk, Taken, Device}
+use Rattle.adapter.specs.Device.{Disk, Taken, PortState, Device}
 use Rattle.adapter.specs.Memory.{patched}
 use Rattle.adapter.specs.Steps.{Can, after}
 use Rattle.adapter.specs.Steps.Step.{Fetch, FetchFault, Move, Clear, Done, Fault, Fatal, Unplug, Plug}
@@ -85,11 +85,15 @@ DoesSome Posts (suc n) port slot old new = (mid : Device) × DoesSome Posts n po
 abbrev pub GoesOn : ((port flag : ℕ) → Operation → Device → Device → Type 0) → ℕ → ℕ → Device → Device → Type 0
 GoesOn Posts port slot old new = (n : ℕ) × DoesSome Posts (suc n) port slot old new
 
--- the slot's command failed with this error; BSY and DRQ are clear (ACS-3, 6.2 and 6.3)
-pub record DoesFault (port slot error : ℕ) (old new : Device) : Type 0 where
+-- the slot's command failed with this error; BSY and DRQ are left set as these bits say (ACS-3, 6.2 and 6.3)
+pub record DoesFault (port slot error kept_bits : ℕ) (old new : Device) : Type 0 where
   pub t : Taken
-  pub can : Can (Fault port slot error 0 t) old
-  pub effect : new ≡ after (Fault port slot error 0 t) old
+  pub can : Can (Fault port slot error kept_bits t) old
+  pub effect : new ≡ after (Fault port slot error kept_bits t) old
+
+-- BSY of PxTFD (AHCI 1.3.1, 3.3.8)
+abbrev pub busy : ℕ
+busy = 0x80
 
 -- what is issued in the slot failed as it was to be taken, since its bytes mean no command; BSY and DRQ are clear
 pub record DoesFetchFault (port slot : ℕ) (old new : Device) : Type 0 where
@@ -98,10 +102,10 @@ pub record DoesFetchFault (port slot : ℕ) (old new : Device) : Type 0 where
   pub effect : new ≡ after (FetchFault port slot queued 0) old
 
 -- The slot's command failed, and then this was posted, with TFES of PxIS (AHCI 1.3.1, 3.3.5).
-pub record Fails (Posts : (port flag : ℕ) → Operation → Device → Device → Type 0) (port slot error : ℕ)
+pub record Fails (Posts : (port flag : ℕ) → Operation → Device → Device → Type 0) (port slot error kept_bits : ℕ)
     (old new : Device) : Type 0 where
   pub mid : Device
-  pub fault : DoesFault port slot error old mid
+  pub fault : DoesFault port slot error kept_bits old mid
   pub posts : Posts port 30 fault.t.meaning.operation mid new
 
 -- Or what is issued in the slot failed, since its bytes mean no command. Then that was posted which is posted for each
@@ -112,13 +116,13 @@ pub record FailsToMean (Posts : (port flag : ℕ) → Operation → Device → D
   pub fault : DoesFetchFault port slot old mid
   pub posts : (operation : Operation) → Posts port 30 operation mid new
 
--- so much was done, or nothing, and then the slot's command failed
+-- so much was done, or nothing, and then the slot's command failed; BSY and DRQ are clear
 pub record FailsAfter (Posts : (port flag : ℕ) → Operation → Device → Device → Type 0) (Some : Device → Device → Type 0)
     (port slot : ℕ) (old new : Device) : Type 0 where
   pub mid : Device
   pub before : (mid ≡ old) ⊎ Some old mid
   pub error : ℕ
-  pub fails : Fails Posts port slot error mid new
+  pub fails : Fails Posts port slot error 0 mid new
 
 -- the bit of PxIS that tells of a fatal error: IFS or HBFS (AHCI 1.3.1, 3.3.5)
 abbrev pub fatal_bit : FatalError → ℕ
@@ -129,6 +133,28 @@ fatal_bit HostBus = 29
 pub record DoesFatal (port : ℕ) (error : FatalError) (old new : Device) : Type 0 where
   pub can : Can (Fatal port (fatal_bit error)) old
   pub effect : new ≡ after (Fatal port (fatal_bit error)) old
+
+-- these bytes of memory are filled with one; nothing is, where not all of them lie in the memory
+abbrev pub filled : (size at count byte : ℕ) → (ℕ → ℕ) → ℕ → ℕ
+filled size at count byte memory =
+    if nat_le (at + count) size then patched memory at (replicate count byte) else memory
+
+-- PRDBC of each of the first slots, so many, whose command is taken (AHCI 1.3.1, 4.2.2)
+abbrev pub counts_filled : (slots size byte : ℕ) → PortState → (ℕ → ℕ) → ℕ → ℕ
+counts_filled zero size byte p memory = memory
+counts_filled (suc slot) size byte p memory =
+    let before = counts_filled slot size byte p memory in
+    if is_some (p.taken slot) then filled size (p.bases.clb + HEADER_BYTES * slot + 4) 4 byte before else before
+
+-- while the port receives FISes, its received FIS area was filled with this byte, and PRDBC of each slot whose command
+-- is taken
+pub record DoesScribble (port byte : ℕ) (old new : Device) : Type 0 where
+  pub receives : (old.port port).fre ≡ true
+  pub is_byte : byte < 256
+  pub effect : new ≡ record old {
+    memory = counts_filled 32 old.size byte (old.port port)
+        (filled old.size (old.port port).bases.fb RECEIVED_BYTES byte old.memory);
+  }
 
 -- the disk was taken out
 pub record DoesUnplug (port : ℕ) (old new : Device) : Type 0 where
@@ -150,8 +176,10 @@ DoneOf Posts (asked.Move p s) old new = DoesMove p.0 s.0 old new
 DoneOf Posts (asked.Clear p s most) old new = DoesClear p.0 s.0 most old new
 DoneOf Posts (asked.Done p s) old new = Ends Posts p.0 s.0 old new
 DoneOf Posts (asked.Finish p s) old new = GoesOn Posts p.0 s.0 old new
-DoneOf Posts (asked.Fault p s error) old new = Fails Posts p.0 s.0 error old new
+DoneOf Posts (asked.Fault p s error) old new = Fails Posts p.0 s.0 error 0 old new
+DoneOf Posts (asked.FaultBusy p s error) old new = Fails Posts p.0 s.0 error busy old new
 DoneOf Posts (asked.Fatal p error) old new = DoesFatal p.0 error old new
+DoneOf Posts (asked.Scribble p byte) old new = DoesScribble p.0 byte old new
 DoneOf Posts (asked.Lie p page offset bits) old new = new ≡ old
 DoneOf Posts (asked.Truth p) old new = new ≡ old
 DoneOf Posts (asked.Hold p) old new = new ≡ old
@@ -163,7 +191,7 @@ DoneOf Posts (asked.Plug p number) old new = DoesPlug p.0 number.0 old new
 -- asked, or none.
 abbrev pub FailsOf : ((port flag : ℕ) → Operation → Device → Device → Type 0) → DeviceStep → Device → Device → Type 0
 FailsOf Posts (asked.Fetch p s) old new = FailsToMean Posts p.0 s.0 old new
-FailsOf Posts (asked.Move p s) old new = (error : ℕ) × Fails Posts p.0 s.0 error old new
+FailsOf Posts (asked.Move p s) old new = (error : ℕ) × Fails Posts p.0 s.0 error 0 old new
 FailsOf Posts (asked.Clear p s most) old new = FailsAfter Posts (DoesClear p.0 s.0 most) p.0 s.0 old new
 FailsOf Posts (asked.Finish p s) old new = FailsAfter Posts (GoesOn Posts p.0 s.0) p.0 s.0 old new
 FailsOf Posts step old new = ⊥

@@ -1,5 +1,6 @@
 -- The commands that this driver knows (ACS-3; the queued ones also Serial ATA), and the FIS of each.
 use Rattle.std.specs.Prelude.{ℕ, Bool, true, false, ◌≡◌, ◌*◌, ◌^◌, ◌<◌, ◌≤◌, ◌%◌}
+use Rattle.ata_types.specs.declared.command_codes.TheConstants.{DATA_SET_MANAGEMENT, FLUSH_CACHE_EXT, IDENTIFY_DEVICE, READ_DMA_EXT, READ_FPDMA_QUEUED, READ_LOG_EXT, WRITE_DMA_EXT, WRITE_FPDMA_QUEUED}
 use Rattle.adapter.specs.declared.command.Operation.{Operation}
 use Rattle.adapter.specs.declared.command.Operation.TheVariants.{Identify, Read, Write, ReadQueued, WriteQueued, Flush, Trim, ReadLog}
 use Rattle.adapter.specs.declared.command.Command.{Command}
@@ -13,14 +14,14 @@ with_fields code features count lba device =
 -- The table of commands. By columns: the operation, the command's slot, first sector and number of sectors;
 -- then its code, features, count, LBA and device. A sector count of 0 stands for 65,536. A tag is the slot.
 abbrev pub command_of : (operation : Operation) (slot first count : ℕ) → Command
-command_of Identify slot first count = with_fields 0xec 0 0 0 0x00
-command_of Read slot first count = with_fields 0x25 0 (count % 65536) first 0x40
-command_of Write slot first count = with_fields 0x35 0 (count % 65536) first 0x40
-command_of ReadQueued slot first count = with_fields 0x60 (count % 65536) (8 * slot) first 0x40
-command_of WriteQueued slot first count = with_fields 0x61 (count % 65536) (8 * slot) first 0x40
-command_of Flush slot first count = with_fields 0xea 0 0 0 0x00
-command_of Trim slot first count = with_fields 0x06 1 1 0 0x00
-command_of ReadLog slot first count = with_fields 0x2f 0 1 0x10 0x00
+command_of Identify slot first count = with_fields IDENTIFY_DEVICE 0 0 0 0x00
+command_of Read slot first count = with_fields READ_DMA_EXT 0 (count % 65536) first 0x40
+command_of Write slot first count = with_fields WRITE_DMA_EXT 0 (count % 65536) first 0x40
+command_of ReadQueued slot first count = with_fields READ_FPDMA_QUEUED (count % 65536) (8 * slot) first 0x40
+command_of WriteQueued slot first count = with_fields WRITE_FPDMA_QUEUED (count % 65536) (8 * slot) first 0x40
+command_of Flush slot first count = with_fields FLUSH_CACHE_EXT 0 0 0 0x00
+command_of Trim slot first count = with_fields DATA_SET_MANAGEMENT 1 1 0 0x00
+command_of ReadLog slot first count = with_fields READ_LOG_EXT 0 1 0x10 0x00
 
 -- a queued command is one of several in flight; a plain one is alone
 abbrev pub is_queued : Operation → Bool

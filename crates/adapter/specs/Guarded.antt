@@ -1,6 +1,6 @@
 -- Bytes that no step of the device changes, and on which every command in use stands.
 use Rattle.std.specs.Prelude.{ℕ, Bool, true, ◌≡◌, ◌+◌, ◌*◌, ◌<◌, ◌≤◌, length, List, Some}
-use Rattle.ata_types.specs.declared.memory.TheConstants.{HEADER_BYTES, RECEIVED_BYTES}
+use Rattle.ata_types.specs.declared.memory.TheConstants.{HEADER_BYTES, PRD_BYTES, RECEIVED_BYTES, TABLE_HEAD}
 use Rattle.adapter.specs.Commands.{Meaning}
 use Rattle.adapter.specs.Device.{Taken, PortState, Device}
 use Rattle.adapter.specs.Says.{Says}
@@ -26,7 +26,7 @@ pub record IsGuardedSlot (Tables Kept : ℕ → Type 0) (memory : ℕ → ℕ) (
   pub says : Says memory list slot meaning places
   pub head : Holds Tables (list + HEADER_BYTES * slot) (list + HEADER_BYTES * slot + 4)
   pub rest : Holds Tables (list + HEADER_BYTES * slot + 8) (list + HEADER_BYTES * slot + HEADER_BYTES)
-  pub table : Holds Tables says.table (says.table + 128 + 16 * length says.prds)
+  pub table : Holds Tables says.table (says.table + TABLE_HEAD + PRD_BYTES * length says.prds)
   pub count : Spares Kept (list + HEADER_BYTES * slot + 4) (list + HEADER_BYTES * slot + 8)
   pub places_avoid : Avoids Kept places
 

@@ -1,6 +1,6 @@
 -- An adapter with one command in use.
 use Rattle.std.specs.Prelude.{ℕ, Bool, false, true, ◌≡◌, ◌≢◌, ◌+◌, ◌*◌, ◌<◌, ◌≤◌, ◌&&◌, ◌||◌, not, List, [], ◌∷◌, length, None, Some, nat_le, nat_lt}
-use Rattle.ata_types.specs.declared.memory.TheConstants.{HEADER_BYTES, RECEIVED_BYTES}
+use Rattle.ata_types.specs.declared.memory.TheConstants.{HEADER_BYTES, PRD_BYTES, RECEIVED_BYTES, TABLE_HEAD}
 use Rattle.adapter.specs.Commands.{Meaning}
 use Rattle.adapter.specs.Device.{Taken, PortState, Device}
 use Rattle.adapter.specs.Idle.{IsIdlePort}
@@ -27,7 +27,8 @@ is_of_pieces (place ∷ places) at = is_from place 512 at || is_of_pieces places
 
 -- a byte that the device only reads: of the header but for PRDBC, or of the table
 abbrev pub is_read_alone : Standing → ℕ → Bool
-is_read_alone s at = is_from s.header 4 at || is_from (s.header + 8) 24 at || is_from s.table (128 + 16 * s.entries) at
+is_read_alone s at = is_from s.header 4 at || is_from (s.header + 8) 24 at
+    || is_from s.table (TABLE_HEAD + PRD_BYTES * s.entries) at
 
 -- a byte that the device may write: of PRDBC, of a piece, or of the received FIS area
 abbrev pub is_written : Standing → ℕ → Bool

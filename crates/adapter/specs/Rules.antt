@@ -1,6 +1,6 @@
 -- What the driver of an adapter has to keep to (AHCI 1.3.1, 3.1, 3.3, 5.3 and 10).
 use Rattle.std.specs.Prelude.{ℕ, true, false, ◌≡◌, ◌≢◌, ◌+◌, ◌*◌, ◌/◌, ◌%◌, ◌<◌, ◌≤◌, ◌⊎◌, ◌||◌, List, length, None, Some, slice_index}
-use Rattle.ata_types.specs.declared.memory.TheConstants.{HEADER_BYTES, LIST_BYTES, RECEIVED_BYTES}
+use Rattle.ata_types.specs.declared.memory.TheConstants.{HEADER_BYTES, LIST_BYTES, PRD_BYTES, RECEIVED_BYTES, TABLE_HEAD}
 use Rattle.hba_regs.specs.Bits.{bit}
 use Rattle.hba_regs.specs.declared.reg.Reg.{Reg}
 use Rattle.hba_regs.specs.declared.reg.Reg.TheVariants.{Ghc, Px}
@@ -121,7 +121,7 @@ InUse p slot = (p.ci slot ≡ true) ⊎ ((t : Taken) × (p.taken slot ≡ Some t
 abbrev pub InCommand : Device → PortState → ℕ → ℕ → Type 0
 InCommand d p slot at =
     (meaning : Meaning) × (places : List ℕ) × (s : Says d.memory p.bases.clb slot meaning places)
-    × (((s.table ≤ at) × (at < s.table + 128 + 16 * length s.prds)) ⊎ InPlaces places at)
+    × (((s.table ≤ at) × (at < s.table + TABLE_HEAD + PRD_BYTES * length s.prds)) ⊎ InPlaces places at)
 
 -- The device may use the byte: it is of the header, the table or the places of a command in use, of the places of a
 -- taken one, or of the received FIS area.

@@ -81,9 +81,14 @@ pub enum DeviceStep {
     Finish(Port, Slot),
     /// Fail the slot's command, which is taken, with this error (ACS-3, 6.2). The port is halted then.
     Fault(Port, Slot, u8),
+    /// The same, and BSY is left set: the disk doesn't get ready again (AHCI 1.3.1, 6.2.2).
+    FaultBusy(Port, Slot, u8),
     /// Meet this fatal error on the port, whose engine runs. The port does nothing more for its commands until it is
     /// started anew.
     Fatal(Port, FatalError),
+    /// Fill with this byte what the device may write as it wants while the port receives FISes: its received FIS area,
+    /// and PRDBC of each slot whose command is taken (AHCI 1.3.1, 4.2.1 and 4.2.2).
+    Scribble(Port, u8),
     /// Tell lies: from now on the disk of the port sends the byte of this page at this offset, below 512, with these
     /// bits turned. This is for tests; nothing changes until the page is sent.
     Lie(Port, DiskPage, u16, u8),

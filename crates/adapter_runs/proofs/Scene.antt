@@ -1,4 +1,5 @@
 -- The memory that the runs begin with: commands for two queued reads and a trim on port 0, and a read on port 1; each of one PRD.
+use Rattle.ata_types.specs.declared.memory.TheConstants.{TABLE_HEAD}
 use Rattle.std.proofs.Common.{ℕ, ◌≡◌, ◌<◌, ◌+◌, ◌*◌, ◌^◌, ◌%◌, true, cond, List, [], ◌∷◌, ◌++◌, length, replicate, refl, zero, suc, All, arith}
 use Rattle.byteorder.specs.Endian.{little_from}
 use Rattle.adapter.specs.Commands.{Meaning, IsMeaning, command_of, pieces_moved, reads_memory}
@@ -67,7 +68,7 @@ says_by : (list slot table : ℕ) (m : Meaning) (address : ℕ)
     → zero_run (bytes_at memory (list + 32 * slot) 32) 12 20 ≡ true
     → SpellsCommand (bytes_at memory table 20) (command_of m.operation slot m.first m.count)
     → IsMeaning m
-    → SpellsPrd (bytes_at memory (table + 128) 16) (prd address)
+    → SpellsPrd (bytes_at memory (table + TABLE_HEAD) 16) (prd address)
     → 1 ≡ pieces_moved m.operation m.count
     → Says memory list slot m (address ∷ [])
 says_by list slot table m address size first points aligned zeros fis meaning entry many = record {

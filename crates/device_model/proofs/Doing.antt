@@ -292,7 +292,7 @@ module _ {S : Type 0} (size : S → ℕ) (told : S → Option (ℕ → List ℕ)
 
   -- it is done, where the tape has memory for it
   pub record IsFailed (p : Port) (slot : Slot) (error : ℕ) (t : Taken) (old new : Model S) : Type 0 where
-    pub fails : Fails SendsFailed p.0 slot.0 error (device_at size told old) (device_at size told new)
+    pub fails : Fails SendsFailed p.0 slot.0 error 0 (device_at size told old) (device_at size told new)
     pub same : fails.fault.t ≡ t
     pub says : says_of new p.0 ≡ says_failed (Some t) slot.0 error (says_of old p.0)
     pub held : new.held ≡ old.held

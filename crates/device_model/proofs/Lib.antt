@@ -6,6 +6,7 @@ pub mod Trimming
 pub mod Transfers
 pub mod BitLemmas
 pub mod Bytes
+pub mod Filled
 pub mod Posting
 pub mod Own
 pub mod Ports

@@ -77,11 +77,11 @@ one_keeps_present q port slot old new (inr (inr (inl e))) =
     ap (λ (d : Device). (d.port q).present) (end_rest port slot e.done.flag e.done.t.meaning.operation e.mid new e.posts)
     ∙ (ap (λ (d : Device). (d.port q).present) e.done.effect ∙ present_with q old.port port (with_done (old.port port) slot e.done.flag e.done.t.meaning.operation) refl)
 
-pub fault_keeps_present : (q : ℕ) (port slot error : ℕ) (old new : Device) → Fails SendsFailed port slot error old new → (new.port q).present ≡ (old.port q).present
-fault_keeps_present q port slot error old new f =
+pub fault_keeps_present : (q : ℕ) (port slot error kept : ℕ) (old new : Device) → Fails SendsFailed port slot error kept old new → (new.port q).present ≡ (old.port q).present
+fault_keeps_present q port slot error kept old new f =
     let queued : Bool = is_queued f.fault.t.meaning.operation in
     ap (λ (d : Device). (d.port q).present) (fault_rest queued port f.mid new f.posts)
-    ∙ (ap (λ (d : Device). (d.port q).present) f.fault.effect ∙ present_with q old.port port (with_fault (old.port port) queued error 0) refl)
+    ∙ (ap (λ (d : Device). (d.port q).present) f.fault.effect ∙ present_with q old.port port (with_fault (old.port port) queued error kept) refl)
 
 pub fatal_keeps_present : (q : ℕ) (port : ℕ) (error : FatalError) (old new : Device) → DoesFatal port error old new → (new.port q).present ≡ (old.port q).present
 fatal_keeps_present q port error old new f =

@@ -1,7 +1,7 @@
 -- What the model sends is one of the device's own steps, and changes the memory alone.
 use Rattle.std.proofs.Common.{ℕ, Bool, true, false, zero, suc, ◌≡◌, ◌∙◌, ◌+◌, ◌≤◌, ◌⊎◌, List, Option, refl, sym, ap, inl, inr, arith}
 use Rattle.std.proofs.lemmas.Bool.Decides.{leb_tells}
-use Rattle.adapter.specs.Asked.{Asked, DoesClear, DoesOne, DoneOf, Fails, FailsAfter, GoesOn, DoesSome, Ends, MayPost}
+use Rattle.adapter.specs.Asked.{Asked, DoesClear, DoesOne, DoneOf, Fails, FailsAfter, GoesOn, DoesSome, Ends, MayPost, busy}
 use Rattle.adapter.specs.Commands.{is_queued}
 use Rattle.adapter.specs.Device.{PortState, Device}
 use Rattle.adapter.specs.Steps.{Step, Steps, after}
@@ -101,8 +101,8 @@ some_may : (n port slot : ℕ) (old new : Device) → DoesSome (SendsEnd slot) n
 some_may zero port slot old new e = e
 some_may (suc n) port slot old new s = (s.0, some_may n port slot old s.0 s.1, one_may port slot s.0 new s.2)
 
-failed_may : (port slot error : ℕ) (old new : Device) → Fails SendsFailed port slot error old new → Fails MayPost port slot error old new
-failed_may port slot error old new f =
+failed_may : (port slot error kept : ℕ) (old new : Device) → Fails SendsFailed port slot error kept old new → Fails MayPost port slot error kept old new
+failed_may port slot error kept old new f =
     let o : Operation = f.fault.t.meaning.operation in
     record { mid = f.mid; fault = f.fault; posts = fault_may (is_queued o) port o f.mid new f.posts }
 
@@ -112,7 +112,9 @@ done_may (asked.Move p slot) old new did = did
 done_may (asked.Clear p slot most) old new did = did
 done_may (asked.Done p slot) old new did = ends_may p.0 slot.0 old new did
 done_may (asked.Finish p slot) old new did = (did.0, some_may (suc did.0) p.0 slot.0 old new did.1)
-done_may (asked.Fault p slot error) old new did = failed_may p.0 slot.0 error old new did
+done_may (asked.Fault p slot error) old new did = failed_may p.0 slot.0 error 0 old new did
+done_may (asked.FaultBusy p slot error) old new did = failed_may p.0 slot.0 error busy old new did
+done_may (asked.Scribble p byte) old new did = did
 done_may (asked.Fatal p error) old new did = did
 done_may (asked.Lie p page offset bits) old new did = did
 done_may (asked.Truth p) old new did = did
@@ -123,21 +125,21 @@ done_may (asked.Plug p number) old new did = did
 
 -- a fault in the place of a step, or on its way, is one of the device's own
 pub moving_fails : (port slot : ℕ) (was now : Option Failures) (says later : Option Description) (old new : Device) (f : FailsToMove port slot was now says later old new) →
-    Fails SendsFailed port slot f.error old new
+    Fails SendsFailed port slot f.error 0 old new
 moving_fails port slot was now says later old new f =
     record { mid = after (Fault port slot f.error 0 f.t) old; fault = record { t = f.t; can = f.can; effect = refl }; posts = f.sends }
 
 pub clearing_fails : (port slot : ℕ) (was now : Option Failures) (says later : Option Description) (old new : Device) (f : FailsToClear port slot was now says later old new) →
-    Fails SendsFailed port slot f.error old new
+    Fails SendsFailed port slot f.error 0 old new
 clearing_fails port slot was now says later old new f =
     record { mid = after (Fault port slot f.error 0 f.t) old; fault = record { t = f.t; can = f.can; effect = refl }; posts = f.sends }
 
 fails_after_may : (port slot error : ℕ) (Part More : Device → Device → Type 0) → ((old mid : Device) → Part old mid → More old mid) → (old mid new : Device) →
-    (mid ≡ old) ⊎ Part old mid → Fails SendsFailed port slot error mid new → FailsAfter MayPost More port slot old new
+    (mid ≡ old) ⊎ Part old mid → Fails SendsFailed port slot error 0 mid new → FailsAfter MayPost More port slot old new
 fails_after_may port slot error Part More more old mid new (inl same) f =
-    record { mid = mid; before = inl same; error = error; fails = failed_may port slot error mid new f }
+    record { mid = mid; before = inl same; error = error; fails = failed_may port slot error 0 mid new f }
 fails_after_may port slot error Part More more old mid new (inr some) f =
-    record { mid = mid; before = inr (more old mid some); error = error; fails = failed_may port slot error mid new f }
+    record { mid = mid; before = inr (more old mid some); error = error; fails = failed_may port slot error 0 mid new f }
 
 fails_may : (s : DeviceStep) (was now : Option Failures) (says later : Option Description) (old new : Device) → StepFails s was now says later old new → Asked s old new
 fails_may (asked.Fetch p s) was now says later old new f = inr (record {
@@ -146,7 +148,7 @@ fails_may (asked.Fetch p s) was now says later old new f = inr (record {
   posts = λ o. fault_may false p.0 o (after (FetchFault p.0 s.0 false 0) old) new f.sends;
 })
 fails_may (asked.Move p s) was now says later old new f =
-    inr (f.error, failed_may p.0 s.0 f.error old new (moving_fails p.0 s.0 was now says later old new f))
+    inr (f.error, failed_may p.0 s.0 f.error 0 old new (moving_fails p.0 s.0 was now says later old new f))
 fails_may (asked.Clear p s most) was now says later old new (mid, before, f) =
     inr (fails_after_may p.0 s.0 f.error (ClearsFewer p.0 s.0 most) (DoesClear p.0 s.0 most) (λ a b some. some.0) old mid new before
     (clearing_fails p.0 s.0 was now says later mid new f))
@@ -158,7 +160,9 @@ fails_may (asked.Finish p s) was now says later old new (mid, before, inr f) =
     (clearing_fails p.0 s.0 was now says later mid new f))
 fails_may (asked.Done p s) was now says later old new f = absurd f
 fails_may (asked.Fault p s error) was now says later old new f = absurd f
+fails_may (asked.FaultBusy p s error) was now says later old new f = absurd f
 fails_may (asked.Fatal p error) was now says later old new f = absurd f
+fails_may (asked.Scribble p byte) was now says later old new f = absurd f
 fails_may (asked.Lie p page offset bits) was now says later old new f = absurd f
 fails_may (asked.Truth p) was now says later old new f = absurd f
 fails_may (asked.Hold p) was now says later old new f = absurd f

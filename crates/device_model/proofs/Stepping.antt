@@ -6,7 +6,7 @@ use Rattle.adapter.specs.Commands.{Meaning, direction_of, is_queued, is_ranged, 
 use Rattle.adapter.specs.Device.{Disk, Device, IsSector}
 use Rattle.adapter.specs.Memory.{changed, patched, bytes_at}
 use Rattle.adapter.specs.Says.{Says}
-use Rattle.adapter.specs.Steps.{admits, after, IsFinished, MayBeDone, MayFault, MayFetch, MayFetchFault, MayMove, Brings, recorded, with_clear, with_fault, with_fetch, with_move, with_done, clear_entry, done_entry, fault_entry, move_of, noted_bytes, memory_after, next_place, next_sector}
+use Rattle.adapter.specs.Steps.{AreKeptBits, admits, after, IsFinished, MayBeDone, MayFault, MayFetch, MayFetchFault, MayMove, Brings, recorded, with_clear, with_fault, with_fetch, with_move, with_done, clear_entry, done_entry, fault_entry, move_of, noted_bytes, memory_after, next_place, next_sector}
 use Rattle.adapter.specs.Steps.Step.{Clear, FetchFault, Move, Unplug, Plug}
 use Rattle.adapter.specs.declared.access.FatalError.{FatalError}
 use Rattle.adapter.specs.declared.access.FatalError.TheVariants.{Interface, HostBus}
@@ -20,7 +20,7 @@ use Rattle.adapter.specs.Asked.{DoesFatal, DoesFault, DoesFetch, Ends, fatal_bit
 use Rattle.device_model.specs.Fetched.{bytes_of}
 use Rattle.device_model.specs.Sent.{SendsEnd}
 use Rattle.device_model.specs.Slots.{HasUntaken, MayTake, HoldsAt, IsNext}
-use Rattle.device_model.specs.View.{Media, cause_of, halt_of, held_in, media_after, media_cleared, operation_of, port_of, taken_of, blank}
+use Rattle.device_model.specs.View.{Media, cause_of, halt_of, held_in, kept_by, media_after, media_cleared, operation_of, port_of, taken_of, blank}
 use Rattle.device_model.specs.Whole.{Outside, device_of, outside_after, outside_cleared, outside_plugged}
 use Rattle.device_model.specs.declared.port.TakenCommand.{TakenCommand}
 use Rattle.device_model.specs.declared.port.Transfer.{Transfer}
@@ -149,32 +149,37 @@ port_fails_senseless h o p port slot new tape e small is more =
     let P : ℕ → Type 0 = λ q. device_of (record h { ports = slice_set h.ports p new; tape = tape }) o ≡ after (FetchFault q slot false 0) (device_of h o) in
     subst P e (set_port_recorded h o p new _ tape (fault_entry p slot 4 0) small is (rw (← e) at more))
 
+-- BSY is one of the bits that may be left set
+kept_well : (busy : Bool) → AreKeptBits (kept_by busy)
+kept_well true = refl
+kept_well false = refl
+
 -- a command that is taken may fail, while the engine runs
-pub may_fail : (h : Hardware) (o : Outside) (port slot error : ℕ) (t : TakenCommand) → error < 256 → held_in (slice_index_or h.ports port blank).taken slot ≡ Some t →
-    (slice_index_or h.ports port blank).cr ≡ true → MayFault ((device_of h o).port port) slot error 0 (taken_of t)
-may_fail h o port slot error t byte held cr = record {
+pub may_fail : (h : Hardware) (o : Outside) (port slot error : ℕ) (busy : Bool) (t : TakenCommand) → error < 256 → held_in (slice_index_or h.ports port blank).taken slot ≡ Some t →
+    (slice_index_or h.ports port blank).cr ≡ true → MayFault ((device_of h o).port port) slot error (kept_by busy) (taken_of t)
+may_fail h o port slot error busy t byte held cr = record {
   taken = slot_taken (held_in (slice_index_or h.ports port blank).taken) t slot held;
   running = cr;
   is_byte = byte;
-  kept = refl;
+  kept = kept_well busy;
 }
 
 -- and it does
-pub port_fails : (h : Hardware) (o : Outside) (p port slot error : ℕ) (new : PortModel) (t : TakenCommand) (queued : Bool) (tape : Vec Entry) → p ≡ port →
+pub port_fails : (h : Hardware) (o : Outside) (p port slot error : ℕ) (busy : Bool) (new : PortModel) (t : TakenCommand) (queued : Bool) (tape : Vec Entry) → p ≡ port →
     p < length h.ports → error < 256 → held_in (slice_index_or h.ports port blank).taken slot ≡ Some t → (slice_index_or h.ports port blank).cr ≡ true →
-    queued ≡ is_queued (operation_of t.transfer) → port_of new (o.media p) ≡ with_fault (port_of (slice_index_or h.ports p blank) (o.media p)) queued error 0 →
-    tape.items ≡ h.tape.items ++ fault_entry port slot error 0 ∷ [] →
-    (f : DoesFault port slot error (device_of h o) (device_of (record h { ports = slice_set h.ports p new; tape = tape }) o)) × (queued ≡ is_queued f.t.meaning.operation)
-port_fails h o p port slot error new t queued tape e small byte held cr kind is more = (
+    queued ≡ is_queued (operation_of t.transfer) → port_of new (o.media p) ≡ with_fault (port_of (slice_index_or h.ports p blank) (o.media p)) queued error (kept_by busy) →
+    tape.items ≡ h.tape.items ++ fault_entry port slot error (kept_by busy) ∷ [] →
+    (f : DoesFault port slot error (kept_by busy) (device_of h o) (device_of (record h { ports = slice_set h.ports p new; tape = tape }) o)) × (queued ≡ is_queued f.t.meaning.operation)
+port_fails h o p port slot error busy new t queued tape e small byte held cr kind is more = (
   record {
     t = taken_of t;
-    can = may_fail h o port slot error t byte held cr;
+    can = may_fail h o port slot error busy t byte held cr;
     effect =
         let P : ℕ → Type 0 = λ q. device_of (record h { ports = slice_set h.ports p new; tape = tape }) o
-        ≡ recorded (device_of h o) q (with_fault ((device_of h o).port q) (is_queued (operation_of t.transfer)) error 0) (fault_entry q slot error 0) in
+        ≡ recorded (device_of h o) q (with_fault ((device_of h o).port q) (is_queued (operation_of t.transfer)) error (kept_by busy)) (fault_entry q slot error (kept_by busy)) in
         subst P e
-        (set_port_recorded h o p new _ tape (fault_entry p slot error 0) small
-        (is ∙ ap (λ (b : Bool). with_fault (port_of (slice_index_or h.ports p blank) (o.media p)) b error 0) kind) (rw (← e) at more));
+        (set_port_recorded h o p new _ tape (fault_entry p slot error (kept_by busy)) small
+        (is ∙ ap (λ (b : Bool). with_fault (port_of (slice_index_or h.ports p blank) (o.media p)) b error (kept_by busy)) kind) (rw (← e) at more));
   },
   kind,
 )

@@ -2,7 +2,8 @@
 use Rattle.std.proofs.Common.{ℕ, Bool, true, false, ◌≡◌, ◌<◌, ◌∙◌, List, [], ◌∷◌, ◌++◌, Option, refl, sym, ap, subst, inl, inr}
 use Rattle.std.specs.Global.{Vec}
 use Rattle.std.specs.Prelude.{if◌then◌else◌, option_map}
-use Rattle.adapter.specs.Asked.{DoesFatal, DoesFault, DoesFetch, DoneOf, Ends, Fails, fatal_bit}
+use Rattle.adapter.specs.Asked.{DoesFatal, DoesFault, DoesFetch, DoesScribble, DoneOf, Ends, Fails, fatal_bit}
+use Rattle.adapter.specs.Asked.{busy as busy_bit}
 use Rattle.adapter.specs.Commands.{Meaning, is_queued}
 use Rattle.adapter.specs.Device.{Device, Taken}
 use Rattle.adapter.specs.Steps.{Can, after, fault_entry}
@@ -17,26 +18,28 @@ use Rattle.ata_types.specs.declared.Port.{Port}
 use Rattle.ata_types.specs.declared.Slot.{Slot}
 use Rattle.sector_store.specs.declared.store.Failures.{Failures}
 use Rattle.device_model.specs.Disks.{SaysOnly, bay_of, disk_in, says_of, which_of}
-use Rattle.device_model.specs.Does.{AnswersStep, EndsIt, IsLeftOut, MayBeFetched, StepKeeps, LacksMemory, Possible, asked_port, says_after, says_failed, which_after}
+use Rattle.device_model.specs.Does.{AnswersStep, EndsIt, IsLeftOut, MayBeFetched, StepKeeps, LacksMemory, Possible, asked_fault, asked_port, says_after, says_failed, which_after}
 use Rattle.device_model.specs.Finishing.{HasRoom, IsPassed}
 use Rattle.device_model.specs.Held.{held_after}
 use Rattle.device_model.specs.Modelled.{device_at, outside_at}
 use Rattle.device_model.specs.Sent.{Sends, SendsEnd, SendsFailed, SendsFault}
+use Rattle.device_model.specs.View.{kept_by}
 use Rattle.device_model.specs.Whole.{Outside, device_of}
 use Rattle.device_model.specs.declared.hardware.Hardware.{Hardware}
 use Rattle.device_model.specs.declared.bay.Bay.{Bay}
 use Rattle.device_model.specs.declared.bay.Description.{Description}
 use Rattle.device_model.specs.declared.disks.ModelDisk.{ModelDisk}
 use Rattle.device_model.specs.declared.model.Model.{Model}
+use Rattle.device_model.proofs.Doing.{left_same}
 use Rattle.device_model.proofs.Posting.{fault_rest}
 use Rattle.device_model.proofs.Telling.{gains_none, gains_one, gains_done}
 use Rattle.device_model.proofs.TwoDisks.{saying_here, saying_keeps, saying_others, saying_outside, saying_same}
 use Rattle.device_model.specs.Paged.{naming}
 
 -- a command failed, and then its FIS was sent
-abbrev pub fault_sent : (port at slot error : ℕ) (queued : Bool) (old mid new : Device) (f : DoesFault port slot error old mid) → queued ≡ is_queued f.t.meaning.operation →
-    at ≡ port → SendsFault queued at mid new → Fails SendsFailed port slot error old new
-fault_sent port at slot error queued old mid new f kind here sent = record {
+abbrev pub fault_sent : (port at slot error kept : ℕ) (queued : Bool) (old mid new : Device) (f : DoesFault port slot error kept old mid) → queued ≡ is_queued f.t.meaning.operation →
+    at ≡ port → SendsFault queued at mid new → Fails SendsFailed port slot error kept old new
+fault_sent port at slot error kept queued old mid new f kind here sent = record {
   mid = mid;
   fault = f;
   posts = subst (λ (b : Bool). SendsFault b port mid new) kind (subst (λ (q : ℕ). SendsFault queued q mid new) here sent);
@@ -177,64 +180,115 @@ module _ {S : Type 0} (size : S → ℕ) (told : S → Option (ℕ → List ℕ)
       (λ may. (port, slot, may.0, may.1, may.2)) (λ none. none) (same refl) (passed refl)
 
   -- a command that is taken fails: in the model the log names it, if it is queued
-  module _ (p : Port) (s : Slot) (error : ℕ) (port : p.0 < 4) (slot : s.0 < 32) (f : Fails SendsFailed p.0 s.0 error (device_of m.hardware behind) (device_of h behind))
-      (starved : h.starved ≡ m.hardware.starved) where
-    noted : h.tape.items ≡ m.hardware.tape.items ++ fault_entry p.0 s.0 error 0 ∷ []
-    noted = ap (λ (x : Device). x.tape) (fault_rest (is_queued f.fault.t.meaning.operation) p.0 f.mid (device_of h behind) f.posts) ∙ ap (λ (x : Device). x.tape) f.fault.effect
+  module _ (step : DeviceStep) (s : Slot) (error kept : ℕ) (may : Possible step (device_at size told m))
+      (f : Fails SendsFailed (asked_port step) s.0 error kept (device_of m.hardware behind) (device_of h behind)) (starved : h.starved ≡ m.hardware.starved)
+      (done : (old last : Device) → Fails SendsFailed (asked_port step) s.0 error kept old last → DoneOf (Sends step) step old last)
+      (ends : (old last : Device) → EndsIt step old last)
+      (tells : (said : Option Description) → says_after step (device_at size told m) said ≡ says_failed (((device_at size told m).port (asked_port step)).taken s.0) s.0 error said)
+      (held : m.held ≡ held_after step m.held) (which : which_of m (asked_port step) ≡ which_after step (which_of m (asked_port step))) where
+    abbrev at : ℕ
+    at = asked_port step
 
-    pub plain_fails : is_queued f.fault.t.meaning.operation ≡ false → AnswersStep size told failures (asked.Fault p s error) true m new
+    abbrev name : Description → Description
+    name = naming (record { tag = s.0; error = error })
+
+    noted : h.tape.items ≡ m.hardware.tape.items ++ fault_entry at s.0 error kept ∷ []
+    noted = ap (λ (x : Device). x.tape) (fault_rest (is_queued f.fault.t.meaning.operation) at f.mid (device_of h behind) f.posts) ∙ ap (λ (x : Device). x.tape) f.fault.effect
+
+    said : (queued : Bool) → is_queued f.fault.t.meaning.operation ≡ queued →
+        (if queued then option_map name (says_of m at) else says_of m at) ≡ says_after step (device_at size told m) (says_of m at)
+    said queued e =
+        ap (λ (b : Bool). if b then option_map name (says_of m at) else says_of m at) (sym e)
+        ∙ (ap (λ (t : Option Taken). says_failed t s.0 error (says_of m at)) (sym f.fault.can.taken) ∙ sym (tells (says_of m at)))
+
+    plain_fails : is_queued f.fault.t.meaning.operation ≡ false → AnswersStep size told failures step true m new
     plain_fails plain = (
-      (port, slot, f.fault.t, f.fault.can),
+      may,
       record {
-        came = inl (record {
-          asked = f;
-          fine = λ _ _. refl;
-          says = ap (λ (b : Bool). if b then option_map (naming (record { tag = s.0; error = error })) (says_of m p.0) else says_of m p.0) (sym plain)
-              ∙ ap (λ (t : Option Taken). says_failed t s.0 error (says_of m p.0)) (sym f.fault.can.taken);
-          ends = λ _. tt;
-        });
-        held = refl;
-        which = refl;
+        came = inl (record { asked = done _ _ f; fine = λ _ _. refl; says = said false plain; ends = λ _. ends _ _ });
+        held = held;
+        which = which;
         others = λ _ _. refl;
-        pages = gains_one size m new (fault_entry p.0 s.0 error 0) noted (λ x e. absurd (cc e));
+        pages = gains_one size m new (fault_entry at s.0 error kept) noted (λ x e. absurd (cc e));
         disks = λ _ _. refl;
         keeps = on_hardware;
         starved = starved;
       },
     )
 
-    pub queued_fails : (bays : Vec (Option (Bay S))) → SaysOnly (naming (record { tag = s.0; error = error })) p.0 m.bays.items bays.items →
-        is_queued f.fault.t.meaning.operation ≡ true → AnswersStep size told failures (asked.Fault p s error) true m (record new { bays = bays })
+    queued_fails : (bays : Vec (Option (Bay S))) → SaysOnly name at m.bays.items bays.items → is_queued f.fault.t.meaning.operation ≡ true →
+        AnswersStep size told failures step true m (record new { bays = bays })
     queued_fails bays only queued =
-        let name : Description → Description = naming (record { tag = s.0; error = error }) in
         let last : Model S = record new { bays = bays } in
-        let P : Outside → Type 0 = λ o. Fails SendsFailed p.0 s.0 error (device_of m.hardware behind) (device_of h o) in (
-          (port, slot, f.fault.t, f.fault.can),
+        let P : Outside → Type 0 = λ o. Fails SendsFailed at s.0 error kept (device_of m.hardware behind) (device_of h o) in (
+          may,
           record {
             came = inl (record {
-              asked = subst P (sym (saying_outside name m last p.0 only size told)) f;
-              fine = λ q w. saying_same name m last p.0 only (λ x. option_map (λ (y : ModelDisk S). failures y.store) (option_map (λ (y : Bay S). disk_in y w) x)) (λ b. refl) q;
-              says = saying_here name m last p.0 only
-                  ∙ (ap (λ (b : Bool). if b then option_map name (says_of m p.0) else says_of m p.0) (sym queued)
-                  ∙ ap (λ (t : Option Taken). says_failed t s.0 error (says_of m p.0)) (sym f.fault.can.taken));
-              ends = λ _. tt;
+              asked = done _ _ (subst P (sym (saying_outside name m last at only size told)) f);
+              fine = λ q w. saying_same name m last at only (λ x. option_map (λ (y : ModelDisk S). failures y.store) (option_map (λ (y : Bay S). disk_in y w) x)) (λ b. refl) q;
+              says = saying_here name m last at only ∙ said true queued;
+              ends = λ _. ends _ _;
             });
-            held = refl;
-            which = saying_same name m last p.0 only (option_map (λ (y : Bay S). y.which)) (λ b. refl) p.0;
-            others = saying_others name m last p.0 only;
-            pages = gains_one size m last (fault_entry p.0 s.0 error 0) noted (λ x e. absurd (cc e));
-            disks = λ _ w. saying_same name m last p.0 only (option_map (λ (y : Bay S). disk_in y w)) (λ b. refl) p.0;
-            keeps = saying_keeps name m last p.0 only size refl refl;
+            held = held;
+            which = saying_same name m last at only (option_map (λ (y : Bay S). y.which)) (λ b. refl) at ∙ which;
+            others = saying_others name m last at only;
+            pages = gains_one size m last (fault_entry at s.0 error kept) noted (λ x e. absurd (cc e));
+            disks = λ _ w. saying_same name m last at only (option_map (λ (y : Bay S). disk_in y w)) (λ b. refl) at;
+            keeps = saying_keeps name m last at only size refl refl;
             starved = starved;
           },
         )
 
+  -- the one or the other: its disk is left busy, or not
+  pub plain_answers : (busy : Bool) (p : Port) (s : Slot) (error : ℕ) → p.0 < 4 → s.0 < 32 →
+      (f : Fails SendsFailed p.0 s.0 error (kept_by busy) (device_of m.hardware behind) (device_of h behind)) → h.starved ≡ m.hardware.starved →
+      is_queued f.fault.t.meaning.operation ≡ false → AnswersStep size told failures (asked_fault busy p s error) true m new
+  plain_answers false p s error port slot f starved plain =
+      plain_fails (asked.Fault p s error) s error 0 (port, slot, f.fault.t, f.fault.can) f starved (λ _ _ g. g) (λ _ _. tt) (λ _. refl) refl refl plain
+  plain_answers true p s error port slot f starved plain =
+      plain_fails (asked.FaultBusy p s error) s error busy_bit (port, slot, f.fault.t, f.fault.can) f starved (λ _ _ g. g) (λ _ _. tt) (λ _. refl) refl refl plain
+
+  pub queued_answers : (busy : Bool) (p : Port) (s : Slot) (error : ℕ) → p.0 < 4 → s.0 < 32 →
+      (f : Fails SendsFailed p.0 s.0 error (kept_by busy) (device_of m.hardware behind) (device_of h behind)) → h.starved ≡ m.hardware.starved →
+      (bays : Vec (Option (Bay S))) → SaysOnly (naming (record { tag = s.0; error = error })) p.0 m.bays.items bays.items →
+      is_queued f.fault.t.meaning.operation ≡ true → AnswersStep size told failures (asked_fault busy p s error) true m (record new { bays = bays })
+  queued_answers false p s error port slot f starved bays only queued =
+      queued_fails (asked.Fault p s error) s error 0 (port, slot, f.fault.t, f.fault.can) f starved (λ _ _ g. g) (λ _ _. tt) (λ _. refl) refl refl bays only queued
+  queued_answers true p s error port slot f starved bays only queued =
+      queued_fails (asked.FaultBusy p s error) s error busy_bit (port, slot, f.fault.t, f.fault.can) f starved (λ _ _ g. g) (λ _ _. tt) (λ _. refl) refl refl bays only queued
+
   -- none did
-  pub fail_left : (p : Port) (s : Slot) (error : ℕ) → p.0 < 4 → s.0 < 32 → device_of h behind ≡ device_of m.hardware behind →
-      IsPassed m.hardware h ((t : Taken) × Can (Fault p.0 s.0 error 0 t) (device_of m.hardware behind)) → AnswersStep size told failures (asked.Fault p s error) false m new
-  fail_left p s error port slot same passed =
+  pub fail_left : (busy : Bool) (p : Port) (s : Slot) (error : ℕ) → p.0 < 4 → s.0 < 32 → device_of h behind ≡ device_of m.hardware behind →
+      IsPassed m.hardware h ((t : Taken) × Can (Fault p.0 s.0 error (kept_by busy) t) (device_of m.hardware behind)) →
+      AnswersStep size told failures (asked_fault busy p s error) false m new
+  fail_left false p s error port slot same passed =
       passed_left (asked.Fault p s error) ((t : Taken) × Can (Fault p.0 s.0 error 0 t) (device_of m.hardware behind)) (λ may. (may.2, may.3))
       (λ may. (port, slot, may.0, may.1)) (λ none. none) same passed
+  fail_left true p s error port slot same passed =
+      passed_left (asked.FaultBusy p s error) ((t : Taken) × Can (Fault p.0 s.0 error busy_bit t) (device_of m.hardware behind)) (λ may. (may.2, may.3))
+      (λ may. (port, slot, may.0, may.1)) (λ none. none) same passed
+
+  -- what the device may write as it wants is filled, or the port receives no FISes
+  pub scribble_answers : (p : Port) (byte : ℕ) (did : Bool) → p.0 < 4 → (did ≡ true → DoesScribble p.0 byte (device_of m.hardware behind) (device_of h behind)) →
+      (did ≡ false → ((device_of m.hardware behind).port p.0).fre ≡ true → ⊥) → (did ≡ false → h ≡ m.hardware) → h ≡ record m.hardware { memory = h.memory } →
+      AnswersStep size told failures (asked.Scribble p byte) did m new
+  scribble_answers p byte true port done never same rest =
+      let d = done refl in (
+        (port, d.receives),
+        record {
+          came = inl (record { asked = d; fine = λ _ _. refl; says = refl; ends = λ _. tt });
+          held = refl;
+          which = refl;
+          others = λ _ _. refl;
+          pages = gains_none size m new (ap (λ (x : Hardware). x.tape.items) rest);
+          disks = λ _ _. refl;
+          keeps = on_hardware;
+          starved = ap (λ (x : Hardware). x.starved) rest;
+        },
+      )
+  scribble_answers p byte false port done never same rest =
+      subst (λ (x : Hardware). IsLeftOut size told failures (asked.Scribble p byte) m (record m { hardware = x })) (sym (same refl))
+      (left_same size told failures (asked.Scribble p byte) m (λ may. never refl may.1))
 
   -- a step that notes one entry, which is no move, and changes nothing of the model but the device, was done, or wasn't
   noted_answers : (s : DeviceStep) (did : Bool) (possible : Type 0) (note : Entry) → ((x : Move) → note ≡ entry.Move x → ⊥) →

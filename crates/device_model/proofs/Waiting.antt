@@ -3,7 +3,7 @@ use Rattle.std.proofs.Common.{ℕ, zero, suc, Bool, true, false, ◌≡◌, ◌�
 use Rattle.std.proofs.lemmas.Bool.Decides.{eqb_tells}
 use Rattle.std.proofs.lemmas.List.Elements.{All-head, All-tail}
 use Rattle.std.specs.Prelude.{if◌then◌else◌, nat_eq, option_map}
-use Rattle.adapter.specs.Asked.{DoesPlug, DoesUnplug, DoneOf, GoesOn}
+use Rattle.adapter.specs.Asked.{DoesPlug, DoesUnplug, DoneOf, GoesOn, busy}
 use Rattle.adapter.specs.Device.{Device, PortState, Taken}
 use Rattle.adapter.specs.Steps.{Can, WorksOn, begun}
 use Rattle.adapter.specs.Steps.Step.{Fetch}
@@ -57,7 +57,9 @@ still_out (asked.Clear p s n) d q w v at out never may = out
 still_out (asked.Done p s) d q w v at out never may = out
 still_out (asked.Finish p s) d q w v at out never may = out
 still_out (asked.Fault p s error) d q w v at out never may = out
+still_out (asked.FaultBusy p s error) d q w v at out never may = out
 still_out (asked.Fatal p error) d q w v at out never may = out
+still_out (asked.Scribble p byte) d q w v at out never may = out
 still_out (asked.Lie p page offset bits) d q w v at out never may = out
 still_out (asked.Truth p) d q w v at out never may = out
 still_out (asked.Hold p) d q w v at out never may = out
@@ -72,7 +74,9 @@ still_empty (asked.Move p s) old new q w v empty never may did same = one_keeps_
 still_empty (asked.Clear p s n) old new q w v empty never may did same = one_keeps_present q p.0 s.0 old new (inr (inr (inr (n, did)))) ∙ empty
 still_empty (asked.Done p s) old new q w v empty never may did same = one_keeps_present q p.0 s.0 old new (inr (inr (inl did))) ∙ empty
 still_empty (asked.Finish p s) old new q w v empty never may did same = some_keep_present q (suc did.0) p.0 s.0 old new did.1 ∙ empty
-still_empty (asked.Fault p s error) old new q w v empty never may did same = fault_keeps_present q p.0 s.0 error old new did ∙ empty
+still_empty (asked.Fault p s error) old new q w v empty never may did same = fault_keeps_present q p.0 s.0 error 0 old new did ∙ empty
+still_empty (asked.FaultBusy p s error) old new q w v empty never may did same = fault_keeps_present q p.0 s.0 error busy old new did ∙ empty
+still_empty (asked.Scribble p byte) old new q w v empty never may did same = ap (λ (d : Device). (d.port q).present) did.effect ∙ empty
 still_empty (asked.Fatal p error) old new q w v empty never may did same = fatal_keeps_present q p.0 error old new did ∙ empty
 still_empty (asked.Lie p page offset bits) old new q w v empty never may did same = ap (λ (d : Device). (d.port q).present) did ∙ empty
 still_empty (asked.Truth p) old new q w v empty never may did same = ap (λ (d : Device). (d.port q).present) did ∙ empty
@@ -86,12 +90,12 @@ still_empty (asked.Plug p number) old new q w (Some v) empty never may did same 
 moving_keeps : (q port slot : ℕ) (was now : Option Failures) (says later : Option Description) (old new : Device) → FailsToMove port slot was now says later old new →
     (new.port q).present ≡ (old.port q).present
 moving_keeps q port slot was now says later old new f =
-    fault_keeps_present q port slot f.error old new (moving_fails port slot was now says later old new f)
+    fault_keeps_present q port slot f.error 0 old new (moving_fails port slot was now says later old new f)
 
 clearing_keeps : (q port slot : ℕ) (was now : Option Failures) (says later : Option Description) (old new : Device) → FailsToClear port slot was now says later old new →
     (new.port q).present ≡ (old.port q).present
 clearing_keeps q port slot was now says later old new f =
-    fault_keeps_present q port slot f.error old new (clearing_fails port slot was now says later old new f)
+    fault_keeps_present q port slot f.error 0 old new (clearing_fails port slot was now says later old new f)
 
 -- nor does a fault
 still_failed : (q : ℕ) (s : DeviceStep) (was now : Option Failures) (says later : Option Description) (old new : Device) → (old.port q).present ≡ false →
@@ -115,7 +119,9 @@ still_failed q (asked.Finish p s) was now says later old new empty (mid, before,
 still_failed q (asked.Fetch p s) was now says later old new empty f = senseless_keeps_present q p.0 s.0 old new f.sends ∙ empty
 still_failed q (asked.Done p s) was now says later old new empty f = absurd f
 still_failed q (asked.Fault p s error) was now says later old new empty f = absurd f
+still_failed q (asked.FaultBusy p s error) was now says later old new empty f = absurd f
 still_failed q (asked.Fatal p error) was now says later old new empty f = absurd f
+still_failed q (asked.Scribble p byte) was now says later old new empty f = absurd f
 still_failed q (asked.Lie p page offset bits) was now says later old new empty f = absurd f
 still_failed q (asked.Truth p) was now says later old new empty f = absurd f
 still_failed q (asked.Hold p) was now says later old new empty f = absurd f
@@ -154,7 +160,9 @@ module _ {S : Type 0} (size : S → ℕ) (told : S → Option (ℕ → List ℕ)
   none_moves (asked.Clear p s most) m at empty moves = there (device_at size told m) p.0 at empty moves.2.works.working.present
   none_moves (asked.Done p s) m at empty moves = moves
   none_moves (asked.Fault p s error) m at empty moves = moves
+  none_moves (asked.FaultBusy p s error) m at empty moves = moves
   none_moves (asked.Fatal p error) m at empty moves = moves
+  none_moves (asked.Scribble p byte) m at empty moves = moves
   none_moves (asked.Lie p page offset bits) m at empty moves = moves
   none_moves (asked.Truth p) m at empty moves = moves
   none_moves (asked.Hold p) m at empty moves = moves

@@ -2,7 +2,7 @@
 -- stays where it is left (this project's own).
 use Rattle.std.specs.Prelude.{ℕ, Bool, true, false, ◌≡◌, ◌≢◌, ◌+◌, ◌^◌, ◌<◌, ◌≤◌, ◌⊎◌, List, [], ◌∷◌, ◌++◌, Option, None, Some, if◌then◌else◌, nat_eq, option_map}
 use Rattle.std.specs.Vec.{vec_len, vec_capacity}
-use Rattle.adapter.specs.Asked.{DoesClear, DoneOf, GoesOn, fatal_bit}
+use Rattle.adapter.specs.Asked.{DoesClear, DoneOf, GoesOn, busy, fatal_bit}
 use Rattle.adapter.specs.Commands.{Meaning, is_queued, is_ranged, reads_memory}
 use Rattle.adapter.specs.Device.{Device, Taken}
 use Rattle.adapter.specs.Steps.{Can, after, done_entry, next_sector}
@@ -11,6 +11,8 @@ use Rattle.adapter.specs.declared.access.DeviceStep.{DeviceStep}
 use Rattle.adapter.specs.declared.access.DeviceStep.TheVariants as asked
 use Rattle.adapter.specs.declared.command.Operation.{Operation}
 use Rattle.adapter.specs.declared.tape.Entry.{Entry}
+use Rattle.ata_types.specs.declared.Port.{Port}
+use Rattle.ata_types.specs.declared.Slot.{Slot}
 use Rattle.sector_store.specs.Stores.{FailsOn}
 use Rattle.sector_store.specs.declared.store.Failures.{Failures}
 use Rattle.device_model.specs.Disks.{bay_of, disk_number, disk_of, failures_of, identity, says_of, which_of}
@@ -49,7 +51,9 @@ Possible (asked.Clear p s most) d = (s.0 < 32) × (t : Taken) × HasClear d p.0 
 Possible (asked.Done p s) d = (p.0 < 4) × (s.0 < 32) × (flag : ℕ) × (t : Taken) × Can (Done p.0 s.0 flag t) d
 Possible (asked.Finish p s) d = HasDisks d p.0 × (s.0 < 32) × (left clears : ℕ) × MayFinish d p.0 s.0 left clears
 Possible (asked.Fault p s error) d = (p.0 < 4) × (s.0 < 32) × (t : Taken) × Can (Fault p.0 s.0 error 0 t) d
+Possible (asked.FaultBusy p s error) d = (p.0 < 4) × (s.0 < 32) × (t : Taken) × Can (Fault p.0 s.0 error busy t) d
 Possible (asked.Fatal p error) d = (p.0 < 4) × Can (Fatal p.0 (fatal_bit error)) d
+Possible (asked.Scribble p byte) d = (p.0 < 4) × ((d.port p.0).fre ≡ true)
 Possible (asked.Lie p page offset bits) d = offset < 512
 Possible (asked.Truth p) d = Unit {0}
 Possible (asked.Hold p) d = p.0 < 4
@@ -68,6 +72,7 @@ LacksMemory (asked.Done p s) d h bay = HasRoom h 1 → ⊥
 LacksMemory (asked.Finish p s) d h bay =
     (left clears : ℕ) × MayFinish d p.0 s.0 left clears × (HasRoom h (left + clears + 1) → ⊥)
 LacksMemory (asked.Fault p s error) d h bay = HasRoom h 1 → ⊥
+LacksMemory (asked.FaultBusy p s error) d h bay = HasRoom h 1 → ⊥
 LacksMemory (asked.Fatal p error) d h bay = HasRoom h 1 → ⊥
 LacksMemory (asked.Unplug p) d h bay = HasRoom h 1 → ⊥
 LacksMemory (asked.Plug p number) d h (Some b) = HasRoom h 1 → vec_len b.later < vec_capacity b.later → ⊥
@@ -97,6 +102,11 @@ NeedsAddresses step d = Unit {0}
 
 -- ---- what a step makes of a model
 
+-- what is asked where a command is to fail with this error, and to leave its disk busy or not
+abbrev pub asked_fault : (busy : Bool) → Port → Slot → (error : ℕ) → DeviceStep
+asked_fault false p s error = asked.Fault p s error
+asked_fault true p s error = asked.FaultBusy p s error
+
 -- the port that a step names
 abbrev pub asked_port : DeviceStep → ℕ
 asked_port (asked.Fetch p s) = p.0
@@ -105,7 +115,9 @@ asked_port (asked.Clear p s most) = p.0
 asked_port (asked.Done p s) = p.0
 asked_port (asked.Finish p s) = p.0
 asked_port (asked.Fault p s error) = p.0
+asked_port (asked.FaultBusy p s error) = p.0
 asked_port (asked.Fatal p error) = p.0
+asked_port (asked.Scribble p byte) = p.0
 asked_port (asked.Lie p page offset bits) = p.0
 asked_port (asked.Truth p) = p.0
 asked_port (asked.Hold p) = p.0
@@ -125,6 +137,7 @@ abbrev pub says_after : DeviceStep → Device → Option Description → Option 
 says_after (asked.Lie p page offset bits) d says = option_map (lying page offset bits) says
 says_after (asked.Truth p) d says = option_map truthful says
 says_after (asked.Fault p s error) d says = says_failed ((d.port p.0).taken s.0) s.0 error says
+says_after (asked.FaultBusy p s error) d says = says_failed ((d.port p.0).taken s.0) s.0 error says
 says_after step d says = says
 
 -- the disk that is in the step's port after it, or was last: a disk that is put in

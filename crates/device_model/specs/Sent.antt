@@ -103,6 +103,7 @@ abbrev pub Sends : DeviceStep → (port flag : ℕ) → Operation → Device →
 Sends (asked.Done p s) = SendsEnd s.0
 Sends (asked.Finish p s) = SendsEnd s.0
 Sends (asked.Fault p s error) = SendsFailed
+Sends (asked.FaultBusy p s error) = SendsFailed
 Sends step = PostsNone
 
 -- after a step that the model does by itself: as a command ends, and as the link comes up

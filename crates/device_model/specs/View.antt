@@ -1,5 +1,6 @@
 -- The state that a model stands for.
-use Rattle.std.specs.Prelude.{ℕ, false, ◌%◌, List, [], Option, None, option_map, unwrap_or, slice_index_or, if◌then◌else◌}
+use Rattle.std.specs.Prelude.{ℕ, Bool, false, ◌%◌, List, [], Option, None, option_map, unwrap_or, slice_index_or, if◌then◌else◌}
+use Rattle.adapter.specs.Asked.{busy}
 use Rattle.adapter.specs.Device.{Disk, Taken, Bases, Halt, Notes, PortState}
 use Rattle.adapter.specs.Device.Halt.{NotHalted, HaltedPlain, HaltedQueued, LogOnly}
 use Rattle.adapter.specs.Says.{pieces}
@@ -66,6 +67,10 @@ cause_of transfer.ReadLog = 1
 cause_of transfer.ReadQueued = 3
 cause_of transfer.WriteQueued = 3
 cause_of _ = 0
+
+-- which of BSY and DRQ a command that failed has left set: BSY, where its disk is left busy
+abbrev pub kept_by : Bool → ℕ
+kept_by left_busy = if left_busy then busy else 0
 
 -- what a fault has made of a port
 abbrev pub halt_of : Halting → Halt

@@ -13,25 +13,12 @@ ghost use Rattle.device_model.specs.View.{operation_of, taken_of};
 use crate::port::{TakenCommand, Transfer};
 use crate::prds::{MOST_PRDS, PrdTable};
 use adapter::Prd;
-use ata_types::{HEADER_BYTES, TABLE_ALIGNMENT};
+use ata_types::{
+    DATA_SET_MANAGEMENT, FLUSH_CACHE_EXT, HEADER_BYTES, IDENTIFY_DEVICE, READ_DMA_EXT,
+    READ_FPDMA_QUEUED, READ_LOG_EXT, TABLE_ALIGNMENT, TABLE_HEAD, WRITE_DMA_EXT,
+    WRITE_FPDMA_QUEUED,
+};
 use byteorder::{ByteOrder, LittleEndian};
-
-/// The codes of the commands that the model takes (ACS-3, 7).
-const READ_DMA_EXT: u8 = 0x25;
-
-const WRITE_DMA_EXT: u8 = 0x35;
-
-const READ_FPDMA_QUEUED: u8 = 0x60;
-
-const WRITE_FPDMA_QUEUED: u8 = 0x61;
-
-const IDENTIFY_DEVICE: u8 = 0xec;
-
-const FLUSH_CACHE_EXT: u8 = 0xea;
-
-const DATA_SET_MANAGEMENT: u8 = 0x06;
-
-const READ_LOG_EXT: u8 = 0x2f;
 
 /// The log of queued commands' errors (ACS-3, A.14).
 const ERROR_LOG: u8 = 0x10;
@@ -311,7 +298,7 @@ fn prd_at(memory: &[u8], at: usize) -> Option<Prd>
 
 /// Reads so many PRDs of whole pieces from an address on; `false` says that they don't stand there.
 fn read_prds(memory: &[u8], at: usize, number: usize, prds: &mut PrdTable) -> bool
-    requires low { at < 2 ^ 32 + 128 }
+    requires low { at < 2 ^ 32 + TABLE_HEAD }
     requires few { number ≤ 128 }
     requires empty { prds.old ≡ [] }
     ensures found { result ≡ true → ArePrds (bytes_of memory.now) at number prds.new }
@@ -389,7 +376,14 @@ fn decode_command(
     };
     let entries = usize::from(header.entries);
     let table = header.table as usize;
-    if entries > MOST_PRDS || !read_prds(memory, table + 128, entries, &mut command.prds) {
+    if entries > MOST_PRDS
+        || !read_prds(
+            memory,
+            table + TABLE_HEAD as usize,
+            entries,
+            &mut command.prds,
+        )
+    {
         return false;
     }
     if count_pieces(command.prds.as_slice()) != transfer.pieces(sectors.count) {

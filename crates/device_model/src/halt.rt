@@ -5,7 +5,8 @@ ghost use Rattle.device_model.specs.View.{halt_of, operation_of};
 
 use crate::port::Transfer;
 
-/// What a fault has made of a port.
+/// What a fault has made of a port. A fault needs no disk in, and may come to a port that is halted already: the halt
+/// is then of the kind of the last.
 #[derive(Clone, Copy, Debug)]
 pub enum Halting {
     /// No command failed: all go on.

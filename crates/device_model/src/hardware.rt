@@ -14,10 +14,8 @@ ghost use Rattle.device_model.specs.Whole.{Outside, device_of, HasRegister};
 use crate::bits::bit_if;
 use crate::port::PortModel;
 use adapter::Entry;
+use ata_types::PORTS;
 use hba_regs::{Reg, is_set};
-
-/// The model has ports 0 to 3.
-pub const PORTS: usize = 4;
 
 /// Registers, memory and the tape.
 #[derive(Drop)]

@@ -23,6 +23,7 @@ mod model;
 mod port;
 mod prds;
 mod registers;
+mod scribbling;
 mod sending;
 mod settling;
 mod slots;

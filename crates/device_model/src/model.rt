@@ -15,7 +15,7 @@ ghost use Rattle.device_model.specs.Disks.{SaysOnly, disk_of, given_for, port_0_
 ghost use Rattle.device_model.specs.Finishing.{FindsPage, HasPage, HasMove, HasRoom, IsBusy, MayPage, sends_page};
 ghost use Rattle.device_model.specs.Held.{IsPortLoose};
 ghost use Rattle.device_model.specs.Paged.{lying, naming, truthful};
-ghost use Rattle.device_model.specs.Does.{AnswersStep, Completes, GoesOnSo, HasCleared, HasFailed, answer_of};
+ghost use Rattle.device_model.specs.Does.{AnswersStep, Completes, GoesOnSo, HasCleared, HasFailed, answer_of, asked_fault};
 ghost use Rattle.device_model.specs.Tells.{disks_told};
 ghost use Rattle.device_model.specs.Queue.{BeginsAccess, DoesRead, DoesThen};
 ghost use Rattle.device_model.specs.Modelled.{IsNewBay, IsNewMedia, IsNewModel, all_given_tell, all_tell, cap_of, device_at, given_tell, media_of, tells};
@@ -26,11 +26,11 @@ use crate::bay::{Bay, PAGE_BYTES};
 use crate::clearing::Run;
 use crate::config::{ModelConfig, NoMemory};
 use crate::disks::{Disks, PortDisks, Which};
-use crate::hardware::{Hardware, PORTS};
+use crate::hardware::Hardware;
 use crate::port::PortModel;
 use crate::steps::{Begun, FoundPage};
 use adapter::{Adapter, DeviceStep, DiskNumber, DiskPage, Entry, FatalError, Stepped};
-use ata_types::{FEWEST_FRAMES, FRAME_BYTES, MOST_FRAMES, Port, Slot};
+use ata_types::{FEWEST_FRAMES, FRAME_BYTES, MOST_FRAMES, PORTS, Port, Slot};
 use hba_regs::Reg;
 use sector_store::SectorStore;
 use sector_store::pages::{Abilities, FailedCommand};
@@ -275,14 +275,15 @@ impl<S: SectorStore> Model<S> {
         self.hardware.done(port.0, slot.0)
     }
 
-    /// Fails a slot's command, which is taken, with an error. The log names it, if it is queued.
-    fn fail(&mut self, port: Port, slot: Slot, error: u8) -> bool
-        ensures { AnswersStep S.size S.told S.failures (DeviceStep.Fault port slot error) result self.old self.new }
+    /// Fails a slot's command, which is taken, with an error, and leaves its disk busy or not. The log names it, if it
+    /// is queued.
+    fn fail(&mut self, port: Port, slot: Slot, error: u8, busy: bool) -> bool
+        ensures { AnswersStep S.size S.told S.failures (asked_fault busy port slot error) result self.old self.new }
     {
         if port.0 >= 4 || slot.0 >= 32 {
             return false;
         }
-        let Some(queued) = self.hardware.fail(port.0, slot.0, error) else {
+        let Some(queued) = self.hardware.fail(port.0, slot.0, error, busy) else {
             return false;
         };
         self.hardware.send_fault(usize::from(port.0), queued);
@@ -297,11 +298,19 @@ impl<S: SectorStore> Model<S> {
         true
     }
 
-    /// Has a port meet a fatal error, while its engine runs.
+    /// Has a port meet a fatal error, while its engine runs: the interface's or the host bus's (IFS, HBFS), with a disk
+    /// or without. HBDS isn't told, since a driver handles the three alike.
     fn meet(&mut self, port: Port, error: FatalError) -> bool
         ensures { AnswersStep S.size S.told S.failures (DeviceStep.Fatal port error) result self.old self.new }
     {
         port.0 < 4 && self.hardware.meet(port.0, error)
+    }
+
+    /// Fills the received FIS area of a port that receives FISes with a byte, and PRDBC of each command that is taken.
+    fn scribble(&mut self, port: Port, byte: u8) -> bool
+        ensures { AnswersStep S.size S.told S.failures (DeviceStep.Scribble port byte) result self.old self.new }
+    {
+        port.0 < 4 && self.hardware.scribble(port.0, byte)
     }
 
     /// Takes the disk out of a port.
@@ -375,11 +384,11 @@ impl<S: SectorStore> Model<S> {
             return Outcome::Left;
         };
         if !next.is_on(bay.sectors()) {
-            let _failed = self.fail(port, slot, PAST_THE_DISK);
+            let _failed = self.fail(port, slot, PAST_THE_DISK, false);
             return Outcome::Failed;
         }
         if !bay.exchange(&mut self.hardware, next) {
-            let _failed = self.fail(port, slot, STORE_FAILED);
+            let _failed = self.fail(port, slot, STORE_FAILED, false);
             return Outcome::Failed;
         }
         self.hardware.note_move(port.0, slot.0, next);
@@ -437,7 +446,7 @@ impl<S: SectorStore> Model<S> {
         } else {
             PAST_THE_DISK
         };
-        let _failed = self.fail(port, slot, error);
+        let _failed = self.fail(port, slot, error, false);
         Outcome::Failed
     }
 
@@ -606,8 +615,10 @@ impl<S: SectorStore> Model<S> {
             }
             DeviceStep::Done(port, slot) => self.done(port, slot),
             DeviceStep::Finish(port, slot) => slot.0 < 32 && self.finish(port, slot),
-            DeviceStep::Fault(port, slot, error) => self.fail(port, slot, error),
+            DeviceStep::Fault(port, slot, error) => self.fail(port, slot, error, false),
+            DeviceStep::FaultBusy(port, slot, error) => self.fail(port, slot, error, true),
             DeviceStep::Fatal(port, error) => self.meet(port, error),
+            DeviceStep::Scribble(port, byte) => self.scribble(port, byte),
             DeviceStep::Lie(port, page, offset, bits) => self.lie(port, page, offset, bits),
             DeviceStep::Truth(port) => self.tell_truth(port),
             DeviceStep::Hold(port) => self.hold(port, true),

@@ -224,7 +224,8 @@ pub struct PortModel {
     pub enabled: u32,
     pub cr: bool,
     pub fr: bool,
-    /// PxTFD, where something was written to it since the last reset of the adapter; else it is 7Fh.
+    /// PxTFD, where something was written to it since the last reset of the adapter; else it is 7Fh. (So a port that is
+    /// all zeros, as one that isn't there, is one as after a reset.)
     pub tfd: Option<u16>,
     /// PxSIG, where the link came up since then; else all its bits are ones.
     pub sig: Option<u32>,

@@ -8,20 +8,29 @@ ghost use Rattle.device_model.specs.View.{Media, port_of};
 use crate::bits::{bit_if, with_bit_as, without_ones};
 use crate::port::PortModel;
 use adapter::FatalError;
+use ata_types::READINGS;
 use hba_regs::{PortReg, is_set};
 
 /// One more reading in a row.
 fn counted(again: bool, count: u32) -> u32
     ensures { result ≡ count_after again count }
 {
-    if again { count.min(63) + 1 } else { 0 }
+    if again {
+        count.min(READINGS - 1) + 1
+    } else {
+        0
+    }
 }
 
 /// The count of SSTS after one more reading.
 fn link_counted(det: u32, count: u32) -> u32
     ensures { result ≡ link_count_after det count }
 {
-    if det == 3 { 64 } else { count.min(63) + 1 }
+    if det == 3 {
+        READINGS
+    } else {
+        count.min(READINGS - 1) + 1
+    }
 }
 
 /// The bits of PxIS that tell of fatal errors (AHCI 1.3.1, 3.3.5).

@@ -4,7 +4,7 @@ ghost use Rattle.adapter.specs.Steps.{IsAlone, IsFetchable, IsWorking, admits, w
 ghost use Rattle.adapter.specs.declared.command.Operation.{Operation};
 ghost use Rattle.device_model.specs.Fetched.{IsNew};
 ghost use Rattle.device_model.specs.Slots.{IsOpenTo, MayTake, HasUntaken, HoldsAt};
-ghost use Rattle.device_model.specs.View.{Media, cause_of, halt_of, held_in, media_after, media_cleared, operation_of, port_of, taken_of, blank};
+ghost use Rattle.device_model.specs.View.{Media, cause_of, halt_of, held_in, kept_by, media_after, media_cleared, operation_of, port_of, taken_of, blank};
 ghost use Rattle.device_model.specs.declared.port.TakenCommand.{TakenCommand};
 
 use crate::bits::with_bit_as;
@@ -16,8 +16,22 @@ use hba_regs::is_set;
 /// The status of a command that failed: DRDY and ERR (ACS-3, 6.3).
 pub const FAILED_STATUS: u8 = 0x41;
 
+/// BSY, a bit of the status (ACS-3, 6.3).
+const BUSY: u8 = 0x80;
+
 /// The bit of PxIS that a fault sets (AHCI 1.3.1, 3.3.5).
 const TFES: u32 = 30;
+
+/// The status that a command leaves that failed: DRDY and ERR, and BSY where its disk is left busy.
+pub fn failed_status(busy: bool) -> u8
+    ensures { result ≡ 0x41 + kept_by busy }
+{
+    if busy {
+        FAILED_STATUS + BUSY
+    } else {
+        FAILED_STATUS
+    }
+}
 
 impl PortModel {
     /// A command is taken in a slot: a queued one leaves PxCI, and a plain one sets BSY.
@@ -82,12 +96,12 @@ impl PortModel {
         }
     }
 
-    /// A command failed with this error, a queued one or a plain one (AHCI 1.3.1, 6.2.2): PxTFD shows ERR and DRDY and
-    /// the error, TFES is set, and the port is halted. The bits of its slot stay.
-    pub fn fail(&mut self, queued: bool, error: u8)
-        ensures { (m : Media) → port_of self.new m ≡ with_fault (port_of self.old m) queued error 0 }
+    /// A command failed with this error, a queued one or a plain one (AHCI 1.3.1, 6.2.2): PxTFD shows ERR and DRDY, BSY
+    /// where its disk is left busy, and the error, TFES is set, and the port is halted. The bits of its slot stay.
+    pub fn fail(&mut self, queued: bool, error: u8, busy: bool)
+        ensures { (m : Media) → port_of self.new m ≡ with_fault (port_of self.old m) queued error (kept_by busy) }
     {
-        self.tfd = Some(u16::from(FAILED_STATUS) + 256 * u16::from(error));
+        self.tfd = Some(u16::from(failed_status(busy)) + 256 * u16::from(error));
         self.is = with_bit_as(self.is, TFES, true);
         self.halting = self.halting.after_fault(queued);
     }

@@ -14,14 +14,14 @@ ghost use Rattle.device_model.specs.Fetched.{bytes_of};
 ghost use Rattle.device_model.specs.Finishing.{HasRoom, FindsPage, IsInside, AreInside, IsBegun, IsCovered, IsPassed, IsRest, IsUnbegun};
 ghost use Rattle.device_model.specs.Sent.{SendsEnd};
 ghost use Rattle.device_model.specs.Slots.{HoldsAt, IsNext, HasUntaken};
-ghost use Rattle.device_model.specs.View.{held_in, operation_of, taken_of, blank};
+ghost use Rattle.device_model.specs.View.{held_in, kept_by, operation_of, taken_of, blank};
 ghost use Rattle.device_model.specs.Whole.{Outside, device_of, outside_after, outside_plugged};
 ghost use Rattle.device_model.specs.declared.port.TakenCommand.{TakenCommand};
 
 use crate::fetch::{count_pieces, piece_at, read_command, read_into, read_page, says_command};
 use crate::hardware::Hardware;
 use crate::port::{TakenCommand, Transfer};
-use crate::slots::{FAILED_STATUS, has_untaken, working_on};
+use crate::slots::{FAILED_STATUS, failed_status, has_untaken, working_on};
 use crate::trims::{clears_of, is_finished};
 use adapter::{Done, Entry, FatalError, Fault, Move, Prd};
 use ata_types::{Port, Slot};
@@ -422,30 +422,31 @@ impl Hardware {
         }
     }
 
-    /// Fails a slot's command, which is taken, with an error, and tells whether it is queued; `None` says that there is
-    /// none, that the engine has fallen, or that the tape found no memory.
-    pub fn fail(&mut self, port: u8, slot: u8, error: u8) -> Option<bool>
+    /// Fails a slot's command, which is taken, with an error, and leaves its disk busy or not; it tells whether the
+    /// command is queued. `None` says that there is none, that the engine has fallen, or that the tape found no memory.
+    pub fn fail(&mut self, port: u8, slot: u8, error: u8, busy: bool) -> Option<bool>
         requires port { port < 4 }
         requires slot { slot < 32 }
         ensures did { IfSome result (λ queued. (o : Outside)
-            → (f : DoesFault port slot error (device_of self.old o) (device_of self.new o))
+            → (f : DoesFault port slot error (kept_by busy) (device_of self.old o) (device_of self.new o))
             × (queued ≡ is_queued f.t.meaning.operation)) }
         ensures refused { result ≡ None → (o : Outside) → device_of self.new o ≡ device_of self.old o }
         ensures left { result ≡ None → (o : Outside)
-            → IsPassed self.old self.new ((t : Taken) × Can (FaultStep port slot error 0 t) (device_of self.old o)) }
+            → IsPassed self.old self.new ((t : Taken) × Can (FaultStep port slot error (kept_by busy) t)
+            (device_of self.old o)) }
         ensures fed { IfSome result (λ _. self.new.starved ≡ self.old.starved) }
     {
         let queued = self.running_at(port, slot)?;
         let entry = Entry::Fault(Fault {
             port: Port(port),
             slot: Slot(slot),
-            status: FAILED_STATUS,
+            status: failed_status(busy),
             error,
         });
         if !record(&mut self.tape, &mut self.starved, entry) {
             return None;
         }
-        self.ports[usize::from(port)].fail(queued, error);
+        self.ports[usize::from(port)].fail(queued, error, busy);
         Some(queued)
     }
 
@@ -482,7 +483,7 @@ impl Hardware {
         if !record(&mut self.tape, &mut self.starved, entry) {
             return false;
         }
-        self.ports[place].fail(false, ABORTED);
+        self.ports[place].fail(false, ABORTED, false);
         true
     }
 

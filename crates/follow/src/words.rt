@@ -1,5 +1,6 @@
 // The words that the program is started with.
 use crate::fault::{Fault, unless_memory};
+use ata_types::PORTS;
 use std::alloc::Global;
 use std::env;
 use std::rt::Env;
@@ -18,9 +19,6 @@ pub struct Words {
     /// The disks of the model, from port 0 on: one to four.
     pub images: Vec<String>,
 }
-
-/// The most disks that a model has.
-const PORTS: usize = 4;
 
 /// The same words once more.
 fn copied(alloc: Global, words: &[String]) -> Result<Vec<String>, Fault> {

@@ -10,15 +10,13 @@ use crate::peer::{Peer, PeerFault};
 use crate::stray::Stray;
 use adapter::laws::{steps_compose, steps_keep};
 use adapter::{Adapter, DeviceStep, Entry, FatalError, Stepped};
-use ata_types::{DRIVER_BYTES, PORT_BYTES, Port, SCRATCH, Slot};
+use ata_types::{DRIVER_BYTES, PORT_BYTES, PORTS, Port, SCRATCH, Slot};
 use device_model::{Shown, Watched};
 use hba_regs::{
     GlobalControl, PortCommand, PortInterrupts, PortReg, Reg, SataStatus, TaskFile, is_set,
     with_bit,
 };
 use identify::parse;
-
-const PORTS: usize = 4;
 
 const PAGE_BYTES: usize = 512;
 

@@ -96,6 +96,12 @@ step_are (step.Finish port slot) h = more (fixed (codes "finish") refl) (place_a
 step_are (step.Fault port slot error) h =
     more (fixed (codes "fault") refl) (more (number port.0 (omega (arith, h.0))) (more (number slot.0 (omega (arith, h.1)))
     (more (pairs (error ∷ []) (All-cons (λ b. b < 256) error [] h.2 (All-nil (λ b. b < 256)))) none)))
+step_are (step.FaultBusy port slot error) h =
+    more (fixed (codes "faultbusy") refl) (more (number port.0 (omega (arith, h.0))) (more (number slot.0 (omega (arith, h.1)))
+    (more (pairs (error ∷ []) (All-cons (λ b. b < 256) error [] h.2 (All-nil (λ b. b < 256)))) none)))
+step_are (step.Scribble port byte) h =
+    more (fixed (codes "scribble") refl) (more (number port.0 (omega (arith, h.0)))
+    (more (pairs (byte ∷ []) (All-cons (λ b. b < 256) byte [] h.1 (All-nil (λ b. b < 256)))) none))
 step_are (step.Lie port page offset bits) h =
     more (fixed (codes "lie") refl) (more (number port.0 (omega (arith, h.0))) (more (page_is page)
     (more (number offset (omega (arith, h.1))) (more (pairs (bits ∷ []) (All-cons (λ b. b < 256) bits [] h.2 (All-nil (λ b. b < 256)))) none))))
@@ -134,7 +140,9 @@ step_few (step.Done port slot) = omega arith
 step_few (step.Finish port slot) = omega arith
 step_few (step.Fault port slot error) = omega arith
 step_few (step.Lie port page offset bits) = omega arith
+step_few (step.FaultBusy port slot error) = omega arith
 step_few (step.Fatal port error) = omega arith
+step_few (step.Scribble port byte) = omega arith
 step_few (step.Truth port) = omega arith
 step_few (step.Hold port) = omega arith
 step_few (step.Release port) = omega arith

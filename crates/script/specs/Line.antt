@@ -8,6 +8,7 @@ use Rattle.ata_types.specs.declared.Slot.{Slot}
 use Rattle.ata_types.specs.declared.request.Op.{Op}
 use Rattle.ata_types.specs.declared.request.Op.TheVariants.{Read, Write, Trim, Flush}
 use Rattle.ata_types.specs.declared.request.Request.{Request}
+use Rattle.ata_types.specs.declared.limits.TheConstants.{MOST_REQUEST_FRAMES}
 use Rattle.adapter.specs.declared.access.DiskPage.{DiskPage}
 use Rattle.adapter.specs.declared.access.DiskPage.TheVariants.{Identity, Log}
 use Rattle.adapter.specs.declared.access.DeviceStep.{DeviceStep}
@@ -51,7 +52,10 @@ step_words (step.Done port slot) = codes "done" ∷ place_words port slot
 step_words (step.Finish port slot) = codes "finish" ∷ place_words port slot
 step_words (step.Fault port slot error) = codes "fault" ∷ decimal port.0 ∷ decimal slot.0 ∷ encode_lower (error ∷ [])
     ∷ []
+step_words (step.FaultBusy port slot error) =
+    codes "faultbusy" ∷ decimal port.0 ∷ decimal slot.0 ∷ encode_lower (error ∷ []) ∷ []
 step_words (step.Fatal port error) = codes "fatal" ∷ decimal port.0 ∷ fatal_word error ∷ []
+step_words (step.Scribble port byte) = codes "scribble" ∷ decimal port.0 ∷ encode_lower (byte ∷ []) ∷ []
 step_words (step.Lie port page offset bits) =
     codes "lie" ∷ decimal port.0 ∷ page_word page ∷ decimal offset ∷ encode_lower (bits ∷ []) ∷ []
 step_words (step.Truth port) = codes "truth" ∷ decimal port.0 ∷ []
@@ -91,7 +95,7 @@ pub record IsRequest (r : Request) : Type 0 where
   pub first : r.first.0 < 2 ^ 64
   pub count : r.count < 2 ^ 32
   pub frames : All (λ f. f.0 < 65536) r.frames.items
-  pub most : length r.frames.items ≤ 32
+  pub most : length r.frames.items ≤ MOST_REQUEST_FRAMES
 
 -- the port and slot are ones that an adapter can have
 abbrev pub IsPlace : Port → Slot → Type 0
@@ -105,7 +109,9 @@ IsStep (step.Clear port slot count) = (port.0 < 4) × (slot.0 < 32) × (count < 
 IsStep (step.Done port slot) = IsPlace port slot
 IsStep (step.Finish port slot) = IsPlace port slot
 IsStep (step.Fault port slot error) = (port.0 < 4) × (slot.0 < 32) × (error < 256)
+IsStep (step.FaultBusy port slot error) = (port.0 < 4) × (slot.0 < 32) × (error < 256)
 IsStep (step.Fatal port error) = port.0 < 4
+IsStep (step.Scribble port byte) = (port.0 < 4) × (byte < 256)
 IsStep (step.Lie port page offset bits) = (port.0 < 4) × (offset < 512) × (bits < 256)
 IsStep (step.Truth port) = port.0 < 4
 IsStep (step.Hold port) = port.0 < 4

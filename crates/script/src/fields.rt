@@ -9,7 +9,7 @@ ghost use Rattle.adapter.specs.declared.access.FatalError.{FatalError};
 
 use adapter::{DiskNumber, FatalError};
 use arrayvec::ArrayVec;
-use ata_types::{ClientId, Frame, Port, Slot};
+use ata_types::{ClientId, Frame, MOST_REQUEST_FRAMES, Port, Slot};
 
 /// The digit that a byte is.
 fn digit(byte: u8) -> Option<u64>
@@ -114,9 +114,9 @@ pub(crate) fn fatal_error(word: &str) -> Option<FatalError>
 }
 
 /// Frames by their numbers, at most 32, parted by commas; `-` is none.
-pub(crate) fn frames(word: &str) -> Option<ArrayVec<Frame, 32>>
+pub(crate) fn frames(word: &str) -> Option<ArrayVec<Frame, MOST_REQUEST_FRAMES>>
     ensures spelled { IfSome result (λ v. All (λ f. f.0 < 65536) v.items × (frames_word v.items ≡ word.now)) }
-    ensures only { (v : Items Frame) → All (λ f. f.0 < 65536) v.items → length v.items ≤ 32
+    ensures only { (v : Items Frame) → All (λ f. f.0 < 65536) v.items → length v.items ≤ MOST_REQUEST_FRAMES
         → frames_word v.items ≡ word.now → result ≡ Some v }
 {
     let mut frames = ArrayVec::new();

@@ -117,31 +117,81 @@ fn fault(port: &str, slot: &str, error: &str) -> Option<DeviceStep>
     Some(DeviceStep::Fault(port, slot, error))
 }
 
+/// The same, of one that leaves its disk busy.
+fn fault_busy(port: &str, slot: &str, error: &str) -> Option<DeviceStep>
+    ensures found { IfSome result (λ s. IsStep s
+        × (step_words s ≡ codes "faultbusy" ∷ port.now ∷ slot.now ∷ error.now ∷ [])) }
+    ensures only { (s : DeviceStep) → IsStep s
+        → step_words s ≡ codes "faultbusy" ∷ port.now ∷ slot.now ∷ error.now ∷ [] → result ≡ Some s }
+{
+    let port = fields::port(port)?;
+    let slot = fields::slot(slot)?;
+    let error = fields::byte(error)?;
+    Some(DeviceStep::FaultBusy(port, slot, error))
+}
+
+/// The byte that the device is to fill with what it may write.
+fn scribble(port: &str, byte: &str) -> Option<DeviceStep>
+    ensures found { IfSome result (λ s. IsStep s × (step_words s ≡ codes "scribble" ∷ port.now ∷ byte.now ∷ [])) }
+    ensures only { (s : DeviceStep) → IsStep s → step_words s ≡ codes "scribble" ∷ port.now ∷ byte.now ∷ []
+        → result ≡ Some s }
+{
+    let port = fields::port(port)?;
+    let byte = fields::byte(byte)?;
+    Some(DeviceStep::Scribble(port, byte))
+}
+
+/// A step of which nothing but its port is told.
+fn of_port(name: &str, port: &str) -> Option<DeviceStep>
+    ensures found { IfSome result (λ s. IsStep s × (step_words s ≡ name.now ∷ port.now ∷ [])) }
+    ensures only { (s : DeviceStep) → IsStep s → step_words s ≡ name.now ∷ port.now ∷ [] → result ≡ Some s }
+{
+    let port = fields::port(port)?;
+    match name {
+        "unplug" => Some(DeviceStep::Unplug(port)),
+        "hold" => Some(DeviceStep::Hold(port)),
+        "release" => Some(DeviceStep::Release(port)),
+        "truth" => Some(DeviceStep::Truth(port)),
+        _ => None,
+    }
+}
+
+/// A step of which its port and one thing more is told.
+fn of_port_and(name: &str, port: &str, last: &str) -> Option<DeviceStep>
+    ensures found { IfSome result (λ s. IsStep s × (step_words s ≡ name.now ∷ port.now ∷ last.now ∷ [])) }
+    ensures only { (s : DeviceStep) → IsStep s → step_words s ≡ name.now ∷ port.now ∷ last.now ∷ []
+        → result ≡ Some s }
+{
+    if name == "scribble" {
+        return scribble(port, last);
+    }
+    let port = fields::port(port)?;
+    Some(match name {
+        "finish" => DeviceStep::Finish(port, fields::slot(last)?),
+        "fetch" => DeviceStep::Fetch(port, fields::slot(last)?),
+        "move" => DeviceStep::Move(port, fields::slot(last)?),
+        "done" => DeviceStep::Done(port, fields::slot(last)?),
+        "plug" => DeviceStep::Plug(port, fields::disk(last)?),
+        "fatal" => DeviceStep::Fatal(port, fields::fatal_error(last)?),
+        _ => return None,
+    })
+}
+
 /// The step that the device is to do, from the words after `dev`.
 fn step(words: &[&str]) -> Option<DeviceStep>
     ensures found { IfSome result (λ s. IsStep s × (step_words s ≡ map (λ w. w.now) words.now)) }
     ensures only { (s : DeviceStep) → IsStep s → step_words s ≡ map (λ w. w.now) words.now → result ≡ Some s }
 {
-    Some(match words {
-        ["finish", port, slot] => DeviceStep::Finish(fields::port(port)?, fields::slot(slot)?),
-        ["fetch", port, slot] => DeviceStep::Fetch(fields::port(port)?, fields::slot(slot)?),
-        ["move", port, slot] => DeviceStep::Move(fields::port(port)?, fields::slot(slot)?),
-        ["clear", port, slot, count] => clear(port, slot, count)?,
-        ["done", port, slot] => DeviceStep::Done(fields::port(port)?, fields::slot(slot)?),
-        ["unplug", port] => DeviceStep::Unplug(fields::port(port)?),
-        ["plug", port, disk] => DeviceStep::Plug(fields::port(port)?, fields::disk(disk)?),
-        ["hold", port] => DeviceStep::Hold(fields::port(port)?),
-        ["release", port] => DeviceStep::Release(fields::port(port)?),
-        ["truth", port] => DeviceStep::Truth(fields::port(port)?),
-        ["fault", port, slot, error] => fault(port, slot, error)?,
-        ["fatal", port, error] => DeviceStep::Fatal(
-            fields::port(port)?,
-            fields::fatal_error(error)?,
-        ),
-        ["lie", port, "id", offset, bits] => lie(port, DiskPage::Identity, offset, bits)?,
-        ["lie", port, "log", offset, bits] => lie(port, DiskPage::Log, offset, bits)?,
-        _ => return None,
-    })
+    match words {
+        [name, port] => of_port(name, port),
+        [name, port, last] => of_port_and(name, port, last),
+        ["clear", port, slot, count] => clear(port, slot, count),
+        ["fault", port, slot, error] => fault(port, slot, error),
+        ["faultbusy", port, slot, error] => fault_busy(port, slot, error),
+        ["lie", port, "id", offset, bits] => lie(port, DiskPage::Identity, offset, bits),
+        ["lie", port, "log", offset, bits] => lie(port, DiskPage::Log, offset, bits),
+        _ => None,
+    }
 }
 
 /// The trim that is asked, from the words after `trim`.

@@ -1,0 +1,77 @@
+// What the device may write as it wants while a port receives FISes: the received FIS area, and PRDBC of each command
+// that is taken (AHCI 1.3.1, 4.2.1 and 4.2.2).
+ghost use Rattle.std.specs.Prelude.{◌≡◌, ◌+◌, ◌*◌, ◌<◌, ◌≤◌, ◌^◌, ℕ, false, true, if◌then◌else◌, is_some, length, nat_le, replicate, slice_index_or};
+ghost use Rattle.ata_types.specs.declared.memory.TheConstants.{HEADER_BYTES};
+ghost use Rattle.adapter.specs.Asked.{DoesScribble, filled};
+ghost use Rattle.device_model.specs.Fetched.{bytes_of};
+ghost use Rattle.device_model.specs.View.{blank, held_in};
+ghost use Rattle.device_model.specs.Whole.{Outside, device_of};
+
+use crate::hardware::{Hardware, put};
+use ata_types::{HEADER_BYTES, RECEIVED_BYTES};
+
+/// Where PRDBC stands in a command header (AHCI 1.3.1, 4.2.2).
+const COUNT: usize = 4;
+
+/// Fills four bytes of a memory with one, if all of them are in it.
+fn fill_count(memory: &mut [u8], at: usize, byte: u8)
+    requires { at < 2 ^ 40 }
+    ensures { bytes_of memory.new ≡ filled (length memory.old) at 4 byte (bytes_of memory.old) }
+{
+    if at + 4 <= memory.len() {
+        put(memory, at, &[byte; 4]);
+    }
+}
+
+/// Fills a received FIS area in a memory with a byte, if it is in it.
+fn fill_area(memory: &mut [u8], at: usize, byte: u8)
+    requires { at < 2 ^ 40 }
+    ensures { bytes_of memory.new ≡ filled (length memory.old) at RECEIVED_BYTES byte (bytes_of memory.old) }
+{
+    if at + RECEIVED_BYTES as usize <= memory.len() {
+        put(memory, at, &[byte; RECEIVED_BYTES as usize]);
+    }
+}
+
+impl Hardware {
+    /// Fills PRDBC of a slot whose command is taken with a byte.
+    fn scribble_count(&mut self, port: usize, slot: u8, byte: u8)
+        requires port { port < 4 }
+        requires slot { slot < 32 }
+        ensures filled { bytes_of self.new.memory.items ≡
+            (if is_some (held_in (slice_index_or self.old.ports port blank).taken slot) then
+            filled (length self.old.memory.items)
+            ((slice_index_or self.old.ports port blank).addresses.clb + HEADER_BYTES * slot + 4) 4 byte
+            (bytes_of self.old.memory.items) else bytes_of self.old.memory.items) }
+        ensures size { length self.new.memory.items ≡ length self.old.memory.items }
+        ensures rest { self.new ≡ record self.old { memory = self.new.memory } }
+    {
+        if self.ports[port].taken.get(slot).is_some() {
+            let list = self.ports[port].addresses.clb as usize;
+            let at = list + HEADER_BYTES as usize * usize::from(slot) + COUNT;
+            fill_count(&mut self.memory, at, byte);
+        }
+    }
+
+    /// Fills the received FIS area of a port with a byte, and PRDBC of each of its commands that are taken; `false`
+    /// says that the port receives no FISes.
+    pub fn scribble(&mut self, port: u8, byte: u8) -> bool
+        requires { port < 4 }
+        ensures did { result ≡ true → (o : Outside)
+            → DoesScribble port byte (device_of self.old o) (device_of self.new o) }
+        ensures left { result ≡ false → (o : Outside) → ((device_of self.old o).port port).fre ≡ true → ⊥ }
+        ensures refused { result ≡ false → self.new ≡ self.old }
+        ensures rest { self.new ≡ record self.old { memory = self.new.memory } }
+    {
+        let place = usize::from(port);
+        if !self.ports[place].fre {
+            return false;
+        }
+        let area = self.ports[place].addresses.fb as usize;
+        fill_area(&mut self.memory, area, byte);
+        for slot in 0..32u8 {
+            self.scribble_count(place, slot, byte);
+        }
+        true
+    }
+}
