@@ -1,14 +1,15 @@
 -- What putting an item in its place, and taking one out, do to the index.
-use Rattle.std.proofs.Common.{◌≡◌, ◌≢◌, ℕ, suc, ◌<◌, ◌≤◌, ◌++◌, ◌∷◌, List, length, get_or, set, take, drop, sym, ap, ◌∙◌, subst, arith, inl, inr}
+use Rattle.std.proofs.Common.{◌≡◌, ◌≢◌, ℕ, ◌+◌, ◌-◌, suc, ◌<◌, ◌≤◌, ◌++◌, ◌∷◌, List, length, get_or, set, take, drop, sym, ap, ◌∙◌, subst, arith, inl, inr}
 use Rattle.std.specs.List.{All, Contains, insert, remove}
 use Rattle.std.proofs.lemmas.Bool.{cases_eq, cases_lt}
 use Rattle.std.proofs.lemmas.List.{map-append, take-map, drop-map, map-set, set-get_or}
-use Rattle.std.proofs.lemmas.List.Edits.{get_or-insert_below, get_or-remove_below}
+use Rattle.std.proofs.lemmas.List.Edits.{length-insert, length-remove, get_or-insert_above, get_or-insert_below, get_or-remove_above, get_or-remove_below}
 use Rattle.std.proofs.lemmas.List.Quantifiers.{all_pairs_remove}
 use Rattle.range_index.specs.declared.Item.{Item}
 use Rattle.range_index.specs.declared.Entry.{Entry}
 use Rattle.range_index.specs.Items.{AreSorted, StandsBefore, IsGreatestEnd, end_of, first_of}
-use Rattle.range_index.specs.Index.{IsIndex, items_of}
+use Rattle.range_index.specs.Index.{EndFollows, IsIndex, items_of}
+use Rattle.range_index.proofs.Ends.{next_end}
 use Rattle.range_index.proofs.Sorting.{item_at, as_many, sorted_insert, itself}
 
 item : Entry → Item
@@ -62,6 +63,27 @@ module _ (old grown new : List Entry) (place : ℕ) (x : Entry) (is : IsIndex ol
       (λ j e le. ap (λ (xs : List Item). get_or xs j e) items ∙ get_or-insert_below (items_of old) place x.item e j (omega (arith, le, lt)) (omega (arith, n, within)))
       (is.ends k d (omega (arith, lt, within))))
 
+  pub inserted_follow : (k : ℕ) (d : Entry) → place < k → EndFollows grown k d
+  inserted_follow k d more short here =
+      let n = as_many old in
+      let m = length-insert old place x within in
+      let grown_long = ap length grew in
+      let e : k - 1 + 1 ≡ k = omega (arith, more) in
+      let lt : k < length old = omega (arith, short, m, grown_long) in
+      let items : items_of grown ≡ insert (items_of old) place x.item = ap items_of grew ∙ items_insert old place x in
+      let first : get_or grown k d ≡ get_or old (k - 1) d = ap (λ (es : List Entry). get_or es k d) grew
+      ∙ (ap (λ (i : ℕ). get_or (insert old place x) i d) (sym e) ∙ get_or-insert_above old place x d (k - 1) (omega (arith, more)) within) in
+      let second : get_or grown (k + 1) d ≡ get_or old k d = ap (λ (es : List Entry). get_or es (k + 1) d) grew ∙ get_or-insert_above old place x d k (omega (arith, more)) within in
+      let its : Item = (get_or old k d).item in
+      let a = (get_or old (k - 1) d).greatest_end in
+      let b = (get_or old k d).greatest_end in
+      subst (IsGreatestEnd (items_of grown) (k + 1)) (sym (ap (λ (y : Entry). y.greatest_end) second))
+      (next_end (items_of old) (items_of grown) (k - 1) k a b its (is.ends (k - 1) d (omega (arith, lt)))
+      (subst (λ (i : ℕ). IsGreatestEnd (items_of old) i b) (sym e) (is.ends k d lt))
+      (λ y. ap (λ (i : ℕ). get_or (items_of old) i y) e ∙ item_at old k d y lt)
+      (λ y. item_at grown (k + 1) d y short ∙ ap (λ (z : Entry). z.item) second)
+      (subst (IsGreatestEnd (items_of grown) k) (ap (λ (y : Entry). y.greatest_end) first) here))
+
   module _ (items : items_of new ≡ items_of grown) (ends : (k : ℕ) (d : Entry) → k < length grown → IsGreatestEnd (items_of grown) k (get_or new k d).greatest_end) where
     pub inserted_view : items_of new ≡ insert (items_of old) place x.item
     inserted_view = items ∙ (ap items_of grew ∙ items_insert old place x)
@@ -86,6 +108,22 @@ module _ (old shrunk new : List Entry) (place : ℕ) (is : IsIndex old) (shrank 
       (same_greatest (items_of old) (items_of shrunk) k (get_or old k d).greatest_end
       (λ j e le. ap (λ (xs : List Item). get_or xs j e) items ∙ get_or-remove_below (items_of old) place e j (omega (arith, le, lt)) (omega (arith, n, within)))
       (is.ends k d (omega (arith, lt, within))))
+
+  pub removed_follow : (k : ℕ) (d : Entry) → place < k → EndFollows shrunk k d
+  removed_follow k d more short here =
+      let m = length-remove old place within in
+      let long = ap length shrank in
+      let lt : k + 1 + 1 < length old = omega (arith, short, m, long) in
+      let first : get_or shrunk k d ≡ get_or old (k + 1) d = ap (λ (es : List Entry). get_or es k d) shrank ∙ get_or-remove_above old place d k (omega (arith, more)) within in
+      let second : get_or shrunk (k + 1) d ≡ get_or old (k + 1 + 1) d = ap (λ (es : List Entry). get_or es (k + 1) d) shrank ∙ get_or-remove_above old place d (k + 1) (omega (arith, more)) within in
+      let its : Item = (get_or old (k + 1 + 1) d).item in
+      let a = (get_or old (k + 1) d).greatest_end in
+      let b = (get_or old (k + 1 + 1) d).greatest_end in
+      subst (IsGreatestEnd (items_of shrunk) (k + 1)) (sym (ap (λ (y : Entry). y.greatest_end) second))
+      (next_end (items_of old) (items_of shrunk) (k + 1) k a b its (is.ends (k + 1) d (omega (arith, lt))) (is.ends (k + 1 + 1) d lt)
+      (λ y. item_at old (k + 1 + 1) d y lt)
+      (λ y. item_at shrunk (k + 1) d y short ∙ ap (λ (z : Entry). z.item) second)
+      (subst (IsGreatestEnd (items_of shrunk) k) (ap (λ (y : Entry). y.greatest_end) first) here))
 
   module _ (items : items_of new ≡ items_of shrunk) (ends : (k : ℕ) (d : Entry) → k < length shrunk → IsGreatestEnd (items_of shrunk) k (get_or new k d).greatest_end) where
     pub removed_view : items_of new ≡ remove (items_of old) place

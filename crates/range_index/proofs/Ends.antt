@@ -1,11 +1,13 @@
 -- The greatest ends, and what they save.
-use Rattle.std.proofs.Common.{◌≡◌, ℕ, ◌+◌, ◌<◌, ◌≤◌, ◌&&◌, ◌||◌, ◌==◌, true, false, List, length, get_or, ap, arith, inl, inr}
+use Rattle.std.proofs.Common.{◌≢◌, ◌⊎◌, zero, suc, subst, ◌≡◌, ℕ, ◌+◌, ◌<◌, ◌≤◌, ◌&&◌, ◌||◌, ◌==◌, true, false, List, length, get_or, ap, arith, inl, inr}
 use Rattle.std.specs.Prelude.{nat_lt}
 use Rattle.std.specs.List.{list_any}
 use Rattle.std.proofs.lemmas.Bool.{cases_eq, cases_lt, and_parts, ltb-true, false_from_ne_true}
 use Rattle.std.proofs.lemmas.List.Folds.{list_any_none}
 use Rattle.block_machine.specs.Due.{overlap}
 use Rattle.range_index.specs.declared.Item.{Item}
+use Rattle.range_index.specs.declared.Entry.{Entry}
+use Rattle.range_index.specs.Index.{EndFollows, items_of}
 use Rattle.range_index.specs.Items.{StandsBefore, IsGreatestEnd, end_of, first_of, is_earlier_conflict}
 
 -- the greatest end goes on, with the next item's
@@ -31,6 +33,37 @@ end_stays items k greatest_end end so is more = record {
   before = let h = so.before in omega (arith, h);
   met = so.met;
 }
+
+-- there is one
+one_end : (items : List Item) (k a b : ℕ) (d : Item) → IsGreatestEnd items k a → IsGreatestEnd items k b → a ≡ b
+one_end items k a b d is so =
+    let p = is.covers so.at d so.before in
+    let q = so.covers is.at d is.before in
+    let x = is.met d in
+    let y = so.met d in
+    omega (arith, p, q, x, y)
+
+-- the next end follows wherever the same item stands behind the same end
+pub next_end : (old new : List Item) (i j a b : ℕ) (x : Item) → IsGreatestEnd old i a → IsGreatestEnd old (i + 1) b → ((d : Item) → get_or old (i + 1) d ≡ x) → ((d : Item) → get_or new (j + 1) d ≡ x)
+    → IsGreatestEnd new j a → IsGreatestEnd new (j + 1) b
+next_end old new i j a b x is so in_old in_new here = elim (cases_lt a (end_of x)) [
+  | inl less ↦
+      let e = one_end old (i + 1) (end_of x) b x (end_grows old i a (end_of x) is (λ d. ap end_of (in_old d)) less) so in
+      subst (IsGreatestEnd new (j + 1)) e (end_grows new j a (end_of x) here (λ d. ap end_of (in_new d)) less)
+  | inr more ↦
+      let e = one_end old (i + 1) a b x (end_stays old i a (end_of x) is (λ d. ap end_of (in_old d)) more) so in
+      subst (IsGreatestEnd new (j + 1)) e (end_stays new j a (end_of x) here (λ d. ap end_of (in_new d)) more)
+]
+
+-- so all behind a right one are right
+pub all_follow : (es : List Entry) (place : ℕ) (d : Entry) → ((k : ℕ) → place ≤ k → EndFollows es k d) → IsGreatestEnd (items_of es) place (get_or es place d).greatest_end
+    → (k : ℕ) → place ≤ k → k < length es → IsGreatestEnd (items_of es) k (get_or es k d).greatest_end
+all_follow es place d follow here zero le lt = subst (λ (n : ℕ). IsGreatestEnd (items_of es) n (get_or es n d).greatest_end) (let e : place ≡ 0 = omega (arith, le) in e) here
+all_follow es place d follow here (suc k) le lt = by (cases_eq place (suc k)) (λ low. follow k low (let l : k + 1 < length es = omega (arith, lt) in l) (all_follow es place d follow here k low (omega (arith, lt))))
+  where
+    by : (place ≡ suc k) ⊎ (place ≢ suc k) → (place ≤ k → IsGreatestEnd (items_of es) (k + 1) (get_or es (k + 1) d).greatest_end) → IsGreatestEnd (items_of es) (suc k) (get_or es (suc k) d).greatest_end
+    by (inl e) next = subst (λ (n : ℕ). IsGreatestEnd (items_of es) n (get_or es n d).greatest_end) e here
+    by (inr ne) next = subst (λ (n : ℕ). IsGreatestEnd (items_of es) n (get_or es n d).greatest_end) (let e : k + 1 ≡ suc k = omega arith in e) (next (omega (arith, le, ne)))
 
 -- what two items that conflict have in common
 shared : (r x : Item) → is_earlier_conflict r x ≡ true → (first_of x < end_of r) × (first_of r < end_of x)

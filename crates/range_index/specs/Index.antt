@@ -1,5 +1,5 @@
 -- How items are kept: in order, each with the greatest end so far (this project's own).
-use Rattle.std.specs.Prelude.{ℕ, ◌<◌, List, map, length, slice_index_or}
+use Rattle.std.specs.Prelude.{ℕ, ◌+◌, ◌<◌, List, map, length, slice_index_or}
 use Rattle.range_index.specs.declared.Entry.{Entry}
 use Rattle.range_index.specs.declared.Item.{Item}
 use Rattle.range_index.specs.Items.{AreSorted, IsGreatestEnd}
@@ -13,3 +13,9 @@ pub record IsIndex (entries : List Entry) : Type 0 where
   pub sorted : AreSorted (items_of entries)
   pub ends : (k : ℕ) (d : Entry) → k < length entries
       → IsGreatestEnd (items_of entries) k (slice_index_or entries k d).greatest_end
+
+-- where the entry at a place has its greatest end, the next has its own, too
+abbrev pub EndFollows : List Entry → ℕ → Entry → Type 0
+EndFollows entries k d = k + 1 < length entries
+    → IsGreatestEnd (items_of entries) k (slice_index_or entries k d).greatest_end
+    → IsGreatestEnd (items_of entries) (k + 1) (slice_index_or entries (k + 1) d).greatest_end

@@ -12,14 +12,11 @@ ghost use Rattle.block_machine.specs.Due as machine;
 ghost use Rattle.range_index.specs.Items.{AreSorted, StandsBefore, IsGreatestEnd, is_earlier_conflict};
 ghost use Rattle.range_index.specs.declared.Entry.{Entry};
 ghost use Rattle.range_index.specs.declared.Item.{Item};
-ghost use Rattle.range_index.specs.Index.{IsIndex, items_of};
+ghost use Rattle.range_index.specs.Index.{EndFollows, IsIndex, items_of};
 
-use ata_types::{Port, Range, RequestId};
+use ata_types::{MOST_UNANSWERED, Port, Range, RequestId};
 use std::alloc::{AllocError, Global};
 use std::marker::Model;
-
-/// Items that there is room for.
-const PLACES: usize = 128;
 
 /// The sectors of a request on its port's disk, and whether it writes or trims them.
 #[derive(Clone, Copy, Debug, PartialEq, Eq)]
@@ -46,6 +43,7 @@ pub struct Ranges {
 
 impl Model for Ranges {
     ghost use Rattle.std.specs.Prelude.{List, ◌≤◌, vec_capacity};
+    ghost use Rattle.ata_types.specs.declared.limits.TheConstants.{MOST_UNANSWERED};
     ghost use Rattle.range_index.specs.declared.Item.{Item as One};
     ghost use Rattle.range_index.specs.Index.{IsIndex, items_of};
 
@@ -53,7 +51,7 @@ impl Model for Ranges {
 
     ghost view = { λ r. items_of r.entries.items };
 
-    ghost invariant = { λ r. IsIndex r.entries.items × (128 ≤ vec_capacity r.entries) };
+    ghost invariant = { λ r. IsIndex r.entries.items × (MOST_UNANSWERED ≤ vec_capacity r.entries) };
 }
 
 impl Ranges {
@@ -61,13 +59,13 @@ impl Ranges {
     pub fn new(alloc: Global) -> Result<Self, AllocError>
         ensures { IfOk result (λ ranges. ranges ≡ []) }
     {
-        let entries = Vec::with_capacity(alloc, PLACES)?;
+        let entries = Vec::with_capacity(alloc, MOST_UNANSWERED)?;
         Ok(Ranges { entries })
     }
 
     /// Puts an item in its place.
     pub fn insert(&mut self, item: Item)
-        requires room { length self.old < 128 }
+        requires room { length self.old < MOST_UNANSWERED }
         requires fresh { All (λ x. x.id ≢ item.id) self.old }
         ensures { (place : ℕ) × (place ≤ length self.old) × (self.new ≡ insert self.old place item) }
     {
@@ -185,11 +183,13 @@ fn earlier_conflict(entries: &[Entry], item: &Item) -> Option<Item>
     None
 }
 
-/// Notes the greatest ends from a place on, where those before it are noted.
+/// Notes the greatest ends from a place on, where those before it are noted. It stops behind that place at the first
+/// that is noted: each end there follows from the one before it, as it did before the change at that place.
 fn note_ends(entries: &mut Vec<Entry>, from: usize)
     requires before { (k : ℕ) (d : Entry) → k < from
         → IsGreatestEnd (items_of entries.old.items) k (slice_index_or entries.old.items k d).greatest_end }
     requires within { from ≤ length entries.old.items }
+    requires follow { (k : ℕ) (d : Entry) → from < k → EndFollows entries.old.items k d }
     ensures items { items_of entries.new.items ≡ items_of entries.old.items }
     ensures ends { (k : ℕ) (d : Entry) → k < length entries.old.items
         → IsGreatestEnd (items_of entries.old.items) k (slice_index_or entries.new.items k d).greatest_end }
@@ -197,6 +197,9 @@ fn note_ends(entries: &mut Vec<Entry>, from: usize)
 {
     for place in from..entries.len() {
         let greatest_end = greatest_end_at(entries.as_slice(), place);
+        if place > from && entries[place].greatest_end == greatest_end {
+            return;
+        }
         entries[place].greatest_end = greatest_end;
     }
 }

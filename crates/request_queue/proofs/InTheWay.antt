@@ -1,55 +1,20 @@
--- What stands in the way of a request, found by its place and by its sectors.
-use Rattle.std.proofs.Common.{◌≡◌, ◌↔◌, ℕ, ◌<◌, Bool, true, false, cond, ◌&&◌, ◌||◌, ◌==◌, ◌%◌, [], ◌∷◌, List, length, get_or, Some, refl, sym, ap, ◌∙◌, subst, arith, lt-ltb, ltb-true, eqb-true, ⊎_elim, inl, inr}
-use Rattle.std.specs.List.{list_any, count_by, filter, slice_get, Contains}
+-- What stands in the way of a request that the walk comes to.
+use Rattle.std.proofs.Common.{◌≡◌, ◌↔◌, ℕ, ◌<◌, Bool, true, false, not, cond, ◌&&◌, ◌||◌, ◌==◌, [], ◌∷◌, List, length, get_or, refl, sym, ap, ◌∙◌, subst, arith, lt-ltb, ltb-true, eq-eqb, ⊎_elim, inl, inr}
+use Rattle.std.specs.List.{list_any, count_by, Contains}
 use Rattle.std.specs.Prelude.{nat_lt}
-use Rattle.std.proofs.lemmas.Bool.{and_parts, and_from, or_cases, or_left, or_right, cond-true, cond-false, both_ways, cases_lt, cases_eq}
+use Rattle.std.proofs.lemmas.Bool.{and_parts, and_from, or_cases, or_left, or_right, cond-true, cond-false, both_ways, cases_lt, cases_eq, false_from_ne_true}
 use Rattle.std.proofs.lemmas.List.{get_or_default}
-use Rattle.std.proofs.lemmas.List.Elements.{All-filter, Contains-get_or}
-use Rattle.std.proofs.lemmas.List.Folds.{list_any_at, Any-from_list_any}
-use Rattle.std.proofs.lemmas.Option.{slice_get_within, get_or_from_slice_get, slice_get-get_or}
+use Rattle.std.proofs.lemmas.List.Folds.{Any-from_list_any}
+use Rattle.std.proofs.lemmas.Option.{slice_get_within, get_or_from_slice_get}
 use Rattle.ata_types.specs.declared.Port.{Port}
-use Rattle.ata_types.specs.declared.request.Op.{Op}
-use Rattle.ata_types.specs.declared.request.Op.TheVariants.{Read, Write, Trim, Flush}
 use Rattle.block_machine.specs.declared.due.Mode.{Mode}
 use Rattle.block_machine.specs.declared.due.Unanswered.{Unanswered}
-use Rattle.block_machine.specs.Due.{IsInOrder, conflict, holds_back, is_flush, is_plain, is_writer, of_port, overlap}
-use Rattle.range_index.specs.declared.Item.{Item}
-use Rattle.range_index.specs.Items.{is_earlier_conflict}
-use Rattle.request_queue.specs.InTheWay.{is_held, is_issued_alone}
-use Rattle.request_queue.specs.Sectors.{AreSectorsOf, item_of, index_of_port}
+use Rattle.block_machine.specs.Due.{conflict, holds_back, is_clear, is_plain}
+use Rattle.request_queue.specs.Holders.{may_have_holder, may_hold}
+use Rattle.request_queue.specs.Walk.{IsIssuedOf, IsReached, is_issued_alone}
 use Rattle.request_queue.specs.declared.due.Issued.{Issued}
 use Rattle.request_queue.proofs.Members.{count_cons, contains_none, contains_here, contains_there, contains_cases}
-use Rattle.request_queue.proofs.Own.{own_in_order, own_at}
-
-same_bool : (a b : Bool) → (a ≡ true → b ≡ true) → (b ≡ true → a ≡ true) → a ≡ b
-same_bool true true f g = refl
-same_bool false false f g = refl
-same_bool true false f g = sym (f refl)
-same_bool false true f g = g refl
-
--- the walk's requests are the port's
-pub own_port : (port : Port) (r : Unanswered) → (r.port.0 == port.0) ≡ true → r.port ≡ port
-own_port port r mine = ap (λ (n : ℕ). record { 0 = n }) (eqb-true r.port.0 port.0 mine)
-
-queued_is_no_flush : (mode : Mode) (op : Op) → is_plain mode op ≡ false → is_flush op ≡ false
-queued_is_no_flush mode Read q = refl
-queued_is_no_flush mode Write q = refl
-queued_is_no_flush mode Trim q = refl
-queued_is_no_flush mode Flush q = absurd (both_ways _ q refl)
-
-in_filter : {X : Type 0} (p : X → Bool) (xs : List X) (x : X) → Contains xs x → p x ≡ true → Contains (filter p xs) x
-in_filter p [] x there passes = absurd (contains_none x there)
-in_filter {X} p (y ∷ xs) x there passes = ⊎_elim
-    (λ (same : x ≡ y). subst (λ (list : List X). Contains list x) (sym (cond-true (p y) (y ∷ filter p xs) (filter p xs) (ap p (sym same) ∙ passes))) (contains_here y (filter p xs) x same))
-    (λ (later : Contains xs x). by (p y) (in_filter p xs x later passes))
-    (contains_cases y xs x there)
-  where
-    by : (b : Bool) → Contains (filter p xs) x → Contains (cond b (y ∷ filter p xs) (filter p xs)) x
-    by true rest = contains_there y (filter p xs) x rest
-    by false rest = rest
-
-found : {X : Type 0} (p : X → Bool) (xs : List X) (x : X) → Contains xs x → p x ≡ true → list_any p xs ≡ true
-found p xs x there is = list_any_at p xs there.0 x there.1 (ap p there.2 ∙ is)
+use Rattle.request_queue.proofs.Unheld.{found, one_found, queued_is_read_or_write, same_bool}
 
 to_count : (p : Unanswered → Bool) (ys : List Unanswered) (y : Unanswered) → Contains ys y → p y ≡ true → 0 < count_by p ys
 to_count p [] y there is = absurd (contains_none y there)
@@ -75,154 +40,134 @@ pub counted_any : (p : Unanswered → Bool) (xs : List Unanswered) → nat_lt 0 
 counted_any p xs = same_bool (nat_lt 0 (count_by p xs)) (list_any p xs) (λ some. from_count p xs (ltb-true 0 (count_by p xs) some))
     (λ any. let a = Any-from_list_any p xs any in lt-ltb 0 (count_by p xs) (to_count p xs a.1 (a.0, a.2, a.3) a.4))
 
-module _ (port : Port) (all book : List Unanswered) (own : book ≡ of_port port all) (ordered_all : IsInOrder all)
-    (mode : Mode) (i : ℕ) (r : Unanswered) (at : slice_get book i ≡ Some r) (mine : r.port ≡ port)
-    (queued : (k : ℕ) (d : Unanswered) → k < i → is_plain mode (get_or book k d).op ≡ false) where
-  ordered : IsInOrder book
-  ordered = own_in_order port all book own ordered_all
+module _ (mode : Mode) (requests : List Unanswered) (i : ℕ) (r : Unanswered) (reached : IsReached mode requests i r) where
+  its : get_or requests i r ≡ r
+  its = get_or_from_slice_get requests i r r reached.at
 
-  its : get_or book i r ≡ r
-  its = get_or_from_slice_get book i r r at
+  within : i < length requests
+  within = slice_get_within requests i r reached.at
 
   -- one with a lower id stands earlier
-  earlier : (j : ℕ) (o : Unanswered) → j < length book → get_or book j o ≡ o → o.id.0 < r.id.0 → j < i
-  earlier j o lt is less = elim (cases_lt j i) [
+  earlier : (o : Unanswered) (there : Contains requests o) → o.id.0 < r.id.0 → there.0 < i
+  earlier o there less = elim (cases_lt there.0 i) [
     | inl low ↦ low
-    | inr high ↦ elim (cases_eq j i) [
-      | inl e ↦
-          let same = ap (λ (n : ℕ). (get_or book n o).id.0) e in let a = ap (λ (u : Unanswered). u.id.0) is in
-          let b = ap (λ (u : Unanswered). u.id.0) (get_or_from_slice_get book i r o at) in absurd (omega (arith, same, a, b, less))
-      | inr ne ↦
-          let up = ordered i j o (omega arith) lt in let a = ap (λ (u : Unanswered). u.id.0) is in
-          let b = ap (λ (u : Unanswered). u.id.0) (get_or_from_slice_get book i r o at) in absurd (omega (arith, up, a, b, less))
-    ]
+    | inr high ↦
+        let a = ap (λ (u : Unanswered). u.id.0) there.2 in
+        elim (cases_eq there.0 i) [
+          | inl e ↦
+              let same = ap (λ (n : ℕ). (get_or requests n o).id.0) e in
+              let b = ap (λ (u : Unanswered). u.id.0) (get_or_from_slice_get requests i r o reached.at) in absurd (omega (arith, same, a, b, less))
+          | inr ne ↦
+              let up = reached.ordered i there.0 o (omega (arith, high, ne)) there.1 in
+              let b = ap (λ (u : Unanswered). u.id.0) (get_or_from_slice_get requests i r o reached.at) in absurd (omega (arith, up, a, b, less))
+        ]
   ]
 
-  of_one_port : (o : Unanswered) → Contains book o → (o.port.0 == r.port.0) ≡ true
-  of_one_port o there = ap (λ (p : Port). o.port.0 == p.0) mine
-      ∙ own_at port all book own there.0 o (subst (λ (u : Unanswered). slice_get book there.0 ≡ Some u) there.2 (get_slice book there.0 o there.1))
-    where
-      get_slice : (xs : List Unanswered) (k : ℕ) (d : Unanswered) → k < length xs → slice_get xs k ≡ Some (get_or xs k d)
-      get_slice xs k d lt = slice_get-get_or xs k d lt
+  of_one_port : (o : Unanswered) → Contains requests o → (o.port.0 == r.port.0) ≡ true
+  of_one_port o there = eq-eqb o.port.0 r.port.0 (ap (λ (p : Port). p.0) (subst (λ (u : Unanswered). u.port ≡ r.port) there.2 (reached.own there.0 o there.1)))
 
   -- a plain request waits for all that are issued, and for all before it
-  pub plain_held : is_plain mode r.op ≡ true → (busy first : Bool) → busy ≡ list_any (λ (u : Unanswered). u.issued) book → (first ≡ true) ↔ (0 < i)
-      → (busy || first) ≡ list_any (holds_back mode r) book
-  plain_held plain busy first issued places = same_bool (busy || first) (list_any (holds_back mode r) book) ahead back
+  plain_held : is_plain mode r.op ≡ true → list_any (holds_back mode r) requests ≡ (list_any (λ (u : Unanswered). u.issued) requests || nat_lt 0 i)
+  plain_held plain = same_bool (list_any (holds_back mode r) requests) (list_any (λ (u : Unanswered). u.issued) requests || nat_lt 0 i) back ahead
     where
       way : (o : Unanswered) → holds_back mode r o ≡ ((o.port.0 == r.port.0) && (o.issued || nat_lt o.id.0 r.id.0))
       way o = ap (λ (b : Bool). (o.port.0 == r.port.0) && b) (cond-true (is_plain mode r.op) (o.issued || nat_lt o.id.0 r.id.0) ((is_plain mode o.op && o.issued) || (nat_lt o.id.0 r.id.0 && (is_plain mode o.op || conflict o r))) plain)
 
-      ahead : (busy || first) ≡ true → list_any (holds_back mode r) book ≡ true
+      ahead : (list_any (λ (u : Unanswered). u.issued) requests || nat_lt 0 i) ≡ true → list_any (holds_back mode r) requests ≡ true
       ahead is = ⊎_elim
-          (λ (b : busy ≡ true).
-          let any = Any-from_list_any (λ (u : Unanswered). u.issued) book (sym issued ∙ b) in
-          let there : Contains book any.1 = (any.0, any.2, any.3) in
-          found (holds_back mode r) book any.1 there (way any.1 ∙ and_from (any.1.port.0 == r.port.0) _ (of_one_port any.1 there) (or_left any.1.issued (nat_lt any.1.id.0 r.id.0) any.4)))
-          (λ (f : first ≡ true).
-          let some = places.0 f in
-          let within : i < length book = slice_get_within book i r at in
-          let up = ordered 0 i r some within in
+          (λ (b : list_any (λ (u : Unanswered). u.issued) requests ≡ true).
+          let any = one_found (λ (u : Unanswered). u.issued) requests b in
+          found (holds_back mode r) requests any.0 any.1 (way any.0 ∙ and_from _ _ (of_one_port any.0 any.1) (or_left any.0.issued _ any.2)))
+          (λ (f : nat_lt 0 i ≡ true).
+          let some = ltb-true 0 i f in
+          let lt = within in
+          let up = reached.ordered 0 i r some within in
           let b = ap (λ (u : Unanswered). u.id.0) its in
-          let o = get_or book 0 r in
-          let there : Contains book o = (0, omega (arith, some, within), get_or_default book 0 o r (omega (arith, some, within))) in
-          found (holds_back mode r) book o there (way o ∙ and_from (o.port.0 == r.port.0) _ (of_one_port o there) (or_right o.issued (nat_lt o.id.0 r.id.0) (lt-ltb o.id.0 r.id.0 (omega (arith, up, b))))))
-          (or_cases busy first is)
+          let o = get_or requests 0 r in
+          let there : Contains requests o = (0, omega (arith, some, lt), get_or_default requests 0 o r (omega (arith, some, lt))) in
+          found (holds_back mode r) requests o there (way o ∙ and_from _ _ (of_one_port o there) (or_right o.issued _ (lt-ltb o.id.0 r.id.0 (omega (arith, up, b))))))
+          (or_cases _ _ is)
 
-      back : list_any (holds_back mode r) book ≡ true → (busy || first) ≡ true
+      back : list_any (holds_back mode r) requests ≡ true → (list_any (λ (u : Unanswered). u.issued) requests || nat_lt 0 i) ≡ true
       back is =
-          let any = Any-from_list_any (holds_back mode r) book is in
-          let parts = and_parts (any.1.port.0 == r.port.0) (any.1.issued || nat_lt any.1.id.0 r.id.0) (sym (way any.1) ∙ any.4) in
+          let any = one_found (holds_back mode r) requests is in
+          let parts = and_parts (any.0.port.0 == r.port.0) _ (sym (way any.0) ∙ any.2) in
           ⊎_elim
-          (λ (b : any.1.issued ≡ true). or_left busy first (issued ∙ found (λ (u : Unanswered). u.issued) book any.1 (any.0, any.2, any.3) b))
-          (λ (less : nat_lt any.1.id.0 r.id.0 ≡ true).
-          let low = earlier any.0 any.1 any.2 any.3 (ltb-true any.1.id.0 r.id.0 less) in or_right busy first (places.1 (omega (arith, low))))
-          (or_cases any.1.issued (nat_lt any.1.id.0 r.id.0) parts.1)
+          (λ (b : any.0.issued ≡ true). or_left _ (nat_lt 0 i) (found (λ (u : Unanswered). u.issued) requests any.0 any.1 b))
+          (λ (less : nat_lt any.0.id.0 r.id.0 ≡ true).
+          let low = earlier any.0 any.1 (ltb-true any.0.id.0 r.id.0 less) in
+          or_right (list_any (λ (u : Unanswered). u.issued) requests) _ (lt-ltb 0 i (omega (arith, low))))
+          (or_cases any.0.issued _ parts.1)
 
-  in_all : (o : Unanswered) → Contains book o → Contains all o
-  in_all o there =
-      let kept : Contains (of_port port all) o = subst (λ (us : List Unanswered). Contains us o) own there in
-      subst (λ (u : Unanswered). Contains all u) kept.2
-      (All-filter (λ (u : Unanswered). u.port.0 == port.0) (λ (u : Unanswered). Contains all u) all (λ k d lt. Contains-get_or all k d lt) kept.0 o kept.1)
-
-  -- a queued request waits for a plain one that is issued, and for those before it that conflict with it
-  pub queued_held : is_plain mode r.op ≡ false → (items : List Item) → AreSectorsOf (index_of_port port) all items → (stopped conflicts : Bool)
-      → stopped ≡ list_any (is_issued_alone mode) book → conflicts ≡ list_any (is_earlier_conflict (item_of r)) items → (stopped || conflicts) ≡ list_any (holds_back mode r) book
-  queued_held waits items index stopped conflicts stops_is conflicts_is = same_bool (stopped || conflicts) (list_any (holds_back mode r) book) ahead back
+  -- a queued request without a holder waits for a plain one that is issued
+  queued_held : r.issued ≡ false → is_plain mode r.op ≡ false → list_any (holds_back mode r) requests ≡ list_any (is_issued_alone mode) requests
+  queued_held waits queued = same_bool (list_any (holds_back mode r) requests) (list_any (is_issued_alone mode) requests) back ahead
     where
       way : (o : Unanswered) → holds_back mode r o ≡ ((o.port.0 == r.port.0) && ((is_plain mode o.op && o.issued) || (nat_lt o.id.0 r.id.0 && (is_plain mode o.op || conflict o r))))
       way o = ap (λ (b : Bool). (o.port.0 == r.port.0) && b)
-          (cond-false (is_plain mode r.op) (o.issued || nat_lt o.id.0 r.id.0) ((is_plain mode o.op && o.issued) || (nat_lt o.id.0 r.id.0 && (is_plain mode o.op || conflict o r))) waits)
+          (cond-false (is_plain mode r.op) (o.issued || nat_lt o.id.0 r.id.0) ((is_plain mode o.op && o.issued) || (nat_lt o.id.0 r.id.0 && (is_plain mode o.op || conflict o r))) queued)
 
-      ahead : (stopped || conflicts) ≡ true → list_any (holds_back mode r) book ≡ true
-      ahead is = ⊎_elim
-          (λ (b : stopped ≡ true).
-          let any = Any-from_list_any (is_issued_alone mode) book (sym stops_is ∙ b) in
-          let there : Contains book any.1 = (any.0, any.2, any.3) in
-          found (holds_back mode r) book any.1 there
-          (way any.1 ∙ and_from (any.1.port.0 == r.port.0) _ (of_one_port any.1 there) (or_left (is_plain mode any.1.op && any.1.issued) _ any.4)))
-          (λ (b : conflicts ≡ true).
-          let any = Any-from_list_any (is_earlier_conflict (item_of r)) items (sym conflicts_is ∙ b) in
-          let has = (index any.1).0 (any.0, any.2, any.3) in
-          let o = has.0 in
-          let holds_it : is_earlier_conflict (item_of r) (item_of o) ≡ true = ap (is_earlier_conflict (item_of r)) has.4 ∙ any.4 in
-          let one = and_parts (o.port.0 == r.port.0) (nat_lt o.id.0 r.id.0 && ((is_writer o.op || is_writer r.op) && overlap o.range r.range)) holds_it in
-          let two = and_parts (nat_lt o.id.0 r.id.0) ((is_writer o.op || is_writer r.op) && overlap o.range r.range) one.1 in
-          let there : Contains book o = subst (λ (us : List Unanswered). Contains us o) (sym own)
-          (in_filter (λ (u : Unanswered). u.port.0 == port.0) all o has.1 (ap (λ (p : Port). o.port.0 == p.0) (sym mine) ∙ one.0)) in
-          found (holds_back mode r) book o there
-          (way o ∙ and_from (o.port.0 == r.port.0) _ one.0 (or_right (is_plain mode o.op && o.issued) _
-          (and_from (nat_lt o.id.0 r.id.0) _ two.0 (or_right (is_plain mode o.op) (conflict o r)
-          (and_from (o.port.0 == r.port.0) _ one.0 (or_right (is_flush o.op || is_flush r.op) _ two.1)))))))
-          (or_cases stopped conflicts is)
+      ahead : list_any (is_issued_alone mode) requests ≡ true → list_any (holds_back mode r) requests ≡ true
+      ahead is =
+          let any = one_found (is_issued_alone mode) requests is in
+          found (holds_back mode r) requests any.0 any.1 (way any.0 ∙ and_from _ _ (of_one_port any.0 any.1) (or_left (is_plain mode any.0.op && any.0.issued) _ any.2))
 
-      by_conflict : (o : Unanswered) → Contains book o → (o.port.0 == r.port.0) ≡ true → nat_lt o.id.0 r.id.0 ≡ true → is_plain mode o.op ≡ false → conflict o r ≡ true → conflicts ≡ true
-      by_conflict o there same less alone meets =
-          let parts = and_parts (o.port.0 == r.port.0) ((is_flush o.op || is_flush r.op) || ((is_writer o.op || is_writer r.op) && overlap o.range r.range)) meets in
-          ⊎_elim
-          (λ (flush : (is_flush o.op || is_flush r.op) ≡ true). absurd (⊎_elim
-          (λ (f : is_flush o.op ≡ true). both_ways _ (queued_is_no_flush mode o.op alone) f)
-          (λ (f : is_flush r.op ≡ true). both_ways _ (queued_is_no_flush mode r.op waits) f)
-          (or_cases (is_flush o.op) (is_flush r.op) flush)))
-          (λ (both : ((is_writer o.op || is_writer r.op) && overlap o.range r.range) ≡ true).
-          let list : index_of_port o.port ≡ index_of_port port = ap (λ (n : ℕ). n % 4) (eqb-true o.port.0 r.port.0 same ∙ ap (λ (p : Port). p.0) mine) in
-          conflicts_is ∙ found (is_earlier_conflict (item_of r)) items (item_of o)
-          ((index (item_of o)).1 (o, in_all o there, list, queued_is_no_flush mode o.op alone, refl))
-          (and_from (o.port.0 == r.port.0) _ same (and_from (nat_lt o.id.0 r.id.0) _ less both)))
-          (or_cases (is_flush o.op || is_flush r.op) _ parts.1)
+      none_meets : (o : Unanswered) → Contains requests o → nat_lt o.id.0 r.id.0 ≡ true → is_plain mode o.op ≡ false → conflict o r ≡ true → ⊥
+      none_meets o there less alone meets = both_ways _ reached.unheld
+          (and_from (may_have_holder r) _ (and_from (not r.issued) _ (ap not waits) (queued_is_read_or_write mode r.op queued))
+          (found (may_hold r) requests o there (and_from _ _ (and_from _ _ (of_one_port o there) less) meets)))
 
-      back : list_any (holds_back mode r) book ≡ true → (stopped || conflicts) ≡ true
+      back : list_any (holds_back mode r) requests ≡ true → list_any (is_issued_alone mode) requests ≡ true
       back is =
-          let any = Any-from_list_any (holds_back mode r) book is in
-          let o = any.1 in
-          let there : Contains book o = (any.0, any.2, any.3) in
-          let parts = and_parts (o.port.0 == r.port.0) ((is_plain mode o.op && o.issued) || (nat_lt o.id.0 r.id.0 && (is_plain mode o.op || conflict o r))) (sym (way o) ∙ any.4) in
+          let any = one_found (holds_back mode r) requests is in
+          let o = any.0 in
+          let parts = and_parts (o.port.0 == r.port.0) _ (sym (way o) ∙ any.2) in
           ⊎_elim
-          (λ (b : (is_plain mode o.op && o.issued) ≡ true). or_left stopped conflicts (stops_is ∙ found (is_issued_alone mode) book o there b))
+          (λ (b : (is_plain mode o.op && o.issued) ≡ true). found (is_issued_alone mode) requests o any.1 b)
           (λ (b : (nat_lt o.id.0 r.id.0 && (is_plain mode o.op || conflict o r)) ≡ true).
-          let less = and_parts (nat_lt o.id.0 r.id.0) (is_plain mode o.op || conflict o r) b in
-          let low = earlier any.0 o any.2 any.3 (ltb-true o.id.0 r.id.0 less.0) in
-          let alone : is_plain mode o.op ≡ false = ap (λ (u : Unanswered). is_plain mode u.op) (sym any.3) ∙ queued any.0 o low in
-          or_right stopped conflicts (⊎_elim
-          (λ (p : is_plain mode o.op ≡ true). absurd (both_ways _ alone p))
-          (λ (m : conflict o r ≡ true). by_conflict o there parts.0 less.0 alone m)
-          (or_cases (is_plain mode o.op) (conflict o r) less.1)))
+          let less = and_parts (nat_lt o.id.0 r.id.0) _ b in
+          let low = earlier o any.1 (ltb-true o.id.0 r.id.0 less.0) in
+          let alone : is_plain mode o.op ≡ false = ap (λ (u : Unanswered). is_plain mode u.op) (sym any.1.2) ∙ reached.queued any.1.0 o low in
+          absurd (⊎_elim
+          (λ (p : is_plain mode o.op ≡ true). both_ways _ alone p)
+          (λ (m : conflict o r ≡ true). none_meets o any.1 less.0 alone m)
+          (or_cases (is_plain mode o.op) _ less.1)))
           (or_cases (is_plain mode o.op && o.issued) _ parts.1)
 
-  -- so both are told by the place and the index
-  pub held_by_place : (items : List Item) → AreSectorsOf (index_of_port port) all items → (issued : Issued)
-      → issued.count ≡ count_by (λ (u : Unanswered). u.issued) book → issued.alone ≡ list_any (is_issued_alone mode) book
-      → is_held mode r i issued items ≡ list_any (holds_back mode r) book
-  held_by_place items index issued counted alone = by (is_plain mode r.op) refl
-    where
-      first : Bool
-      first = nat_lt 0 issued.count || nat_lt 0 i
+  module _ (issued : Issued) (are : IsIssuedOf mode requests issued) where
+    pub issued_isnt_clear : r.issued ≡ true → false ≡ is_clear mode requests r
+    issued_isnt_clear is = sym (ap (λ (b : Bool). not b && not (list_any (holds_back mode r) requests)) is)
 
-      conflicts : Bool
-      conflicts = issued.alone || list_any (is_earlier_conflict (item_of r)) items
+    pub plain_is_clear : r.issued ≡ false → is_plain mode r.op ≡ true → (none first : Bool) → (none ≡ true) ↔ (issued.count ≡ 0) → (first ≡ true) ↔ (i ≡ 0)
+        → (none && first) ≡ is_clear mode requests r
+    plain_is_clear waits plain none first counted numbered = same_bool (none && first) (is_clear mode requests r) ahead back
+      where
+        held : list_any (holds_back mode r) requests ≡ (nat_lt 0 issued.count || nat_lt 0 i)
+        held = plain_held plain ∙ ap (λ (b : Bool). b || nat_lt 0 i) (sym (ap (nat_lt 0) are.0 ∙ counted_any (λ (u : Unanswered). u.issued) requests))
 
-      by : (b : Bool) → is_plain mode r.op ≡ b → is_held mode r i issued items ≡ list_any (holds_back mode r) book
-      by true plain = cond-true (is_plain mode r.op) first conflicts plain
-          ∙ plain_held plain (nat_lt 0 issued.count) (nat_lt 0 i) (ap (nat_lt 0) counted ∙ counted_any (λ (u : Unanswered). u.issued) book) (ltb-true 0 i, lt-ltb 0 i)
-      by false queued_one = cond-false (is_plain mode r.op) first conflicts queued_one
-          ∙ queued_held queued_one items index issued.alone (list_any (is_earlier_conflict (item_of r)) items) alone refl
+        ahead : (none && first) ≡ true → is_clear mode requests r ≡ true
+        ahead both =
+            let two = and_parts none first both in
+            let none_issued = counted.0 two.0 in
+            let is_first = numbered.0 two.1 in
+            and_from (not r.issued) _ (ap not waits) (ap not (held ∙ false_from_ne_true _ (λ is. ⊎_elim
+            (λ (b : nat_lt 0 issued.count ≡ true). let some = ltb-true 0 issued.count b in omega (arith, some, none_issued))
+            (λ (b : nat_lt 0 i ≡ true). let some = ltb-true 0 i b in omega (arith, some, is_first))
+            (or_cases (nat_lt 0 issued.count) _ is))))
+
+        back : is_clear mode requests r ≡ true → (none && first) ≡ true
+        back clear =
+            let free = sym (held) ∙ none_of _ (and_parts (not r.issued) _ clear).1 in
+            and_from none first (counted.1 (zero_of issued.count (λ some. both_ways _ free (or_left _ (nat_lt 0 i) some))))
+            (numbered.1 (zero_of i (λ some. both_ways _ free (or_right (nat_lt 0 issued.count) _ some))))
+          where
+            none_of : (b : Bool) → not b ≡ true → b ≡ false
+            none_of false e = refl
+            none_of true e = sym e
+
+            zero_of : (n : ℕ) → (nat_lt 0 n ≡ true → ⊥) → n ≡ 0
+            zero_of n none = elim (cases_lt 0 n) [ inl some ↦ absurd (none (lt-ltb 0 n some)) | inr low ↦ omega (arith, low) ]
+
+    pub queued_is_clear : r.issued ≡ false → is_plain mode r.op ≡ false → not issued.alone ≡ is_clear mode requests r
+    queued_is_clear waits queued =
+        ap not (are.1 ∙ sym (queued_held waits queued)) ∙ sym (ap (λ (b : Bool). not b && not (list_any (holds_back mode r) requests)) waits)

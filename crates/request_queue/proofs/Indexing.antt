@@ -13,6 +13,7 @@ use Rattle.std.proofs.lemmas.List.Sorted.{IsPermutation-sym, IsPermutation-inser
 use Rattle.std.proofs.lemmas.Option.{slice_get_within, get_or_from_slice_get}
 use Rattle.ata_types.specs.declared.Port.{Port}
 use Rattle.ata_types.specs.declared.request.RequestId.{RequestId}
+use Rattle.ata_types.specs.declared.limits.TheConstants.{MOST_UNANSWERED}
 use Rattle.block_machine.specs.declared.due.Unanswered.{Unanswered}
 use Rattle.block_machine.specs.Due.{IsInOrder, is_flush}
 use Rattle.range_index.specs.declared.Item.{Item}
@@ -226,7 +227,7 @@ module _ (book : List Unanswered) (lists : List (List Item)) (is : AreIndexed bo
       (own_accepted (index_of_port r.port) book (get_or lists (index_of_port r.port) []) own_list r refl has newest place within)
       (λ list lt other. other_accepted list book (get_or lists list []) (is.each list lt) r (out_of_list list r other))
 
-  pub room_left : length book < 128 → length (get_or lists (index_of_port r.port) []) < 128
+  pub room_left : length book < MOST_UNANSWERED → length (get_or lists (index_of_port r.port) []) < MOST_UNANSWERED
   room_left few = let n = own_list.number in let c = count_below (is_in_list (index_of_port r.port)) book in omega (arith, n, c, few)
     where
       count_below : (p : Unanswered → Bool) (xs : List Unanswered) → count_by p xs ≤ length xs

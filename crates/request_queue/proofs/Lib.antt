@@ -12,4 +12,7 @@ pub mod Finding
 pub mod Lending
 pub mod PermutedPairs
 pub mod Indexing
+pub mod Flushing
 pub mod InTheWay
+pub mod Unheld
+pub mod Holding

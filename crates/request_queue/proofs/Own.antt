@@ -1,8 +1,8 @@
 -- The requests of one port, at their places.
-use Rattle.std.proofs.Common.{◌≡◌, ℕ, zero, suc, ◌<◌, ◌+◌, ◌-◌, ◌==◌, ◌&&◌, ◌||◌, Bool, true, false, cond, List, [], ◌∷◌, ◌++◌, length, get_or, map, take, Some, refl, sym, ap, ◌∙◌, subst, arith}
-use Rattle.std.specs.List.{All, count_by, filter, list_any, slice_get}
+use Rattle.std.proofs.Common.{eqb-true, not, ◌≡◌, ℕ, zero, suc, ◌<◌, ◌+◌, ◌-◌, ◌==◌, ◌&&◌, ◌||◌, Bool, true, false, cond, List, [], ◌∷◌, ◌++◌, length, get_or, map, take, Some, refl, sym, ap, ◌∙◌, subst, arith}
+use Rattle.std.specs.List.{All, Contains, count_by, filter, list_any, slice_get}
 use Rattle.std.specs.Option.{option_map}
-use Rattle.std.proofs.lemmas.Bool.{cond-true, cond-false}
+use Rattle.std.proofs.lemmas.Bool.{and_from, and_parts, both_ways, cond-true, cond-false, false_from_ne_true, not-true}
 use Rattle.std.proofs.lemmas.List.{map-append, append-nil, length-map}
 use Rattle.std.proofs.lemmas.List.Elements.{All-head, All-tail, filter-append}
 use Rattle.std.proofs.lemmas.List.Folds.{list_any-append}
@@ -12,10 +12,13 @@ use Rattle.ata_types.specs.declared.Port.{Port}
 use Rattle.ata_types.specs.declared.request.RequestId.{RequestId}
 use Rattle.block_machine.specs.declared.due.Mode.{Mode}
 use Rattle.block_machine.specs.declared.due.Unanswered.{Unanswered}
-use Rattle.block_machine.specs.Due.{IsInOrder, issued_count, free_slots, of_port, due_of}
+use Rattle.block_machine.specs.Due.{IsInOrder, is_plain, issued_count, free_slots, due_of}
 use Rattle.request_queue.specs.Entries.{Held, asks, asks_of, due_ids}
+use Rattle.request_queue.specs.Holders.{has_holder, may_have_holder, may_hold, unheld}
+use Rattle.request_queue.specs.Walk.{IsReached}
 use Rattle.request_queue.specs.Store.{asks_at, blank}
 use Rattle.request_queue.proofs.Members.{count_append, count_cons, taken_more}
+use Rattle.request_queue.proofs.Unheld.{due_without, found, of_filter, one_found}
 
 -- what a filter leaves passes
 passes : (p : Unanswered → Bool) (xs : List Unanswered) → All (λ x. p x ≡ true) (filter p xs)
@@ -30,18 +33,6 @@ passes p (y ∷ ys) = go (p y) refl (passes p ys)
     go true t rest = first t rest
     go false t rest = rest
 
--- and passes again
-again : (p : Unanswered → Bool) (xs : List Unanswered) → filter p (filter p xs) ≡ filter p xs
-again p [] = refl
-again p (x ∷ xs) = go (p x) refl (again p xs)
-  where
-    go : (b : Bool) → p x ≡ b → filter p (filter p xs) ≡ filter p xs → filter p (cond b (x ∷ filter p xs) (filter p xs)) ≡ cond b (x ∷ filter p xs) (filter p xs)
-    go true t rest = cond-true (p x) (x ∷ filter p (filter p xs)) (filter p (filter p xs)) t ∙ ap (λ (ys : List Unanswered). x ∷ ys) rest
-    go false t rest = rest
-
-all_own : (port : Port) (book : List Unanswered) → All (λ r. (r.port.0 == port.0) ≡ true) (of_port port book)
-all_own port book = passes (λ r. r.port.0 == port.0) book
-
 -- so their issued ones are the port's
 own_issued : (port : Port) (xs : List Unanswered) → All (λ r. (r.port.0 == port.0) ≡ true) xs → count_by (λ r. r.issued) xs ≡ issued_count xs port
 own_issued port [] own = refl
@@ -51,26 +42,45 @@ own_issued port (x ∷ xs) own =
     let head : ◌≡◌ {A = ℕ} (cond ((x.port.0 == port.0) && x.issued) 1 0) (cond x.issued 1 0) = ap (λ (b : Bool). cond {A = ℕ} (b && x.issued) 1 0) mine in
     omega (arith, rest, head, count_cons (λ (r : Unanswered). r.issued) x xs, count_cons (λ (r : Unanswered). (r.port.0 == port.0) && r.issued) x xs)
 
--- which of the machine's laws says that a port's own requests count
-abbrev pub OwnCount : Type 0
-OwnCount = (mode : Mode) (port : Port) (book other : List Unanswered) → of_port port book ≡ of_port port other → due_of mode port book ≡ due_of mode port other
+-- the walk is over those of the port that have no holder
+module _ (port : Port) (all book : List Unanswered) (is : book ≡ unheld port all) where
+  abbrev p : Unanswered → Bool
+  p r = r.port.0 == port.0 && not (has_holder all r)
 
--- the walk is over these
-module _ (port : Port) (all book : List Unanswered) (is : book ≡ of_port port all) where
-  pub own_in_order : IsInOrder all → IsInOrder book
-  own_in_order order = subst (λ (xs : List Unanswered). IsInOrder xs) (sym is) (AllPairs-filter (λ (a : Unanswered) (b : Unanswered). a.id.0 < b.id.0) (λ r. r.port.0 == port.0) all order)
+  pub unheld_in_order : IsInOrder all → IsInOrder book
+  unheld_in_order order = subst (λ (xs : List Unanswered). IsInOrder xs) (sym is) (AllPairs-filter (λ (a : Unanswered) (b : Unanswered). a.id.0 < b.id.0) p all order)
+
+  each_passes : All (λ r. p r ≡ true) book
+  each_passes = subst (λ (xs : List Unanswered). All (λ r. p r ≡ true) xs) (sym is) (passes p all)
 
   own : All (λ r. (r.port.0 == port.0) ≡ true) book
-  own = subst (λ (xs : List Unanswered). All (λ r. (r.port.0 == port.0) ≡ true) xs) (sym is) (all_own port all)
+  own k d lt = (and_parts ((get_or book k d).port.0 == port.0) _ (each_passes k d lt)).0
 
   pub own_at : (i : ℕ) (r : Unanswered) → slice_get book i ≡ Some r → (r.port.0 == port.0) ≡ true
   own_at i r at = subst (λ (x : Unanswered). (x.port.0 == port.0) ≡ true) (get_or_from_slice_get book i r r at) (own i r (slice_get_within book i r at))
 
+  of_port_of : (i : ℕ) (r : Unanswered) → slice_get book i ≡ Some r → All (λ other. other.port ≡ r.port) book
+  of_port_of i r at k d lt = ap (λ (n : ℕ). record { 0 = n }) (eqb-true (get_or book k d).port.0 port.0 (own k d lt) ∙ sym (eqb-true r.port.0 port.0 (own_at i r at)))
+
+  -- none of them has a holder among them
+  unheld_at : (i : ℕ) (r : Unanswered) → slice_get book i ≡ Some r → has_holder book r ≡ false
+  unheld_at i r at = false_from_ne_true _ (λ held.
+      let two = and_parts (may_have_holder r) _ held in
+      let o = one_found (may_hold r) book two.1 in
+      let in_all = (of_filter p all o.0 (subst (λ (xs : List Unanswered). Contains xs o.0) is o.1)).0 in
+      let its = subst (λ (x : Unanswered). p x ≡ true) (get_or_from_slice_get book i r r at) (each_passes i r (slice_get_within book i r at)) in
+      both_ways _ (not-true _ (and_parts (r.port.0 == port.0) _ its).1) (and_from _ _ two.0 (found (may_hold r) all o.0 in_all o.2)))
+
+  -- the walk has come to it
+  pub reached : IsInOrder all → (mode : Mode) (i : ℕ) (r : Unanswered) → slice_get book i ≡ Some r
+      → ((k : ℕ) (d : Unanswered) → k < i → is_plain mode (get_or book k d).op ≡ false) → IsReached mode book i r
+  reached order mode i r at queued = record { at = at; ordered = unheld_in_order order; own = of_port_of i r at; unheld = unheld_at i r at; queued = queued }
+
   pub own_free : (mode : Mode) (free : ℕ) → free ≡ mode.usable - count_by (λ r. r.issued) book → free ≡ free_slots mode book port
   own_free mode free counted = counted ∙ ap (λ (n : ℕ). mode.usable - n) (own_issued port book own)
 
-  pub own_due : OwnCount → (mode : Mode) (due : List RequestId) → due ≡ due_ids mode port book → due ≡ due_ids mode port all
-  own_due law mode due so_far = so_far ∙ ap (λ (rs : List Unanswered). map (λ (r : Unanswered). r.id) rs) (law mode port book all (ap (of_port port) is ∙ again (λ r. r.port.0 == port.0) all))
+  pub own_due : (mode : Mode) (due : List RequestId) → due ≡ due_ids mode port book → due ≡ due_ids mode port all
+  own_due mode due so_far = so_far ∙ ap (λ (rs : List Unanswered). map (λ (r : Unanswered). r.id) rs) (ap (due_of mode port) is ∙ due_without mode port all)
 
 -- as many as there are places
 pub as_long : (es : List Held) (places : List ℕ) → length (asks_at es places) ≡ length places
@@ -85,21 +95,21 @@ at_number es places read n r lt same is =
     ∙ ap Some (ap (λ (xs : List ℕ). get_or (asks_of es) (get_or xs n 0) (asks blank)) (sym same) ∙ get_or_from_slice_get (asks_of es) (get_or read n 0) r (asks blank) is))
 
 -- one place more
-module _ (port : Port) (es : List Held) (places : List ℕ) (i : ℕ) (r : Unanswered) (is : slice_get (asks_of es) i ≡ Some r)
-    (so_far : asks_at es places ≡ of_port port (take i (asks_of es))) where
-  more : of_port port (take (i + 1) (asks_of es)) ≡ of_port port (take i (asks_of es)) ++ of_port port (r ∷ [])
-  more = ap (of_port port) (taken_more (asks_of es) i r is) ∙ filter-append (λ x. x.port.0 == port.0) (take i (asks_of es)) (r ∷ [])
+module _ (p : Unanswered → Bool) (es : List Held) (places : List ℕ) (i : ℕ) (r : Unanswered) (is : slice_get (asks_of es) i ≡ Some r)
+    (so_far : asks_at es places ≡ filter p (take i (asks_of es))) where
+  more : filter p (take (i + 1) (asks_of es)) ≡ filter p (take i (asks_of es)) ++ filter p (r ∷ [])
+  more = ap (filter p) (taken_more (asks_of es) i r is) ∙ filter-append p (take i (asks_of es)) (r ∷ [])
 
-  pub one_own : (r.port.0 == port.0) ≡ true → asks_at es (places ++ i ∷ []) ≡ of_port port (take (i + 1) (asks_of es))
-  one_own mine =
+  pub one_in : p r ≡ true → asks_at es (places ++ i ∷ []) ≡ filter p (take (i + 1) (asks_of es))
+  one_in passes =
       map-append (λ (place : ℕ). get_or (asks_of es) place (asks blank)) places (i ∷ [])
       ∙ (ap (λ (xs : List Unanswered). xs ++ get_or (asks_of es) i (asks blank) ∷ []) so_far
-      ∙ (ap (λ (x : Unanswered). of_port port (take i (asks_of es)) ++ x ∷ []) (get_or_from_slice_get (asks_of es) i r (asks blank) is)
-      ∙ sym (more ∙ ap (λ (xs : List Unanswered). of_port port (take i (asks_of es)) ++ xs) (cond-true (r.port.0 == port.0) (r ∷ []) [] mine))))
+      ∙ (ap (λ (x : Unanswered). filter p (take i (asks_of es)) ++ x ∷ []) (get_or_from_slice_get (asks_of es) i r (asks blank) is)
+      ∙ sym (more ∙ ap (λ (xs : List Unanswered). filter p (take i (asks_of es)) ++ xs) (cond-true (p r) (r ∷ []) [] passes))))
 
-  pub one_foreign : (r.port.0 == port.0) ≡ false → asks_at es places ≡ of_port port (take (i + 1) (asks_of es))
-  one_foreign other =
-      so_far ∙ sym (more ∙ (ap (λ (xs : List Unanswered). of_port port (take i (asks_of es)) ++ xs) (cond-false (r.port.0 == port.0) (r ∷ []) [] other) ∙ append-nil (of_port port (take i (asks_of es)))))
+  pub one_out : p r ≡ false → asks_at es places ≡ filter p (take (i + 1) (asks_of es))
+  one_out fails =
+      so_far ∙ sym (more ∙ (ap (λ (xs : List Unanswered). filter p (take i (asks_of es)) ++ xs) (cond-false (p r) (r ∷ []) [] fails) ∙ append-nil (filter p (take i (asks_of es)))))
 
 -- and what is counted of those at the places
 module _ (es : List Held) (places : List ℕ) (i : ℕ) (r : Unanswered) (is : slice_get (asks_of es) i ≡ Some r) (p : Unanswered → Bool) where

@@ -1,6 +1,9 @@
 pub mod Entries
+pub mod Counts
 pub mod Store
 pub mod Machine
 pub mod Fates
 pub mod Sectors
-pub mod InTheWay
+pub mod Flushes
+pub mod Holders
+pub mod Walk

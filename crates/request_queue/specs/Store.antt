@@ -3,6 +3,7 @@ use Rattle.std.specs.Prelude.{◌≡◌, ◌≢◌, ℕ, ◌<◌, ◌≤◌, Lis
 use Rattle.slab.specs.Slab.{Slab, get, slab_len}
 use Rattle.ata_types.specs.declared.request.Frame.{Frame}
 use Rattle.ata_types.specs.declared.request.Op.TheVariants.{Read}
+use Rattle.ata_types.specs.declared.limits.TheConstants.{MOST_UNANSWERED}
 use Rattle.dma_frames.specs.Loan.{Lending}
 use Rattle.block_machine.specs.declared.due.Unanswered.{Unanswered}
 use Rattle.request_queue.specs.Entries.{Held, asks, asks_of}
@@ -49,7 +50,7 @@ pub record IsKept (requests : Slab Entry) (loans : List (Option Lending)) (key :
 
 -- each key in the order has its request and loan, and no other key has one
 pub record IsSound (requests : Slab Entry) (loans : List (Option Lending)) (order : List ℕ) : Type 0 where
-  pub room : 128 ≤ requests.capacity
+  pub room : MOST_UNANSWERED ≤ requests.capacity
   pub places : length loans ≡ requests.capacity
   pub count : slab_len requests ≡ length order
   pub distinct : AllPairs (λ (a : ℕ) (b : ℕ). a ≢ b) order

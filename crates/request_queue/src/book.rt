@@ -5,10 +5,12 @@ ghost use Rattle.request_queue.specs.Entries.{Held, GivesBack, IsEarlier, IsFres
 
 use crate::Entry;
 use crate::due::due;
-use crate::sectors::{LISTS, add_sectors, index_of_port, no_sectors, take_sectors};
+use crate::flushes::{Flush, add_flush, no_flushes, take_flush};
+use crate::holders::{holder_of, no_holders, search_anew};
+use crate::sectors::{add_sectors, no_sectors, take_sectors};
 use crate::store::{Store, asks_of};
 use arrayvec::ArrayVec;
-use ata_types::{ClientId, Port, RequestId};
+use ata_types::{ClientId, MOST_UNANSWERED, PORTS, Port, RequestId};
 use block_machine::Mode;
 use dma_frames::{FrameTable, Loan};
 use range_index::Ranges;
@@ -17,6 +19,9 @@ use std::marker::Model;
 
 /// The age at which an issued request is overdue. Its port is restarted then, so no age counts further.
 const OVERDUE: u8 = 3;
+
+/// How many numbers of clients there are: 0 to 8.
+const COUNTS: usize = 9;
 
 /// Memory was refused.
 #[derive(Clone, Copy, Debug, PartialEq, Eq)]
@@ -27,19 +32,32 @@ pub struct NoMemory;
 pub struct Book {
     store: Store,
     /// The sectors of the requests, port by port, which tell what conflicts.
-    sectors: [Ranges; LISTS],
+    sectors: [Ranges; PORTS],
+    /// The flushes of all ports, in order of acceptance. A flush has no sectors, and conflicts all the same.
+    flushes: Vec<Flush>,
+    /// For each request the earlier one that it waits for, if there is one: its holder.
+    holders: Vec<Option<RequestId>>,
+    /// How many of the requests each client has, by its number. None is of client 0.
+    counts: [usize; COUNTS],
 }
 
 impl Model for Book {
-    ghost use Rattle.std.specs.Prelude.{List};
+    ghost use Rattle.std.specs.Prelude.{List, ◌≡◌, ◌≤◌, vec_capacity};
+    ghost use Rattle.ata_types.specs.declared.limits.TheConstants.{MOST_UNANSWERED};
+    ghost use Rattle.request_queue.specs.Counts.{AreCounts};
     ghost use Rattle.request_queue.specs.Entries.{Held, IsInOrder, asks_of};
+    ghost use Rattle.request_queue.specs.Flushes.{flushes_of};
+    ghost use Rattle.request_queue.specs.Holders.{AreHolders};
     ghost use Rattle.request_queue.specs.Sectors.{AreIndexed};
 
     ghost Value = { List Held };
 
     ghost view = { λ b. b.store };
 
-    ghost invariant = { λ b. IsInOrder b.store × AreIndexed (asks_of b.store) b.sectors };
+    ghost invariant = { λ b. IsInOrder b.store × AreIndexed (asks_of b.store) b.sectors
+        × AreHolders (asks_of b.store) b.holders.items × (MOST_UNANSWERED ≤ vec_capacity b.holders)
+        × AreCounts b.store b.counts
+        × (b.flushes.items ≡ flushes_of (asks_of b.store)) × (MOST_UNANSWERED ≤ vec_capacity b.flushes) };
 }
 
 impl Book {
@@ -51,8 +69,20 @@ impl Book {
         let Ok(sectors) = no_sectors(alloc) else {
             return Err(NoMemory);
         };
+        let Ok(flushes) = no_flushes(alloc) else {
+            return Err(NoMemory);
+        };
+        let Ok(holders) = no_holders(alloc) else {
+            return Err(NoMemory);
+        };
         match Store::new(alloc) {
-            Ok(store) => Ok(Book { store, sectors }),
+            Ok(store) => Ok(Book {
+                store,
+                sectors,
+                flushes,
+                holders,
+                counts: [0; COUNTS],
+            }),
             Err(_) => Err(NoMemory),
         }
     }
@@ -61,13 +91,10 @@ impl Book {
     pub fn unanswered(&self, client: ClientId) -> usize
         ensures { result ≡ unanswered_of self.now client.0 }
     {
-        let mut count = 0;
-        for place in 0..self.store.len() {
-            if self.store.request(place).client.0 == client.0 {
-                count += 1;
-            }
+        match self.counts.get(usize::from(client.0)) {
+            Some(count) => *count,
+            None => 0,
         }
-        count
     }
 
     /// Puts a request last, with its loan.
@@ -79,7 +106,12 @@ impl Book {
         requires id { loan.request ≡ request.id }
         ensures { self.new ≡ self.old ++ record { entry = request; frames = loan.frames } ∷ [] }
     {
-        add_sectors(&mut self.sectors, &self.store, &asks_of(request));
+        self.counts[usize::from(request.client.0)] += 1;
+        let asks = asks_of(request);
+        let holder = holder_of(&self.sectors, self.flushes.as_slice(), &asks);
+        self.holders.push_reserved(holder);
+        add_sectors(&mut self.sectors, &self.store, &asks);
+        add_flush(&mut self.flushes, &asks);
         self.store.push(request, loan);
     }
 
@@ -88,7 +120,7 @@ impl Book {
         requires { mode.usable ≤ 32 }
         ensures { result.items ≡ due_ids mode port (asks_of self.now) }
     {
-        due(&self.store, &self.sectors[index_of_port(port)], mode, port)
+        due(&self.store, self.holders.as_slice(), mode, port)
     }
 
     /// An unanswered request, and how far it is.
@@ -109,7 +141,7 @@ impl Book {
     }
 
     /// The ids of a port's requests, in order of acceptance.
-    pub fn ids_of(&self, port: Port) -> ArrayVec<RequestId, 128>
+    pub fn ids_of(&self, port: Port) -> ArrayVec<RequestId, MOST_UNANSWERED>
         ensures { result.items ≡ ids_where (is_of port) self.now }
     {
         ids_of(&self.store, port)
@@ -117,7 +149,7 @@ impl Book {
 
     /// The ids of the requests that wait, and were accepted under this grant of the client: those that are to be
     /// answered once the grant is taken back, which no call does yet.
-    pub fn waiting_of(&self, client: ClientId, grant: u8) -> ArrayVec<RequestId, 128>
+    pub fn waiting_of(&self, client: ClientId, grant: u8) -> ArrayVec<RequestId, MOST_UNANSWERED>
         ensures { result.items ≡ ids_where (waits_under client grant) self.now }
     {
         waiting_of(&self.store, client, grant)
@@ -139,6 +171,7 @@ impl Book {
                 ..old
             },
         );
+        self.holders[place] = None;
     }
 
     /// Notes that an issued request waits again, in its old place and with its loan.
@@ -155,6 +188,12 @@ impl Book {
                 ..old
             },
         );
+        let holder = holder_of(
+            &self.sectors,
+            self.flushes.as_slice(),
+            &self.store.asks(place),
+        );
+        self.holders[place] = holder;
     }
 
     /// Notes a tick: the issued requests of these ports, by number, are a tick older. An age counts to three and no
@@ -186,7 +225,19 @@ impl Book {
     {
         let place = place_of(&self.store, id);
         take_sectors(&mut self.sectors, &self.store, place);
-        self.store.remove(place)
+        take_flush(&mut self.flushes, id);
+        self.holders.remove(place);
+        search_anew(
+            &mut self.holders,
+            &self.sectors,
+            self.flushes.as_slice(),
+            &self.store,
+            place,
+            id,
+        );
+        let (request, loan) = self.store.remove(place);
+        self.counts[usize::from(request.client.0)] -= 1;
+        (request, loan)
     }
 
     /// Ends the book: what it has lent is given back.
@@ -194,7 +245,13 @@ impl Book {
         requires { All (Stands table.old) self }
         ensures { GivesBack table.old table.new self }
     {
-        let Book { store, sectors: _ } = self;
+        let Book {
+            store,
+            sectors: _,
+            flushes: _,
+            holders: _,
+            counts: _,
+        } = self;
         give_back(store, table);
     }
 }
@@ -218,8 +275,8 @@ fn place_of(store: &Store, id: RequestId) -> usize
     first
 }
 
-fn ids_of(store: &Store, port: Port) -> ArrayVec<RequestId, 128>
-    requires { length store.now ≤ 128 }
+fn ids_of(store: &Store, port: Port) -> ArrayVec<RequestId, MOST_UNANSWERED>
+    requires { length store.now ≤ MOST_UNANSWERED }
     ensures { result.items ≡ ids_where (is_of port) store.now }
 {
     let mut ids = ArrayVec::new();
@@ -232,8 +289,8 @@ fn ids_of(store: &Store, port: Port) -> ArrayVec<RequestId, 128>
     ids
 }
 
-fn waiting_of(store: &Store, client: ClientId, grant: u8) -> ArrayVec<RequestId, 128>
-    requires { length store.now ≤ 128 }
+fn waiting_of(store: &Store, client: ClientId, grant: u8) -> ArrayVec<RequestId, MOST_UNANSWERED>
+    requires { length store.now ≤ MOST_UNANSWERED }
     ensures { result.items ≡ ids_where (waits_under client grant) store.now }
 {
     let mut ids = ArrayVec::new();

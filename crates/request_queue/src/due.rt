@@ -1,23 +1,20 @@
 // The walk that gives the due requests of a port.
-ghost use Rattle.std.specs.Prelude.{◌≡◌, ◌<◌, ◌≤◌, ◌-◌, ◌&&◌, ◌||◌, if◌then◌else◌, not, nat_lt, count_by, length, All, Contains, IfSome, Some, slice_get};
-ghost use Rattle.std.specs.List.{list_any};
+ghost use Rattle.std.specs.Prelude.{◌≡◌, ◌<◌, ◌≤◌, ◌-◌, ◌&&◌, ◌||◌, if◌then◌else◌, not, nat_lt, length, All, List, Some, slice_get};
 ghost use Rattle.block_machine.specs.Due as machine;
-ghost use Rattle.range_index.specs.Items.{is_earlier_conflict};
+ghost use Rattle.block_machine.specs.declared.due.Unanswered.{Unanswered};
 ghost use Rattle.request_queue.specs.Entries.{asks_of, due_ids};
-ghost use Rattle.request_queue.specs.InTheWay.{is_held, is_issued_alone};
-ghost use Rattle.request_queue.specs.Sectors.{AreSectorsOf, index_of_port};
+ghost use Rattle.request_queue.specs.Holders.{AreHolders, unheld};
+ghost use Rattle.request_queue.specs.Walk.{IsIssuedOf, IsReached, is_issued_alone};
 ghost use Rattle.request_queue.specs.Store.{asks_at};
 
-use crate::sectors::item_of;
-use crate::store::{PLACES, Store};
+use crate::store::Store;
 use arrayvec::ArrayVec;
-use ata_types::{Port, RequestId};
-use block_machine::laws::{earlier_ones_stand_before, own_requests_count, slots_by_due};
+use ata_types::{MOST_UNANSWERED, Port, RequestId};
+use block_machine::laws::{earlier_ones_stand_before, slots_by_due};
 use block_machine::{Mode, Unanswered, is_plain};
-use range_index::{Item, Ranges, is_earlier_conflict};
 
 /// Places of requests in a store, in order of acceptance.
-type Places = ArrayVec<u8, PLACES>;
+type Places = ArrayVec<u8, MOST_UNANSWERED>;
 
 /// What is issued of a port: how many requests, and whether one of them is plain, and so was issued alone.
 #[derive(Clone, Copy, Debug)]
@@ -26,25 +23,28 @@ struct Issued {
     alone: bool,
 }
 
-/// The ids of the port's due requests, in order of acceptance: one walk over the port's requests, which counts the
-/// slots that it gives away, and ends where no later request can be due.
-pub fn due(store: &Store, ranges: &Ranges, mode: Mode, port: Port) -> ArrayVec<RequestId, 32>
+/// The ids of the port's due requests, in order of acceptance: one walk over the port's requests without a holder,
+/// which counts the slots that it gives away, and ends where no later request can be due.
+pub fn due(
+    store: &Store,
+    holders: &[Option<RequestId>],
+    mode: Mode,
+    port: Port,
+) -> ArrayVec<RequestId, 32>
     requires ordered { machine.IsInOrder (asks_of store.now) }
-    requires few { length store.now ≤ 128 }
+    requires few { length store.now ≤ MOST_UNANSWERED }
     requires usable { mode.usable ≤ 32 }
-    requires index { AreSectorsOf (index_of_port port) (asks_of store.now) ranges.now }
+    requires holders { AreHolders (asks_of store.now) holders.now }
     ensures { result.items ≡ due_ids mode port (asks_of store.now) }
 {
     earlier_ones_stand_before();
-    own_requests_count();
     slots_by_due();
-    let (places, issued) = places_of(store, mode, port);
+    let (places, issued) = unheld_places(store, holders, mode, port);
     let free = free_slots(mode, issued.count);
     let mut due = ArrayVec::new();
-    let mut last = None;
     for number in 0..places.len() {
         let asks = nth(store, &places, number);
-        let clear = is_clear(ranges, mode, &asks, number, issued, &mut last);
+        let clear = is_clear(mode, &asks, number, issued);
         if goes(mode, &asks, clear, due.len(), free) {
             due.push(asks.id);
         }
@@ -55,25 +55,32 @@ pub fn due(store: &Store, ranges: &Ranges, mode: Mode, port: Port) -> ArrayVec<R
     due
 }
 
-/// The places of the port's requests, and what of these is issued.
-fn places_of(store: &Store, mode: Mode, port: Port) -> (Places, Issued)
-    requires { length store.now ≤ 128 }
-    ensures own { asks_at store.now result.0.items ≡ machine.of_port port (asks_of store.now) }
+/// The places of the port's requests without a holder, and what of these is issued.
+fn unheld_places(
+    store: &Store,
+    holders: &[Option<RequestId>],
+    mode: Mode,
+    port: Port,
+) -> (Places, Issued)
+    requires few { length store.now ≤ MOST_UNANSWERED }
+    requires holders { AreHolders (asks_of store.now) holders.now }
+    ensures unheld { asks_at store.now result.0.items ≡ unheld port (asks_of store.now) }
     ensures within { All (λ place. place < length store.now) result.0.items }
-    ensures count { result.1.count ≡ count_by (λ r. r.issued) (asks_at store.now result.0.items) }
-    ensures alone { result.1.alone ≡ list_any (is_issued_alone mode) (asks_at store.now result.0.items) }
+    ensures issued { IsIssuedOf mode (asks_at store.now result.0.items) result.1 }
 {
     let mut places = ArrayVec::new();
     let mut count = 0usize;
     let mut alone = false;
-    for place in 0..store.len() {
-        let asks = store.asks(place);
-        if asks.port.0 == port.0 {
-            places.push(place as u8);
-            let slots = slots_of(&asks);
-            count += slots;
-            let issued_alone = is_issued_alone(mode, &asks);
-            alone |= issued_alone;
+    for place in 0..holders.len() {
+        if holders[place].is_none() {
+            let asks = store.asks(place);
+            if asks.port.0 == port.0 {
+                places.push(place as u8);
+                let slots = slots_of(&asks);
+                count += slots;
+                let issued_alone = is_issued_alone(mode, &asks);
+                alone |= issued_alone;
+            }
         }
     }
     (places, Issued { count, alone })
@@ -123,60 +130,18 @@ fn free_slots(mode: Mode, issued: usize) -> usize
     (mode.usable as usize).saturating_sub(issued)
 }
 
-/// Whether the request waits, and nothing stands in its way. It has this number among its port's.
-fn is_clear(
-    ranges: &Ranges,
-    mode: Mode,
-    asks: &Unanswered,
-    number: usize,
-    issued: Issued,
-    last: &mut Option<Item>,
-) -> bool
-    requires last { IfSome last.old (Contains ranges.now) }
-    ensures clear { result ≡ (not asks.now.issued && not (is_held mode asks.now number issued ranges.now)) }
-    ensures last { IfSome last.new (Contains ranges.now) }
+/// Whether the request waits, and nothing stands in its way. It has this number among those of its port without a
+/// holder, all before it are queued, and this is issued of them. A plain one waits for all that are issued and all
+/// before it, a queued one for what is issued alone.
+fn is_clear(mode: Mode, asks: &Unanswered, number: usize, issued: Issued) -> bool
+    ensures { (requests : List Unanswered) → IsReached mode requests number asks.now
+        → IsIssuedOf mode requests issued → result ≡ machine.is_clear mode requests asks.now }
 {
-    !asks.issued && !is_held(ranges, mode, asks, number, issued, last)
-}
-
-/// Whether something stands in the way of the request, where all before it are queued: of a plain one all that are
-/// issued and all before it, of a queued one what is issued alone and what conflicts.
-fn is_held(
-    ranges: &Ranges,
-    mode: Mode,
-    asks: &Unanswered,
-    number: usize,
-    issued: Issued,
-    last: &mut Option<Item>,
-) -> bool
-    requires last { IfSome last.old (Contains ranges.now) }
-    ensures held { result ≡ is_held mode asks.now number issued ranges.now }
-    ensures last { IfSome last.new (Contains ranges.now) }
-{
-    if is_plain(mode, asks.op) {
-        issued.count > 0 || number > 0
+    if asks.issued {
+        false
+    } else if is_plain(mode, asks.op) {
+        issued.count == 0 && number == 0
     } else {
-        issued.alone || conflicts(ranges, &item_of(asks), last)
-    }
-}
-
-/// Whether an earlier one conflicts with the item. The last one that did so with any is tried first: where many wait
-/// for one request, it is searched for once.
-fn conflicts(ranges: &Ranges, item: &Item, last: &mut Option<Item>) -> bool
-    requires { IfSome last.old (Contains ranges.now) }
-    ensures conflicts { result ≡ list_any (is_earlier_conflict item.now) ranges.now }
-    ensures last { IfSome last.new (Contains ranges.now) }
-{
-    if let Some(known) = *last {
-        if is_earlier_conflict(item, &known) {
-            return true;
-        }
-    }
-    match ranges.earlier_conflict(item) {
-        Some(found) => {
-            *last = Some(found);
-            true
-        }
-        None => false,
+        !issued.alone
     }
 }

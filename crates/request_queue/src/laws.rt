@@ -17,6 +17,7 @@ ghost use Rattle.request_queue.specs.Entries.{Held, IsAccepted, IsEarlier, IsFre
 ghost use Rattle.request_queue.specs.Machine.{IsBook, IsEntry};
 ghost use Rattle.request_queue.specs.declared.Entry.{Entry};
 
+use ata_types::MOST_UNANSWERED;
 use block_machine::laws::{due_in_turn, due_is_exact};
 
 /// Where the machine's book is the book, the machine's due requests are the book's.
@@ -129,7 +130,7 @@ pub fn the_book_stays_in_order()
         → IsInOrder (map (at id requeued) entries) }
     ensures older { (entries : List Held) (ports : Port → Bool) → IsInOrder entries → IsInOrder (aged ports entries) }
     ensures answered { (entries : List Held) (id : RequestId) → IsInOrder entries → IsInOrder (without id entries) }
-    ensures all { (entries : List Held) → IsInOrder entries → length entries ≤ 128 }
+    ensures all { (entries : List Held) → IsInOrder entries → length entries ≤ MOST_UNANSWERED }
     ensures asks { (entries : List Held) → IsInOrder entries → machine_in_order (asks_of entries) }
 {}
 

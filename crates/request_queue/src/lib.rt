@@ -9,6 +9,8 @@
 mod book;
 mod due;
 mod fate;
+mod flushes;
+mod holders;
 pub mod laws;
 mod sectors;
 mod store;

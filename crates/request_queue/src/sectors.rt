@@ -5,16 +5,13 @@ ghost use Rattle.request_queue.specs.Entries.{asks_of};
 ghost use Rattle.request_queue.specs.Sectors.{AreIndexed, item_of, index_of_port};
 
 use crate::store::Store;
-use ata_types::{Op, Port};
+use ata_types::{MOST_UNANSWERED, Op, PORTS, Port};
 use block_machine::{Unanswered, is_writer};
 use range_index::{Item, Ranges};
 use std::alloc::{AllocError, Global};
 
-/// How many lists there are: each of the four ports has its own.
-pub const LISTS: usize = 4;
-
 /// Lists of no sectors. No other call takes memory.
-pub fn no_sectors(alloc: Global) -> Result<[Ranges; LISTS], AllocError>
+pub fn no_sectors(alloc: Global) -> Result<[Ranges; PORTS], AllocError>
     ensures { IfOk result (λ lists. AreIndexed [] lists) }
 {
     Ok([
@@ -26,9 +23,9 @@ pub fn no_sectors(alloc: Global) -> Result<[Ranges; LISTS], AllocError>
 }
 
 /// Puts the sectors of a request into its port's list, before the request is put into the store.
-pub fn add_sectors(sectors: &mut [Ranges; LISTS], store: &Store, request: &Unanswered)
+pub fn add_sectors(sectors: &mut [Ranges; PORTS], store: &Store, request: &Unanswered)
     requires indexed { AreIndexed (asks_of store.now) sectors.old }
-    requires room { length store.now < 128 }
+    requires room { length store.now < MOST_UNANSWERED }
     requires newest { All (λ r. r.id.0 < request.now.id.0) (asks_of store.now) }
     ensures { AreIndexed (asks_of store.now ++ request.now ∷ []) sectors.new }
 {
@@ -40,7 +37,7 @@ pub fn add_sectors(sectors: &mut [Ranges; LISTS], store: &Store, request: &Unans
 }
 
 /// Takes the sectors of the request at a place out of its port's list, before the request is taken out of the store.
-pub fn take_sectors(sectors: &mut [Ranges; LISTS], store: &Store, place: usize)
+pub fn take_sectors(sectors: &mut [Ranges; PORTS], store: &Store, place: usize)
     requires indexed { AreIndexed (asks_of store.now) sectors.old }
     requires ordered { machine.IsInOrder (asks_of store.now) }
     requires place { place < length store.now }
@@ -58,7 +55,7 @@ pub fn take_sectors(sectors: &mut [Ranges; LISTS], store: &Store, place: usize)
 pub fn index_of_port(port: Port) -> usize
     ensures { result ≡ index_of_port port }
 {
-    port.0 as usize % LISTS
+    port.0 as usize % PORTS
 }
 
 /// The request as it is indexed.
@@ -73,8 +70,7 @@ pub fn item_of(request: &Unanswered) -> Item
     }
 }
 
-/// Whether the operation is one on sectors. A flush has none. (It is plain, as a trim is: no search has to find
-/// either.)
+/// Whether the operation is one on sectors. A flush has none.
 fn has_sectors(op: Op) -> bool
     ensures { result ≡ not (machine.is_flush op) }
 {

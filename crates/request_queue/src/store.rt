@@ -3,15 +3,13 @@ ghost use Rattle.std.specs.Prelude.{◌≡◌, ◌<◌, ◌≤◌, ◌++◌, ◌
 ghost use Rattle.request_queue.specs.Entries.{Held, asks, asks_of};
 
 use crate::Entry;
+use ata_types::MOST_UNANSWERED;
 use block_machine::Unanswered;
 use dma_frames::Loan;
 use slab::Slab;
 use std::alloc::{AllocError, Global};
 use std::marker::Model;
 use std::mem;
-
-/// Requests that there is room for: 16 of each of 8 clients.
-pub const PLACES: usize = 128;
 
 /// Requests with their loans, each at its place.
 pub struct Store {
@@ -22,6 +20,7 @@ pub struct Store {
 
 impl Model for Store {
     ghost use Rattle.std.specs.Prelude.{List, ◌≤◌, length, vec_capacity};
+    ghost use Rattle.ata_types.specs.declared.limits.TheConstants.{MOST_UNANSWERED};
     ghost use Rattle.request_queue.specs.Entries.{Held};
     ghost use Rattle.request_queue.specs.Store.{entries, IsSound};
 
@@ -29,7 +28,8 @@ impl Model for Store {
 
     ghost view = { λ s. entries s.requests s.loans.items s.order.items };
 
-    ghost invariant = { λ s. IsSound s.requests s.loans.items s.order.items × (128 ≤ vec_capacity s.order) };
+    ghost invariant = { λ s. IsSound s.requests s.loans.items s.order.items
+        × (MOST_UNANSWERED ≤ vec_capacity s.order) };
 }
 
 impl Store {
@@ -37,8 +37,8 @@ impl Store {
     pub fn new(alloc: Global) -> Result<Self, AllocError>
         ensures { IfOk result (λ store. store ≡ []) }
     {
-        let requests = Slab::with_capacity(alloc, PLACES)?;
-        let order = Vec::with_capacity(alloc, PLACES)?;
+        let requests = Slab::with_capacity(alloc, MOST_UNANSWERED)?;
+        let order = Vec::with_capacity(alloc, MOST_UNANSWERED)?;
         let loans = no_loans(alloc, requests.capacity())?;
         Ok(Store {
             requests,
@@ -76,7 +76,7 @@ impl Store {
 
     /// Puts a request last, with its loan.
     pub fn push(&mut self, request: Entry, loan: Loan)
-        requires room { length self.old < 128 }
+        requires room { length self.old < MOST_UNANSWERED }
         requires id { loan.request ≡ request.id }
         ensures { self.new ≡ self.old ++ record { entry = request; frames = loan.frames } ∷ [] }
     {

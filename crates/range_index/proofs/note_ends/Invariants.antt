@@ -1,4 +1,4 @@
-use Rattle.std.proofs.Common.{ℕ, ◌≡◌, ◌<◌, get_or, length}
+use Rattle.std.proofs.Common.{ℕ, ◌≡◌, ◌<◌, ◌≤◌, get_or, length}
 use Rattle.std.specs.Prelude.{vec_capacity, vec_len}
 use Rattle.range_index.specs.declared.Entry.{Entry}
 use Rattle.range_index.specs.Items.{IsGreatestEnd}
@@ -12,4 +12,5 @@ invariant-loop-place l = record {
   room : vec_capacity l.entries ≡ vec_capacity l.fn.entries;
   items : items_of l.entries.items ≡ items_of l.fn.entries.items;
   ends : (k : ℕ) (d : Entry) → k < l.place → IsGreatestEnd (items_of l.fn.entries.items) k (get_or l.entries.items k d).greatest_end;
+  later : (k : ℕ) (d : Entry) → l.place ≤ k → get_or l.entries.items k d ≡ get_or l.fn.entries.items k d;
 }

@@ -5,7 +5,7 @@ use Rattle.range_index.specs.declared.Entry.{Entry}
 use Rattle.range_index.specs.Items.{StandsBefore}
 use Rattle.range_index.specs.Index.{items_of}
 use Rattle.range_index.proofs.Sorting.{as_many}
-use Rattle.range_index.proofs.Editing.{inserted_below, inserted_view, inserted_index}
+use Rattle.range_index.proofs.Editing.{inserted_below, inserted_follow, inserted_view, inserted_index}
 use Rattle.range_index.proofs.Ranges.insert.Goals as goal
 
 pub note_ends-requires-clause-before : goal.note_ends-requires-clause-before
@@ -13,6 +13,12 @@ note_ends-requires-clause-before c =
     let within = c.count_before-place.ensures.within in
     let len = ap length c.as_slice.ensures.value in
     inserted_below c.self.inside.entries.items c.insert.new.self.items c.insert.new.self.items c.count_before-place.result (record { item = c.args.item; greatest_end = 0 }) c.self.invariant.0 c.in-Ok.ensures.items (omega (arith, within, len))
+
+pub note_ends-requires-clause-follow : goal.note_ends-requires-clause-follow
+note_ends-requires-clause-follow c =
+    let within = c.count_before-place.ensures.within in
+    let len = ap length c.as_slice.ensures.value in
+    inserted_follow c.self.inside.entries.items c.insert.new.self.items c.insert.new.self.items c.count_before-place.result (record { item = c.args.item; greatest_end = 0 }) c.self.invariant.0 c.in-Ok.ensures.items (omega (arith, within, len))
 
 pub invariant_of-self : goal.invariant_of-self
 invariant_of-self c =

@@ -6,7 +6,7 @@ use Rattle.range_index.specs.declared.Entry.{Entry}
 use Rattle.range_index.specs.Items.{StandsBefore, first_of}
 use Rattle.range_index.specs.Index.{IsIndex, items_of}
 use Rattle.range_index.proofs.Sorting.{as_many}
-use Rattle.range_index.proofs.Editing.{its_place, removed_below, removed_view, removed_index}
+use Rattle.range_index.proofs.Editing.{its_place, removed_below, removed_follow, removed_view, removed_index}
 use Rattle.range_index.proofs.Ranges.remove.Goals as goal
 
 -- the place that the search gives is the item's
@@ -43,6 +43,16 @@ note_ends-requires-clause-before c =
     let n = as_many old in
     let low = at.0 in
     removed_below old c.remove.new.self.items c.remove.new.self.items c.count_before-own.result c.self.invariant.0 c.remove.ensures.items (omega (arith, low, n))
+
+pub note_ends-requires-clause-follow : goal.note_ends-requires-clause-follow
+note_ends-requires-clause-follow c =
+    let old = c.self.inside.entries.items in
+    let p = c.count_before-own.ensures in
+    let at = placed c.as_slice.result.now old c.args.item.now c.count_before-own.result c.from-first.result c.as_slice.ensures.value c.self.invariant.0
+    (subst (λ (xs : List Item). Contains xs c.args.item.now) (sym c.self.view_is) c.requires) c.from-first.ensures p.before p.behind in
+    let n = as_many old in
+    let low = at.0 in
+    removed_follow old c.remove.new.self.items c.remove.new.self.items c.count_before-own.result c.self.invariant.0 c.remove.ensures.items (omega (arith, low, n))
 
 pub invariant_of-self : goal.invariant_of-self
 invariant_of-self c =

@@ -1,4 +1,4 @@
-use Rattle.std.proofs.Common.{◌≡◌, ◌∙◌, ◌≤◌, ◌<◌, ◌+◌, ◌-◌, ◌&&◌, ◌||◌, ℕ, Bool, true, false, not, Some, get_or, List, length, map, refl, sym, ap, arith, inl, inr}
+use Rattle.std.proofs.Common.{◌≡◌, ◌∙◌, ◌≤◌, ◌<◌, ◌+◌, ◌-◌, ◌&&◌, ◌||◌, ℕ, Bool, true, false, Some, get_or, List, length, map, refl, sym, ap, arith, inl, inr}
 use Rattle.std.specs.Prelude.{nat_lt}
 use Rattle.std.proofs.lemmas.Bool.{cases_eq}
 use Rattle.std.proofs.lemmas.Option.{get_or_from_slice_get}
@@ -9,8 +9,7 @@ use Rattle.std.proofs.lemmas.List.{take_all}
 use Rattle.block_machine.specs.declared.due.Unanswered.{Unanswered}
 use Rattle.request_queue.specs.Entries.{asks_of}
 use Rattle.request_queue.specs.Store.{asks_at}
-use Rattle.request_queue.proofs.InTheWay.{held_by_place, own_port}
-use Rattle.request_queue.proofs.Own.{own_in_order, own_at, own_free, own_due, as_long}
+use Rattle.request_queue.proofs.Own.{unheld_in_order, reached, own_at, own_free, own_due, as_long}
 use Rattle.request_queue.proofs.Walk.{due_test, steps_on, has_all, has_room}
 use Rattle.request_queue.proofs.due.due.Goals as goal
 use Rattle.request_queue.proofs.due.due.Goals.{then-goes, else-goes}
@@ -30,48 +29,43 @@ queued_more mode book i r at here before k d lt = elim (cases_eq k i) [
 pub returns-then-ends : goal.returns-then-ends
 returns-then-ends c =
     let all = asks_of c.args.store.now in
-    let book = asks_at c.args.store.now c.places_of-places.result.0.items in
-    let is = c.places_of-places.ensures.own in
-    let ordered = own_in_order c.args.port all book is c.requires.ordered in
+    let book = asks_at c.args.store.now c.unheld_places-places.result.0.items in
+    let is = c.unheld_places-places.ensures.unheld in
+    let ordered = unheld_in_order c.args.port all book is c.requires.ordered in
     let mine = own_at c.args.port all book is c.loop-number.number c.nth-asks.result c.nth-asks.ensures in
-    let held = held_by_place c.args.port all book is c.requires.ordered c.args.mode c.loop-number.number c.nth-asks.result c.nth-asks.ensures
-    (own_port c.args.port c.nth-asks.result mine) c.loop-number.invariant.queued c.args.ranges.now c.requires.index c.places_of-places.result.1 c.places_of-places.ensures.count c.places_of-places.ensures.alone in
-    let clear = c.is_clear-clear.ensures.clear ∙ ap (λ (h : Bool). not c.nth-asks.result.issued && not h) held in
-    let free = own_free c.args.port all book is c.args.mode c.free_slots-free.result (c.free_slots-free.ensures ∙ ap (λ (n : ℕ). c.args.mode.usable - n) c.places_of-places.ensures.count) in
+    let clear = c.is_clear-clear.ensures book (reached c.args.port all book is c.requires.ordered c.args.mode c.loop-number.number c.nth-asks.result c.nth-asks.ensures c.loop-number.invariant.queued) c.unheld_places-places.ensures.issued in
+    let free = own_free c.args.port all book is c.args.mode c.free_slots-free.result (c.free_slots-free.ensures ∙ ap (λ (n : ℕ). c.args.mode.usable - n) c.unheld_places-places.ensures.issued.0) in
     let so_far =
     steps_on c.earlier_ones_stand_before.ensures c.slots_by_due.ensures c.args.mode c.args.port book ordered c.loop-number.number c.nth-asks.result c.nth-asks.ensures mine
     c.loop-number.due.items c.loop-number.invariant.so_far c.len.result c.free_slots-free.result c.len.ensures.value free c.if-goes.due.items c.goes.result (c.goes.ensures ∙ ap (λ (b : Bool). b && (is_plain c.args.mode c.nth-asks.result.op || nat_lt c.len.result c.free_slots-free.result)) clear)
     (elim c.if-goes.branch [ then-goes w ↦ rw (w.due-is, w.push.ensures.items, w.if-goes.true) refl | else-goes w ↦ rw (w.due-is, w.if-goes.false) refl ]) in
-    own_due c.args.port all book is c.own_requests_count.ensures.list c.args.mode c.if-goes.due.items
+    own_due c.args.port all book is c.args.mode c.if-goes.due.items
     (has_all c.earlier_ones_stand_before.ensures c.slots_by_due.ensures c.args.mode c.args.port book ordered c.loop-number.number c.nth-asks.result c.nth-asks.ensures mine
     c.if-goes.due.items so_far c.len-in-loop-number.result c.free_slots-free.result c.len-in-loop-number.ensures.value free (sym c.ends.ensures ∙ c.if-ends.true))
 
 pub loop-number-preserved : goal.loop-number-preserved
 loop-number-preserved c =
     let all = asks_of c.args.store.now in
-    let book = asks_at c.args.store.now c.places_of-places.result.0.items in
-    let is = c.places_of-places.ensures.own in
-    let ordered = own_in_order c.args.port all book is c.requires.ordered in
+    let book = asks_at c.args.store.now c.unheld_places-places.result.0.items in
+    let is = c.unheld_places-places.ensures.unheld in
+    let ordered = unheld_in_order c.args.port all book is c.requires.ordered in
     let mine = own_at c.args.port all book is c.loop-number.number c.nth-asks.result c.nth-asks.ensures in
-    let held = held_by_place c.args.port all book is c.requires.ordered c.args.mode c.loop-number.number c.nth-asks.result c.nth-asks.ensures
-    (own_port c.args.port c.nth-asks.result mine) c.loop-number.invariant.queued c.args.ranges.now c.requires.index c.places_of-places.result.1 c.places_of-places.ensures.count c.places_of-places.ensures.alone in
-    let clear = c.is_clear-clear.ensures.clear ∙ ap (λ (h : Bool). not c.nth-asks.result.issued && not h) held in
-    let free = own_free c.args.port all book is c.args.mode c.free_slots-free.result (c.free_slots-free.ensures ∙ ap (λ (n : ℕ). c.args.mode.usable - n) c.places_of-places.ensures.count) in
+    let clear = c.is_clear-clear.ensures book (reached c.args.port all book is c.requires.ordered c.args.mode c.loop-number.number c.nth-asks.result c.nth-asks.ensures c.loop-number.invariant.queued) c.unheld_places-places.ensures.issued in
+    let free = own_free c.args.port all book is c.args.mode c.free_slots-free.result (c.free_slots-free.ensures ∙ ap (λ (n : ℕ). c.args.mode.usable - n) c.unheld_places-places.ensures.issued.0) in
     let small = has_room c.args.mode c.args.port book c.nth-asks.result c.len-in-loop-number.result c.free_slots-free.result free c.requires.usable (sym c.ends.ensures ∙ c.if-ends.false) in
     record {
       so_far = steps_on c.earlier_ones_stand_before.ensures c.slots_by_due.ensures c.args.mode c.args.port book ordered c.loop-number.number c.nth-asks.result c.nth-asks.ensures mine
           c.loop-number.due.items c.loop-number.invariant.so_far c.len.result c.free_slots-free.result c.len.ensures.value free c.if-goes.due.items c.goes.result (c.goes.ensures ∙ ap (λ (b : Bool). b && (is_plain c.args.mode c.nth-asks.result.op || nat_lt c.len.result c.free_slots-free.result)) clear)
           (elim c.if-goes.branch [ then-goes w ↦ rw (w.due-is, w.push.ensures.items, w.if-goes.true) refl | else-goes w ↦ rw (w.due-is, w.if-goes.false) refl ]);
       few = omega (arith, small, c.len-in-loop-number.ensures.value);
-      last = c.is_clear-clear.ensures.last;
       queued = queued_more c.args.mode book c.loop-number.number c.nth-asks.result c.nth-asks.ensures (or_false (is_plain c.args.mode c.nth-asks.result.op) _ (sym c.ends.ensures ∙ c.if-ends.false)) c.loop-number.invariant.queued;
     }
 
 pub returns : goal.returns
 returns c =
     let all = asks_of c.args.store.now in
-    let book = asks_at c.args.store.now c.places_of-places.result.0.items in
-    let long : length book ≤ c.loop-number.number = omega (arith, as_long c.args.store.now c.places_of-places.result.0.items, c.loop-number-test.false, c.len-number-end.ensures.value) in
-    own_due c.args.port all book c.places_of-places.ensures.own c.own_requests_count.ensures.list c.args.mode c.loop-number.due.items
+    let book = asks_at c.args.store.now c.unheld_places-places.result.0.items in
+    let long : length book ≤ c.loop-number.number = omega (arith, as_long c.args.store.now c.unheld_places-places.result.0.items, c.loop-number-test.false, c.len-number-end.ensures.value) in
+    own_due c.args.port all book c.unheld_places-places.ensures.unheld c.args.mode c.loop-number.due.items
     (c.loop-number.invariant.so_far
     ∙ ap (λ (rs : List Unanswered). map (λ (r : Unanswered). r.id) (filter (due_test c.args.mode c.args.port book) rs)) (take_all c.loop-number.number book long))

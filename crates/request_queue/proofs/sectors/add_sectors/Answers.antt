@@ -1,3 +1,4 @@
+use Rattle.ata_types.specs.declared.limits.TheConstants.{MOST_UNANSWERED}
 use Rattle.std.proofs.Common.{◌≡◌, ◌≢◌, ◌<◌, ◌++◌, ◌∷◌, [], List, Bool, not, true, false, get_or, length, subst, sym, ap, ◌∙◌, arith, refl}
 use Rattle.std.proofs.lemmas.Bool.{not-true}
 use Rattle.std.proofs.lemmas.List.{length-map}
@@ -23,7 +24,7 @@ insert-requires-clause-room c =
     let few = c.requires.room in
     let n = length-map c.args.store.now (λ (e : Held). asks e.entry) in
     let e = by_default lists c.index_of_port.result (index_of_port r.port) c.index-sectors-index_of_port.result c.index_of_port.ensures (omega (arith, four, in_four r.port)) in
-    subst (λ (xs : List Item). length xs < 128) (sym e) (room_left (asks_of c.args.store.now) lists c.requires.indexed r (omega (arith, n, few)))
+    subst (λ (xs : List Item). length xs < MOST_UNANSWERED) (sym e) (room_left (asks_of c.args.store.now) lists c.requires.indexed r (omega (arith, n, few)))
 
 pub insert-requires-clause-fresh : goal.insert-requires-clause-fresh
 insert-requires-clause-fresh c =

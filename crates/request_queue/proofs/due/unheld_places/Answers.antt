@@ -1,0 +1,85 @@
+use Rattle.std.proofs.Common.{◌∙◌, ◌≡◌, ◌≤◌, ◌<◌, ◌&&◌, ◌||◌, ◌==◌, ℕ, Bool, Option, None, Some, true, false, not, cond, is_some, get_or, length, refl, sym, ap, subst, arith, eq-eqb}
+use Rattle.std.specs.List.{list_any}
+use Rattle.std.proofs.lemmas.Bool.{and_from, ne_eqb, false_from_ne_true, and_parts, both_ways, not-true, false≢true}
+use Rattle.std.proofs.lemmas.List.{length-map, length_push}
+use Rattle.std.proofs.lemmas.List.Elements.{All-push}
+use Rattle.std.proofs.lemmas.Option.{get_or_from_slice_get, slice_get-get_or}
+use Rattle.ata_types.specs.declared.request.RequestId.{RequestId}
+use Rattle.block_machine.specs.declared.due.Unanswered.{Unanswered}
+use Rattle.request_queue.specs.Entries.{Held, asks, asks_of}
+use Rattle.request_queue.specs.Holders.{IsHolderOf, has_holder}
+use Rattle.request_queue.specs.Walk.{is_issued_alone}
+use Rattle.request_queue.specs.Store.{asks_at, blank}
+use Rattle.request_queue.proofs.Holding.{a_holder, no_holder}
+use Rattle.request_queue.proofs.Own.{one_in, one_out, counted_more, any_more}
+use Rattle.request_queue.proofs.due.unheld_places.Goals as goal
+use Rattle.request_queue.proofs.due.unheld_places.Goals.{then-is_none+then-asks-port, then-is_none+else-asks-port, else-is_none}
+
+one_at_most : (b : Bool) → cond {A = ℕ} b 1 0 ≤ 1
+one_at_most true = omega arith
+one_at_most false = omega arith
+
+is_none : (o : Option RequestId) (b : Bool) → is_some o ≡ not b → b ≡ true → o ≡ None
+is_none None b e is = refl
+is_none (Some id) b e is = absurd (false≢true (sym (e ∙ ap not is)))
+
+is_one : (o : Option RequestId) (b : Bool) → is_some o ≡ not b → b ≡ false → o ≡ None → ⊥
+is_one None b e is none = false≢true (e ∙ ap not is)
+is_one (Some id) b e is none = cc
+
+pub loop-place-preserved : goal.loop-place-preserved
+loop-place-preserved c =
+    let es = c.args.store.now in
+    let book = asks_of es in
+    let i = c.loop-place.place in
+    let places = c.loop-place.places.items in
+    let v = c.loop-place.invariant in
+    let p : Unanswered → Bool = λ r. r.port.0 == c.args.port.0 && not (has_holder book r) in
+    let alone : Unanswered → Bool = is_issued_alone c.args.mode in
+    let are = c.requires.holders in
+    let n = are.number in
+    let long = length-map es (λ (e : Held). asks e.entry) in
+    let end = c.loop-place.auto.place-end in
+    let more = c.loop-place-test.true in
+    let inside : i < length book = omega (arith, end, more, n) in
+    let lt : i < length es = omega (arith, end, more, n, long) in
+    elim c.if-is_none.branch [
+      | then-is_none+then-asks-port w ↦
+          let r = w.asks-asks.result in
+          let one = one_at_most r.issued in
+          let free = no_holder book r (get_or c.args.holders.now i None) (is_none _ c.is_none.result c.is_none.ensures w.if-is_none.true)
+          (subst (λ (x : Unanswered). IsHolderOf book x (get_or c.args.holders.now i None)) (get_or_from_slice_get book i r r w.asks-asks.ensures) (are.each i r inside)) in
+          let count = counted_more es places i r w.asks-asks.ensures (λ (u : Unanswered). u.issued) in
+          rw (w.places-is, w.push.ensures.items) (record {
+            unheld = one_in p es places i r w.asks-asks.ensures v.unheld (and_from _ _ (eq-eqb r.port.0 c.args.port.0 w.if-asks-port.true) (ap not free));
+            within = All-push (λ place. place < length es) places i v.within lt;
+            few = rw length_push (omega (arith, v.few));
+            counted = omega (arith, w.count-is, v.counted, w.slots_of-slots.ensures, count);
+            fits = omega (arith, w.count-is, v.fits, w.slots_of-slots.ensures, one);
+            alone = w.alone-is
+                ∙ (ap (λ (b : Bool). b || w.is_issued_alone-issued_alone.result) v.alone
+                ∙ (ap (λ (b : Bool). list_any alone (asks_at es places) || b) w.is_issued_alone-issued_alone.ensures ∙ sym (any_more es places i r w.asks-asks.ensures alone)));
+          })
+      | then-is_none+else-asks-port w ↦
+          let r = w.asks-asks.result in
+          rw w.places-is (record {
+            unheld = one_out p es places i r w.asks-asks.ensures v.unheld (ap (λ (b : Bool). b && not (has_holder book r)) (ne_eqb r.port.0 c.args.port.0 w.if-asks-port.false));
+            within = v.within;
+            few = omega (arith, v.few);
+            counted = w.count-is ∙ v.counted;
+            fits = omega (arith, w.count-is, v.fits);
+            alone = w.alone-is ∙ v.alone;
+          })
+      | else-is_none w ↦
+          let r = get_or book i (asks blank) in
+          let held = a_holder book r (get_or c.args.holders.now i None) (is_one _ c.is_none.result c.is_none.ensures w.if-is_none.false) (are.each i (asks blank) inside) in
+          rw w.places-is (record {
+            unheld = one_out p es places i r (slice_get-get_or book i (asks blank) inside) v.unheld
+                (false_from_ne_true _ (λ both. both_ways _ (not-true _ (and_parts (r.port.0 == c.args.port.0) _ both).1) held));
+            within = v.within;
+            few = omega (arith, v.few);
+            counted = w.count-is ∙ v.counted;
+            fits = omega (arith, w.count-is, v.fits);
+            alone = w.alone-is ∙ v.alone;
+          })
+    ]

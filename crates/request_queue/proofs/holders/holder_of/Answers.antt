@@ -1,0 +1,29 @@
+use Rattle.std.proofs.Common.{◌≡◌, List, get_or, false, sym, ap, ◌∙◌, subst, arith}
+use Rattle.std.specs.List.{Contains, list_any}
+use Rattle.range_index.specs.declared.Item.{Item}
+use Rattle.range_index.specs.Items.{is_earlier_conflict}
+use Rattle.request_queue.specs.Sectors.{index_of_port, item_of}
+use Rattle.request_queue.proofs.Indexing.{by_default, in_four}
+use Rattle.request_queue.proofs.Holding.{by_flushes, one_holds}
+use Rattle.request_queue.proofs.holders.holder_of.Goals as goal
+
+pub returns-in-Some : goal.returns-in-Some
+returns-in-Some c = λ book is flushes.
+    let r = c.args.request.now in
+    let lists = c.args.sectors.now in
+    let four = is.four in
+    let e = by_default lists c.index_of_port.result (index_of_port r.port) c.index-sectors-index_of_port.result c.index_of_port.ensures (omega (arith, four, in_four r.port)) in
+    one_holds book lists is c.args.flushes.now flushes r (sym c.may_have_holder.ensures ∙ c.if-not-may_have_holder.false) c.in-Some.holder
+    (subst (λ (xs : List Item). Contains xs c.in-Some.holder) e c.in-Some.ensures.found.0)
+    (ap (λ (i : Item). is_earlier_conflict i c.in-Some.holder) (sym c.item_of.ensures) ∙ c.in-Some.ensures.found.1)
+
+pub returns-in-None : goal.returns-in-None
+returns-in-None c = λ book is flushes.
+    let r = c.args.request.now in
+    let lists = c.args.sectors.now in
+    let four = is.four in
+    let e = by_default lists c.index_of_port.result (index_of_port r.port) c.index-sectors-index_of_port.result c.index_of_port.ensures (omega (arith, four, in_four r.port)) in
+    by_flushes book lists is c.args.flushes.now flushes r (sym c.may_have_holder.ensures ∙ c.if-not-may_have_holder.false)
+    (subst (λ (xs : List Item). list_any (is_earlier_conflict (item_of r)) xs ≡ false) e
+    (subst (λ (i : Item). list_any (is_earlier_conflict i) (get_or lists c.index_of_port.result c.index-sectors-index_of_port.result) ≡ false) c.item_of.ensures c.in-None.ensures.none))
+    c.earlier_flush.result c.earlier_flush.ensures.none c.earlier_flush.ensures.found

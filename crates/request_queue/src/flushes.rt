@@ -1,0 +1,76 @@
+// The unanswered flushes of all ports. A flush has no sectors, so no index finds it: it stands in a list of its own.
+ghost use Rattle.std.specs.Prelude.{◌≡◌, ◌<◌, ◌≤◌, ◌++◌, ◌∷◌, ◌==◌, [], length, filter, not, false, true, Contains, IfNone, IfOk, IfSome, vec_capacity};
+ghost use Rattle.std.specs.List.{list_any};
+ghost use Rattle.block_machine.specs.Due as machine;
+ghost use Rattle.request_queue.specs.Flushes.{flushes_of, is_earlier_flush};
+
+use ata_types::{MOST_UNANSWERED, Op, Port, RequestId};
+use block_machine::Unanswered;
+use std::alloc::{AllocError, Global};
+
+/// An unanswered flush.
+#[derive(Clone, Copy, Debug, PartialEq, Eq)]
+pub struct Flush {
+    pub id: RequestId,
+    pub port: Port,
+}
+
+/// A list of no flushes, with room for 128. No other call takes memory.
+pub fn no_flushes(alloc: Global) -> Result<Vec<Flush>, AllocError>
+    ensures { IfOk result (λ flushes. (flushes.items ≡ []) × (MOST_UNANSWERED ≤ vec_capacity flushes)) }
+{
+    let flushes = Vec::with_capacity(alloc, MOST_UNANSWERED)?;
+    Ok(flushes)
+}
+
+/// Puts a request last in the list, if it is a flush.
+pub fn add_flush(flushes: &mut Vec<Flush>, request: &Unanswered)
+    requires room { length flushes.old.items < vec_capacity flushes.old }
+    ensures list { flushes.new.items ≡ flushes.old.items ++ flushes_of (request.now ∷ []) }
+    ensures room { vec_capacity flushes.new ≡ vec_capacity flushes.old }
+{
+    if !is_flush(request.op) {
+        return;
+    }
+    flushes.push_reserved(Flush {
+        id: request.id,
+        port: request.port,
+    });
+}
+
+/// Takes the flush with this id out of the list, if there is one.
+pub fn take_flush(flushes: &mut Vec<Flush>, id: RequestId)
+    ensures list { flushes.new.items ≡ filter (λ flush. not (flush.id.0 == id.0)) flushes.old.items }
+    ensures room { vec_capacity flushes.new ≡ vec_capacity flushes.old }
+{
+    flushes.retain(|flush| flush.id.0 != id.0);
+}
+
+/// A flush that was accepted before the request, on the same port, if there is one.
+pub fn earlier_flush(flushes: &[Flush], request: &Unanswered) -> Option<RequestId>
+    ensures none { IfNone result (list_any (is_earlier_flush request.now) flushes.now ≡ false) }
+    ensures found { IfSome result (λ id. (flush : Flush) × Contains flushes.now flush × (flush.id ≡ id)
+        × (is_earlier_flush request.now flush ≡ true)) }
+{
+    let flush = flushes
+        .iter()
+        .find(|flush| is_earlier_flush(request, flush))?;
+    Some(flush.id)
+}
+
+/// Whether the flush was accepted before the request, on the same port.
+fn is_earlier_flush(request: &Unanswered, flush: &Flush) -> bool
+    ensures { result ≡ is_earlier_flush request.now flush.now }
+{
+    flush.port.0 == request.port.0 && flush.id.0 < request.id.0
+}
+
+/// Whether the operation is a flush.
+fn is_flush(op: Op) -> bool
+    ensures { result ≡ machine.is_flush op }
+{
+    match op {
+        Op::Flush => true,
+        Op::Read | Op::Write | Op::Trim => false,
+    }
+}

@@ -1,0 +1,93 @@
+// What each waiting read or write waits for, so that no walk has to search for it anew.
+ghost use Rattle.std.specs.Prelude.{◌≡◌, ◌<◌, ◌≤◌, ◌&&◌, [], length, List, IfOk, not, remove, vec_capacity};
+ghost use Rattle.block_machine.specs.declared.due.Unanswered.{Unanswered};
+ghost use Rattle.request_queue.specs.Entries.{asks_of};
+ghost use Rattle.request_queue.specs.Flushes.{flushes_of};
+ghost use Rattle.request_queue.specs.Holders.{AreHolders, AreHoldersBut, IsHolderOf, is_held_by, is_read_or_write, may_have_holder};
+ghost use Rattle.request_queue.specs.Sectors.{AreIndexed};
+
+use crate::flushes::{Flush, earlier_flush};
+use crate::sectors::{index_of_port, item_of};
+use crate::store::Store;
+use ata_types::{MOST_UNANSWERED, Op, PORTS, RequestId};
+use block_machine::Unanswered;
+use range_index::Ranges;
+use std::alloc::{AllocError, Global};
+
+/// Holders of no requests, with room for 128. No other call takes memory.
+pub fn no_holders(alloc: Global) -> Result<Vec<Option<RequestId>>, AllocError>
+    ensures { IfOk result (λ holders. (holders.items ≡ []) × (MOST_UNANSWERED ≤ vec_capacity holders)) }
+{
+    let holders = Vec::with_capacity(alloc, MOST_UNANSWERED)?;
+    Ok(holders)
+}
+
+/// The holder of a request: an earlier one that conflicts with it, if there is one, by its sectors or as a flush. None
+/// but a read or a write that waits has one.
+pub fn holder_of(
+    sectors: &[Ranges; PORTS],
+    flushes: &[Flush],
+    request: &Unanswered,
+) -> Option<RequestId>
+    ensures { (book : List Unanswered) → AreIndexed book sectors.now → flushes.now ≡ flushes_of book
+        → IsHolderOf book request.now result }
+{
+    if !may_have_holder(request) {
+        return None;
+    }
+    match sectors[index_of_port(request.port)].earlier_conflict(&item_of(request)) {
+        Some(holder) => Some(holder.id),
+        None => earlier_flush(flushes, request),
+    }
+}
+
+/// Searches anew for the holders of those that a request held which is answered. It stands at this place of the store
+/// still, and its sectors, its own holder, and itself as a flush were taken out.
+pub fn search_anew(
+    holders: &mut Vec<Option<RequestId>>,
+    sectors: &[Ranges; PORTS],
+    flushes: &[Flush],
+    store: &Store,
+    place: usize,
+    answered: RequestId,
+)
+    requires place { place < length store.now }
+    requires indexed { AreIndexed (remove (asks_of store.now) place) sectors.now }
+    requires flushes { flushes.now ≡ flushes_of (remove (asks_of store.now) place) }
+    requires but { AreHoldersBut answered place (remove (asks_of store.now) place) holders.old.items }
+    ensures holders { AreHolders (remove (asks_of store.now) place) holders.new.items }
+    ensures room { vec_capacity holders.new ≡ vec_capacity holders.old }
+{
+    for later in place..holders.len() {
+        if is_held_by(answered, holders[later]) {
+            let holder = holder_of(sectors, flushes, &store.asks(later + 1));
+            holders[later] = holder;
+        }
+    }
+}
+
+/// Whether the holder is the request with this id.
+fn is_held_by(id: RequestId, holder: Option<RequestId>) -> bool
+    ensures { result ≡ is_held_by id holder }
+{
+    match holder {
+        Some(held_by) => held_by.0 == id.0,
+        None => false,
+    }
+}
+
+/// Whether the request is a read or a write that waits.
+fn may_have_holder(request: &Unanswered) -> bool
+    ensures { result ≡ may_have_holder request.now }
+{
+    !request.issued && is_read_or_write(request.op)
+}
+
+fn is_read_or_write(op: Op) -> bool
+    ensures { result ≡ is_read_or_write op }
+{
+    match op {
+        Op::Read | Op::Write => true,
+        Op::Trim | Op::Flush => false,
+    }
+}
